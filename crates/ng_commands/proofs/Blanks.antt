@@ -1,4 +1,4 @@
--- A text that loses the last of two blanks.
+-- A text without the last of two blanks.
 use Rattle.std.proofs.Common.{◌≡◌, ◌-◌, ◌+◌, ℕ, List, [], ◌∷◌, ◌++◌, length, take, sym, ◌∙◌, ap, arith}
 use Rattle.std.proofs.lemmas.List.{append_assoc, length-append, take_at}
 

@@ -1,11 +1,11 @@
--- Which commands the front of a line leaves.
+-- Which commands are possible, given the start of a line.
 use Rattle.std.proofs.Common.{◌≡◌, ◌≢◌, ◌≤◌, ℕ, ℤ, List, ◌++◌, length, drop, get_or, codes, Option, Some, None, MatchOption, sym, ◌∙◌, ap, subst, arith}
 use Rattle.ng_num.specs.declared.point.Point.{Point}
 use Rattle.ng_commands.specs.Commands.{SpellsCommand, IsNoCommand, IsNoSwitch, IsPlain, AreDigitsOf, SpellsPoint, SpellsTool, switch_word}
 use Rattle.ng_commands.specs.declared.asked.ConsoleCommand.{ConsoleCommand}
 use Rattle.ng_commands.specs.declared.asked.ConsoleCommand.TheVariants.{Load, Start, Hold, Continue, Mdi, Reference, Resume, Abandon, Tool, OptionalStop, BlockDelete, Tick, Status, Quit}
 
--- a line can't be two texts that begin otherwise
+-- a line can't equal two texts that begin differently
 apart : (line xs ys : List ℕ) → line ≡ xs → line ≡ ys → get_or xs 0 0 ≢ get_or ys 0 0 → ⊥
 apart line xs ys is also differ = differ (ap (λ l. get_or l 0 0) (sym is ∙ also))
 
@@ -90,7 +90,8 @@ not_tooled line words is none (Tick n) (short, asks) = apart_after line (codes "
 not_tooled line words is none Status (short, asks) = apart line (codes "tool " ++ words) (codes "status") is asks (omega arith)
 not_tooled line words is none Quit (short, asks) = apart line (codes "tool " ++ words) (codes "quit") is asks (omega arith)
 
--- a line that begins with no word before a number or a text, and has no fixed words
+-- a line isn't a command if it doesn't begin with a word that takes a number or a text, and isn't a command with fixed
+-- words
 pub not_asked : (line : List ℕ) → ((rest : List ℕ) → line ≢ codes "mdi " ++ rest) → ((rest : List ℕ) → line ≢ codes "load " ++ rest) → ((rest : List ℕ) → line ≢ codes "tick " ++ rest)
     → ((rest : List ℕ) → line ≢ codes "reference " ++ rest) → ((rest : List ℕ) → line ≢ codes "tool " ++ rest) → ((c : ConsoleCommand) → IsPlain c → SpellsCommand line c → ⊥) → IsNoCommand line
 not_asked line mdi load tick place tool plain (Load n) (short, asks) = load asks.0 asks.1
@@ -125,7 +126,7 @@ no_plain line start hold goes resume abandon status quit switch (Tick n) plain a
 no_plain line start hold goes resume abandon status quit switch Status plain asks = status asks
 no_plain line start hold goes resume abandon status quit switch Quit plain asks = quit asks
 
--- a switch's words, where no other words are fixed
+-- a switch's words, if no other fixed words match
 pub plain_of : (line : List ℕ) (r : Option ConsoleCommand) → line ≢ codes "start" → line ≢ codes "hold" → line ≢ codes "continue" → line ≢ codes "resume" → line ≢ codes "abandon" → line ≢ codes "status" → line ≢ codes "quit"
     → MatchOption r (IsNoSwitch line) (SpellsCommand line) → MatchOption r ((c : ConsoleCommand) → IsPlain c → SpellsCommand line c → ⊥) (SpellsCommand line)
 plain_of line None start hold goes resume abandon status quit switch = no_plain line start hold goes resume abandon status quit switch

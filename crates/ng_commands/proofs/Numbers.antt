@@ -1,4 +1,4 @@
--- A text that is a number has no blank, and writes one length at most.
+-- A text that is a number has no blank, and stands for at most one length.
 use Rattle.std.proofs.Common.{◌≡◌, ◌<◌, ◌≤◌, ℕ, ℤ, unsigned_abs, nat_le, Bool, true, false, if◌then◌else◌, List, [], ◌∷◌, Option, Some, None, Result, Ok, Err, MatchOption, refl, sym, ◌∙◌, ap, subst, arith}
 use Rattle.std.proofs.lemmas.Bool.Decides.{nat_tests}
 use Rattle.std.specs.Result.{result_ok}
@@ -24,7 +24,7 @@ in_range_count z small = at (nat_le (unsigned_abs z) greatest) (grind (arith, na
     at true e = refl
     at false e = absurd cc
 
--- what is read of a text that writes a length is that length
+-- the value read from the text of a length is that length
 length_only : (text : List ℕ) (read : Result ℤ Fault) → ((z : ℤ) → IsNumber text z → read ≡ in_range z) → (nm : ℤ) → SpellsLength text nm → read ≡ Ok nm
 length_only text read value nm writes = value nm writes.0 ∙ in_range_count nm writes.1
 

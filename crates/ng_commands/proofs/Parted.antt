@@ -1,4 +1,4 @@
--- Words that are parted at their first blank.
+-- Words that are separated at their first blank.
 use Rattle.std.proofs.Common.{◌≡◌, ◌≢◌, ◌≤◌, ◌<◌, ◌+◌, ◌-◌, ℕ, ℤ, zero, suc, List, [], ◌∷◌, ◌++◌, length, take, drop, get_or, Option, Some, None, MatchOption, refl, sym, ◌∙◌, ap, subst, arith}
 use Rattle.std.proofs.lemmas.List.{take_all}
 use Rattle.ng_num.specs.declared.point.Point.{Point}
@@ -32,7 +32,7 @@ pub first_blank : (words : List ℕ) (n : ℕ) → n < length words → get_or w
     → words ≡ take n words ++ 32 ∷ take (length words - (n + 1)) (drop (n + 1) words)
 first_blank words n less is = blank_at words n (n + 1) (length words - (n + 1)) less refl (omega (arith, less)) is
 
--- words are parted at their first blank in one way
+-- there is only one way to separate words at their first blank
 one_part : (x y xs ys : List ℕ) → HasNo 32 x → HasNo 32 y → x ++ 32 ∷ xs ≡ y ++ 32 ∷ ys → (x ≡ y) × (xs ≡ ys)
 one_part [] [] xs ys none also same = (refl, ap (drop 1) same)
 one_part [] (b ∷ y) xs ys none also same = absurd (also.0 (sym (ap (λ l. get_or l 0 0) same)))
@@ -48,7 +48,7 @@ not_whole [] (b ∷ x) xs none is = absurd (let size = ap length is in omega (ar
 not_whole (c ∷ words) [] xs none is = none.0 (ap (λ l. get_or l 0 0) is)
 not_whole (c ∷ words) (b ∷ x) xs none is = not_whole words x xs none.1 (ap (drop 1) is)
 
--- the lengths of a point stand where its words are parted
+-- the lengths of a point are where its words are separated
 pub placed : (words x others y z : List ℕ) → words ≡ x ++ 32 ∷ others → HasNo 32 x → others ≡ y ++ 32 ∷ z → HasNo 32 y → (p : Point) → SpellsPoint words p
     → SpellsLength x p.x × SpellsLength y p.y × SpellsLength z p.z
 placed words x others y z is bare also bare_too p (x_as, y_as, z_as, are, writes_x, writes_y, writes_z) =
@@ -56,7 +56,7 @@ placed words x others y z is bare also bare_too p (x_as, y_as, z_as, are, writes
     let second = one_part y y_as z z_as bare_too (length_bare y_as p.y writes_y) (sym also ∙ first.1) in
     (subst (λ (l : List ℕ). SpellsLength l p.x) (sym first.0) writes_x, subst (λ (l : List ℕ). SpellsLength l p.y) (sym second.0) writes_y, subst (λ (l : List ℕ). SpellsLength l p.z) (sym second.1) writes_z)
 
--- words without a first or a second blank write no point
+-- words without a first or a second blank aren't a point
 pub one_word : (words : List ℕ) → HasNo 32 words → (p : Point) → SpellsPoint words p → ⊥
 one_word words none p writes = not_whole words writes.0 (writes.1 ++ 32 ∷ writes.2) none writes.3
 
@@ -73,7 +73,7 @@ refused words (Some p) e none = absurd cc
 digits_whole : (digits : List ℕ) → AreDigits digits → HasNo 32 digits
 digits_whole digits are = bytes_without 32 digits (omega arith) (digits_bytes digits are)
 
--- a slot and a length stand where their words are parted
+-- a slot and a length are where their words are separated
 pub tooled : (words digits text : List ℕ) → words ≡ digits ++ 32 ∷ text → HasNo 32 digits → (slot : ℕ) (nm : ℤ) → SpellsTool words slot nm
     → AreDigitsOf digits slot × (length digits ≤ 3) × SpellsLength text nm
 tooled words digits text is bare slot nm (digits_as, text_as, are, written, short, writes) =

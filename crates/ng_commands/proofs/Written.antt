@@ -1,18 +1,18 @@
--- How large a number its digits write.
+-- How large the number is that digits stand for.
 use Rattle.std.proofs.Common.{◌≡◌, ◌≤◌, ◌<◌, ◌+◌, ◌-◌, ◌*◌, ◌^◌, ℕ, List, [], ◌∷◌, length, arith}
 use native.Mathlib.Nat.{pow-le-pow_right}
 use Rattle.ng_words.specs.Grammar.{AreDigits, written_after}
 use Rattle.ng_words.proofs.Round.{written_lt}
 use Rattle.ng_commands.specs.Commands.{AreDigitsOf}
 
--- more digits write no smaller number
+-- more digits stand for at least as large a number
 pub written_grows : (n : ℕ) (digits : List ℕ) → n ≤ written_after n digits
 written_grows n [] = omega arith
 written_grows n (d ∷ ds) =
     let rest : n * 10 + (d - 48) ≤ written_after (n * 10 + (d - 48)) ds = written_grows (n * 10 + (d - 48)) ds in
     omega (arith, rest)
 
--- where the first digits write more than the greatest, all of them do
+-- if the number of the first digits is above the greatest, so is the number of all
 pub too_great : (greatest value : ℕ) (rest digits : List ℕ) → greatest < value → written_after value rest ≡ written_after 0 digits
     → (n : ℕ) → n ≤ greatest → AreDigitsOf digits n → ⊥
 too_great greatest value rest digits great same n small writes =
@@ -26,7 +26,7 @@ seven_digits digits are short =
     let below : written_after 0 digits < 10 ^ length digits = written_lt digits are in
     omega (arith, most, below)
 
--- digits that write no number up to that of seven nines are no length
+-- digits of a number above seven nines aren't a length
 pub no_length : (digits : List ℕ) → ((n : ℕ) → n ≤ 9_999_999 → AreDigitsOf digits n → ⊥) → (n : ℕ) → AreDigitsOf digits n → length digits ≤ 7 → ⊥
 no_length digits none n writes short =
     let small : written_after 0 digits ≤ 9_999_999 = seven_digits digits writes.0 short in
@@ -39,7 +39,7 @@ three_digits digits are short =
     let below : written_after 0 digits < 10 ^ length digits = written_lt digits are in
     omega (arith, most, below)
 
--- nor are they a slot's number, with three nines
+-- and with a number above three nines they aren't a slot's number
 pub no_slot : (digits : List ℕ) → ((n : ℕ) → n ≤ 999 → AreDigitsOf digits n → ⊥) → (n : ℕ) → AreDigitsOf digits n → length digits ≤ 3 → ⊥
 no_slot digits none n writes short =
     let small : written_after 0 digits ≤ 999 = three_digits digits writes.0 short in

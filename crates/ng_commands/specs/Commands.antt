@@ -1,4 +1,4 @@
--- The commands of the console, a line each, and their words parted by one blank (own).
+-- The commands of the console, one on a line, their words separated by one blank (own).
 use Rattle.std.specs.Prelude.{◌≡◌, ◌≢◌, ◌≤◌, ◌<◌, ℕ, ℤ, Bool, true, false, List, [], ◌∷◌, ◌++◌, length, codes}
 use Rattle.ng_num.specs.declared.point.Point.{Point}
 use Rattle.ng_num.specs.Range.{IsCount}
@@ -6,21 +6,21 @@ use Rattle.ng_words.specs.Grammar.{AreDigits, IsNumber, written_after}
 use Rattle.ng_commands.specs.declared.asked.ConsoleCommand.{ConsoleCommand}
 use Rattle.ng_commands.specs.declared.asked.ConsoleCommand.TheVariants.{Load, Start, Hold, Continue, Mdi, Reference, Resume, Abandon, Tool, OptionalStop, BlockDelete, Tick, Status, Quit}
 
--- digits, leading zeros and all, that write this number
+-- digits that stand for this number, with any leading zeros
 abbrev pub AreDigitsOf : List ℕ → ℕ → Type 0
 AreDigitsOf digits n = AreDigits digits × (0 < length digits) × (n ≡ written_after 0 digits)
 
--- A text writes a length in millimetres, this many nanometres: it is a number as on a line of a program, of any length,
--- and its rounded value is in range.
+-- A text stands for a length of this many nanometres. It is a number in millimetres as in a line of a program, of any
+-- length, and its rounded value is in range.
 abbrev pub SpellsLength : List ℕ → ℤ → Type 0
 SpellsLength text nm = IsNumber text nm × IsCount nm
 
--- three words, parted by one blank, write the coordinates of a point
+-- three words, separated by one blank, are the coordinates of a point
 abbrev pub SpellsPoint : List ℕ → Point → Type 0
 SpellsPoint words p =
     (x y z : List ℕ) × (words ≡ x ++ (codes " " ++ (y ++ (codes " " ++ z)))) × SpellsLength x p.x × SpellsLength y p.y × SpellsLength z p.z
 
--- two words, parted by one blank, write a slot's number, of one to three digits, and a tool's length
+-- two words, separated by one blank, are a slot's number, with one to three digits, and a tool's length
 abbrev pub SpellsTool : List ℕ → ℕ → ℤ → Type 0
 SpellsTool words slot nm = (digits text : List ℕ) × (words ≡ digits ++ (codes " " ++ text)) × AreDigitsOf digits slot × (length digits ≤ 3) × SpellsLength text nm
 
@@ -45,11 +45,11 @@ SpellsCommand words (Tick n) = (digits : List ℕ) × (words ≡ codes "tick " +
 SpellsCommand words Status = words ≡ codes "status"
 SpellsCommand words Quit = words ≡ codes "quit"
 
--- a line is this command; one of over 300 bytes is none
+-- a line is this command; a line of over 300 bytes isn't a command
 abbrev pub IsCommand : List ℕ → ConsoleCommand → Type 0
 IsCommand line command = (length line ≤ 300) × SpellsCommand line command
 
--- a line is no command
+-- a line isn't a command
 abbrev pub IsNoCommand : List ℕ → Type 0
 IsNoCommand line = (command : ConsoleCommand) → IsCommand line command → ⊥
 
@@ -70,7 +70,7 @@ IsPlain (Tick n) = ⊥
 IsPlain Status = Unit {0}
 IsPlain Quit = Unit {0}
 
--- a line turns no switch
+-- a line isn't the command of a switch
 abbrev pub IsNoSwitch : List ℕ → Type 0
 IsNoSwitch line = (is_on : Bool) → (line ≢ codes "optional " ++ switch_word is_on) × (line ≢ codes "delete " ++ switch_word is_on)
 

@@ -1,4 +1,4 @@
--- The lines that the console answers (own).
+-- The lines that the console writes in reply (own).
 use Rattle.std.specs.Prelude.{ℕ, Bool, true, false, Option, Some, None, List, [], ◌++◌, codes}
 use Rattle.std.specs.Fmt.{decimal}
 use Rattle.ng_num.specs.Text.{number_text}
@@ -18,7 +18,7 @@ use Rattle.ng_session.specs.declared.reply.Reply.TheVariants as reply
 abbrev pub point_text : Point → List ℕ
 point_text p = (number_text p.x ++ codes " ") ++ (number_text p.y ++ codes " ") ++ (number_text p.z ++ codes " ")
 
--- whether the machine is known to stand there
+-- whether the machine's position is known
 abbrev pub known_text : Bool → List ℕ
 known_text true = codes "known"
 known_text false = codes "unknown"
@@ -59,7 +59,7 @@ refused_line fault = codes "refused " ++ fault_text fault ++ codes "\n"
 abbrev pub done_line : ℕ → List ℕ
 done_line entries = codes "done " ++ decimal entries ++ codes "\n"
 
--- the line of a reply; what a tick hands out or opens has none
+-- the line of a reply; an item handed out, or a segment opened, by a tick has none
 abbrev pub reply_line : Reply → List ℕ
 reply_line (reply.Done entries) = done_line entries
 reply_line reply.Going = codes "going\n"
@@ -74,7 +74,7 @@ reply_line reply.Approaching = []
 reply_line (reply.Status status) = status_line status
 reply_line (reply.Refused fault) = refused_line fault
 
--- the line of a tick's reply: a line of the program that is begun has none
+-- the line of a tick's reply; the beginning of a line of the program has none
 abbrev pub tick_line : Reply → List ℕ
 tick_line (reply.Done entries) = reply_line (reply.Done entries)
 tick_line reply.Going = reply_line reply.Going
@@ -93,7 +93,7 @@ tick_line (reply.Refused fault) = reply_line (reply.Refused fault)
 abbrev pub ticks_line : ℕ → List ℕ
 ticks_line count = codes "ticks " ++ decimal count ++ codes "\n"
 
--- whether a command of ticks goes on after this reply
+-- whether a command of ticks continues after this reply
 abbrev pub continues_ticks : Reply → Bool
 continues_ticks (reply.Done entries) = true
 continues_ticks reply.Going = true

@@ -7,7 +7,7 @@ pub const LONGEST: usize = 300;
 /// What a line of the console asks for (own).
 #[derive(Clone, Copy, Debug, PartialEq, Eq)]
 pub enum ConsoleCommand<'a> {
-    /// `load N`: a program of so many bytes, which follow the line; below 10,000,000.
+    /// `load N`: a program with this many bytes, which follow the line; below 10,000,000.
     Load(u32),
     /// `start`
     Start,
@@ -15,22 +15,23 @@ pub enum ConsoleCommand<'a> {
     Hold,
     /// `continue`
     Continue,
-    /// `mdi LINE`: a line of the language, the bytes after the blank.
+    /// `mdi LINE`: a line of the language, which is the bytes after the blank.
     Mdi(&'a [u8]),
-    /// `reference X Y Z`: where the machine stands, three numbers as on a line of a program, millimetres of machine
+    /// `reference X Y Z`: the machine's position. Three numbers as in a line of a program, in millimetres, in machine
     /// coordinates.
     Reference(Point),
     /// `resume`
     Resume,
     /// `abandon`
     Abandon,
-    /// `tool N LENGTH`: the length of the tool of slot N, below 1,000, a number as on a line of a program, millimetres.
+    /// `tool N LENGTH`: the length of the tool in slot N. N is below 1,000; the length is a number as in a line of a
+    /// program, in millimetres.
     Tool(u16, Len),
     /// `optional on`, `optional off`
     OptionalStop(bool),
     /// `delete on`, `delete off`
     BlockDelete(bool),
-    /// `tick N`: up to so many ticks, 1 to 1,000,000.
+    /// `tick N`: at most this many ticks, 1 to 1,000,000.
     Tick(u32),
     /// `status`
     Status,

@@ -1,8 +1,8 @@
-//! Whole numbers of commands.
+//! Whole numbers in commands.
 ghost use Rattle.std.specs.Prelude.{◌≡◌, ◌≤◌, ◌*◌, ◌+◌, ◌^◌, ◌<◌, ℕ, MatchOption};
 ghost use Rattle.ng_commands.specs.Commands.{AreDigitsOf};
 
-/// The number that digits write, leading zeros and all, where it isn't above the greatest.
+/// The number that digits stand for, with any leading zeros. `None` if it is above the greatest.
 pub(crate) fn whole(digits: &[u8], greatest: u32) -> Option<u32>
     requires { greatest ≤ 10_000_000 }
     ensures { MatchOption result ((n : ℕ) → n ≤ greatest → AreDigitsOf digits.now n → ⊥) (λ n. AreDigitsOf digits.now n × (n ≤ greatest)) }

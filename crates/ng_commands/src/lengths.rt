@@ -1,4 +1,4 @@
-//! Lengths of commands, in millimetres: numbers as they stand on a line of a program.
+//! Lengths in commands, in millimetres: numbers as in a line of a program.
 ghost use Rattle.std.specs.Prelude.{◌≡◌, ◌≤◌, ◌++◌, ◌∷◌, ℕ, ℤ, MatchOption, length};
 ghost use Rattle.ng_num.specs.declared.point.Point.{Point};
 ghost use Rattle.ng_commands.specs.Commands.{AreDigitsOf, HasNo, SpellsLength, SpellsPoint, SpellsTool};
@@ -10,7 +10,7 @@ use ng_words::read_number;
 /// The most digits of a slot's number.
 const SLOT_DIGITS: usize = 3;
 
-/// The greatest number of so many digits.
+/// The greatest number with this many digits.
 const GREATEST_SLOT: u32 = 999;
 
 /// The bytes before and after the first blank.
@@ -25,7 +25,7 @@ fn parted(words: &[u8]) -> Option<(&[u8], &[u8])>
     None
 }
 
-/// The length that a text writes.
+/// The length that a text stands for.
 fn length(text: &[u8]) -> Option<Len>
     ensures { MatchOption result ((nm : ℤ) → SpellsLength text.now nm → ⊥) (SpellsLength text.now) }
 {
@@ -35,7 +35,7 @@ fn length(text: &[u8]) -> Option<Len>
     }
 }
 
-/// The point whose coordinates three words write, parted by one blank.
+/// The point whose coordinates are three words, separated by one blank.
 pub(crate) fn point(words: &[u8]) -> Option<Point>
     ensures { MatchOption result ((p : Point) → SpellsPoint words.now p → ⊥) (SpellsPoint words.now) }
 {
@@ -48,7 +48,7 @@ pub(crate) fn point(words: &[u8]) -> Option<Point>
     })
 }
 
-/// The number of a slot, by its digits.
+/// The number of a slot, from its digits.
 #[tactic(auto, using(crate::proofs::Written::no_slot))]
 fn slot(digits: &[u8]) -> Option<u16>
     ensures { MatchOption result ((n : ℕ) → AreDigitsOf digits.now n → length digits.now ≤ 3 → ⊥) (λ n. AreDigitsOf digits.now n × (length digits.now ≤ 3)) }
@@ -62,7 +62,7 @@ fn slot(digits: &[u8]) -> Option<u16>
     }
 }
 
-/// The slot and the length that two words write, parted by one blank.
+/// The slot and the length that two words stand for, separated by one blank.
 pub(crate) fn slot_and_length(words: &[u8]) -> Option<(u16, Len)>
     ensures { MatchOption result ((slot : ℕ) (nm : ℤ) → SpellsTool words.now slot nm → ⊥) (λ t. SpellsTool words.now t.0 t.1) }
 {

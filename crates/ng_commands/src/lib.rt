@@ -1,7 +1,7 @@
 //! The console's language: commands as lines, and replies as lines (own).
 //!
-//! `command_of` reads a line exactly where it is one of a command's in specs/Commands; `push_reply` appends exactly the
-//! line that specs/Replies gives a reply. Nothing here reads or writes a stream, and reading takes no memory.
+//! `command_of` reads a line exactly if specs/Commands says that it is a command; `push_reply` appends exactly the line
+//! that specs/Replies defines for a reply. Nothing here reads or writes a stream, and reading doesn't allocate.
 #![tactic(auto)]
 
 mod asked;

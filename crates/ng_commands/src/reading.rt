@@ -1,4 +1,4 @@
-//! Commands read from lines.
+//! Reading commands from lines.
 ghost use Rattle.std.specs.Prelude.{◌≡◌, ◌≤◌, ◌<◌, ℕ, MatchOption, length};
 ghost use Rattle.ng_commands.specs.Commands.{SpellsCommand, IsCommand, IsNoCommand, IsNoSwitch, IsPlain, AreDigitsOf};
 ghost use Rattle.ng_commands.specs.declared.asked.ConsoleCommand.{ConsoleCommand};
@@ -11,14 +11,14 @@ use crate::words::{is, strip_prefix};
 /// The most digits of a program's length.
 const LENGTH_DIGITS: usize = 7;
 
-/// The greatest number of so many digits.
+/// The greatest number with this many digits.
 const GREATEST_LENGTH: u32 = 9_999_999;
 
 /// The most ticks of one command.
 const MOST_TICKS: u32 = 1_000_000;
 
-/// What a line asks for, without its end; none where it is no command. It is read as it stands: a carriage return
-/// belongs to it. Source: own.
+/// The command in a line, without the line's end. `None` if the line isn't a command. Nothing is trimmed: a carriage
+/// return counts as part of the line. Source: own.
 #[tactic(auto, using(crate::proofs::Fixed::not_loaded, crate::proofs::Fixed::not_ticked, crate::proofs::Fixed::not_asked))]
 pub fn command_of(line: &[u8]) -> Option<ConsoleCommand<'_>>
     ensures { MatchOption result (IsNoCommand line.now) (IsCommand line.now) }
@@ -56,7 +56,7 @@ pub fn command_of(line: &[u8]) -> Option<ConsoleCommand<'_>>
     plain(line)
 }
 
-/// The length of a program, by its digits.
+/// The length of a program, from its digits.
 #[tactic(auto, using(crate::proofs::Written::no_length))]
 fn loading(digits: &[u8]) -> Option<u32>
     ensures { MatchOption result ((n : ℕ) → AreDigitsOf digits.now n → length digits.now ≤ 7 → ⊥) (λ n. AreDigitsOf digits.now n × (length digits.now ≤ 7)) }
@@ -70,7 +70,7 @@ fn loading(digits: &[u8]) -> Option<u32>
     }
 }
 
-/// The number of ticks, by its digits.
+/// The number of ticks, from its digits.
 fn ticks(digits: &[u8]) -> Option<u32>
     ensures { MatchOption result ((n : ℕ) → AreDigitsOf digits.now n → 1 ≤ n → n ≤ 1_000_000 → ⊥) (λ n. AreDigitsOf digits.now n × (1 ≤ n) × (n ≤ 1_000_000)) }
 {
@@ -80,7 +80,7 @@ fn ticks(digits: &[u8]) -> Option<u32>
     }
 }
 
-/// The command of these words, where they are fixed.
+/// The command of these words, if it is one with fixed words.
 #[tactic(auto, using(crate::proofs::Fixed::plain_of))]
 fn plain(line: &[u8]) -> Option<ConsoleCommand<'static>>
     ensures { MatchOption result ((c : ConsoleCommand) → IsPlain c → SpellsCommand line.now c → ⊥) (λ c. SpellsCommand line.now c) }
@@ -109,7 +109,7 @@ fn plain(line: &[u8]) -> Option<ConsoleCommand<'static>>
     switch(line)
 }
 
-/// The switch of these words.
+/// The switch that these words turn.
 fn switch(line: &[u8]) -> Option<ConsoleCommand<'static>>
     ensures { MatchOption result (IsNoSwitch line.now) (SpellsCommand line.now) }
 {

@@ -1,4 +1,4 @@
-//! The lines of replies. Each is appended to a text; after an error a part of it may stand there.
+//! The lines of replies. Each function appends to a text; after an error part of the line may have been appended.
 ghost use Rattle.std.specs.Prelude.{◌≡◌, ◌++◌, OnOk, codes};
 ghost use Rattle.ng_num.specs.Text.{number_text};
 ghost use Rattle.ng_commands.specs.Replies.{between, condition_text, counts_text, done_line, continues_ticks, half_text, known_text, point_text, refused_line, reply_line, source_text, machine_text, status_line, tick_line, ticks_line};
@@ -100,7 +100,7 @@ fn push_counts<A: Allocator + Copy + Drop>(
     push_between(text, b"", status.place, b" at ")
 }
 
-/// Appends where the machine stands, and whether that is known.
+/// Appends the machine's position, and whether it is known.
 fn push_machine<A: Allocator + Copy + Drop>(
     text: &mut Vec<u8, A>,
     status: &Status,
@@ -137,7 +137,7 @@ pub fn push_refusal<A: Allocator + Copy + Drop>(
     text.extend_from_slice(b"\n")
 }
 
-/// Appends the line of an entry that was committed.
+/// Appends the line of a committed entry.
 fn push_done<A: Allocator + Copy + Drop>(
     text: &mut Vec<u8, A>,
     entries: u64,
@@ -149,7 +149,7 @@ fn push_done<A: Allocator + Copy + Drop>(
     text.extend_from_slice(b"\n")
 }
 
-/// Appends the line of a reply. Moved and Opened, which ticks alone are answered, have none. Source: own.
+/// Appends the line of a reply. Moved and Opened, which only a tick returns, have none. Source: own.
 pub fn push_reply<A: Allocator + Copy + Drop>(
     text: &mut Vec<u8, A>,
     reply: &Reply,
@@ -170,7 +170,7 @@ pub fn push_reply<A: Allocator + Copy + Drop>(
     }
 }
 
-/// Appends the line of a tick's reply; a line of the program that is begun has none. Source: own.
+/// Appends the line of a tick's reply. The beginning of a line of the program has none. Source: own.
 pub fn push_tick<A: Allocator + Copy + Drop>(
     text: &mut Vec<u8, A>,
     reply: &Reply,
@@ -195,7 +195,7 @@ pub fn push_ticks<A: Allocator + Copy + Drop>(
     text.extend_from_slice(b"\n")
 }
 
-/// Whether a command of ticks goes on after this reply: not after Idle, Held, Stopped or a refusal. Source: own.
+/// Whether a command of ticks continues after this reply: not after Idle, Held, Stopped or a refusal. Source: own.
 pub fn continues_ticks(reply: &Reply) -> bool
     ensures { result ≡ continues_ticks reply.now }
 {

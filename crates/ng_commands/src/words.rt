@@ -1,4 +1,4 @@
-//! Words at the front of a line.
+//! Words at the start of a line.
 ghost use Rattle.std.specs.Prelude.{◌≡◌, ◌≢◌, ◌++◌, ◌↔◌, ℕ, List, IsTrue, MatchOption};
 
 /// Whether a line is this word.
@@ -8,7 +8,7 @@ pub(crate) fn is(line: &[u8], word: &[u8]) -> bool
     line == word
 }
 
-/// The bytes after this word, where the line begins with it.
+/// The bytes after this word. `None` if the line doesn't begin with it.
 pub(crate) fn strip_prefix<'a>(line: &'a [u8], word: &[u8]) -> Option<&'a [u8]>
     ensures { MatchOption result ((rest : List ℕ) → line.now ≢ word.now ++ rest) (λ rest. line.now ≡ word.now ++ rest.now) }
 {

@@ -1,4 +1,4 @@
--- A walk over words in which clap finds no fault doesn't stop at the subcommand `help`, which always answers with help.
+-- A walk over words in which clap finds no fault doesn't stop at the subcommand `help`, which always prints help.
 use Rattle.std.proofs.Common.{◌≡◌, sym, subst, Bool, true, false, List, [], ◌∷◌, Option, Some, None, codes, refl}
 use Rattle.std.specs.Prelude.{◌&&◌, not, ⊤, fold, if◌then◌else◌, is_some}
 use Rattle.std.specs.Str.{bytes_eq}

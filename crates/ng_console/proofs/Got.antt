@@ -1,4 +1,4 @@
--- What clap's matches give of a value.
+-- What clap's matches return for a value.
 use Rattle.std.proofs.Common.{◌≡◌, ◌∙◌, Bor, None, Option, Some, true, ap, sym, is_some, option_map}
 use Rattle.clap.specs.Words.{Text, first_of, first_value, rows_of}
 use Rattle.clap.specs.declared.parser.matches.Found.{Found}
@@ -12,7 +12,7 @@ never_none found name got there is none =
     let bad = rw (← missing) at there in
     cc
 
--- a value that was got is the first one
+-- a value that was returned is the first one
 pub value_is : (found : Found) (name : Text) (got : Option (Bor Text)) (value : Bor Text) → option_map (λ s. s.now) got ≡ first_value found name → got ≡ Some value
     → first_of name (rows_of found) ≡ Some value.now
 value_is found name got value is some = sym (first_value-rows found name) ∙ (sym is ∙ ap (option_map (λ (s : Bor Text). s.now)) some)

@@ -1,4 +1,4 @@
--- Where clap finds no fault in a command line of `ngc`, it has met one of the subcommands, with a value of each of its
+-- If clap finds no fault in a command line of `ngc`, it has met one of the subcommands, with a value for each of its
 -- files and its flags on or off.
 use Rattle.std.proofs.Common.{drop, get_or, ◌≡◌, ◌∙◌, refl, sym, ap, subst, Bool, true, false, List, [], ◌∷◌, ℕ, Option, Some, None, is_some, codes, arith}
 use Rattle.std.specs.Prelude.{◌&&◌, ◌||◌, not, if◌then◌else◌, option_map, unwrap_or, Box}
@@ -66,11 +66,11 @@ same_letter format run e = absurd (omega arith)
 same_letter run dry e = absurd (omega arith)
 same_letter run format e = absurd (omega arith)
 
--- no two have one name
+-- no two have the same name
 same_name : (a b : Subcommand) → name_of a ≡ name_of b → a ≡ b
 same_name a b e = same_letter a b (sym (first_of_name a) ∙ ap (λ (t : Text). get_or t 0 0) e ∙ first_of_name b)
 
--- what stands in the matches of each
+-- what is in the matches of each
 abbrev pub Has : Subcommand → List Row → Type 0
 Has dry rows = (is_some (first_of (codes "PROGRAM") rows) ≡ true) × HasFlag (codes "block-delete") rows
 Has format rows = (is_some (first_of (codes "DEVICE") rows) ≡ true) × HasFlag (codes "large") rows
@@ -146,7 +146,7 @@ wanted_none false true a h = cc
 wanted_none false false true h = cc
 wanted_none false false false h = (refl, refl)
 
--- the last checks found neither a subcommand nor an argument missing
+-- the last checks found that neither a subcommand nor an argument is missing
 nothing_wanted : (s : Shape) (rows : List Row) (has : Bool) → check_fault s rows has ≡ []
     → ((not has && s.subcommand_required) ≡ false)
     × ((not (s.subcommand_negates_reqs && has) && list_any (λ a. a.required && not (is_given a.id rows)) s.rules) ≡ false)
@@ -154,7 +154,7 @@ nothing_wanted s rows has h =
     wanted_none (not has && (s.arg_required_else_help && not (list_any (λ r. explicit_source r.source) rows))) (not has && s.subcommand_required)
     (not (s.subcommand_negates_reqs && has) && list_any (λ a. a.required && not (is_given a.id rows)) s.rules) h
 
--- no argument is wanting
+-- no argument is missing
 none_wanting : (s : Shape) (words : List Text) → level_fault s [] nothing_held words false [] ≡ []
     → (not (s.subcommand_negates_reqs && false) && list_any (λ a. a.required && not (is_given a.id (rows_after s.rules [] words))) s.rules) ≡ false
 none_wanting s words h = (nothing_wanted s (rows_after s.rules [] words) false (level_right s [] words false [] h).1).1
@@ -181,7 +181,7 @@ IsNamed s met rows = (met ≡ Some (name_of s, rows)) × Has s rows
 abbrev pub IsOneNamed : Option (Text × List Row) → Type 0
 IsOneNamed met = (s : Subcommand) × (rows : List Row) × IsNamed s met rows
 
--- where clap's definition finds no fault, the words name one of the subcommands
+-- if clap's definition finds no fault, the words name one of the subcommands
 names_one : (words : List Text) → fault_of ngc_app words ≡ [] → IsOneNamed (subcommand_of ngc_app words)
 names_one words h =
     let app = built ngc_app in
@@ -227,7 +227,7 @@ same_rows : (name : Text) (met : Option (Text × List Row)) (rows found : List R
     → option_map (λ p. p.1) met ≡ Some found → rows ≡ found
 same_rows name met rows found is has = ap (λ o. unwrap_or o rows) (sym (ap (option_map (λ p. p.1)) is) ∙ has)
 
--- what clap's matches say below is what the words name
+-- what clap's matches say of the subcommand is what the words name
 met_by_words : (words : List Text) (app : App) (matches : ArgMatches) → app ≡ ngc_app → HasMatchesOf app words matches → subcommand_rows_of matches ≡ subcommand_of ngc_app words
 met_by_words words app matches is_ngc has = (has (ap is_simple is_ngc)).1 ∙ ap (λ a. subcommand_of a words) is_ngc
 
@@ -242,8 +242,8 @@ name_met words app matches is_ngc has = sym (first (out-ArgMatches matches).subc
 one_met : (words : List Text) (app : App) → app ≡ ngc_app → (is_simple_and_free app ≡ true → fault_of app words ≡ []) → IsOneNamed (subcommand_of ngc_app words)
 one_met words app is_ngc kinds = names_one words (ap (λ a. fault_of a words) (sym is_ngc) ∙ kinds (ap is_simple_and_free is_ngc ∙ is_plain))
 
--- where clap found no fault and the matches name a subcommand, those below are what the words name, with its files and
--- its flags
+-- if clap found no fault and the matches name a subcommand, its matches are what the words name, with its files and its
+-- flags
 pub found_of : (s : Subcommand) (words : List Text) (app : App) (matches : ArgMatches) (found : List Row) → app ≡ ngc_app
     → (is_simple_and_free app ≡ true → fault_of app words ≡ []) → HasMatchesOf app words matches → option_map (λ p. p.1) (subcommand_rows_of matches) ≡ Some found
     → subcommand_name_of matches ≡ Some (name_of s) → IsNamed s (subcommand_of ngc_app words) found
@@ -262,7 +262,7 @@ is_asked words (Format device large) found named files flags = (found, named, fi
 is_asked words (Grow device) found named files flags = (found, named, files, flags)
 is_asked words (Run device settings out) found named files flags = (found, named, files, flags)
 
--- where clap found no fault, the matches name one of the subcommands
+-- if clap found no fault, the matches name one of the subcommands
 pub name_found : (words : List Text) (app : App) (matches : ArgMatches) → app ≡ ngc_app → (is_simple_and_free app ≡ true → fault_of app words ≡ [])
     → HasMatchesOf app words matches → (s : Subcommand) × (subcommand_name_of matches ≡ Some (name_of s))
 name_found words app matches is_ngc kinds has = go (one_met words app is_ngc kinds)

@@ -1,5 +1,5 @@
--- What any words leave in the rows of a command of one level: the row of a positional has a value, since nothing but a
--- word becomes a value of it, and the row of a flag says on or off.
+-- What any words leave in the rows of a command of one level: the row of a positional has a value, since only a word
+-- becomes a value of it, and the row of a flag says on or off.
 use Rattle.std.proofs.Common.{ℕ, zero, suc, ◌<◌, ◌==◌, ◌≡◌, ◌++◌, Bool, true, false, List, [], ◌∷◌, length, Option, Some, None, is_some, drop, cond, refl, sym, ap, ◌∙◌, arith, find, fold, slice_get, option_map, option_and_then, encode_utf8, bytes_eq, chars}
 use Rattle.std.specs.Prelude.{◌&&◌, ◌||◌, not, nat_lt, if◌then◌else◌, ⊤}
 use Rattle.std.specs.List.{list_any}
@@ -34,24 +34,24 @@ SayBy how values = (is_on : Bool) × (option_map (read_as how) (slice_get values
 abbrev pub Says : Row → Type 0
 Says r = SayBy r.reading r.values
 
--- a flag: it takes no value and has no place, and says so where it is used and where it isn't
+-- a flag: it takes no value and has no place, and says so whether it is used or not
 pub record IsFlag (a : Rule) : Type 0 where
   pub takes_none : takes_values a ≡ false
   pub no_place : is_some a.index ≡ false
   pub used : SayBy (reading_by a) a.missing
   pub unused : SayBy (reading_by a) a.defaults
 
--- further values leave the first as it is
+-- further values don't change the first
 still_say : (how : Reading) (before more : List Text) → SayBy how before → SayBy how (before ++ more)
 still_say how [] more says = let e = says.1 in cc
 still_say how (v ∷ vs) more says = says
 
--- what stands in place of the values of a use
+-- what is used in place of missing values
 given_some : (a : Rule) (values : List Text) → 0 < length values → 0 < length (values_or_missing a values)
 given_some a [] some = absurd (omega arith)
 given_some a (v ∷ vs) some = some
 
--- one name isn't another
+-- one name differs from another
 differ : {X : Type 0} → true ≡ false → X
 differ e = cc
 
@@ -66,7 +66,7 @@ abbrev pub Each : {X : Type 0} → (X → Type 0) → List X → Type 0
 Each P [] = ⊤
 Each P (x ∷ xs) = P x × Each P xs
 
--- what is found has been tried; what is true of nothing, and of each that could be found, is true of what is found
+-- what is found passed the test; what is true of nothing, and of each that could be found, is true of what is found
 found_so : {X : Type 0} (test : X → Bool) (P : X → Type 0) (Q : Option X → Type 0) (xs : List X) → Each P xs → Q None
     → ((x : X) → P x → test x ≡ true → Q (Some x)) → Q (find test xs)
 found_so test P Q [] all none some = none
@@ -164,13 +164,13 @@ module _ (rules : List Rule) where
   abbrev pub is_switch : Text → Bool
   is_switch id = option_map_or (λ a. is_setting (action_of a)) (arg_by_id rules id) false
 
-  -- the argument shares its name with none of another kind, and counts nothing
+  -- the argument has a different name from those of other kinds, and isn't a counter
   pub record IsDistinct (a : Rule) : Type 0 where
     pub placeless : is_some a.index ≡ false → has_place a.id ≡ false
     pub flag : is_switch a.id ≡ true → IsFlag a
     pub counts_nothing : is_counting (action_of a) ≡ false
 
-  -- a positional, and an option, that are no flag's namesake
+  -- a positional or an option whose name isn't that of a flag
   abbrev pub is_apart : Rule → Bool
   is_apart a = not (is_counting (action_of a)) && (not (is_switch a.id) && (is_some a.index || not (has_place a.id)))
 
@@ -188,7 +188,7 @@ module _ (rules : List Rule) where
   pub flag_distinct : (a : Rule) → IsFlag a → has_place a.id ≡ false → is_counting (action_of a) ≡ false → IsDistinct a
   flag_distinct a flag nowhere counts = record { placeless = λ e. nowhere; flag = λ e. flag; counts_nothing = counts }
 
-  -- the row has a value where it is a positional's, and says on or off where it is a flag's
+  -- the row has a value if it is a positional's, and says on or off if it is a flag's
   abbrev pub Right : Text → Reading → List Text → Type 0
   Right id how values = (has_place id ≡ true → 0 < length values) × (is_switch id ≡ true → SayBy how values)
 
@@ -196,7 +196,7 @@ module _ (rules : List Rule) where
   Full [] = ⊤
   Full (r ∷ rs) = Right r.id r.reading r.values × Full rs
 
-  -- what waits is no flag, and has a value where it is a positional
+  -- what waits isn't a flag, and has a value if it is a positional
   abbrev Waits : Option (Text × List Text) → Type 0
   Waits None = ⊤
   Waits (Some p) = (has_place p.0 ≡ true → 0 < length p.1) × (is_switch p.0 ≡ false)
@@ -217,7 +217,7 @@ module _ (rules : List Rule) where
   Steps (next waiting) = Steady waiting
   Steps _ = ⊤
 
-  -- a flag word, and a word, leave things good
+  -- a word of flags, and any other word, keep this good
   abbrev FlagGood : Held × Outcome → Type 0
   FlagGood f = Good f.0 × Settles f.1
 
@@ -252,7 +252,7 @@ module _ (rules : List Rule) where
       go true rest = (more_right r.id r.reading r.values values h.0, h.1)
       go false rest = (h.0, rest)
 
-  -- a use with values, or of a flag with none
+  -- a use with values, or of a flag without values
   used_full : (a : Rule) (values : List Text) (rows : List Row) → IsDistinct a → (has_place a.id ≡ true → 0 < length values)
       → (is_switch a.id ≡ true → values ≡ []) → Full rows → Full (used a values rows)
   used_full a values rows lawful some bare h = go (action_of a) lawful.counts_nothing
@@ -301,7 +301,7 @@ module _ (rules : List Rule) where
         → (is_switch a.id ≡ true → values ≡ []) → Good h → Good (reacted rules a values h)
     reacted_good a values h own some bare good = (used_full a values (settled rules h).rows own some bare (settled_full h good), tt)
 
-    -- a word more of what waits, or the first one of an argument that is no flag
+    -- one more word of what waits, or the first one of an argument that isn't a flag
     pushed_good : (id word : Text) (h : Held) → is_switch id ≡ false → Good h → Good (pushed id word h)
     pushed_good id word h no_switch good = (good.0, go h.pending good.1)
       where
@@ -486,7 +486,7 @@ module _ (rules : List Rule) where
     some_value [] some = absurd (omega arith)
     some_value (v ∷ vs) some = refl
 
-    -- the row that is found is the first of its name
+    -- the row that is found is the first with its name
     value_said : (id : Text) (rows : List Row) → has_place id ≡ true → Full rows → is_given id rows ≡ true → is_some (first_of id rows) ≡ true
     value_said id [] place full given = cc
     value_said id (r ∷ rs) place full given = go (bytes_eq r.id id) refl given (value_said id rs place full.1)
@@ -519,7 +519,7 @@ module _ (rules : List Rule) where
       each_given rows rest full own.1 wanted.1 has.1,
     )
 
-    -- where no argument is wanting, each is given
+    -- if no argument is missing, each is given
     pub all_given : (names : Names) (words : List Text) → list_any (λ a. a.required && not (is_given a.id (rows_after rules names words))) rules ≡ false
         → Each (Given (rows_after rules names words)) rules
     all_given names words none_wanting =

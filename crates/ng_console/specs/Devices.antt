@@ -3,7 +3,7 @@ use Rattle.std.specs.Prelude.{ℕ, ◌≡◌, ◌/◌, List, Option, IfSome, len
 use Rattle.ng_file.specs.FileRig.{failure_count, outlet, sector_count, storage}
 use Rattle.ng_file.specs.declared.rig.FileRig.{FileRig}
 
--- The device is that of these bytes, as many sectors as they have whole ones, and hands out to this file.
+-- The device is the one in these bytes: its sectors are their whole sectors. It hands out to this file.
 pub record IsOver {S O A : Type 0} (content : S → Option (List ℕ)) (device : S) (out : O) (rig : FileRig S O A) : Type 0 where
   pub bytes : content (storage rig) ≡ content device
   pub sectors : IfSome (content device) (λ held. sector_count rig ≡ length held / 512)

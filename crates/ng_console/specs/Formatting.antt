@@ -18,8 +18,8 @@ use Rattle.ng_console.specs.Devices.{IsOver}
 use Rattle.ng_console.specs.Refusals.{FaultStatus, RefusesDevice, RefusesStorage}
 use Rattle.ng_console.specs.Sizes.{wanted_size}
 
--- The answer is that of formatting the device, which the journal defines. One that has too few sectors is refused as
--- such, no other is, and it stays as it was.
+-- The result is that of formatting the device, which the journal defines. A device is refused as too small exactly if
+-- it has too few sectors, and then it stays as it was.
 pub record FormatsRig {R : Type 0} (large : Bool) (sectors failed : R → ℕ) (honest : R → Type 0) (trace : R → Trace) (rig_old rig_new : R) (old new : Option (List ℕ)) (status : ℕ) : Type 0 where
   pub formatted : Result (Unit {0}) Fault
   pub answers : FaultStatus formatted old new status
@@ -29,15 +29,15 @@ pub record FormatsRig {R : Type 0} (large : Bool) (sectors failed : R → ℕ) (
   pub formats : wanted_size large ≤ sectors rig_old → IfHonest (honest rig_old) (honest rig_new) (FormatSpec formatted (program_room (is_large_size (sectors rig_old))) (trace rig_old) (trace rig_new))
   pub tells : CountsFailure formatted (failed rig_old) (failed rig_new)
 
--- The same of the device in a file; or none can be made of its bytes: they can't say how many they are, or there isn't
--- enough memory.
+-- The same for the device in a file; or its bytes can't be made a device, since their number can't be read, or there is
+-- no memory.
 abbrev pub FormatsDevice : {S : Type 0} → (S → Option (List ℕ)) → Bool → S → Option (List ℕ) → Option (List ℕ) → ℕ → Type 0
 FormatsDevice {S} content large file old new status =
     ((rig : FileRig S Sink Global) × (left : FileRig S Sink Global) × (out : Sink) × IsOver content file out rig
     × FormatsRig large sector_count failure_count (λ rig. ⊥) (λ rig. Began (λ sector. [])) rig left old new status)
     ⊎ ((error : Error) × RefusesStorage error old new status)
 
--- The same of a file as it was opened.
+-- The same for a file as it was opened.
 abbrev pub FormatsOpened : {S : Type 0} → (S → Option (List ℕ)) → Bool → Result S NoDevice → Option (List ℕ) → Option (List ℕ) → ℕ → Type 0
 FormatsOpened content large (Ok file) old new status = FormatsDevice content large file old new status
 FormatsOpened content large (Err why) old new status = RefusesDevice why old new status

@@ -13,27 +13,27 @@ use Rattle.ng_console.specs.Refusals.{FaultStatus, RefusesDevice}
 abbrev pub large_bytes : ℕ
 large_bytes = 512 * large_size
 
--- these bytes are as many as those of a large device
+-- these bytes are at least as many as those of a large device
 abbrev pub is_large : List ℕ → Bool
 is_large held = nat_le large_bytes (length held)
 
--- one of the two headers is valid on a device of so many bytes
+-- one of the two headers is valid on a device with this many bytes
 abbrev pub has_header : List ℕ → Bool
 has_header held = is_some (newer (header_in (is_large held) 0 (sector_of 0 held)) (header_in (is_large held) 1 (sector_of 1 held)))
 
--- these bytes are a device's: there are the sectors of one, and a valid header
+-- these bytes are a device's: there are enough sectors, and a valid header
 abbrev pub is_device : List ℕ → Bool
 is_device held = nat_le (512 * least_size) (length held) && has_header held
 
--- nothing is changed, or the bytes are a device's and some of the zeros stand after them
+-- nothing is changed, or the bytes are a device's and some of the zeros come after them
 abbrev pub GrowsInPart : {S : Type 0} → (S → Option (List ℕ)) → S → S → Type 0
 GrowsInPart content old new =
     (content new ≡ content old)
     ⊎ (IfSome (content old) (λ held. is_device held ≡ true) × LengthenedInPart large_bytes (content old) (content new))
 
--- A file that is a device gets the length of a large one, by zeros after what it held, and lasts. One that is none is
--- refused as such, and stays as it was. Where the file fails nothing is changed, or it is a device and has some of the
--- zeros.
+-- A file that is a device gets the length of a large device, by zeros after what it held, and is durable. Any other
+-- file is refused as not being a device, and stays as it was. If the file fails, nothing is changed, or it is a device
+-- and has some of the zeros.
 pub record GrowsFile {S : Type 0} (content lasting : S → Option (List ℕ)) (file_old file_new : S) (old new : Option (List ℕ)) (status : ℕ) : Type 0 where
   pub grown : Result (Unit {0}) Fault
   pub answers : FaultStatus grown old new status
@@ -45,7 +45,7 @@ pub record GrowsFile {S : Type 0} (content lasting : S → Option (List ℕ)) (f
   pub unchanged : IsErrOf grown NotFormatted → content file_new ≡ content file_old
   pub failed : IsErrOf grown DeviceFailed → GrowsInPart content file_old file_new
 
--- The same of a file as it was opened.
+-- The same for a file as it was opened.
 abbrev pub GrowsOpened : {S : Type 0} → (S → Option (List ℕ)) → (S → Option (List ℕ)) → Result S NoDevice → Option (List ℕ) → Option (List ℕ) → ℕ → Type 0
 GrowsOpened {S} content lasting (Ok file) old new status = (left : S) × GrowsFile content lasting file left old new status
 GrowsOpened content lasting (Err why) old new status = RefusesDevice why old new status

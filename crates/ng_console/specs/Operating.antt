@@ -1,5 +1,5 @@
 -- What the job `run` does (own): an operator commands a controller over a device in a file, and what it hands out is
--- appended to another.
+-- appended to another file.
 use Rattle.std.specs.Prelude.{ℕ, ◌⊎◌, List, [], Option, Some, None, Result, Ok, Err}
 use Rattle.std.specs.declared.io.Error.{Error}
 use Rattle.std.specs.declared.alloc.Global.{Global}
@@ -15,27 +15,27 @@ use Rattle.ng_console.specs.Devices.{IsOver}
 use Rattle.ng_console.specs.Refusals.{IsSilent, RefusesDevice, RefusesSettings, RefusesStorage}
 use Rattle.ng_console.specs.declared.settings_file.NoSettings.{NoSettings}
 
--- the console's conversation over that device; or none can be made of these bytes: they can't say how many they are, or
--- there isn't enough memory
+-- the console's conversation over that device; or these bytes can't be made a device, since their number can't be read,
+-- or there is no memory
 abbrev pub OperatesDevice : {S O : Type 0} → (S → Option (List ℕ)) → Settings → S → O → Option (List ℕ) → Option (List ℕ) → Option (List ℕ) → ℕ → Type 0
 OperatesDevice {S} {O} content settings device out text old new status =
     ((rig : FileRig S O Global) × (left : FileRig S O Global) × IsOver content device out rig
     × ConsoleSpec Global sector_count failure_count (λ rig. ⊥) (λ rig. Began (λ sector. [])) settings rig text old new (status, left))
     ⊎ ((error : Error) × RefusesStorage error old new status)
 
--- the same of a file as it was opened
+-- the same for a file as it was opened
 abbrev pub OperatesInto : {S O : Type 0} → (S → Option (List ℕ)) → Settings → S → Result O Error → Option (List ℕ) → Option (List ℕ) → Option (List ℕ) → ℕ → Type 0
 OperatesInto content settings device (Err error) text old new status = IsSilent old new status
 OperatesInto content settings device (Ok out) text old new status = OperatesDevice content settings device out text old new status
 
 module _ {F : Type 0} where
-  -- the same of a device as it was opened; where there is none, no other file is
+  -- the same for a device as it was opened; if there is no device, no other file is opened
   abbrev pub OperatesOpened : Settings → Result (OpenedFile F) NoDevice → Option (List ℕ) → Option (List ℕ) → Option (List ℕ) → ℕ → Type 0
   OperatesOpened settings (Err why) text old new status = RefusesDevice why old new status
   OperatesOpened settings (Ok device) text old new status =
       (out : Result F Error) × OperatesInto (λ (file : OpenedFile F). None) settings device out text old new status
 
--- the same of some device, with the settings that were found; where there are none, no device is opened
+-- the same for some device, with the settings that were found; if there are none, no device is opened
 abbrev pub OperatesChosen : (F : Type 0) → Result Settings NoSettings → Option (List ℕ) → Option (List ℕ) → Option (List ℕ) → ℕ → Type 0
 OperatesChosen F (Err why) text old new status = RefusesSettings why old new status
 OperatesChosen F (Ok settings) text old new status = (device : Result (OpenedFile F) NoDevice) × OperatesOpened settings device text old new status

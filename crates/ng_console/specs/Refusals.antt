@@ -23,7 +23,7 @@ refused_text fault = codes "refused " ++ (fault_text fault ++ codes "\n")
 abbrev pub IsRefusedWith : Fault → Option (List ℕ) → Option (List ℕ) → ℕ → Type 0
 IsRefusedWith fault old new status = (status ≡ 2) × Appends old new (refused_text fault)
 
--- what a device is asked for is done, and nothing is written; or the line of the fault is
+-- what was asked of a device is done, and nothing is written; or the line of the fault is written
 abbrev pub FaultStatus : {T : Type 0} → Result T Fault → Option (List ℕ) → Option (List ℕ) → ℕ → Type 0
 FaultStatus (Ok _) old new status = (status ≡ 0) × (new ≡ old)
 FaultStatus (Err fault) old new status = IsRefusedWith fault old new status
@@ -38,12 +38,12 @@ abbrev pub RefusesDevice : NoDevice → Option (List ℕ) → Option (List ℕ) 
 RefusesDevice Unopened old new status = IsSilent old new status
 RefusesDevice Unusable old new status = IsRefusedWith DeviceFailed old new status
 
--- the fault of an error over a file that was opened: there wasn't enough memory, or else the file failed
+-- the fault for an error of an opened file: there was no memory, or else the file failed
 abbrev pub IsFaultOf : Error → Fault → Type 0
 IsFaultOf error fault =
     ((error_kind error ≡ kind.OutOfMemory) × (fault ≡ OutOfMemory))
     ⊎ ((error_kind error ≢ kind.OutOfMemory) × (fault ≡ DeviceFailed))
 
--- a file that was opened, and no device can be made of it for this error
+-- an opened file that can't be made a device because of this error
 abbrev pub RefusesStorage : Error → Option (List ℕ) → Option (List ℕ) → ℕ → Type 0
 RefusesStorage error old new status = (fault : Fault) × IsFaultOf error fault × IsRefusedWith fault old new status

@@ -1,5 +1,6 @@
--- How `ngc` ends (own): 0 done, 1 a refused program of a dry run, 2 anything that kept it from its work. Faults of
--- status 2 are looked for in the order words, one file given twice, settings file, other files, the run.
+-- How `ngc` ends (own): 0 done, 1 the program of a dry run was refused, 2 anything else that kept it from its work. The
+-- causes of status 2 are checked in this order: the words, one file given twice, the settings file, other files, the
+-- run.
 use Rattle.std.specs.Prelude.{ℕ, ◌≡◌, Bool, List, Option, None, Result, Ok, Err, IfSome, is_some}
 use Rattle.std.specs.declared.io.Error.{Error}
 use Rattle.ng_settings.specs.declared.standard.Settings.{Settings}
@@ -24,16 +25,16 @@ status_of (Ok ended.Done) = 0
 status_of (Ok (ended.Refused number fault)) = 1
 status_of (Err fault) = 2
 
--- a run with the machine and the tools of settings; lines that begin with a slash are deleted where it is asked
+-- a run with the machine and the tools of settings; lines that begin with a slash are deleted if that is asked
 abbrev pub terms_of : Bool → Settings → TermsModel
 terms_of block_delete settings = record { block_delete = block_delete; tools = settings.tools; geometry = settings.geometry }
 
--- the status is that of a run which wrote what it had to
+-- the status is that of a run that wrote what it had to
 abbrev pub Reports : Option (List ℕ) → Option (List ℕ) → Output → ℕ → Type 0
 Reports old new output status =
     (ended : Result Ended DryFault) × (status ≡ status_of ended) × DryRunSpec old new output ended
 
--- a dry run with settings, of the bytes that a reader gives, where they are known
+-- a dry run with settings, of the bytes that a reader gives, if they are known
 abbrev pub IsDryRun : Settings → Bool → Option (List ℕ) → Option (List ℕ) → Option (List ℕ) → ℕ → Type 0
 IsDryRun settings block_delete given old new status =
     IfSome given (λ program. Reports old new (output_of (terms_of block_delete settings) program) status)
@@ -44,7 +45,7 @@ module _ {F : Type 0} (bytes_of : F → Option (List ℕ)) where
   RunsFile settings block_delete (Ok file) old new status = IsDryRun settings block_delete (bytes_of file) old new status
   RunsFile settings block_delete (Err error) old new status = IsSilent old new status
 
-  -- the same with the settings that were found; where there are none the program's file isn't looked at
+  -- the same with the settings that were found; if there are none, the program's file isn't used
   abbrev pub RunsChosen : Result Settings NoSettings → Bool → Result F Error → Option (List ℕ) → Option (List ℕ) → ℕ → Type 0
   RunsChosen (Ok settings) block_delete program old new status = RunsFile settings block_delete program old new status
   RunsChosen (Err why) block_delete program old new status = RefusesSettings why old new status

@@ -1,4 +1,4 @@
--- The command line of `ngc` (own), in the words by which clap defines what a command makes of its words.
+-- The command line of `ngc` (own), in clap's terms for how a command reads its words.
 use Rattle.std.specs.Prelude.{◌≡◌, Bool, List, Some, true, codes, option_map}
 use Rattle.clap.specs.Words.{App, Row, Rule, Text, first_of, new_app, new_rule, one_of, subcommand_of, with_rule, with_subcommand}
 use Rattle.clap.specs.declared.builder.ArgAction.TheVariants.{Set, SetTrue}
@@ -14,7 +14,7 @@ program_rule = record (new_rule (codes "PROGRAM")) { action = Some Set; required
 abbrev pub settings_rule : Rule
 settings_rule = record (new_rule (codes "settings")) { long = Some (codes "settings"); action = Some Set; value_names = 1 }
 
--- --block-delete, a flag that is off where it isn't given
+-- --block-delete, a flag that is off if it isn't given
 abbrev pub block_delete_rule : Rule
 block_delete_rule = record (new_rule (codes "block-delete")) { long = Some (codes "block-delete"); action = Some SetTrue }
 
@@ -26,7 +26,7 @@ dry_app = with_rule (with_rule (with_rule (new_app (codes "dry")) program_rule) 
 abbrev pub device_rule : Rule
 device_rule = record (new_rule (codes "DEVICE")) { action = Some Set; required = true }
 
--- --large, a flag that is off where it isn't given
+-- --large, a flag that is off if it isn't given
 abbrev pub large_rule : Rule
 large_rule = record (new_rule (codes "large")) { long = Some (codes "large"); action = Some SetTrue }
 
@@ -49,7 +49,7 @@ out_rule = record (new_rule (codes "OUT")) { action = Some Set; required = true 
 abbrev pub run_app : App
 run_app = with_rule (with_rule (with_rule (new_app (codes "run")) device_rule) settings_file_rule) out_rule
 
--- a command line names one of the subcommands; --version and help, asked for in either way, are answered
+-- a command line names one of the subcommands; --version, and help in either form, print their text
 abbrev pub only_by_subcommands : App → App
 only_by_subcommands app = record app { top = record app.top { has_version = true; subcommand_required = true; arg_required_else_help = true } }
 
@@ -89,6 +89,6 @@ HasFlags rows (Format device large) = SaysFlag (codes "large") rows large
 HasFlags rows (Grow device) = Unit {0}
 HasFlags rows (Run device settings out) = Unit {0}
 
--- the job is what clap's definition makes of the words: the subcommand that they name, its files and its flags
+-- the job is what the words mean by clap's definition: the subcommand that they name, its files and its flags
 abbrev pub RequestsJob : List Text → Job → Type 0
 RequestsJob words job = (rows : List Row) × (subcommand_of ngc_app words ≡ Some (subcommand_name job, rows)) × HasFiles rows job × HasFlags rows job

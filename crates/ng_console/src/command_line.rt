@@ -1,4 +1,4 @@
-//! The words of the command line, read with clap.
+//! The words of the command line, parsed with clap.
 ghost use Rattle.std.specs.Prelude.{◌≡◌, IfOk, IfErr, true, is_some, map, codes};
 ghost use Rattle.clap.specs.Words.{app_of, first_of, found_of, kind_of, rows_of, takes};
 ghost use Rattle.ng_console.specs.Words.{RequestsJob, HasFiles, HasFlag, HasFlags, dry_app, format_app, grow_app, ngc_app, run_app, subcommand_name};
@@ -10,23 +10,23 @@ use std::alloc::{AllocError, Global};
 /// The version that `ngc --version` prints.
 const VERSION: &str = "0.1.0";
 
-/// What stands below the help text of the program: how a job ends.
+/// The text below the program's help: how a job ends.
 const ENDINGS: &str =
     "Exit status:\n  0  done: a program ran to its end, a device is fresh or large, an operator's\n     commands are answered\n  1  dry: a line was refused; the last line printed says which one and why\n  2  the words are wrong, or ask for help or the version; or a file can't be\n     opened or read, the settings or the device are refused, the device, the\n     input or the output fails, or there isn't enough memory\n\nRefused settings and devices print why. A file that can't be read prints nothing.";
 
-/// What stands below that of `dry`.
+/// The text below the help of `dry`.
 const PROGRAM_ENDINGS: &str =
     "Exit status:\n  0  the program ran to its end\n  1  a line was refused; the last line printed says which one and why\n  2  the words are wrong, or ask for help; or a file can't be read, the settings\n     are refused, the output can't be written, or there isn't enough memory\n\nRefused settings print why. A file that can't be read prints nothing.";
 
-/// What stands below that of `format`.
+/// The text below the help of `format`.
 const DEVICE_ENDINGS: &str =
     "Exit status:\n  0  the device is fresh\n  2  the words are wrong, or ask for help; or the file can't be opened or made, is\n     too short, is a directory, is held by another process, or fails, or there\n     isn't enough memory\n\nA file that can't be opened or made prints nothing; the others print why.";
 
-/// What stands below that of `grow`.
+/// The text below the help of `grow`.
 const GROWTH_ENDINGS: &str =
     "What the device holds stays. A large device takes programs of up to 1048576 bytes,\nany other of up to 131072.\n\nExit status:\n  0  the device has 5806 sectors or more\n  2  the words are wrong, or ask for help; or the file can't be opened, is no device,\n     is a directory, is held by another process, or fails\n\nA file that can't be opened prints nothing; the others print why. After a failure,\nor where it was ended, the device is as good as before: grow it again.";
 
-/// What stands below that of `run`: the commands of its console, and how it ends.
+/// The text below the help of `run`: the commands of its console, and how it ends.
 const RUN_COMMANDS_AND_ENDINGS: &str =
     "Commands, read from the input, a line each:\n  load N           store the program in the N bytes after this line, at most 131072,\n                   on a large device 1048576\n  start            run the program from its place on\n  hold             hand out nothing more until `continue` or an `mdi` line\n  continue         go on with what was held, or stopped at M0, M1 or M60\n  mdi LINE         do a line of the operator's own\n  reference X Y Z  tell where the machine stands, in machine millimetres\n  resume           go on with a half-done block, from where the machine stands\n  abandon          give a half-done block up; nothing moves\n  tool N LENGTH    put a tool's length into slot N of the tool table, in millimetres\n  optional on|off  stop the program at M1, or don't\n  delete on|off    leave out the lines that begin with a slash, or don't\n  tick N           do up to N steps of the work, 1 to 1000000\n  status           tell where the machine stands and what it does\n  quit             end, as the end of the input does\n\nExit status:\n  0  all commands are answered, up to `quit` or to the end of the input\n  2  the words are wrong, or ask for help; or a file can't be opened or read, the\n     settings or the device are refused, the device is held by another process or\n     failed, the input or the output failed, or there isn't enough memory\n\nA refused command or program line prints why, and the next one is read. Refused\nsettings and devices print why. A file that can't be read prints nothing.";
 
@@ -37,19 +37,19 @@ pub enum Job<'a> {
     Dry {
         /// The path of the program's file.
         program: &'a str,
-        /// The path of the settings file; without one the default settings hold.
+        /// The path of the settings file. Without one the default settings are used.
         settings: Option<&'a str>,
-        /// Whether the lines that begin with a slash are deleted.
+        /// Whether lines that begin with a slash are deleted.
         block_delete: bool,
     },
     /// `ngc format DEVICE [--large]`: a device is made fresh, with no program.
     Format {
         /// The path of the device's file.
         device: &'a str,
-        /// Whether it is to be a large device.
+        /// Whether it has to be a large device.
         large: bool,
     },
-    /// `ngc grow DEVICE`: a device is lengthened to a large one.
+    /// `ngc grow DEVICE`: a device is lengthened to a large device.
     Grow {
         /// The path of the device's file.
         device: &'a str,
@@ -60,15 +60,15 @@ pub enum Job<'a> {
         device: &'a str,
         /// The path of the settings file.
         settings: &'a str,
-        /// The path of the file to which what is handed out is appended.
+        /// The path of the file that items are handed out to. They are appended.
         out: &'a str,
     },
 }
 
-/// What a line of words asks for. The first word is the program's own name, as the system gives it.
+/// What the words of a command line ask for. The first word is the program's own name, as the system gives it.
 ///
-/// An error's text says what is wrong with the words, or is the help that they ask for. Where the words are a
-/// command line of `ngc`, the only error is `ErrorKind::OutOfMemory`. Source: own.
+/// The text of an error says what is wrong with the words, or is the help that they ask for. If the words are a command
+/// line of `ngc`, the only error is `ErrorKind::OutOfMemory`. Source: own.
 pub fn words<'a>(alloc: Global, words: &'a [&'a str]) -> Result<Job<'a>, Error>
     ensures job { IfOk result (RequestsJob (map (λ s. s.now) words.entry.now)) }
     ensures taken { IfErr result (λ e. takes ngc_app (map (λ s. s.now) words.entry.now) ≡ true → kind_of e ≡ ErrorKind.OutOfMemory) }

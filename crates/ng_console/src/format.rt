@@ -21,9 +21,9 @@ use std::alloc::Global;
 use std::io;
 use std::io::{ErrorKind, Write};
 
-/// Makes the device in a file that was opened fresh, a large one or any, and gives the exit status: 0 where that is
-/// done. Where the file couldn't be opened nothing is written; where it can't be used, is too short or fails, or there
-/// isn't enough memory, the line of the fault is. The error is that of the writer.
+/// Makes the device in an opened file fresh, perhaps as a large device, and returns the exit status: 0 if that is done.
+/// If the file couldn't be opened, nothing is written. If it can't be used, is too short or fails, or if there is no
+/// memory, the line of the fault is written. The error is the writer's.
 pub(crate) fn format_opened<S: Storage + Drop, W: Write>(
     alloc: Global,
     opened: Result<S, NoDevice>,
@@ -39,8 +39,8 @@ pub(crate) fn format_opened<S: Storage + Drop, W: Write>(
     }
 }
 
-/// Says why there is no device, and gives the exit status: of a file that couldn't be opened nothing is written, of one
-/// that can't be used the line of the fault. The error is that of the writer.
+/// Reports why there is no device, and returns the exit status. Nothing is written for a file that couldn't be opened;
+/// the line of the fault for one that can't be used. The error is the writer's.
 pub(crate) fn refuse_device<W: Write>(writer: &mut W, why: NoDevice) -> io::Result<u8>
     ensures run { IfOk result (RefusesDevice why (W.contents writer.old) (W.contents writer.new)) }
     ensures range { IfOk result (λ status. status ≤ 2) }
@@ -70,8 +70,8 @@ fn format_storage<S: Storage + Drop, W: Write>(
     }
 }
 
-/// Says why no device can be made of a file that was opened, and gives the exit status: the line of the fault is
-/// written. The error is that of the writer.
+/// Reports why an opened file can't be made a device, and returns the exit status: the line of the fault is written.
+/// The error is the writer's.
 pub(crate) fn refuse_storage<W: Write>(writer: &mut W, why: io::Error) -> io::Result<u8>
     ensures run { IfOk result (RefusesStorage why (W.contents writer.old) (W.contents writer.new)) }
     ensures range { IfOk result (λ status. status ≤ 2) }
@@ -80,7 +80,7 @@ pub(crate) fn refuse_storage<W: Write>(writer: &mut W, why: io::Error) -> io::Re
     Ok(FAILED)
 }
 
-/// The fault of an error over a file that was opened. Too little memory is no failure of the device.
+/// The fault for an error of an opened file. Being out of memory isn't a failure of the device.
 fn fault_of(error: &io::Error) -> Fault
     ensures { IsFaultOf error.now result }
 {
@@ -91,8 +91,8 @@ fn fault_of(error: &io::Error) -> Fault
     }
 }
 
-/// Makes a device fresh, a large one or any, and gives the exit status: 0 where that is done, else 2, and the line of
-/// the fault is written. The error is that of the writer.
+/// Makes a device fresh, perhaps as a large device, and returns the exit status: 0 if that is done, else 2, and the
+/// line of the fault is written. The error is the writer's.
 pub fn format_rig<R: Rig, W: Write>(rig: &mut R, large: bool, writer: &mut W) -> io::Result<u8>
     ensures range { IfOk result (λ status. status ≤ 2) }
     ensures run { IfOk result (FormatsRig large R.sectors R.failed R.honest R.trace rig.old rig.new (W.contents writer.old) (W.contents writer.new)) }
@@ -106,8 +106,8 @@ pub fn format_rig<R: Rig, W: Write>(rig: &mut R, large: bool, writer: &mut W) ->
     }
 }
 
-/// Makes a device fresh that has the sectors of a large one, or of any. J2 where it has fewer, and then it isn't
-/// called.
+/// Makes a device fresh that has enough sectors, those of a large device if one is wanted. J2 if it has fewer; then it
+/// isn't called.
 fn format_wanted<R: Rig>(rig: &mut R, large: bool) -> Result<(), Fault>
     ensures formats { let room = program_room (is_large_size (R.sectors rig.old)) in wanted_size large ≤ R.sectors rig.old
         → IfHonest (R.honest rig.old) (R.honest rig.new) (FormatSpec result room (R.trace rig.old) (R.trace rig.new)) }

@@ -1,4 +1,4 @@
-//! The job `grow`: a device is lengthened to a large one.
+//! The job `grow`: a device is lengthened to a large device.
 ghost use Rattle.std.specs.Prelude.{◌≡◌, ◌≤◌, ◌⊎◌, IfErr, IfOk, IfSome, IsErrOf, OnOk, Some, false, is_some, true};
 ghost use Rattle.ng_num.specs.declared.fault.Fault.TheVariants.{DeviceFailed, NotFormatted};
 ghost use Rattle.ng_file.specs.Bytes.{Lengthened, LengthenedInPart, sector_of};
@@ -15,15 +15,15 @@ use ng_run::{DONE, FAILED};
 use std::io;
 use std::io::Write;
 
-/// The bytes that a device has at least.
+/// The least number of bytes of a device.
 const LEAST_BYTES: u64 = (LEAST_SIZE * SECTOR_BYTES) as u64;
 
 /// The bytes of a large device.
 const LARGE_BYTES: u64 = (LARGE_SIZE * SECTOR_BYTES) as u64;
 
-/// Lengthens the device in a file that was opened, and gives the exit status: 0 where that is done, also where it is as
-/// long already. Where the file couldn't be opened nothing is written; where it can't be used, is no device or fails,
-/// the line of the fault is. The error is that of the writer.
+/// Lengthens the device in an opened file, and returns the exit status: 0 if that is done, also if it is long enough
+/// already. If the file couldn't be opened, nothing is written. If it can't be used, isn't a device or fails, the line
+/// of the fault is written. The error is the writer's.
 pub(crate) fn grow_opened<S: Append + Drop, W: Write>(
     opened: Result<S, NoDevice>,
     writer: &mut W,
@@ -37,8 +37,8 @@ pub(crate) fn grow_opened<S: Append + Drop, W: Write>(
     }
 }
 
-/// Lengthens the device in a file, and gives the exit status: 0 where that is done, else 2, and the line of the fault
-/// is written. The error is that of the writer.
+/// Lengthens the device in a file, and returns the exit status: 0 if that is done, else 2, and the line of the fault is
+/// written. The error is the writer's.
 pub fn grow_file<S: Append, W: Write>(file: &mut S, writer: &mut W) -> io::Result<u8>
     ensures range { IfOk result (λ status. status ≤ 2) }
     ensures run { IfOk result (GrowsFile S.content S.lasting file.old file.new (W.contents writer.old) (W.contents writer.new)) }
@@ -52,11 +52,11 @@ pub fn grow_file<S: Append, W: Write>(file: &mut S, writer: &mut W) -> io::Resul
     }
 }
 
-/// Lengthens the device in a file to a large one, and makes it last. One that is as long or longer keeps its length,
-/// and is made to last too, since it may have been lengthened by a process that was ended before it had done so.
+/// Lengthens the device in a file to a large device, and makes it durable. A device that is long enough keeps its
+/// length. It is made durable too, since a process that lengthened it may have ended before it had done so.
 ///
-/// J2 where the file isn't a device, and then nothing is changed. J1 where the file fails: then nothing is changed, or
-/// zeros stand after what the device held. It takes no memory.
+/// J2 if the file isn't a device; then nothing is changed. J1 if the file fails; then nothing is changed, or zeros come
+/// after what the device held. It doesn't allocate.
 fn grow<S: Append>(file: &mut S) -> Result<(), Fault>
     ensures device { OnOk result (IfSome (S.content file.old) (λ held. is_device held ≡ true)) }
     ensures lengthened { OnOk result (Lengthened large_bytes (S.content file.old) (S.content file.new)) }
@@ -73,7 +73,7 @@ fn grow<S: Append>(file: &mut S) -> Result<(), Fault>
     }
 }
 
-/// Lengthens a file to a large device. J1 where it fails.
+/// Lengthens a file to a large device. J1 if it fails.
 fn lengthen_device<S: Append>(file: &mut S) -> Result<(), Fault>
     ensures lengthened { OnOk result (Lengthened large_bytes (S.content file.old) (S.content file.new)) }
     ensures lasts { OnOk result (IfSome (S.lasting file.new) (λ kept. S.content file.new ≡ Some kept)) }
@@ -85,7 +85,7 @@ fn lengthen_device<S: Append>(file: &mut S) -> Result<(), Fault>
     }
 }
 
-/// Whether a file is a device: it has the sectors of one, and one of the two headers is valid.
+/// Whether a file is a device: it has enough sectors, and one of the two headers is valid.
 fn is_device<S: Storage>(file: &mut S) -> io::Result<bool>
     ensures value { IfOk result (λ truth. IfSome (S.content file.old) (λ held. truth ≡ is_device held)) }
     ensures stays { S.content file.new ≡ S.content file.old }
@@ -100,7 +100,7 @@ fn is_device<S: Storage>(file: &mut S) -> io::Result<bool>
     Ok(is_either(even, odd))
 }
 
-/// The header that a sector, 0 or 1, holds, if it is valid on a large device or on any other.
+/// The header that a sector, 0 or 1, holds, if it is valid on a large device or on a small one.
 fn read_header<S: Storage>(file: &mut S, is_large: bool, sector: u64) -> io::Result<Option<Header>>
     requires { sector ≤ 1 }
     ensures value { IfOk result (λ header. IfSome (S.content file.old) (λ held. header ≡ header_in is_large sector (sector_of sector held))) }
@@ -111,7 +111,7 @@ fn read_header<S: Storage>(file: &mut S, is_large: bool, sector: u64) -> io::Res
     Ok(Header::read(is_large, sector, &bytes))
 }
 
-/// Whether there is one of these headers.
+/// Whether there is at least one header.
 fn is_either(even: Option<Header>, odd: Option<Header>) -> bool
     ensures { result ≡ is_some (newer even odd) }
 {

@@ -16,9 +16,9 @@ use std::io;
 use std::io::{ErrorKind, Read, Write};
 use std::rt::Files;
 
-/// Operates the machine of a device with the settings that were found, and gives the exit status. Where there are none
-/// no file is opened, and the fault of settings that are refused is written. The error is that of the writer of a
-/// refusal.
+/// Operates the machine of a device with the settings that were found, and returns the exit status. If there are none,
+/// no file is opened, and if the settings were refused, their fault is written. The error is the writer's while it
+/// writes that fault.
 pub(crate) fn operate_chosen<R: Files + AllocGlobal, I: Read, W: Write>(
     rt: &R,
     chosen: Result<Settings, NoSettings>,
@@ -38,16 +38,16 @@ where
     }
 }
 
-/// Whether a device, the file of its settings and the file to which is handed out are three. Else pulses would be
-/// appended to the device or to the settings, or a device's sectors be written over them.
+/// Whether a device, its settings file and the file for hand-outs are three different files. Otherwise pulses would be
+/// appended to the device or to the settings, or a device's sectors written over one of the others.
 pub(crate) fn are_three_files<R: Files>(rt: &R, device: &str, settings: &str, out: &str) -> bool {
     !is_same_file(rt, device, settings)
         && !is_same_file(rt, device, out)
         && !is_same_file(rt, settings, out)
 }
 
-/// Opens the device, then the file to which is handed out, holds each, and operates the machine. Where there is no
-/// device the other file isn't opened, and so not made.
+/// Opens the device, then the file for hand-outs, holds both, and operates the machine. If there is no device, the
+/// other file isn't opened, and so not created.
 fn operate_files<R: Files + AllocGlobal, I: Read, W: Write>(
     rt: &R,
     settings: Settings,
@@ -70,9 +70,9 @@ where
     }
 }
 
-/// Opens the file to which is handed out, to append to it, makes it where there is none, and holds it for this process
-/// alone: of two sessions over two devices it would keep a mixture. The error where another process holds it is
-/// `WouldBlock`.
+/// Opens the file for hand-outs to append to it, creates it if there is none, and holds it for this process alone;
+/// otherwise the items of two sessions over two devices could be mixed in it. The error is `WouldBlock` if another
+/// process holds it.
 fn open_out<R: Files>(rt: &R, path: &str) -> io::Result<R::File>
 where
     R::File: Hold,
@@ -84,8 +84,8 @@ where
     }
 }
 
-/// Operates the machine of the device in these bytes, and appends what is handed out to a file. The error is that of
-/// the writer, where the bytes can't say how many they are or there isn't enough memory for a line.
+/// Operates the machine of the device in these bytes, and appends what is handed out to a file. The error is the
+/// writer's, and is possible only if the length can't be read or there is no memory for a line.
 fn operate_device<S: Storage + Drop, O: Write + Drop, I: Read, W: Write>(
     alloc: Global,
     settings: Settings,

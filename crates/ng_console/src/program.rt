@@ -22,14 +22,14 @@ use std::io::{Read, Write};
 use std::rt::{Env, Files};
 use std::{env, fs, io};
 
-/// The program that was to be run is refused.
+/// The exit status if the program of a dry run is refused.
 const REFUSED: u8 = 1;
 
-/// Does what the words that the process was started with ask for, and gives the exit status. A standard stream that is
-/// closed at the start is `/dev/null` to the end.
+/// Does what the words ask for that the process was started with, and returns the exit status. A standard stream that
+/// is closed at the start is `/dev/null` until the end.
 ///
-/// Where `/dev/null` can't be opened, and where the words are not text or there is no memory for them, nothing is
-/// printed and the status is 2; for the rest see `ngc`. Source: own.
+/// If `/dev/null` can't be opened, if the words are not text or if there is no memory for them, nothing is printed and
+/// the status is 2. Otherwise it does what `ngc` does. Source: own.
 pub fn start<R: Env + Files + AllocGlobal, I: Read, W: Write>(
     rt: &R,
     reader: &mut I,
@@ -56,13 +56,13 @@ where
     ngc(rt, texts.as_slice(), reader, writer)
 }
 
-/// Opens `/dev/null` three times. A file that is opened takes the least descriptor that is free, so those of the
-/// standard streams, 0 to 2, are then open, and no other file is taken for one of them.
+/// Opens `/dev/null` three times. A file that is opened gets the lowest free descriptor, so the descriptors of the
+/// standard streams, 0 to 2, are open after that, and no other file gets one of them.
 fn open_streams<R: Files>(rt: &R) -> io::Result<(R::File, R::File, R::File)> {
     Ok((open_null(rt)?, open_null(rt)?, open_null(rt)?))
 }
 
-/// Opens `/dev/null` to read and write.
+/// Opens `/dev/null` for reading and writing.
 fn open_null<R: Files>(rt: &R) -> io::Result<R::File> {
     OpenOptions::new()
         .read(true)
@@ -75,16 +75,19 @@ fn given_words<R: Env + AllocGlobal>(rt: &R) -> io::Result<Vec<String>> {
     Ok(env::args(rt)?.collect(rt.alloc())?)
 }
 
-/// Does what a line of words asks for, writes what that prints, and gives the exit status. The reader is an operator's,
-/// whom `run` alone hears.
+/// Does what a line of words asks for, writes what that prints, and returns the exit status. The reader is an
+/// operator's; only `run` reads from it.
 ///
-/// 0: the program ran to its end, the device is fresh or large, or all that the operator asked is answered. 1: the
-/// program of a dry run is refused, and the last line written says where and why. 2, for the first of these that holds:
-/// the words ask for nothing that `ngc` does, or for help, and clap's text is written; two of the three files of `run`
-/// are one, and nothing is written or made; the settings file can't be opened or read, and nothing is written, or it is
-/// refused, and one line with its fault is written; another file can't be opened or read, or the one to which is handed
-/// out can't be held, and nothing is written, or a device can't be used, and one line with its fault is written; the
-/// device, the reader or the writer fails, or there isn't enough memory.
+/// The status is 0 if the program ran to its end, the device is fresh or large, or everything that the operator asked
+/// is answered. It is 1 if the program of a dry run is refused; the last line written says where and why. It is 2 in
+/// these cases, of which the first that holds counts:
+/// - The words ask for nothing that `ngc` does, or for help: clap's text is written.
+/// - Two of the three files of `run` are the same: nothing is written or created.
+/// - The settings file can't be opened or read: nothing is written. It is refused: one line with its fault is written.
+/// - Another file can't be opened or read, or the file for hand-outs can't be held: nothing is written. A device can't
+///   be used: one line with its fault is written.
+/// - The device, the reader or the writer fails, or there is no memory.
+///
 /// Source: own.
 pub fn ngc<R: Files + AllocGlobal, I: Read, W: Write>(
     rt: &R,
@@ -101,14 +104,14 @@ where
     match words(rt.alloc(), given) {
         Ok(job) => carry_out(rt, job, reader, writer),
         Err(error) => {
-            // The status says the same whether or not the writer takes the text.
+            // The status is the same whether or not the writer accepts the text.
             let _ = write!(writer, "{error}");
             FAILED
         }
     }
 }
 
-/// Does a job, and gives the exit status.
+/// Does a job, and returns the exit status.
 fn carry_out<R: Files + AllocGlobal, I: Read, W: Write>(
     rt: &R,
     job: Job<'_>,
@@ -157,9 +160,9 @@ where
     }
 }
 
-/// Runs the program of a file that was opened with the settings that were found, and gives the exit status. Where there
-/// are none the program's file isn't looked at, and the fault of settings that are refused is written. The error is
-/// that of the writer of that fault.
+/// Runs the program of an opened file with the settings that were found, and returns the exit status. If there are
+/// none, the program's file isn't used, and if the settings were refused, their fault is written. The error is the
+/// writer's while it writes that fault.
 fn run_chosen<R: Read + Drop, W: Write, A: Allocator + Copy + Drop>(
     alloc: A,
     chosen: Result<Settings, NoSettings>,
@@ -176,8 +179,8 @@ fn run_chosen<R: Read + Drop, W: Write, A: Allocator + Copy + Drop>(
     }
 }
 
-/// Says why there are no settings, and gives the exit status: of a file that can't be read nothing is written, of a
-/// text that is refused the line of its fault. The error is that of the writer.
+/// Reports why there are no settings, and returns the exit status. Nothing is written for a file that can't be read;
+/// the line of the fault for a text that is refused. The error is the writer's.
 pub(crate) fn refuse_settings<W: Write>(writer: &mut W, why: NoSettings) -> io::Result<u8>
     ensures run { IfOk result (RefusesSettings why (W.contents writer.old) (W.contents writer.new)) }
     ensures range { IfOk result (λ status. status ≤ 2) }
@@ -200,8 +203,8 @@ pub(crate) fn refuse<W: Write>(writer: &mut W, fault: Fault) -> io::Result<()>
     writer.write_all(b"\n")
 }
 
-/// Runs the program of a file that was opened, as `run_dry` does. A file that could not be opened gives 2, and
-/// nothing is written.
+/// Runs the program of an opened file, as `run_dry` does. If the file couldn't be opened, the status is 2 and nothing
+/// is written.
 fn run_file<R: Read + Drop, W: Write, A: Allocator + Copy + Drop>(
     alloc: A,
     settings: &Settings,
@@ -218,9 +221,9 @@ fn run_file<R: Read + Drop, W: Write, A: Allocator + Copy + Drop>(
     }
 }
 
-/// Runs a program with settings and without a machine, writes its canonical text, and gives the exit status: 0 at the
-/// program's end, 1 where it is refused, 2 where the reader or the writer fails or there isn't enough memory. Lines
-/// that begin with a slash are deleted where `block_delete` is set.
+/// Runs a program with settings and without a machine, writes its canonical text, and returns the exit status: 0 at the
+/// program's end, 1 if it is refused, 2 if the reader or the writer fails or there is no memory. Lines that begin with
+/// a slash are deleted if `block_delete` is set.
 pub fn run_dry<R: Read, W: Write, A: Allocator + Copy + Drop>(
     alloc: A,
     settings: &Settings,

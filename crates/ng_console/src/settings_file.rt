@@ -1,4 +1,4 @@
-//! The settings that a run is made with.
+//! The settings of a run.
 ghost use Rattle.std.specs.Prelude.{◌≢◌, IfSome};
 ghost use Rattle.ng_console.specs.Chosen.{GivesSettings, GivesChoice};
 
@@ -11,7 +11,7 @@ use std::io::Read;
 /// Why there are no settings.
 #[derive(Clone, Copy)]
 pub(crate) enum NoSettings {
-    /// The file can't be opened or read, or there isn't enough memory for its bytes.
+    /// The file can't be opened or read, or there is no memory for its bytes.
     Unread,
     /// The text is refused.
     Refused(Fault),
@@ -39,7 +39,7 @@ fn settings_of<R: Read + Drop>(alloc: Global, mut file: R) -> Result<Settings, N
     }
 }
 
-/// The settings of a file that was opened, or the default ones where none is named.
+/// The settings of an opened file, or the default settings if no file is named.
 pub(crate) fn chosen_settings<R: Read + Drop>(
     alloc: Global,
     named: Option<io::Result<R>>,

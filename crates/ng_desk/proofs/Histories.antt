@@ -1,4 +1,4 @@
--- A history with one call more, and what its events did.
+-- A history with one more call, and what its events did.
 use Rattle.std.proofs.Common.{◌≡◌, ◌+◌, ℕ, List, [], ◌∷◌, ◌++◌, Option, Some, length, refl, sym, ◌∙◌, ap, subst, arith}
 use Rattle.std.proofs.lemmas.List.{map-append, length-append}
 use Rattle.ng_rig.specs.Trace.{Trace, moment}
@@ -12,7 +12,7 @@ use Rattle.ng_desk.specs.declared.call.Call.{Call}
 use Rattle.ng_desk.specs.Calls.{NumberedFrom, events_of, replies_of}
 use Rattle.ng_desk.specs.Running.{IsPromisedRun, RunsFrom}
 
--- ---- one call more
+-- ---- one more call
 
 pub events_more : {A : Type 0} (history : List (Call A)) (call : Call A) → events_of (history ++ call ∷ []) ≡ events_of history ++ call.event ∷ []
 events_more {A} history call = map-append (λ (c : Call A). c.event) history (call ∷ [])
@@ -24,7 +24,7 @@ pub numbered_more : {A : Type 0} (number : ℕ) (history : List (Call A)) (call 
 numbered_more number [] call numbered is = (omega arith, tt)
 numbered_more number (first ∷ history) call numbered is = (numbered.0, numbered_more (number + 1) history call numbered.1 (omega arith))
 
--- ---- what the events did: all of it follows from that they were answered in turn
+-- ---- what the events did; all of it follows from their being answered in order
 
 module _ {A R : Type 0} (honest : R → Type 0) (trace : R → Trace) (failed sectors : R → ℕ) where
   run_of : (events : List (Event A)) (replies : List Reply) (moments : List ℕ) (old new : ControllerModel R) → length replies ≡ length events
@@ -58,7 +58,7 @@ module _ {A R : Type 0} (honest : R → Type 0) (trace : R → Trace) (failed se
       some_same : (a b : ControllerModel R) → (let s : Option (ControllerModel R) = Some a in s) ≡ Some b → a ≡ b
       some_same a b e = cc
 
-  -- and goes on
+  -- and continues
   pub runs_more : (start : Option (ControllerModel R)) (history : List (Call A)) (moments : List ℕ) (call : Call A) (mid new : ControllerModel R) → RunsFrom honest trace failed sectors start history moments mid
       → IsAnsweredEvent honest trace failed sectors call.event call.reply mid new → sectors new.journal.rig ≡ sectors mid.journal.rig
       → RunsFrom honest trace failed sectors start (history ++ call ∷ []) (moments ++ moment (trace new.journal.rig) ∷ []) new

@@ -1,4 +1,4 @@
--- A struct of one field, by its value in the machine. Assumes `Logic`.
+-- A struct with one field, from its value in the machine. Assumes `Logic`.
 use Rattle.std.proofs.Common.{List, [], ◌∷◌, refl}
 use seplogic.Ra.Ura.{Ura}
 use mir.Val.{Val, vstruct, vcons, vnil}
@@ -8,7 +8,7 @@ use denote.RattleType.{RattleType, Valss}
 use denote.Steps.{nothing}
 use denote.Struct.Struct.{Struct, within}
 
--- by its fields alone: what it owns does not read its name
+-- only the fields matter: what a struct owns doesn't depend on its name
 abbrev pub plainly : List RattleType → RattleType
 plainly Rs = Struct (record { name = []; args = []; types = []; fields = Rs })
 

@@ -8,7 +8,7 @@ use Rattle.ng_desk.specs.Calls.{Seated, StandsIn, RiseFrom, Lacks, AreApart, All
 
 -- ---- lists
 
--- where a loop has come
+-- where a loop is
 pub here : {X : Type 0} (xs : List X) (i : ℕ) (x : X) → i < length xs → x ≡ get_or xs i x → drop i xs ≡ x ∷ drop (i + 1) xs
 here xs i x within is = drop_more xs i x within ∙ ap (λ y. y ∷ drop (i + 1) xs) (sym is)
 
@@ -27,7 +27,7 @@ pub rise_any : {A : Type 0} (n : ℕ) (calls : List (Call A)) → RiseFrom n cal
 rise_any n [] rise = tt
 rise_any n (call ∷ calls) rise = (omega arith, rise.1)
 
--- those that rise from n on are none below it
+-- if they rise from n on, none is below n
 rise_above : {A : Type 0} (m n : ℕ) (calls : List (Call A)) → m < n → RiseFrom n calls → Lacks m calls
 rise_above {A} m n [] below rise = All-nil (λ (call : Call A). m ≢ call.number)
 rise_above {A} m n (call ∷ calls) below rise =
@@ -69,7 +69,7 @@ in_common : {A : Type 0} (call found : Call A) (one other : List (Call A)) → c
 in_common {A} call found one other same apart =
     All-head (λ (found : Call A). call.number ≢ found.number) found other (All-head (λ (call : Call A). Lacks call.number (found ∷ other)) call one apart) same
 
--- the same of lists that begin so
+-- the same for lists that begin so
 module _ {A : Type 0} (left right : List (Call A)) (call found : Call A) (one other : List (Call A)) (l : left ≡ call ∷ one) (r : right ≡ found ∷ other) where
   pub left_after : call.number < found.number → RiseFrom 0 right → Same one right left right
   left_after below rise =
@@ -99,7 +99,7 @@ module _ {A : Type 0} (seats : List (Seated A)) (first : Seated A) (others : Lis
       let all : All (λ (s : Seated A). RiseFrom 0 s.calls) (first ∷ others) = subst (λ (l : List (Seated A)). All (λ (s : Seated A). RiseFrom 0 s.calls) l) is rise in
       (All-head (λ (s : Seated A). RiseFrom 0 s.calls) first others all, All-tail (λ (s : Seated A). RiseFrom 0 s.calls) first others all)
 
-  -- where the first has no number in common with the others, it can be left out
+  -- if the first has no number in common with the others, it can be left out
   pub apart_more_seats : IsApartFrom first.calls others → AllApart (lists_of others) → AllApart (lists_of seats)
   apart_more_seats apart all = subst (λ (l : List (Seated A)). AllApart (lists_of l)) (sym is) (All-map (AreApart first.calls) calls_of others apart, all)
 
@@ -109,7 +109,7 @@ module _ {A : Type 0} (seats : List (Seated A)) (first : Seated A) (others : Lis
   pub apart_others : AllApart (lists_of seats) → AllApart (lists_of others)
   apart_others all = (subst (λ (l : List (Seated A)). AllApart (lists_of l)) is all).1
 
--- all of it, seat by seat
+-- everything, seat by seat
 module _ {A : Type 0} (history : List (Call A)) (seats : List (Seated A)) where
   abbrev AllIn : Type 0
   AllIn = All (λ (s : Seated A). All (StandsIn history) s.calls × RiseFrom 0 s.calls) seats
@@ -130,7 +130,7 @@ module _ {A : Type 0} (history : List (Call A)) (seats : List (Seated A)) where
       let rise = unmapped (RiseFrom 0) calls_of seats agree.rise in
       λ k d within. (stand k d within, rise k d within)
 
--- what a vector of seats holds once a slice of all of them was changed
+-- what a vector of seats holds after a slice of all of them was changed
 pub same_lists : {A : Type 0} (n : ℕ) (old new : List (Seated A)) → length old ≡ n → lists_of new ≡ lists_of old → lists_of (take n (new ++ drop (length new) old)) ≡ lists_of old
 same_lists {A} n old new size same =
     let long : length new ≡ length old = sym (length-map new calls_of) ∙ ap (λ (l : List (List (Call A))). length l) same ∙ length-map old calls_of in

@@ -1,10 +1,10 @@
--- Lists of calls, and how those of the seats stand to the history (own).
+-- Lists of calls, and how those of the seats relate to the history (own).
 use Rattle.std.specs.Prelude.{◌≡◌, ◌≢◌, ◌≤◌, ◌+◌, ℕ, List, [], ◌∷◌, map, All, Some, slice_get}
 use Rattle.ng_session.specs.declared.event.Event.{Event}
 use Rattle.ng_session.specs.declared.reply.Reply.{Reply}
 use Rattle.ng_desk.specs.declared.call.Call.{Call}
 
--- what was given, and what it was answered
+-- what was given, and the replies
 abbrev pub events_of : {A : Type 0} → List (Call A) → List (Event A)
 events_of calls = map (λ call. call.event) calls
 
@@ -31,7 +31,7 @@ lists_of seats = map calls_of seats
 
 -- ---- the history and the seats
 
--- a call stands in the history at its number
+-- a call is in the history at its number
 abbrev pub StandsIn : {A : Type 0} → List (Call A) → Call A → Type 0
 StandsIn history call = slice_get history call.number ≡ Some call
 
@@ -44,17 +44,16 @@ RiseFrom least (call ∷ calls) = (least ≤ call.number) × RiseFrom (call.numb
 abbrev pub Lacks : {A : Type 0} → ℕ → List (Call A) → Type 0
 Lacks {A} number calls = All (λ (call : Call A). number ≢ call.number) calls
 
--- no number stands in both lists
+-- no number is in both lists
 abbrev pub AreApart : {A : Type 0} → List (Call A) → List (Call A) → Type 0
 AreApart {A} one other = All (λ (call : Call A). Lacks call.number other) one
 
--- no number stands in two of the lists
+-- no number is in two of the lists
 abbrev pub AllApart : {A : Type 0} → List (List (Call A)) → Type 0
 AllApart [] = Unit {0}
 AllApart (calls ∷ lists) = All (AreApart calls) lists × AllApart lists
 
--- Each call of a list stands in the history at its number, the numbers of a list rise, and no number stands in two
--- lists.
+-- Each call of a list is in the history at its number, the numbers of a list rise, and no number is in two lists.
 pub record Agree {A : Type 0} (history : List (Call A)) (lists : List (List (Call A))) : Type 0 where
   pub stand : All (All (StandsIn history)) lists
   pub rise : All (RiseFrom 0) lists

@@ -1,5 +1,5 @@
--- What a history's events did to its controller: all that is said here of a controller is what its own calls promise
--- (own).
+-- What a history's events did to its controller (own). Everything that is said of a controller here is what its own
+-- functions guarantee.
 use Rattle.std.specs.Prelude.{◌≡◌, ℕ, List, Option, Some, length, sum_by}
 use Rattle.ng_rig.specs.Trace.{Trace}
 use Rattle.ng_session.specs.declared.event.Event.{Event}
@@ -10,14 +10,14 @@ use Rattle.ng_core.specs.Headline.{AreRun}
 use Rattle.ng_desk.specs.declared.call.Call.{Call}
 use Rattle.ng_desk.specs.Calls.{Seated, NumberedFrom, events_of, replies_of, lists_of}
 
--- a book as its callers see it: the controller, the history of all that it was given, and the moments of its device's
--- trace at which each event was answered
+-- a book as its callers see it: the controller, the history of everything that it was given, and the moments of its
+-- device's trace at which the events were answered
 pub record Booked (R A : Type 0) : Type 0 where
   pub controller : ControllerModel R
   pub history : List (Call A)
   pub moments : List ℕ
 
--- What `run` promises of these events with these replies, answered at these moments, from one controller to another.
+-- What `run` guarantees for these events with these replies, answered at these moments, from one controller to another.
 pub record IsPromisedRun {A R : Type 0} (honest : R → Type 0) (trace : R → Trace) (failed sectors : R → ℕ) (events : List (Event A)) (replies : List Reply) (moments : List ℕ) (old new : ControllerModel R) : Type 0 where
   pub runs : AreRun honest trace failed sectors events replies moments old new
   pub each : length replies ≡ length events
@@ -25,13 +25,13 @@ pub record IsPromisedRun {A R : Type 0} (honest : R → Type 0) (trace : R → T
   pub equipment : new.equipment ≡ old.equipment
   pub size : sectors new.journal.rig ≡ sectors old.journal.rig
 
--- the same of a history, from the controller where it started
+-- the same for a history, from the controller where it started
 abbrev pub RunsFrom : {A R : Type 0} → (R → Type 0) → (R → Trace) → (failed sectors : R → ℕ) → Option (ControllerModel R) → List (Call A) → (moments : List ℕ) → ControllerModel R → Type 0
 RunsFrom {A} {R} honest trace failed sectors start history moments now =
     (first : ControllerModel R) → start ≡ Some first → IsPromisedRun honest trace failed sectors (events_of history) (replies_of history) moments first now
 
--- A desk was closed with these seats: controller and history, whose numbers count up from 0, by the moments that its
--- book kept, and the lists of the seats as they were. The history is as long as these lists together.
+-- A desk with these seats was closed. The history's numbers count up from 0, and its moments are those that the book
+-- kept. The lists of the seats are as they were, and the history is as long as all of them together.
 pub record IsClosed {A R : Type 0} (honest : R → Type 0) (trace : R → Trace) (failed sectors : R → ℕ) (start : Option (ControllerModel R)) (seats : List (Seated A)) (controller : ControllerModel R) (history : List (Call A)) (left : List (Seated A)) : Type 0 where
   pub moments : List ℕ
   pub runs : RunsFrom honest trace failed sectors start history moments controller

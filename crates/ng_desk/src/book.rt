@@ -1,4 +1,4 @@
-//! A controller, and the history of what it was given.
+//! A controller with the history of what it was given.
 ghost use Rattle.std.specs.Prelude.{◌≡◌, ◌<◌, ◌+◌, ◌++◌, [], ◌∷◌, Some, length, IfOk, IfErr, OnOk};
 ghost use Rattle.ng_num.specs.declared.fault.Fault.TheVariants.{OutOfMemory};
 ghost use Rattle.ng_rig.specs.Trace.{moment};
@@ -17,9 +17,9 @@ use std::marker::Model;
 use std::sync::ledger;
 use std::sync::ledger::Share;
 
-/// A controller and the history of all that it was given (own). Contracts see a `Booked`. Replies and controller are
-/// always what `run` promises of the history's events, from the controller that the book was made of, each answered at
-/// the moment that the book keeps of it.
+/// A controller with the history of everything that it was given (own). Contracts see a `Booked`. The replies and the
+/// controller are always what `run` guarantees for the history's events, starting from the controller that the book was
+/// made of, with each event answered at the moment that the book keeps for it.
 pub struct Book<R: Rig, A: Allocator + Copy + Drop, O: Origin<R>> {
     alloc: A,
     controller: Controller<R, A>,
@@ -28,7 +28,7 @@ pub struct Book<R: Rig, A: Allocator + Copy + Drop, O: Origin<R>> {
     moments: Moments<R, A>,
     /// Counts the calls of all shares.
     calls: ledger::Book<O>,
-    /// Of no part, and of no call.
+    /// A share of no part and no call.
     spare: Share<O>,
 }
 
@@ -45,10 +45,10 @@ impl<R: Rig, A: Allocator + Copy + Drop, O: Origin<R>> Model for Book<R, A, O> {
 }
 
 impl<R: Rig, A: Allocator + Copy + Drop, O: Origin<R>> Book<R, A, O> {
-    /// An empty history at the controller where it starts, and a ledger of no call. It takes no memory.
+    /// An empty history with the controller where it starts, and a ledger of no call. It doesn't allocate.
     ///
-    /// A call of its own: `Desk::new` gives the controller at one place of its result or at another, and where LLVM
-    /// sees both ways whole it splits the one by the pieces of the other, thousands of times over.
+    /// This is a function of its own, and isn't inlined: `Desk::new` returns the controller at one of two places in its
+    /// result, and if LLVM sees both, it splits each into the pieces of the other, thousands of times over.
     #[inline(never)]
     pub fn new(
         alloc: A,
@@ -71,12 +71,12 @@ impl<R: Rig, A: Allocator + Copy + Drop, O: Origin<R>> Book<R, A, O> {
         }
     }
 
-    /// Gives an event to the controller, and appends a call: the event, what was answered, and how many there were
-    /// before as its number (own). It answers a copy of that call, and the share counts it. In proofs it also keeps the
-    /// moment at which the device then is.
+    /// Gives an event to the controller, and appends a call to the history: the event, its reply, and as its number how
+    /// many calls there were before (own). It returns a copy of that call, and the share counts it. In proofs it also
+    /// keeps the moment at which the device is then.
     ///
-    /// M1 where there isn't enough memory for the history or for a copy of the event's text: the event isn't given
-    /// then, and nothing is changed. Every other refusal is the call's reply.
+    /// M1 if there is no memory for the history or for a copy of the event's text; then the event isn't given, and
+    /// nothing is changed. Every other refusal is the reply of the call.
     pub fn give(&mut self, event: &Event<A>, mine: &mut Share<O>) -> Result<Call<A>, Fault>
         requires { 0 < mine.old.parts }
         ensures call { IfOk result (λ call. (call.number ≡ length self.old.history) × (call.event ≡ event.now)) }
@@ -100,7 +100,7 @@ impl<R: Rig, A: Allocator + Copy + Drop, O: Origin<R>> Book<R, A, O> {
         Ok(Call::of(number, told, &reply))
     }
 
-    /// A share of no part and of no call.
+    /// A share of no part and no call.
     pub(crate) fn no_share(&mut self) -> Share<O>
         ensures none { (result.parts ≡ 0) × (result.amount ≡ 0) }
         ensures same { self.new ≡ self.old }
@@ -108,7 +108,7 @@ impl<R: Rig, A: Allocator + Copy + Drop, O: Origin<R>> Book<R, A, O> {
         self.spare.empty()
     }
 
-    /// The controller and the history, which is as long as what all shares together have counted.
+    /// The controller and the history. The history is as long as all shares together have counted.
     pub(crate) fn close(self, all: Share<O>) -> (Controller<R, A>, Vec<Call<A>, A>)
         requires { all.parts ≡ O.parts }
         ensures runs { RunsFrom R.honest R.trace R.failed R.sectors O.start result.1.items self.moments result.0 }

@@ -1,27 +1,27 @@
-//! What was given, and what it was answered.
+//! An event that was given, and its reply.
 ghost use Rattle.std.specs.Prelude.{◌≡◌, ◌↔◌, IsTrue, IfOk};
 
 use ng_core::{Event, Reply, Status, Text};
 use ng_num::Fault;
 use std::alloc::{AllocError, Allocator};
 
-/// One event that was given to a controller, and what it was answered (own).
+/// One event that was given to a controller, and its reply (own).
 #[derive(Drop)]
 pub struct Call<A: Allocator> {
-    /// Its place among all that were given there, from 0.
+    /// Its position among all events that were given there, from 0.
     pub number: u64,
     pub event: Event<A>,
     pub reply: Reply,
 }
 
-/// The same text. `AllocError` where its bytes found no memory.
+/// A copy of a text. `AllocError` if there is no memory for its bytes.
 fn copied_text<A: Allocator + Copy + Drop>(alloc: A, text: &Text<A>) -> Result<Text<A>, AllocError>
     ensures { IfOk result (λ copy. copy ≡ text.now) }
 {
     Ok(Text::of(Vec::from_slice(alloc, text.bytes())?))
 }
 
-/// The same event. `AllocError` where its text found no memory.
+/// A copy of an event. `AllocError` if there is no memory for its text.
 pub(crate) fn copied<A: Allocator + Copy + Drop>(
     alloc: A,
     event: &Event<A>,
@@ -59,7 +59,7 @@ fn is_same_fault(one: &Fault, other: &Fault) -> bool
     *one == *other
 }
 
-/// Whether the status shows the same of what is stored.
+/// Whether two statuses show the same of what is stored.
 fn is_same_stored(one: &Status, other: &Status) -> bool
     ensures { IsTrue result ↔ ((one.now.entries ≡ other.now.entries) × (one.now.place ≡ other.now.place) × (one.now.point ≡ other.now.point) × (one.now.point_known ≡ other.now.point_known)) }
 {
@@ -69,7 +69,7 @@ fn is_same_stored(one: &Status, other: &Status) -> bool
         && one.point_known == other.point_known
 }
 
-/// Whether two states are the same, as the status shows them.
+/// Whether two statuses show the same state.
 fn is_same_status(one: &Status, other: &Status) -> bool
     ensures { IsTrue result ↔ (one.now ≡ other.now) }
 {
@@ -131,7 +131,7 @@ impl<A: Allocator + Drop> Call<A> {
         }
     }
 
-    /// What it was answered.
+    /// The reply.
     pub(crate) fn answer(&self) -> Reply
         ensures { result ≡ self.now.reply }
     {

@@ -1,4 +1,4 @@
-//! Whether what the seats hold agrees with the history. Nothing here takes memory.
+//! Whether the seats' lists agree with the history. Nothing here allocates.
 ghost use Rattle.std.specs.Prelude.{◌≡◌, ◌↔◌, IsTrue, All, map, MatchResult};
 ghost use Rattle.ng_num.specs.declared.fault.Fault.TheVariants.{SeatsDisagree};
 ghost use Rattle.ng_desk.specs.Calls.{StandsIn, RiseFrom, AreApart, AllApart, Agree, calls_of, lists_of};
@@ -9,7 +9,7 @@ use ng_num::Fault;
 use std::alloc::Allocator;
 use std::sync::ledger::Ledger;
 
-/// Whether a call stands in the history at its number.
+/// Whether a call is in the history at its number.
 fn stands<A: Allocator + Drop>(history: &[Call<A>], call: &Call<A>) -> bool
     ensures { IsTrue result ↔ StandsIn history.now call.now }
 {
@@ -19,7 +19,7 @@ fn stands<A: Allocator + Drop>(history: &[Call<A>], call: &Call<A>) -> bool
     }
 }
 
-/// Whether each of some calls stands in the history at its number, and the numbers rise.
+/// Whether each of these calls is in the history at its number, and the numbers rise.
 fn are_in<A: Allocator + Drop>(history: &[Call<A>], calls: &[Call<A>]) -> bool
     ensures { IsTrue result ↔ All (StandsIn history.now) calls.now × RiseFrom 0 calls.now }
 {
@@ -33,7 +33,7 @@ fn are_in<A: Allocator + Drop>(history: &[Call<A>], calls: &[Call<A>]) -> bool
     true
 }
 
-/// Whether two lists, in each of which the numbers rise, have no number in common.
+/// Whether two lists with rising numbers have no number in common.
 fn are_apart<A: Allocator + Drop>(one: &[Call<A>], other: &[Call<A>]) -> bool
     requires { RiseFrom 0 one.now × RiseFrom 0 other.now }
     ensures { IsTrue result ↔ AreApart one.now other.now }
@@ -55,7 +55,7 @@ fn are_apart<A: Allocator + Drop>(one: &[Call<A>], other: &[Call<A>]) -> bool
     true
 }
 
-/// Whether each seat's calls stand in the history at their numbers, and rise.
+/// Whether each seat's calls are in the history at their numbers, and rise.
 fn all_in<A: Allocator + Copy + Drop, O: Ledger>(history: &[Call<A>], seats: &[Seat<A, O>]) -> bool
     ensures { IsTrue result ↔ All (λ s. All (StandsIn history.now) s.calls × RiseFrom 0 s.calls) seats.now }
 {
@@ -67,7 +67,7 @@ fn all_in<A: Allocator + Copy + Drop, O: Ledger>(history: &[Call<A>], seats: &[S
     true
 }
 
-/// Whether no number of these calls stands in one of the seats.
+/// Whether none of these calls' numbers is in one of the seats.
 fn is_apart_from<A: Allocator + Copy + Drop, O: Ledger>(
     calls: &[Call<A>],
     seats: &[Seat<A, O>],
@@ -83,7 +83,7 @@ fn is_apart_from<A: Allocator + Copy + Drop, O: Ledger>(
     true
 }
 
-/// Whether no number stands in two seats.
+/// Whether no number is in two seats.
 fn all_apart<A: Allocator + Copy + Drop, O: Ledger>(seats: &[Seat<A, O>]) -> bool
     requires { All (λ s. RiseFrom 0 s.calls) seats.now }
     ensures { IsTrue result ↔ AllApart (lists_of seats.now) }
@@ -98,14 +98,14 @@ fn all_apart<A: Allocator + Copy + Drop, O: Ledger>(seats: &[Seat<A, O>]) -> boo
     true
 }
 
-/// Whether what the seats hold agrees with the history.
+/// Whether the seats' lists agree with the history.
 fn agree<A: Allocator + Copy + Drop, O: Ledger>(history: &[Call<A>], seats: &[Seat<A, O>]) -> bool
     ensures { IsTrue result ↔ Agree history.now (lists_of seats.now) }
 {
     all_in(history, seats) && all_apart(seats)
 }
 
-/// K6 exactly where what the seats hold disagrees with the history.
+/// K6 exactly if the seats' lists disagree with the history.
 pub(crate) fn compare<A: Allocator + Copy + Drop, O: Ledger>(
     history: &[Call<A>],
     seats: &[Seat<A, O>],

@@ -1,4 +1,4 @@
-//! A lock round a book, and a seat for each caller.
+//! A lock around a book, and a seat for each caller.
 ghost use Rattle.std.specs.Prelude.{◌≡◌, ◌≤◌, ◌++◌, [], ◌∷◌, length, map, sum_by, All, Some, IfOk, IfErr, MatchResult, false};
 ghost use Rattle.ng_num.specs.declared.fault.Fault.TheVariants.{OutOfMemory, SeatsDisagree};
 ghost use Rattle.ng_desk.specs.Calls.{Agree, lists_of};
@@ -22,11 +22,11 @@ pub struct Desk<R: Rig, A: Allocator + Copy + Drop, O: Origin<R>> {
 }
 
 impl<R: Rig, A: Allocator + Copy + Drop, O: Origin<R>> Desk<R, A, O> {
-    /// A desk with so many seats, at least one, over a controller that isn't broken, as `power_on` gave it (own). Its
-    /// history is empty.
+    /// A desk with this many seats, at least one, over a controller that isn't broken, as `power_on` returned it (own).
+    /// Its history is empty.
     ///
-    /// M1 where there is no room for the seats: the controller is handed back as it was. `blank` is a ledger of as many
-    /// parts; it has no bytes.
+    /// M1 if there is no memory for the seats; then the controller is returned as it was. `blank` is a ledger with as
+    /// many parts as seats; it has no bytes.
     pub fn new(
         alloc: A,
         blank: Blank,
@@ -57,11 +57,11 @@ impl<R: Rig, A: Allocator + Copy + Drop, O: Origin<R>> Desk<R, A, O> {
         ))
     }
 
-    /// Gives an event to the controller, from a seat of this desk, and answers its reply (own). It may wait, for the
-    /// lock. The seat has one call more then: the event and that reply.
+    /// Gives an event to the controller, from a seat of this desk, and returns the reply (own). It may wait for the
+    /// lock. After that the seat has one more call: the event and that reply.
     ///
-    /// M1 where there isn't enough memory for the seat, for the history or for a copy of the event's text: the event
-    /// isn't given then, and the seat is as it was. Every other refusal is the reply.
+    /// M1 if there is no memory for the seat, for the history or for a copy of the event's text; then the event isn't
+    /// given, and the seat is as it was. Every other refusal is the reply.
     pub fn call<W: Wait>(
         &self,
         rt: &W,
@@ -80,12 +80,12 @@ impl<R: Rig, A: Allocator + Copy + Drop, O: Origin<R>> Desk<R, A, O> {
         Ok(reply)
     }
 
-    /// The controller, the history and all seats of this desk, and whether the history agrees with the seats' lists
-    /// (own). It takes no memory.
+    /// Returns the controller, the history and all seats of this desk, and whether the history agrees with the seats'
+    /// lists (own). It doesn't allocate.
     ///
-    /// K6 exactly where a seat's call isn't the history's at its number, a seat's numbers don't rise, or a number
-    /// stands in two seats. The history is as long as all seats' lists together, and controller, device and replies are
-    /// what `run` promises of its events, with K6 too. No call is made from the seats any more.
+    /// K6 exactly if a seat's call isn't the history's call at its number, a seat's numbers don't rise, or a number is
+    /// in two seats. The history is as long as all seats' lists together, and controller, device and replies are what
+    /// `run` guarantees for its events, with K6 too. No more calls are made from the seats.
     pub fn close(
         self,
         seats: Vec<Seat<A, O>, A>,

@@ -1,4 +1,4 @@
-//! A seat's list that tells another reply than the history. No caller can change its list, so this test stands here.
+//! A seat's list with another reply than the history has. No caller can change its list, so this test is in this crate.
 ghost use Rattle.std.specs.Prelude.{◌≡◌, Some, false};
 
 use crate::call::Call;
@@ -16,7 +16,7 @@ use std::sync::Wait;
 use std::sync::ledger::{Blank, Ledger};
 use std::test::Fail;
 
-/// The last call of a seat then tells this reply.
+/// Puts this reply into the last call of a seat.
 fn retell<O: Ledger>(seat: &mut Seat<Global, O>, reply: Reply)
     ensures { seat.new.parts ≡ seat.old.parts }
 {
@@ -36,8 +36,8 @@ fn retell<O: Ledger>(seat: &mut Seat<Global, O>, reply: Reply)
     }
 }
 
-/// A desk with two seats, each of which ticks once, where the second one's call then tells this reply: what the close
-/// answers.
+/// A desk with two seats, each of which ticks once. Then this reply is put into the second seat's call. The result is
+/// that of the close.
 fn closed_at<R: Rig + Drop, O: Origin<R>, W: Wait>(
     rt: &W,
     alloc: Global,
@@ -70,7 +70,7 @@ fn closed_at<R: Rig + Drop, O: Origin<R>, W: Wait>(
     agreed
 }
 
-/// The same over a new device.
+/// Does what `closed_at` does, over a new device.
 fn closed<W: Wait>(rt: &W, alloc: Global, told: Reply) -> Result<(), Fault> {
     let mut rig = MemoryRig::new(alloc, 1_710)?;
     format(&mut rig)?;
@@ -83,7 +83,7 @@ fn closed<W: Wait>(rt: &W, alloc: Global, told: Reply) -> Result<(), Fault> {
 }
 
 #[test]
-fn a_list_that_tells_another_reply(rt: HostRuntime) -> Result<(), Fail> {
+fn a_list_with_another_reply(rt: HostRuntime) -> Result<(), Fail> {
     assert_eq!(rt; closed(&rt, rt.alloc(), Reply::Idle), Ok(()));
     assert_eq!(rt;
         closed(&rt, rt.alloc(), Reply::Held),

@@ -1,4 +1,4 @@
-//! When events were answered, for proofs alone.
+//! The moments at which events were answered, for proofs only.
 ghost use Rattle.std.specs.Prelude.{◌≡◌, ◌++◌, [], ◌∷◌};
 
 use crate::past::Past;
@@ -7,8 +7,8 @@ use ng_rig::Rig;
 use std::alloc::Allocator;
 use std::marker::Model;
 
-/// The moments of a device's trace at which events were answered, one after the other (own). Contracts see a list of
-/// numbers; a program keeps none of them, so it takes no memory.
+/// The moments of a device's trace at which events were answered, in order (own). Contracts see a list of numbers. A
+/// program keeps none of them, so it doesn't allocate.
 #[derive(Drop)]
 pub(crate) struct Moments<R: Rig, A: Allocator + Copy + Drop> {
     /// The controller as each event left it.

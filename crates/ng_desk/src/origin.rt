@@ -1,9 +1,9 @@
-//! Where a history starts.
+//! The controller with which a history starts.
 use std::marker::Brand;
 use std::sync::ledger::Ledger;
 
-/// The controller that a desk over devices `R` is made of, and the ledger that counts its calls (own). It stands in
-/// proofs alone: each call that makes a desk picks it, at the type `Brand`.
+/// The controller that a desk over devices `R` is made of, and the ledger that counts its calls (own). It exists only
+/// in proofs: each call that makes a desk chooses it, at the type `Brand`.
 pub trait Origin<R>: Ledger {
     ghost use Rattle.std.specs.Prelude.{Option};
     ghost use Rattle.ng_core.specs.Model.{ControllerModel};

@@ -1,11 +1,11 @@
-//! Values of the past, for proofs alone.
+//! Values of the past, for proofs only.
 ghost use Rattle.std.specs.Prelude.{◌≡◌, List, [], ◌∷◌, ◌++◌};
 ghost use Rattle.std.specs.Borrow.{ftrue};
 
 use std::marker::{Model, PhantomData};
 
-/// Values as they were, one after the other (own), which only proofs read as `values`. It takes no memory, and its
-/// methods do nothing at run time.
+/// Values as they were, in order (own). Only proofs read them, as `values`. It doesn't allocate, and its methods do
+/// nothing at run time.
 #[derive(Drop)]
 pub(crate) struct Past<T> {
     of: PhantomData<T>,
@@ -27,7 +27,7 @@ impl<T> Past<T> {
         Past { of: PhantomData }
     }
 
-    /// These values, and after them this one as it is now.
+    /// These values, followed by this one as it is now.
     pub(crate) fn and(&self, value: &T) -> Past<T>
         ensures { result.values ≡ self.now.values ++ value.now ∷ [] }
     {

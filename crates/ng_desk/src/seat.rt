@@ -26,7 +26,7 @@ impl<A: Allocator, O: Ledger> Model for Seat<A, O> {
 }
 
 impl<A: Allocator + Copy + Drop, O: Ledger> Seat<A, O> {
-    /// A seat with no call. It takes no memory.
+    /// A seat with no call. It doesn't allocate.
     pub(crate) fn new(alloc: A, share: Share<O>) -> Seat<A, O>
         requires { (share.parts ≡ 1) × (share.amount ≡ 0) }
         ensures { result ≡ record { calls = []; parts = 1 } }
@@ -37,14 +37,14 @@ impl<A: Allocator + Copy + Drop, O: Ledger> Seat<A, O> {
         }
     }
 
-    /// The calls that were made from here, in their order (own).
+    /// The calls that were made from here, in order (own).
     pub fn calls(&self) -> &[Call<A>]
         ensures { result.now ≡ self.now.calls }
     {
         self.calls.as_slice()
     }
 
-    /// Takes the share away: no call is made from here any more.
+    /// Takes the share away: no more calls are made from here.
     pub(crate) fn take_share(&mut self) -> Share<O>
         requires { self.old.parts ≡ 1 }
         ensures calls { self.new.calls ≡ self.old.calls }

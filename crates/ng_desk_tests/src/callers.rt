@@ -37,7 +37,7 @@ enum Role {
 }
 
 impl Role {
-    /// The first of so many callers ticks, the last one commands, those between them ask and tick by turns.
+    /// The first of this many callers ticks, the last one commands, and those between them ask and tick alternately.
     fn of(index: usize, callers: usize) -> Role {
         if index >= callers.saturating_sub(1) {
             Role::Commands
@@ -49,7 +49,7 @@ impl Role {
     }
 }
 
-/// Whether a reply tells what is awaited.
+/// Whether a reply shows what is awaited.
 fn tells(reply: Reply, awaited: Awaited) -> bool {
     match (reply, awaited) {
         (Reply::Held, Awaited::Held) => true,
@@ -59,7 +59,7 @@ fn tells(reply: Reply, awaited: Awaited) -> bool {
     }
 }
 
-/// Gives an event and gives way: the reply, or M1.
+/// Gives an event and yields to other threads. Returns the reply, or M1.
 fn give<R: Rig, O: Origin<R>, W: Wait>(
     rt: &W,
     desk: &Desk<R, Global, O>,
@@ -74,7 +74,7 @@ fn give<R: Rig, O: Origin<R>, W: Wait>(
     reply
 }
 
-/// Gives an event until a reply tells what is awaited, at most so often.
+/// Gives an event until a reply shows what is awaited, at most this often.
 fn give_until<R: Rig, O: Origin<R>, W: Wait>(
     rt: &W,
     desk: &Desk<R, Global, O>,
@@ -150,8 +150,9 @@ fn work_all<R: Rig + Drop + Send, O: Origin<R> + Send + Sync, W: Threads + Wait 
     );
 }
 
-/// Whether a caller was answered as its work has it: held at the end. One that commands first loaded and started the
-/// program, and saw a half-done block right before it held: the others had their turns before it was through.
+/// Whether a caller got the replies that its role expects: held at the end. A caller that commands loaded and started
+/// the program first, and saw a half-done block right before it held; the others had their turns before it was
+/// finished.
 fn is_answered(role: Role, calls: &[Call<Global>]) -> bool {
     let Some(last) = calls.last() else {
         return false;
@@ -168,8 +169,8 @@ fn is_answered(role: Role, calls: &[Call<Global>]) -> bool {
     }
 }
 
-/// The first caller that was answered otherwise.
-fn first_astray<O: Ledger>(seats: &[Seat<Global, O>]) -> Option<Role> {
+/// The first caller that got other replies.
+fn first_mismatch<O: Ledger>(seats: &[Seat<Global, O>]) -> Option<Role> {
     for (index, seat) in seats.iter().enumerate() {
         let role = Role::of(index, seats.len());
         if !is_answered(role, seat.calls()) {
@@ -179,7 +180,7 @@ fn first_astray<O: Ledger>(seats: &[Seat<Global, O>]) -> Option<Role> {
     None
 }
 
-/// So many callers at one desk: the first that was answered otherwise than its work has it, and the history.
+/// This many callers at one desk: the first that got other replies than its role expects, and the history.
 fn day<R: Rig + Drop + Send, O: Origin<R> + Send + Sync, W: Threads + Wait + Sync>(
     rt: &W,
     alloc: Global,
@@ -202,15 +203,15 @@ fn day<R: Rig + Drop + Send, O: Origin<R> + Send + Sync, W: Threads + Wait + Syn
         Err((fault, controller)) => return (controller, Err(fault)),
     };
     work_all(rt, &desk, seats.as_mut_slice(), load);
-    let astray = first_astray(seats.as_slice());
+    let mismatch = first_mismatch(seats.as_slice());
     let (controller, history, _, agreed) = desk.close(seats);
     match agreed {
-        Ok(()) => (controller, Ok((astray, history))),
+        Ok(()) => (controller, Ok((mismatch, history))),
         Err(fault) => (controller, Err(fault)),
     }
 }
 
-/// Whether `run` of a history's events over a like device gives its replies.
+/// Whether `run` of a history's events over a similar device returns its replies.
 fn runs_alike(alloc: Global, history: Vec<Call<Global>>) -> Result<bool, Fault> {
     let mut events = Vec::new(alloc);
     let mut replies = Vec::new(alloc);
@@ -228,8 +229,8 @@ fn runs_alike(alloc: Global, history: Vec<Call<Global>>) -> Result<bool, Fault> 
     Ok(answers?.as_slice() == replies.as_slice())
 }
 
-/// So many callers at a desk over a new device: the first that was answered otherwise, and whether `run` answers as
-/// they were answered.
+/// This many callers at a desk over a new device: the first that got other replies, and whether `run` returns the
+/// replies that they got.
 fn day_at_a_fresh_desk<W: Threads + Wait + Sync>(
     rt: &W,
     alloc: Global,
@@ -244,16 +245,16 @@ fn day_at_a_fresh_desk<W: Threads + Wait + Sync>(
         rt, alloc, blank, controller, callers, &load,
     );
     drop(controller.into_rig());
-    let (astray, history) = came?;
-    Ok((astray, runs_alike(alloc, history)?))
+    let (mismatch, history) = came?;
+    Ok((mismatch, runs_alike(alloc, history)?))
 }
 
-/// How many days there are at most: where the system lets a caller stand for long, another one may have made all its
-/// calls before.
+/// How many days there are at most. If the system doesn't run a caller for long, another one may make all its calls
+/// before it.
 const MOST_DAYS: u32 = 10;
 
-/// The first day on which each caller was answered as its work has it, or on which `run` answers otherwise; else the
-/// last one.
+/// The first day on which each caller got the replies that its role expects, or on which `run` returns other replies;
+/// else the last day.
 fn best_day<W: Threads + Wait + Sync>(
     rt: &W,
     alloc: Global,
@@ -262,9 +263,9 @@ fn best_day<W: Threads + Wait + Sync>(
     requires { 1 ≤ callers }
 {
     for _day in 1..MOST_DAYS {
-        let (astray, is_alike) = day_at_a_fresh_desk(rt, alloc, callers)?;
-        if astray.is_none() || !is_alike {
-            return Ok((astray, is_alike));
+        let (mismatch, is_alike) = day_at_a_fresh_desk(rt, alloc, callers)?;
+        if mismatch.is_none() || !is_alike {
+            return Ok((mismatch, is_alike));
         }
     }
     day_at_a_fresh_desk(rt, alloc, callers)

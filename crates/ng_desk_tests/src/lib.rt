@@ -1,7 +1,7 @@
-//! Tests of a desk for callers in threads, over devices in memory, through public calls. No program stands on this
+//! Tests of a desk for callers in threads, over devices in memory, through public functions. No program depends on this
 //! crate.
 //!
-//! Expected values are worked out by hand from what a controller answers, never taken from what the crates answer.
+//! Expected values are worked out by hand from what a controller does, never copied from what the crates return.
 #![tactic(auto)]
 
 #[cfg(test)]

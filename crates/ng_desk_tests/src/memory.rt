@@ -1,4 +1,4 @@
-//! Too little memory at a desk: for its seats, for a call.
+//! Too little memory at a desk: for its seats, or for a call.
 ghost use Rattle.std.specs.Prelude.{◌≡◌, ◌≤◌, Some, false};
 
 use crate::devices::started;
@@ -16,24 +16,24 @@ use std::test::Fail;
 /// How many seats the desk has.
 const SEATS: usize = 64;
 
-/// What was answered to the one call at a desk, how many calls its seat told of then, and how many the history.
+/// The reply to the only call at a desk, how many calls its seat had then, and how many the history.
 type Called = (Result<Reply, Fault>, usize, usize);
 
-/// What a desk came to where memory is short.
+/// What happened at a desk when memory is short.
 #[derive(Clone, Copy, Debug, PartialEq, Eq)]
 enum Outcome {
     /// There was no memory for its seats.
     NoDesk,
-    /// There was none for the call, which neither the seat nor the history has.
+    /// There was no memory for the call, which neither the seat nor the history has.
     NoCall,
-    /// The call was made, and the controller found no memory for the program.
+    /// The call was made, and there was no memory for the program in the controller.
     NoProgram,
     /// The call was made, and the program was loaded.
     Loaded,
 }
 
-/// Makes a desk, gives an event from its last seat, and closes it: the controller, and what was answered or why there
-/// was no desk.
+/// Makes a desk, gives an event from its last seat, and closes it. Returns the controller, and the reply or the reason
+/// why there was no desk.
 fn call_once<R: Rig, A: Allocator + Copy + Drop, O: Origin<R>, W: Wait>(
     rt: &W,
     alloc: A,
@@ -63,7 +63,7 @@ fn call_once<R: Rig, A: Allocator + Copy + Drop, O: Origin<R>, W: Wait>(
     }
 }
 
-/// What came of a desk, where it is an outcome: with no memory all is as it was.
+/// The outcome at a desk, if it is one: if there was no memory, everything is as before.
 fn outcome_of(called: Result<Called, Fault>, is_as_before: bool) -> Option<Outcome> {
     match (called, is_as_before) {
         (Err(Fault::OutOfMemory), true) => Some(Outcome::NoDesk),
@@ -74,7 +74,7 @@ fn outcome_of(called: Result<Called, Fault>, is_as_before: bool) -> Option<Outco
     }
 }
 
-/// What comes of a desk where a program of 1,000 bytes is loaded over a new device, which has memory of its own.
+/// The outcome at a desk if a program of 1,000 bytes is loaded over a new device, which has memory of its own.
 fn came_of<A: Allocator + Copy + Drop, W: Wait>(
     rt: &W,
     alloc: A,
@@ -95,10 +95,9 @@ fn came_of<A: Allocator + Copy + Drop, W: Wait>(
     Ok(outcome_of(called, before == after))
 }
 
-/// The bytes of a heap, and what comes of a desk there. Power on takes two tables of parameters of 43,192 bytes and
-/// 79,352 for the lines that are planned, the program 1,000, the seats 32 each; a call then grows the seat's list,
-/// grows the history, and copies the program three times, and each of these five is refused in turn; a load takes one
-/// more table.
+/// The bytes of a heap, and the outcome there. Power on takes two tables of parameters of 43,192 bytes and 79,352 for
+/// the lines that are planned, the program 1,000, the seats 32 each; a call then grows the seat's list, grows the
+/// history, and copies the program three times, and each of these five is refused in turn; a load takes one more table.
 const HEAPS: &[(usize, Outcome)] = &[
     (167_352, Outcome::NoDesk),
     (169_152, Outcome::NoCall),

@@ -1,4 +1,4 @@
--- What is asked, of the parts of a text.
+-- What is asked, in terms of the parts of a text.
 use Rattle.std.proofs.Common.{◌≡◌, ◌≤◌, ◌<◌, ◌⊎◌, ℕ, List, Option, None, Some, Result, Ok, Err, IfOk, length, take, refl, sym, ap, ◌∙◌, subst, inl, inr, arith, length-append, length-take}
 use Rattle.std.proofs.lemmas.List.{take_all}
 use Rattle.std.specs.Io.KnownBytes.{Consumes, IsAtEnd}
@@ -29,12 +29,12 @@ taken_short (Some more) (Some rest) n bytes order p size end is =
     let none : length rest ≡ 0 = ap length end in
     inr (omega (arith, whole, none, size), end, is)
 
--- no more was taken than the line
+-- nothing but the line was taken
 pub taken_alone : {A : Type 0} (old : Option (List ℕ)) (command : ConsoleCommand) (order : Order A) → ((more : List ℕ) → Means command more order more) → AfterCommand command old old order
 taken_alone None command order h = tt
 taken_alone (Some more) command order h = h more
 
--- what is kept of a line is all of it, where it isn't long
+-- if what is kept of a line isn't long, it is the whole line
 kept_whole : (line kept : List ℕ) → kept ≡ take 301 line → length kept ≤ 300 → kept ≡ line
 kept_whole line kept is short =
     let size = simp length-take at (ap length is) in
@@ -51,7 +51,7 @@ none_whole line kept is none command asked =
     let P : List ℕ → Type 0 = λ l. IsCommand l command in
     none command (subst P same asked)
 
--- a line that is no command
+-- a line that isn't a command
 pub heard_none : {A : Type 0} (old new : Option (List ℕ)) (kept : List ℕ) (order : Order A) → TakesLine 301 old new kept → IsNoCommand kept → order ≡ Refuse BadCommand → TakesOrder old new (Some order)
 heard_none None new kept order took none is = tt
 heard_none (Some text) None kept order took none is = absurd took
@@ -70,7 +70,7 @@ heard (Some text) (Some more) None kept command (Some order) took asked follows 
 heard (Some text) (Some more) (Some rest) kept command (Some order) took asked follows =
     (took.0, more, took.1, inr (command, command_whole took.0 kept command took.2 asked, follows))
 
--- the same, where the reader or memory may have failed
+-- the same, if the reader or the allocation may have failed
 pub heard_ok : {A E : Type 0} (old mid new : Option (List ℕ)) (kept : List ℕ) (command : ConsoleCommand) (r : Result (Option (Order A)) E) → TakesLine 301 old mid kept → IsCommand kept command
     → IfOk r (TakesCommand command mid new) → IfOk r (TakesOrder old new)
 heard_ok old mid new kept command (Ok order) took asked follows = heard old mid new kept command order took asked follows

@@ -1,4 +1,4 @@
--- Parts of a buffer, and the front of a line.
+-- Parts of a buffer, and the start of a line.
 use Rattle.std.proofs.Common.{◌≡◌, ◌≢◌, ◌≤◌, ◌+◌, ◌-◌, min, ℕ, suc, zero, Bool, true, false, not, ◌==◌, List, [], ◌∷◌, ◌++◌, length, take, drop, slice_range, refl, sym, ap, ◌∙◌, arith, length-take, length-drop, append-nil, take-append-drop}
 use Rattle.std.proofs.lemmas.List.{drop-take, drop-drop, take_all, drop_all}
 
@@ -19,7 +19,7 @@ take_min (b ∷ bs) zero n e = let none : n ≡ 0 = omega (arith, e) in ap (λ k
 take_min (b ∷ bs) (suc m) zero e = absurd (omega (arith, e))
 take_min (b ∷ bs) (suc m) (suc n) e = let less : n ≡ min (length bs) m = omega (arith, e) in ap (λ l. b ∷ l) (take_min bs m n less)
 
--- what there is room for
+-- as much as there is room for
 pub kept_front : (most n : ℕ) (old bytes : List ℕ) → length old ≤ most → n ≡ min (length bytes) (most - length old) → old ++ take n bytes ≡ take most (old ++ bytes)
 kept_front most n [] bytes h e = take_min bytes most n (omega (arith, e))
 kept_front zero n (x ∷ old) bytes h e = absurd (omega (arith, h))
@@ -27,7 +27,7 @@ kept_front (suc most) n (x ∷ old) bytes h e =
     let less : n ≡ min (length bytes) (most - length old) = omega (arith, e) in
     ap (λ l. x ∷ l) (kept_front most n old bytes (omega (arith, h)) less)
 
--- what was cut before is cut again
+-- what was cut off before is cut off again
 pub cut_on : (most : ℕ) (front bytes : List ℕ) → take most (take most front ++ bytes) ≡ take most (front ++ bytes)
 cut_on zero front bytes = refl
 cut_on (suc most) [] bytes = refl
@@ -42,13 +42,13 @@ after_newline [] rest n e = ap (λ k. drop k (10 ∷ rest)) e
 after_newline (b ∷ front) rest zero e = absurd (omega (arith, e))
 after_newline (b ∷ front) rest (suc n) e = after_newline front rest n (omega (arith, e))
 
--- a kept line that isn't empty, of what was passed
+-- what is kept of a line isn't empty, and neither is what was passed
 pub some_passed : (kept passed : List ℕ) (t : Bool) → t ≡ (length kept == 0) → not t ≡ true → kept ≡ take 301 passed → passed ≢ []
 some_passed [] passed true e f is = λ none. absurd cc
 some_passed [] passed false e f is = λ none. absurd cc
 some_passed (x ∷ kept) passed t e f is = λ none. let bare : (x ∷ kept) ≡ [] = is ∙ ap (take 301) none in absurd cc
 
--- all that waits is taken
+-- everything that waits is taken
 pub all_taken : (here w left : List ℕ) → w ≡ here → left ≡ drop (length w) here → here ≡ w ++ left
 all_taken here w left e f =
     let none : left ≡ [] = f ∙ ap (drop (length w)) (sym e) ∙ drop_all (length w) w (omega arith) in

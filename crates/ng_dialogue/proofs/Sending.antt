@@ -1,4 +1,4 @@
--- A line that is written.
+-- Writing a line.
 use Rattle.std.proofs.Common.{◌≡◌, ℕ, List, Option, None, Some, Result, sym, ◌∙◌, subst, take, length, arith}
 use Rattle.std.proofs.lemmas.List.{take_all}
 use Rattle.std.specs.Io.KnownBytes.{Appends, Keeps}
@@ -8,7 +8,7 @@ use Rattle.ng_dialogue.specs.declared.telling.OutputError.{OutputError}
 pub sends_as : {T : Type 0} (a b : Option (List ℕ)) (line text : List ℕ) (r : Result T OutputError) → line ≡ text → Sends a b line r → Sends a b text r
 sends_as a b line text r e h = subst (λ (l : List ℕ). Sends a b l r) e h
 
--- a flush leaves what was written
+-- a flush doesn't change what was written
 pub appends_still : (a b c : Option (List ℕ)) (line : List ℕ) → Appends a b line → Keeps b c → Appends a c line
 appends_still None b c line p k = tt
 appends_still (Some x) None c line p k = absurd p

@@ -1,4 +1,4 @@
--- What is taken of the bytes of a reader, piece by piece.
+-- Taking the bytes of a reader piece by piece.
 use Rattle.std.proofs.Common.{◌≡◌, ◌≢◌, ℕ, Bool, true, false, List, [], ◌∷◌, ◌++◌, Option, None, Some, option_map, if◌then◌else◌, take, drop, refl, sym, ap, ◌∙◌, subst, append_assoc, append-nil, inl, inr}
 use Rattle.std.specs.Io.KnownBytes.{Consumes, IsAtEnd, Keeps, prepend_known}
 use Rattle.ng_text.specs.Newlines.{HasNoNewline}
@@ -10,7 +10,7 @@ use Rattle.ng_dialogue.specs.Waiting.{EndHolds, Waiting, text_left}
 pub waiting_is : (b c : List ℕ) (e f : Bool) → b ≡ c → e ≡ f → (let w : Waiting = record { bytes = b; ended = e } in w) ≡ record { bytes = c; ended = f }
 waiting_is b c e f p q = cc
 
--- where the text goes on, what waits stands before what the reader has left
+-- if the text continues, what waits comes before what the reader has left
 text_on : (w : Waiting) (r : Option (List ℕ)) → w.ended ≡ false → text_left w r ≡ prepend_known w.bytes r
 text_on w r e = ap (λ (t : Bool). option_map (λ xs. if t then [] else w.bytes ++ xs) r) e
 
@@ -22,11 +22,11 @@ option_none (Some x) = refl
 pub text_over : (w : Waiting) (r : Option (List ℕ)) → w.ended ≡ true → IsAtEnd (text_left w r)
 text_over w r e = subst (λ (t : Bool). IsAtEnd (option_map (λ xs. if t then [] else w.bytes ++ xs) r)) (sym e) (option_none r)
 
--- the end of a text that goes on holds
+-- the fact about the end holds of a text that continues
 pub holds_on : (w : Waiting) (r : Option (List ℕ)) → w.ended ≡ false → EndHolds w r
 holds_on w r e = λ f. absurd cc
 
--- ---- what waits, after a part that was taken
+-- ---- what waits after a part was taken
 
 pub left_bytes : (w left : Waiting) (n : ℕ) → left ≡ record w { bytes = drop n w.bytes } → left.bytes ≡ drop n w.bytes
 left_bytes w left n e = ap (λ (i : Waiting). i.bytes) e
@@ -37,7 +37,7 @@ left_on w left n e f = ap (λ (i : Waiting). i.ended) e ∙ f
 pub ended_still : (w now : Waiting) → now ≡ w → w.ended ≡ true → now.ended ≡ true
 ended_still w now e f = ap (λ (i : Waiting). i.ended) e ∙ f
 
--- a text that has ended doesn't go on
+-- a text that has ended doesn't continue
 pub ended_for_good : {X : Type 0} (w now : Waiting) → now ≡ w → w.ended ≡ true → now.ended ≡ false → X
 ended_for_good w now e f g = let still : now.ended ≡ true = ended_still w now e f in absurd cc
 
@@ -89,7 +89,7 @@ last_line (Some t) (Some n) None most passed kept p k e bare some is = absurd k
 last_line (Some t) (Some n) (Some x) most passed kept p k e bare some is =
     (passed, (bare, inr (p ∙ ap (λ l. passed ++ l) (sym k ∙ e) ∙ append-nil passed, some, e)), is)
 
--- nothing was taken meanwhile
+-- nothing was taken in between
 pub taken_still : (old now new : Option (List ℕ)) (passed : List ℕ) → Consumes old now passed → Keeps now new → Consumes old new passed
 taken_still None now new passed p k = tt
 taken_still (Some t) None new passed p k = absurd p

@@ -1,4 +1,4 @@
--- What the console is asked to do, one line after the other (own).
+-- What the console is asked to do, line by line (own).
 use Rattle.std.specs.Prelude.{◌≡◌, ◌<◌, ◌⊎◌, ℕ, List, [], ◌++◌, Option, None, Some, IfSome, length}
 use Rattle.ng_num.specs.declared.fault.Fault.TheVariants.{BadCommand, OutOfMemory}
 use Rattle.ng_commands.specs.Commands.{IsCommand, IsNoCommand}
@@ -9,13 +9,14 @@ use Rattle.ng_dialogue.specs.Reading.{BeginsWithLine}
 use Rattle.ng_dialogue.specs.declared.order.Order.{Order}
 use Rattle.ng_dialogue.specs.declared.order.Order.TheVariants.{Give, Ticks, Refuse}
 
--- a program of so many bytes is asked to be stored, or it found no memory; one that the end cuts off is refused
+-- storing a program with this many bytes is asked, or there was no memory for it; a program that is cut off by the end
+-- is refused
 abbrev pub TakesProgram : {A : Type 0} → ℕ → List ℕ → Order A → List ℕ → Type 0
 TakesProgram n more order rest =
     ((program : List ℕ) × (length program ≡ n) × (more ≡ program ++ rest) × ((order ≡ Give (event.Load program)) ⊎ (order ≡ Refuse OutOfMemory)))
     ⊎ ((length more < n) × (rest ≡ []) × (order ≡ Refuse BadCommand))
 
--- what a command asks after whose line this text follows, and what is left of that
+-- what a command asks if this text follows its line, and what is left of the text
 abbrev pub Means : {A : Type 0} → ConsoleCommand → List ℕ → Order A → List ℕ → Type 0
 Means (Load n) more order rest = TakesProgram n more order rest
 Means Start more order rest = (order ≡ Give event.Start) × (rest ≡ more)
@@ -32,30 +33,30 @@ Means (Tick n) more order rest = (order ≡ Ticks n) × (rest ≡ more)
 Means Status more order rest = (order ≡ Give event.Status) × (rest ≡ more)
 Means Quit more order rest = ⊥
 
--- a text begins with a line that asks this, and the rest follows; a line that is no command is refused
+-- a text begins with a line that asks this, and the rest follows; a line that isn't a command is refused
 abbrev pub BeginsWithOrder : {A : Type 0} → List ℕ → Order A → List ℕ → Type 0
 BeginsWithOrder text order rest =
     (line : List ℕ) × (more : List ℕ) × BeginsWithLine text line more
     × ((IsNoCommand line × (order ≡ Refuse BadCommand) × (rest ≡ more)) ⊎ ((command : ConsoleCommand) × IsCommand line command × Means command more order rest))
 
--- a text asks nothing more: it is at its end, or it asks to quit
+-- a text asks no more: it is at its end, or it asks to quit
 abbrev pub EndsText : List ℕ → Type 0
 EndsText text = (text ≡ []) ⊎ ((line : List ℕ) × (more : List ℕ) × BeginsWithLine text line more × IsCommand line Quit)
 
--- what is known of a text loses what was asked
+-- what was asked is removed from what is known of a text
 abbrev pub TakesOrder : {A : Type 0} → Option (List ℕ) → Option (List ℕ) → Option (Order A) → Type 0
 TakesOrder old new None = IfSome old EndsText
 TakesOrder None new (Some order) = Unit {0}
 TakesOrder (Some text) None (Some order) = ⊥
 TakesOrder (Some text) (Some rest) (Some order) = BeginsWithOrder text order rest
 
--- what a command asks, where what is known of the text after its line is this
+-- what a command asks if this is known of the text after its line
 abbrev pub AfterCommand : {A : Type 0} → ConsoleCommand → Option (List ℕ) → Option (List ℕ) → Order A → Type 0
 AfterCommand command None new order = Unit {0}
 AfterCommand command (Some more) None order = ⊥
 AfterCommand command (Some more) (Some rest) order = Means command more order rest
 
--- the same of a command that may end the dialogue
+-- the same for a command that may end the dialogue
 abbrev pub TakesCommand : {A : Type 0} → ConsoleCommand → Option (List ℕ) → Option (List ℕ) → Option (Order A) → Type 0
 TakesCommand command old new None = command ≡ Quit
 TakesCommand command old new (Some order) = AfterCommand command old new order

@@ -1,21 +1,21 @@
--- What a reader's bytes are taken as: lines, and the bytes of a program (own).
+-- How a reader's bytes are split into lines and the bytes of programs (own).
 use Rattle.std.specs.Prelude.{◌≡◌, ◌≢◌, ◌<◌, ◌⊎◌, ℕ, List, [], ◌∷◌, ◌++◌, Option, None, Some, take, length}
 use Rattle.std.specs.Io.KnownBytes.{Consumes, IsAtEnd}
 use Rattle.ng_text.specs.Newlines.{HasNoNewline}
 use Rattle.ng_dialogue.specs.declared.bytes.TakenBytes.{TakenBytes}
 use Rattle.ng_dialogue.specs.declared.bytes.TakenBytes.TheVariants.{Whole, NoRoom, Cut}
 
--- a text begins with this line, and the rest stands after it; the last line may lack its newline
+-- a text begins with this line, and the rest comes after it; the last line may have no newline
 abbrev pub BeginsWithLine : List ℕ → List ℕ → List ℕ → Type 0
 BeginsWithLine text line rest = HasNoNewline line × ((text ≡ line ++ 10 ∷ rest) ⊎ ((text ≡ line) × (line ≢ []) × (rest ≡ [])))
 
--- a text loses a line, of which a beginning is kept
+-- a line is removed from a text, and a beginning of the line is kept
 abbrev pub TakesLine : ℕ → Option (List ℕ) → Option (List ℕ) → List ℕ → Type 0
 TakesLine most None new kept = Unit {0}
 TakesLine most (Some text) None kept = ⊥
 TakesLine most (Some text) (Some rest) kept = (line : List ℕ) × BeginsWithLine text line rest × (kept ≡ take most line)
 
--- a text loses so many bytes, which are kept or find no memory, or it ends before
+-- this many bytes are removed from a text and kept, or there is no memory for them, or the text ends before
 abbrev pub TakesBytes : ℕ → Option (List ℕ) → Option (List ℕ) → List ℕ → TakenBytes → Type 0
 TakesBytes n old new kept Whole = Consumes old new kept × (length kept ≡ n)
 TakesBytes n old new kept NoRoom = (bytes : List ℕ) × Consumes old new bytes × (length bytes ≡ n)

@@ -1,4 +1,4 @@
--- What is written of an answer (own).
+-- What is written of a reply (own).
 use Rattle.std.specs.Prelude.{ℕ, List, Option, Result, Ok, Err, take}
 use Rattle.std.specs.Io.KnownBytes.{Appends}
 use Rattle.ng_dialogue.specs.declared.telling.OutputError.{OutputError}

@@ -1,4 +1,4 @@
--- What waits of the text that a reader gives, and its end (own).
+-- What waits of the text from a reader, and the end of the text (own).
 use Rattle.std.specs.Prelude.{◌≡◌, ℕ, Bool, true, List, [], ◌++◌, Option, if◌then◌else◌}
 use Rattle.std.specs.Option.{option_map}
 use Rattle.std.specs.Io.KnownBytes.{IsAtEnd}
@@ -8,11 +8,11 @@ pub record Waiting : Type 0 where
   pub bytes : List ℕ
   pub ended : Bool
 
--- what is known of the text that is left, by what the reader has left: what waits and that, and nothing where the text
--- has ended
+-- what is known of the text that is left, given what the reader has left: what waits, followed by that; nothing if the
+-- text has ended
 abbrev pub text_left : Waiting → Option (List ℕ) → Option (List ℕ)
 text_left w left = option_map (λ xs. if w.ended then [] else w.bytes ++ xs) left
 
--- where the text has ended, nothing waits, and its reader has nothing left
+-- if the text has ended, no bytes wait and the reader has nothing left
 abbrev pub EndHolds : Waiting → Option (List ℕ) → Type 0
 EndHolds w left = w.ended ≡ true → (w.bytes ≡ []) × IsAtEnd left

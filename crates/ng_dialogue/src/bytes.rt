@@ -1,4 +1,4 @@
-//! The bytes of a program, as they come after a command's line.
+//! The bytes of a program, which come after a command's line.
 ghost use Rattle.std.specs.Prelude.{◌≡◌, ◌++◌, [], true, IfOk};
 ghost use Rattle.ng_dialogue.specs.Reading.{TakesBytes};
 ghost use Rattle.ng_dialogue.specs.Waiting.{EndHolds, text_left};
@@ -7,28 +7,28 @@ use crate::input::{Input, ReadError};
 use std::alloc::Allocator;
 use std::io::Read;
 
-/// What became of the bytes that were asked for.
+/// What happened to the bytes that were asked for.
 #[derive(Clone, Copy)]
 pub enum TakenBytes {
     /// All of them are kept.
     Whole,
-    /// All of them were passed over: they found no memory.
+    /// All of them were skipped: there was no memory for them.
     NoRoom,
-    /// The text ended before.
+    /// The text ended before the last of them.
     Cut,
 }
 
-/// Keeps bytes where those before are kept and there is memory.
+/// Keeps bytes if those before were kept and there is memory.
 fn keep_on<A: Allocator + Copy + Drop>(text: &mut Vec<u8, A>, has_room: bool, bytes: &[u8]) -> bool
     ensures { result ≡ true → (has_room ≡ true) × (text.new.items ≡ text.old.items ++ bytes.now) }
 {
     has_room && text.extend_from_slice(bytes).is_ok()
 }
 
-/// Takes so many bytes, and keeps them in a text that is empty before. Its memory grows once, before the first is read.
-/// Where the text has ended the reader isn't read.
+/// Takes this many bytes, and keeps them in a text that was empty. Its memory grows once, before the first byte is
+/// read. If the text has ended, the reader isn't called.
 ///
-/// `ReadError` where the reader failed: some of the bytes are taken then. Source: own.
+/// `ReadError` if the reader failed; some of the bytes have been taken then. Source: own.
 pub fn take_bytes<R: Read, A: Allocator + Copy + Drop>(
     input: &mut Input,
     reader: &mut R,

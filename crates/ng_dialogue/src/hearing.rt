@@ -1,4 +1,4 @@
-//! What the console is asked to do, as its lines come.
+//! What the console is asked to do, line by line.
 ghost use Rattle.std.specs.Prelude.{◌≡◌, true, IfOk};
 ghost use Rattle.ng_dialogue.specs.Orders.{AfterCommand, TakesCommand, TakesOrder};
 ghost use Rattle.ng_dialogue.specs.Waiting.{EndHolds, text_left};
@@ -14,12 +14,12 @@ use ng_session::{Event, Text};
 use std::alloc::{AllocError, Allocator};
 use std::io::Read;
 
-/// Why nothing more is heard.
+/// Why no more lines are read.
 #[derive(Clone, Copy, Debug, PartialEq, Eq)]
 pub enum InputError {
-    /// A read failed, or one read more than 1,000,000,000 was needed.
+    /// A read failed, or more than 1,000,000,000 reads were needed.
     Reader,
-    /// A line of the operator found no memory.
+    /// There was no memory for a line of the operator.
     Memory,
 }
 
@@ -39,7 +39,7 @@ impl From<AllocError> for InputError {
     }
 }
 
-/// Takes the program of this length that a command asks to be stored.
+/// Takes the program with this length that a command asks to store.
 fn load<R: Read, A: Allocator + Copy + Drop>(
     alloc: A,
     input: &mut Input,
@@ -58,7 +58,7 @@ fn load<R: Read, A: Allocator + Copy + Drop>(
     }
 }
 
-/// What a command asks; none where it ends the dialogue. A load takes the program after its line.
+/// What a command asks. `None` if it ends the dialogue. A load takes the program after its line.
 fn ask<R: Read, A: Allocator + Copy + Drop>(
     alloc: A,
     input: &mut Input,
@@ -91,12 +91,12 @@ fn ask<R: Read, A: Allocator + Copy + Drop>(
     Ok(Some(Order::Give(event)))
 }
 
-/// Takes the next line and what it asks. None at the end: the text's, or `quit`.
+/// Takes the next line and what it asks. `None` at the end of the text, or after `quit`.
 ///
-/// The text ends where a read gives no byte, and that is final: from then on the reader isn't read, and None is all
-/// that is answered. A line that is no command is refused, U1, and so is a program that the end of the text cuts off; a
-/// program that finds no memory is refused, M1, and its bytes are passed over. `InputError` where the reader failed, or
-/// a line of the operator found no memory. Lines take no memory but those. Source: own.
+/// The text ends when a read returns no byte. That is final: from then on the reader isn't called, and the result is
+/// `None`. A line that isn't a command is refused with U1, and so is a program that is cut off by the end of the text.
+/// A program is refused with M1 if there is no memory for it; then its bytes are skipped. `InputError` if the reader
+/// failed, or if there was no memory for a line of the operator. Other lines don't allocate. Source: own.
 pub fn next_order<R: Read, A: Allocator + Copy + Drop>(
     alloc: A,
     input: &mut Input,

@@ -12,12 +12,12 @@ const READS: u64 = 1_000_000_000;
 /// The bytes of a read.
 const BUFFER: usize = 8192;
 
-/// A read failed, or one read more than 1,000,000,000 was needed.
+/// A read failed, or more than 1,000,000,000 reads were needed.
 #[derive(Clone, Copy, Debug, PartialEq, Eq)]
 pub struct ReadError;
 
-/// The bytes that were read and not taken yet, and whether the text has ended: a read gave no byte. Contracts see a
-/// `Waiting`.
+/// The bytes that were read and not taken yet, and whether the text has ended, which is when a read returns no byte.
+/// Contracts see a `Waiting`.
 #[derive(Drop)]
 pub struct Input {
     buffer: [u8; BUFFER],
@@ -67,8 +67,8 @@ impl Input {
         self.start += count;
     }
 
-    /// Reads where nothing waits. False at the end of the text, where a read gives no byte; that is final, and the
-    /// reader isn't read again. `ReadError` where the read failed, or one read too many was needed: nothing waits then.
+    /// Reads if no bytes wait. Returns false at the end of the text, when a read returns no byte. That is final: the
+    /// reader isn't called again. `ReadError` if the read failed, or if too many reads were needed; then no bytes wait.
     pub fn fill<R: Read>(&mut self, reader: &mut R) -> Result<bool, ReadError>
         ensures keeps { Keeps (text_left self.old (R.remaining reader.old)) (text_left self.new (R.remaining reader.new)) }
         ensures some { IfOk result (λ more. more ≡ true → (self.new.bytes ≢ []) × (self.new.ended ≡ false)) }

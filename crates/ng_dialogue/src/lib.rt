@@ -1,7 +1,7 @@
-//! The parts of the console's dialogue: what it is asked, as the lines come, and how its answers are written (own).
+//! The parts of the console's dialogue: what it is asked, line by line, and how its replies are written (own).
 //!
-//! `next_order` reads lines, and the programs after `load`, from any reader, in buffers of fixed size: specs/Orders
-//! says what a text asks. The `tell_` functions write the line of an answer and flush it: an operator waits for it.
+//! `next_order` reads lines, and the programs after `load`, from any reader, in buffers of fixed size; specs/Orders
+//! says what a text asks. The `tell_` functions write the line of a reply and flush it, since an operator waits for it.
 //! After a fault a beginning of the line is written. Nothing here knows a controller.
 #![tactic(auto)]
 

@@ -1,4 +1,4 @@
-//! Lines of a reader.
+//! Lines from a reader.
 ghost use Rattle.std.specs.Prelude.{◌≡◌, ◌++◌, take, true, false, IfOk};
 ghost use Rattle.std.specs.Io.KnownBytes.{IsAtEnd};
 ghost use Rattle.ng_dialogue.specs.Reading.{TakesLine};
@@ -10,10 +10,10 @@ use ng_commands::LONGEST;
 use ng_text::split_line;
 use std::io::Read;
 
-/// The most bytes that are kept of a line: one more than a command's have.
+/// The most bytes that are kept of a line: one more than a command can have.
 pub const KEPT_COMMAND: usize = 301;
 
-/// Keeps what there is room for.
+/// Keeps as many bytes as there is room for.
 fn keep(line: &mut ArrayVec<u8, KEPT_COMMAND>, bytes: &[u8])
     ensures { line.new.items ≡ take 301 (line.old.items ++ bytes.now) }
 {
@@ -24,8 +24,8 @@ fn keep(line: &mut ArrayVec<u8, KEPT_COMMAND>, bytes: &[u8])
     };
 }
 
-/// Takes the next line, and keeps its first 301 bytes. False at the end of the text, where none follows; the last line
-/// may lack its newline. Where the text has ended the reader isn't read.
+/// Takes the next line, and keeps its first 301 bytes. Returns false at the end of the text, if no line follows. The
+/// last line may have no newline. If the text has ended, the reader isn't called.
 pub fn next_line<R: Read>(
     input: &mut Input,
     reader: &mut R,

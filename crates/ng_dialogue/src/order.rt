@@ -8,8 +8,8 @@ use std::alloc::Allocator;
 pub enum Order<A: Allocator> {
     /// The controller is given this event.
     Give(Event<A>),
-    /// The controller is given up to so many ticks.
+    /// The controller is given at most this many ticks.
     Ticks(u32),
-    /// The controller is given nothing: U1, or M1 where a program found no memory.
+    /// The controller is given nothing: U1, or M1 if there was no memory for a program.
     Refuse(Fault),
 }

@@ -1,4 +1,4 @@
-//! The lines of answers, as they are written. An operator waits for each of them: nothing is held back.
+//! Writing the lines of replies. An operator waits for each of them, so nothing is buffered.
 ghost use Rattle.ng_commands.specs.Replies.{refused_line, reply_line, tick_line, ticks_line};
 ghost use Rattle.ng_dialogue.specs.Telling.{Sends};
 
@@ -8,12 +8,12 @@ use ng_session::Reply;
 use std::alloc::Allocator;
 use std::io::Write;
 
-/// Why an answer isn't written: a beginning of it may be.
+/// Why a reply wasn't written. A beginning of it may have been.
 #[derive(Clone, Copy, Debug, PartialEq, Eq)]
 pub enum OutputError {
-    /// A write or a flush failed, or a write took no byte.
+    /// A write or a flush failed, or a write accepted no byte.
     Writer,
-    /// The line found no memory: nothing of it is written.
+    /// There was no memory for the line: nothing of it is written.
     Memory,
 }
 
@@ -45,7 +45,7 @@ fn send<W: Write>(writer: &mut W, line: &[u8]) -> Result<(), OutputError>
     }
 }
 
-/// Writes the line of a reply, and flushes it. After an error a beginning of it is written. Source: own.
+/// Writes the line of a reply, and flushes it. After an error a beginning of it has been written. Source: own.
 pub fn tell_reply<W: Write, A: Allocator + Copy + Drop>(
     alloc: A,
     writer: &mut W,
@@ -60,7 +60,7 @@ pub fn tell_reply<W: Write, A: Allocator + Copy + Drop>(
     }
 }
 
-/// Writes the line of a refusal, likewise. Source: own.
+/// Writes the line of a refusal, and flushes it. After an error a beginning of it has been written. Source: own.
 pub fn tell_refusal<W: Write, A: Allocator + Copy + Drop>(
     alloc: A,
     writer: &mut W,
@@ -75,7 +75,8 @@ pub fn tell_refusal<W: Write, A: Allocator + Copy + Drop>(
     }
 }
 
-/// Writes the line of a tick's reply, likewise; nothing where it has none. Source: own.
+/// Writes the line of a tick's reply, and flushes it; writes nothing if the reply has no line. After an error a
+/// beginning of it has been written. Source: own.
 pub fn tell_tick<W: Write, A: Allocator + Copy + Drop>(
     alloc: A,
     writer: &mut W,
@@ -90,7 +91,8 @@ pub fn tell_tick<W: Write, A: Allocator + Copy + Drop>(
     }
 }
 
-/// Writes the line after a command of ticks, likewise. Source: own.
+/// Writes the line after a command of ticks, and flushes it. After an error a beginning of it has been written. Source:
+/// own.
 pub fn tell_ticks<W: Write, A: Allocator + Copy + Drop>(
     alloc: A,
     writer: &mut W,

@@ -1,11 +1,11 @@
-//! Lines of a console: tools' lengths, and a refusal that finds no memory. Which other lines are commands, and how
-//! replies read, is said by the cases of `ngc_cases`.
+//! Lines of a console: tools' lengths, and a refusal without memory for its line. Which other lines are commands, and
+//! the text of replies, is tested by the cases of `ngc_cases`.
 use linked_list_allocator::LocalHeap;
 use ng_commands::{ConsoleCommand, command_of, push_refusal};
 use ng_num::{Fault, Len};
 use std::test::Fail;
 
-/// Lines, and the slot and the length, in nanometres, that each gives; none where it is no command.
+/// Lines, and the slot and the length, in nanometres, that each gives; `None` if it isn't a command.
 const TOOLS: &[(&str, Option<(u16, i64)>)] = &[
     ("tool 1 0.005", Some((1, 5_000))),
     ("tool 064 0", Some((64, 0))),
@@ -24,7 +24,7 @@ const TOOLS: &[(&str, Option<(u16, i64)>)] = &[
     ("tool +1 1", None),
     ("tool 1. 1", None),
     ("tool  1", None),
-    // a number as in a program, but with no blank in it
+    // a number as in a program, but without blanks in it
     ("tool 1", None),
     ("tool 1 ", None),
     ("tool 1 .", None),
@@ -39,7 +39,7 @@ const TOOLS: &[(&str, Option<(u16, i64)>)] = &[
     ("Tool 1 1", None),
 ];
 
-/// Whether a line is read as the command that gives a slot this length; as no command where there is neither.
+/// Whether a line is read as the command that sets a slot's length; as no command if none is given.
 fn is_read_as(line: &str, tool: Option<(u16, i64)>) -> bool {
     let wanted = match tool {
         Some((slot, nm)) => match Len::of_nm(i128::from(nm)) {
@@ -59,9 +59,9 @@ fn a_line_gives_a_tool_its_length(rt: HostRuntime) -> Result<(), Fail> {
     Ok(())
 }
 
-/// Without memory there is an error, and no line that reads as another one.
+/// Without memory there is an error, and not a line that reads as another one.
 #[test]
-fn a_refusal_without_memory_is_not_told(rt: HostRuntime) -> Result<(), Fail> {
+fn a_refusal_without_memory_is_not_written(rt: HostRuntime) -> Result<(), Fail> {
     let heap = LocalHeap::new(rt.alloc(), 64)?;
     let mut lines = Vec::new(&heap);
     lines.extend_from_slice(&[b'x'; 16])?;

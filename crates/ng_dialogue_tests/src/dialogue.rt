@@ -1,4 +1,4 @@
-//! What a text asks of the console, from readers of every size, and answers over writers that fail.
+//! What a text asks of the console, with reads of every size, and answers over writers that fail.
 use linked_list_allocator::LocalHeap;
 use ng_dialogue::{
     Input, InputError, Order, OutputError, next_order, tell_refusal, tell_reply, tell_tick,
@@ -11,12 +11,12 @@ use std::io;
 use std::io::{ErrorKind, Read, Write};
 use std::test::Fail;
 
-/// A reader that gives a few bytes at a read, and fails at one of its reads.
+/// A reader that returns a few bytes at a read, and fails at one of its reads.
 #[derive(Drop)]
 struct Drip<'a> {
     bytes: &'a [u8],
     at_most: usize,
-    /// The reads that succeed first.
+    /// How many reads succeed.
     reads_left: usize,
 }
 
@@ -33,7 +33,7 @@ impl Read for Drip<'_> {
     }
 }
 
-/// Appends what an order asks, and a bar: the word of an event, and the bytes that come with it.
+/// Appends what an order asks, and a bar: the name of an event, and the bytes that come with it.
 fn show<A: Allocator>(shown: &mut Vec<u8>, order: &Order<A>) -> Result<(), AllocError> {
     let (word, bytes) = match order {
         Order::Give(Event::Load(text)) => (b"load:".as_slice(), text.bytes()),
@@ -48,7 +48,7 @@ fn show<A: Allocator>(shown: &mut Vec<u8>, order: &Order<A>) -> Result<(), Alloc
     shown.extend_from_slice(b"|")
 }
 
-/// The word of an event without bytes.
+/// The name of an event without bytes.
 fn word_of<A: Allocator>(event: &Event<A>) -> &'static [u8] {
     match event {
         Event::Start => b"start",
@@ -67,7 +67,7 @@ fn word_of<A: Allocator>(event: &Event<A>) -> &'static [u8] {
     }
 }
 
-/// All that a reader's text asks with this heap, and why it ended before its end, if it did.
+/// Everything that a reader's text asks with this heap, and why it ended early, if it did.
 fn orders_of<R: Read, A: Allocator + Copy + Drop>(
     alloc: Global,
     heap: A,
@@ -101,16 +101,16 @@ const TEXTS: &[(&str, &str)] = &[
         "reference 1 -2. +.5\nresume\nabandon\nreference 1 2\n",
         "reference|resume|abandon|U1 BadCommand|",
     ),
-    // after quit nothing is heard
+    // after quit nothing is read
     ("hold\nquit\nstart\n", "hold|"),
     ("hold\nquit", "hold|"),
-    // a carriage return is a byte of the line
+    // a carriage return is part of the line
     (
         "start\r\nmdi G0 X1\r\nquit\r\n",
         "U1 BadCommand|mdi:G0 X1\r|U1 BadCommand|",
     ),
     ("mdi \nmdi\n", "mdi:|U1 BadCommand|"),
-    // the bytes of a program are none of the console's lines, and none is passed over after them
+    // the bytes of a program aren't lines of the console, and no line after them is skipped
     (
         "load 13\nG0 X0.002\nM2\nstart\n",
         "load:G0 X0.002\nM2\n|start|",
@@ -119,16 +119,15 @@ const TEXTS: &[(&str, &str)] = &[
     ("load 3\na\nb\nhold\n", "load:a\nb|U1 BadCommand|hold|"),
     ("load 0\nhold\n", "load:|hold|"),
     ("load 4\nquit", "load:quit|"),
-    // a program that the end cuts off
+    // a program that is cut off by the end
     ("load 5\nM2\n", "U1 BadCommand|"),
     ("load 1", "U1 BadCommand|"),
     // a length of eight digits takes no bytes
     ("load 00000002\nhold\n", "U1 BadCommand|hold|"),
 ];
 
-/// The first number of bytes at a read, of 1 to 9, with which a text asks something else, and why it ended before its
-/// end then.
-fn first_astray(
+/// The first size of reads, from 1 to 9 bytes, with which a text asks something else, and why it ended early then.
+fn first_mismatch(
     alloc: Global,
     text: &str,
     asked: &str,
@@ -150,12 +149,12 @@ fn first_astray(
 #[test]
 fn a_text_asks_line_by_line(rt: HostRuntime) -> Result<(), Fail> {
     for (text, asked) in TEXTS {
-        assert_eq!(rt; first_astray(rt.alloc(), text, asked)?, None, "{text:?}");
+        assert_eq!(rt; first_mismatch(rt.alloc(), text, asked)?, None, "{text:?}");
     }
     Ok(())
 }
 
-/// Bytes of a line of `mdi`, whether it is too long, and the bytes of a read.
+/// Bytes of an `mdi` line, whether it is too long, and the bytes of a read.
 const LENGTHS: &[(usize, bool, usize)] = &[
     (300, false, 1),
     (300, false, 8192),
@@ -167,7 +166,7 @@ const LENGTHS: &[(usize, bool, usize)] = &[
     (50_000, true, 8192),
 ];
 
-/// A line of `mdi` with so many bytes, without its newline.
+/// An `mdi` line with this many bytes, without its newline.
 fn long_line(alloc: Global, length: usize) -> Result<Vec<u8>, AllocError> {
     let mut line = Vec::from_slice(alloc, b"mdi ")?;
     line.resize(length, b'x')?;
@@ -181,17 +180,17 @@ fn long_text(alloc: Global, length: usize) -> Result<Vec<u8>, AllocError> {
     Ok(text)
 }
 
-/// What those ask where the line isn't too long.
+/// What those ask if the line isn't too long.
 fn long_order(alloc: Global, length: usize) -> Result<Vec<u8>, AllocError> {
-    // the four bytes of `mdi:` stand for as many of the line
+    // the four bytes of `mdi:` replace as many of the line
     let mut asked = Vec::from_slice(alloc, b"mdi:")?;
     asked.resize(length, b'x')?;
     asked.extend_from_slice(b"|hold|")?;
     Ok(asked)
 }
 
-/// Whether such a line and a hold are heard as they should be, and why they aren't heard to their end.
-fn long_line_heard(
+/// Whether such a line and a hold are read as they should be, and why the text ended early, if it did.
+fn long_line_read(
     alloc: Global,
     (length, is_long, at_most): (usize, bool, usize),
 ) -> Result<(bool, Option<InputError>), AllocError> {
@@ -214,7 +213,7 @@ fn long_line_heard(
 #[test]
 fn a_line_that_is_too_long_is_one_refusal(rt: HostRuntime) -> Result<(), Fail> {
     for row in LENGTHS {
-        let found = long_line_heard(rt.alloc(), *row)?;
+        let found = long_line_read(rt.alloc(), *row)?;
         assert_eq!(rt; found, (true, None), "{} {}", row.0, row.2);
     }
     Ok(())
@@ -226,9 +225,9 @@ const FAILING: (&str, &str) = (
     "hold|load:M2\n|start|mdi:M3|",
 );
 
-/// That text, a byte at a read, where so many reads succeed: why it ended before its end, if it did, and whether all
-/// that it asks is heard, or a beginning where it ended before.
-fn heard_after(alloc: Global, reads_left: usize) -> Result<(Option<InputError>, bool), AllocError> {
+/// That text, a byte at a read, if this many reads succeed: why it ended early, if it did, and whether everything that
+/// it asks is read, or a beginning if it ended early.
+fn read_after(alloc: Global, reads_left: usize) -> Result<(Option<InputError>, bool), AllocError> {
     let (text, asked) = FAILING;
     let mut reader = Drip {
         bytes: text.as_bytes(),
@@ -252,13 +251,13 @@ fn a_reader_that_fails_ends_the_dialogue(rt: HostRuntime) -> Result<(), Fail> {
         } else {
             None
         };
-        let found = heard_after(rt.alloc(), reads_left)?;
+        let found = read_after(rt.alloc(), reads_left)?;
         assert_eq!(rt; found, (wanted, true), "{reads_left}");
     }
     Ok(())
 }
 
-/// A program of 20,000 bytes, a hold, and a line of `mdi` with 304 bytes.
+/// A program of 20,000 bytes, a hold, and an `mdi` line with 304 bytes.
 fn greedy_text(alloc: Global) -> Result<Vec<u8>, AllocError> {
     let mut text = Vec::from_slice(alloc, b"load 20000\n")?;
     text.resize(20_011, b'x')?;
@@ -268,14 +267,14 @@ fn greedy_text(alloc: Global) -> Result<Vec<u8>, AllocError> {
 }
 
 #[test]
-fn a_program_without_memory_is_passed_over(rt: HostRuntime) -> Result<(), Fail> {
+fn a_program_without_memory_is_skipped(rt: HostRuntime) -> Result<(), Fail> {
     let text = greedy_text(rt.alloc())?;
     let heap = LocalHeap::new(rt.alloc(), 256)?;
     let mut reader = text.as_slice();
     let (shown, deaf) = orders_of(rt.alloc(), &heap, &mut reader)?;
-    // the last line is too long, so that it takes no memory
+    // the last line is too long, so it doesn't allocate
     let is_passed_over = shown.as_slice() == b"M1 OutOfMemory|hold|U1 BadCommand|".as_slice();
-    // a line of the operator finds none
+    // there is no memory for a line of the operator
     let line = long_line(rt.alloc(), 300)?;
     let mut reader = line.as_slice();
     let (short, ended) = orders_of(rt.alloc(), &heap, &mut reader)?;
@@ -286,18 +285,18 @@ fn a_program_without_memory_is_passed_over(rt: HostRuntime) -> Result<(), Fail> 
     Ok(())
 }
 
-/// A writer that takes a byte at a write, and fails at one of its calls.
+/// A writer that accepts a byte at a write, and fails at one of its calls.
 #[derive(Drop)]
 struct Slow {
     taken: Vec<u8>,
-    /// The calls that succeed first.
+    /// How many calls succeed.
     calls_left: usize,
-    /// Whether a write that fails takes no byte, in place of an error.
+    /// Whether a write that fails accepts no byte instead of returning an error.
     takes_none: bool,
 }
 
 impl Slow {
-    /// Counts a call, and says whether it succeeds.
+    /// Counts a call. Returns whether it succeeds.
     fn call(&mut self) -> bool {
         let succeeds = self.calls_left > 0;
         self.calls_left = self.calls_left.saturating_sub(1);
@@ -332,7 +331,7 @@ impl Write for Slow {
     }
 }
 
-/// Tells four answers, one of each kind.
+/// Writes four answers, one of each kind.
 fn tell_all<W: Write>(alloc: Global, writer: &mut W) -> Result<(), OutputError> {
     tell_reply(alloc, writer, &Reply::Begun)?;
     tell_tick(alloc, writer, &Reply::Done(7))?;
@@ -340,12 +339,12 @@ fn tell_all<W: Write>(alloc: Global, writer: &mut W) -> Result<(), OutputError> 
     tell_refusal(alloc, writer, Fault::Busy)
 }
 
-/// What is told of those answers.
+/// The text of those answers.
 const ANSWERS: &str = "begun\ndone 7\nticks 12\nrefused K1 Busy\n";
 
-/// Tells them to a writer of which so many calls succeed: how that ends, whether all is written, or a beginning where
-/// it ends in an error, and how many calls are left.
-fn told_after(
+/// Writes them to a writer of which this many calls succeed: the result, whether everything is written, or a beginning
+/// if there is an error, and how many calls are left.
+fn written_after(
     alloc: Global,
     calls_left: usize,
     takes_none: bool,
@@ -375,8 +374,8 @@ fn an_answer_is_written_and_flushed_or_a_beginning_of_it(rt: HostRuntime) -> Res
             Ok(())
         };
         let found = [
-            told_after(rt.alloc(), calls_left, false),
-            told_after(rt.alloc(), calls_left, true),
+            written_after(rt.alloc(), calls_left, false),
+            written_after(rt.alloc(), calls_left, true),
         ];
         let wanted = (ended, true, calls_left.saturating_sub(calls));
         assert_eq!(rt; found, [wanted; 2], "{calls_left}");

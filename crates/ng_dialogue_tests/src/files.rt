@@ -1,5 +1,5 @@
-//! Devices over bytes of a storage: which bytes a sector is, the lines of what is handed out, and what a storage or a
-//! writer that fails leaves.
+//! Devices over the bytes of a storage: which bytes a sector is, the lines of what is handed out, and what remains if a
+//! storage or a writer fails.
 use linked_list_allocator::LocalHeap;
 use ng_canon::{AxisStep, Item, Outputs, Pulse, Spindle};
 use ng_file::{FileRig, OpenedFile, Storage};
@@ -11,11 +11,11 @@ use std::io;
 use std::io::{ErrorKind, Read, Seek, SeekFrom, Write};
 use std::test::Fail;
 
-/// Bytes in memory, as a disk keeps them that gets full, and a file that gets shorter.
+/// Bytes in memory that behave like a full disk, or like a file that gets shorter.
 #[derive(Drop)]
 struct Disk {
     bytes: Vec<u8>,
-    /// The writes for which there is room.
+    /// How many writes there is room for.
     writes_left: usize,
     /// How often the length is asked for before the bytes from 1,024 on are gone.
     lengths_left: usize,
@@ -69,7 +69,7 @@ impl Storage for Disk {
     }
 }
 
-/// A disk of so many bytes, all zeros, on which so many writes have room.
+/// A disk with this many bytes, all zeros, that has room for this many writes.
 fn disk_with(alloc: Global, length: usize, writes_left: usize) -> Result<Disk, AllocError> {
     let mut bytes = Vec::new(alloc);
     bytes.resize(length, 0)?;
@@ -81,7 +81,7 @@ fn disk_with(alloc: Global, length: usize, writes_left: usize) -> Result<Disk, A
     })
 }
 
-/// Writes a byte to a whole sector, where there is one.
+/// Writes a byte to a whole sector, if there is one.
 fn fill<R: Rig>(rig: &mut R, sector: usize, byte: u8) -> Result<(), Failed> {
     if sector < rig.size() {
         rig.write(sector, &[byte; 512])
@@ -115,15 +115,15 @@ fn a_device_has_the_whole_sectors(rt: HostRuntime) -> Result<(), Fail> {
     Ok(())
 }
 
-/// Writes the second and the third sector and syncs: which writes succeed, which of three sectors hold what they
-/// should, and whether the sync succeeds.
+/// Writes the second and the third sector and syncs. Returns which writes succeed, which of three sectors hold what
+/// they should, and whether the sync succeeds.
 fn two_sectors<R: Rig>(rig: &mut R) -> ([bool; 2], [bool; 3], bool) {
     let written = [fill(rig, 1, 7).is_ok(), fill(rig, 2, 9).is_ok()];
     let held = [holds(rig, 0, 0), holds(rig, 1, 7), holds(rig, 2, 9)];
     (written, held, rig.sync().is_ok())
 }
 
-/// Runs of a byte, one after the other: where each ends, and its byte.
+/// Runs of equal bytes, one after the other: where each ends, and its byte.
 const RUNS: &[(usize, u8)] = &[(512, 0), (1_024, 7), (1_536, 9), (1_600, 0)];
 
 /// The bytes of those runs.
@@ -159,8 +159,8 @@ fn a_full_disk_fails_and_keeps_what_it_has(rt: HostRuntime) -> Result<(), Fail> 
     Ok(())
 }
 
-/// Writes the last of three sectors and reads it, and does both again, with how many failures are counted after each;
-/// and the device's size between them.
+/// Writes the last of three sectors and reads it, and does both again. Returns how many failures are counted after
+/// each, and the device's size in between.
 fn last_sector_twice<R: Rig>(rig: &mut R) -> ([bool; 2], [(bool, u64); 2], usize) {
     let whole = [fill(rig, 2, 7).is_ok(), holds(rig, 2, 7)];
     let written = (fill(rig, 2, 8).is_ok(), rig.failures());
@@ -209,7 +209,7 @@ fn items() -> [Item; 4] {
     ]
 }
 
-/// A line that is there before, and those of the items after it.
+/// A line that is there already, and those of the items after it.
 const LINES: &str =
     "D 1\nP 1 0 -1 50\nD 10000000\nS 0 0.000000 0 0 0 0\nS 2 1200.500000 1 0 3 64\n";
 
@@ -235,7 +235,7 @@ fn what_is_handed_out_is_a_line_after_those_before(rt: HostRuntime) -> Result<()
     Ok(())
 }
 
-/// A writer that takes so many bytes at a call at most, and whose calls fail but for so many at first.
+/// A writer that accepts a limited number of bytes at a call, and fails after a number of calls.
 #[derive(Drop)]
 struct Short {
     taken: Vec<u8>,
@@ -265,8 +265,8 @@ impl Write for Short {
     }
 }
 
-/// Calls of a writer that succeed and the bytes that it takes at each, the items of three that are handed out then, and
-/// what is written.
+/// How many calls of a writer succeed and the bytes that it accepts at each; how many of three items are handed out
+/// then, and what is written.
 const CALLS: &[(usize, usize, usize, &str)] = &[
     (0, 9, 0, ""),
     (1, 9, 0, "D 5\n"),
@@ -282,7 +282,7 @@ const CALLS: &[(usize, usize, usize, &str)] = &[
     (9, 0, 0, ""),
 ];
 
-/// Hands out three items: how many of them are.
+/// Hands out three items. Returns how many succeed.
 fn hand_out_three<R: Rig>(rig: &mut R) -> usize {
     let mut good = 0usize;
     for _ in 0..3 {
@@ -293,8 +293,8 @@ fn hand_out_three<R: Rig>(rig: &mut R) -> usize {
     good
 }
 
-/// Hands out three items over a writer of which so many calls succeed, with so many bytes each: how many are, how many
-/// failures are counted, and what is written.
+/// Hands out three items over a writer of which this many calls succeed, with this many bytes each: how many items
+/// succeed, how many failures are counted, and what is written.
 fn three_over_short(
     alloc: Global,
     calls_left: usize,
@@ -327,13 +327,13 @@ fn a_hand_out_is_writes_and_a_flush_and_fails_with_each(rt: HostRuntime) -> Resu
 }
 
 #[test]
-fn a_device_without_memory_for_a_line_is_none(rt: HostRuntime) -> Result<(), Fail> {
+fn opening_a_device_fails_without_memory(rt: HostRuntime) -> Result<(), Fail> {
     let heap = LocalHeap::new(rt.alloc(), 16)?;
     assert!(rt; FileRig::over(&heap, disk_with(rt.alloc(), 0, 0)?, io::sink()).is_err());
     Ok(())
 }
 
-/// A file of the system that holds nothing, and that can't make last what it is given.
+/// An empty file of the system that can't make what is written durable.
 #[derive(Drop)]
 struct Unlasting;
 
@@ -378,7 +378,7 @@ impl OpenFile for Unlasting {
 }
 
 #[test]
-fn a_sync_is_the_files_own(rt: HostRuntime) -> Result<(), Fail> {
+fn sync_reaches_the_file(rt: HostRuntime) -> Result<(), Fail> {
     let mut rig = FileRig::over(rt.alloc(), OpenedFile::of(Unlasting), io::sink())?;
     assert_eq!(rt; (rig.sync(), rig.failures()), (Err(Failed), 1));
     Ok(())

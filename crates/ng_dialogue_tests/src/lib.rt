@@ -1,6 +1,6 @@
-//! Tests of the console's language and of devices in files through their public calls; no program stands on this crate.
+//! Tests of the console's language and of devices in files, through public functions. No program depends on this crate.
 //!
-//! Expected values are worked out by hand from the language, never taken from what the crates answer.
+//! Expected values are worked out by hand from the language, never copied from what the crates return.
 #![tactic(auto)]
 
 #[cfg(test)]

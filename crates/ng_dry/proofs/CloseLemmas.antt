@@ -74,7 +74,7 @@ run_goes w0 w1 w2 before bytes out g h p q = record {
       ∙ ap (λ l. record { text = l; ended = (h more).ended }) (sym (append_assoc p.text q.text (h more).text));
 }
 
--- a run that broke off between two reads
+-- a run that was aborted between two reads
 pub run_stops : (r0 r1 w0 w1 w2 : Option (List ℕ)) (before : List ℕ) (out : List ℕ → Output) (p : DryRunModel) (kept : List ℕ) (fault : DryFault) → Consumes r0 r1 before
     → Goes w0 w1 (λ more. out (before ++ more)) (λ more. rest_of p kept more) → Wrote w1 w2 p.text → IfSome r0 (λ program. DryRunSpec w0 w2 (out program) (Err fault))
 run_stops r0 r1 w0 w1 w2 before out p kept fault read run wrote =
@@ -94,7 +94,7 @@ Goes-begun a terms p kept e f = record {
   rest = λ more. outcome_is terms [] fresh (lines more) ∙ ap (λ q. onto [] (rest_of q [] more)) (sym e) ∙ ap (λ k. onto [] (rest_of p k more)) (sym f);
 }
 
--- the last line was carried out, and then the text ended
+-- the last line was executed, and then the text ended
 pub DryRunSpec-stepped : (a b c : Option (List ℕ)) (f g : List (List ℕ) → Output) (o : Output) (r : Result Ended DryFault) → o ≡ f [] → Goes a b f g → DryRunSpec b c (g []) r → DryRunSpec a c o r
 DryRunSpec-stepped a b c f g o r e run h = subst (λ x. DryRunSpec a c x r) (sym (e ∙ run.rest [])) (DryRunSpec-onto a b c run.text (g []) r run.appends h)
 

@@ -12,7 +12,7 @@ Waits a waiting left x e = ([], Appends-nil a, sym e)
 pub Waits-broken : (T : Type 0) (a : Option (List ℕ)) (waiting left : List ℕ) (fault : DryFault) → FlushSpec {T = T} a a waiting left (Err fault)
 Waits-broken T a waiting left fault = ([], waiting, Appends-nil a, refl)
 
--- all is written
+-- everything is written
 pub FlushSpec-all : {T : Type 0} (a b : Option (List ℕ)) (waiting left : List ℕ) (x : T) → left ≡ [] → Appends a b waiting → FlushSpec a b waiting left (Ok x)
 FlushSpec-all a b waiting left x e w = (waiting, w, sym (append-nil waiting) ∙ ap (λ l. waiting ++ l) (sym e))
 
@@ -36,7 +36,7 @@ FlushSpec-piece a b c all here piece rest left (Err fault) p q = (
   p.2 ∙ ap (λ l. p.0 ++ l) (sym (append_assoc here piece rest) ∙ ap (λ l. l ++ rest) q.3 ∙ append_assoc q.0 q.1 rest) ∙ sym (append_assoc p.0 q.0 (q.1 ++ rest)),
 )
 
--- what waited, written otherwise
+-- what waited, written in another way
 pub FlushSpec-from : {T : Type 0} (a b : Option (List ℕ)) (waiting before left : List ℕ) (r : Result T DryFault) → before ≡ waiting → FlushSpec a b waiting left r → FlushSpec a b before left r
 FlushSpec-from a b waiting before left r e w = subst (λ l. FlushSpec a b l left r) (sym e) w
 
@@ -55,7 +55,7 @@ FlushSpec-after a b c all first here piece left x (Err fault) e p q = (
   e ∙ ap (λ l. l ++ piece) p.2 ∙ append_assoc p.0 here piece ∙ ap (λ l. p.0 ++ l) q.3 ∙ sym (append_assoc p.0 q.0 q.1),
 )
 
--- where printing broke off before a piece
+-- if printing was aborted before a piece
 pub FlushSpec-short : (T U : Type 0) (a b : Option (List ℕ)) (all first piece left : List ℕ) (fault : DryFault)
     → all ≡ first ++ piece → FlushSpec {T = T} a b first left (Err fault) → FlushSpec {T = U} a b all left (Err fault)
 FlushSpec-short T U a b all first piece left fault e w = (w.0, w.1 ++ piece, w.2, e ∙ ap (λ l. l ++ piece) w.3 ∙ append_assoc w.0 w.1 piece)

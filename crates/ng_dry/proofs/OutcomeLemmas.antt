@@ -1,4 +1,4 @@
--- The fold by the kind of the first line is the fold by the lines before.
+-- The fold with the kind of the first line equals the fold with the lines before.
 use Rattle.std.proofs.Common.{◌≡◌, ℕ, ◌+◌, List, [], ◌∷◌, ◌++◌, length, cond, Result, Ok, Err, refl, ap, ◌∙◌, arith, length-append}
 use Rattle.ng_num.specs.declared.fault.Fault.{Fault}
 use Rattle.ng_words.specs.Kinds.{kind_of}
@@ -11,7 +11,7 @@ use Rattle.ng_dry.specs.Dry.{Output, onto, after_line, commands_text, outcome}
 use Rattle.ng_dry.specs.declared.ending.Ended.TheVariants as ended
 use Rattle.ng_dry.specs.Private.Parts.{outcome_by}
 
--- what follows a line matters only from its state on
+-- what follows a line is used only at its next state
 after_line-same : (number : ℕ) (r : Result Done Fault) (f g : StateModel → Output) → ((s : StateModel) → f s ≡ g s) → after_line number r f ≡ after_line number r g
 after_line-same number (Err fault) f g same = refl
 after_line-same number (Ok done) f g same =

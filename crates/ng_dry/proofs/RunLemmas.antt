@@ -14,7 +14,7 @@ use Rattle.ng_dry.specs.declared.ending.Ended.TheVariants as ended
 use Rattle.ng_dry.specs.declared.ending.DryFault.{DryFault}
 use Rattle.ng_text.proofs.Streams.{Appends-trans}
 
--- what a line gives
+-- what a line does
 due-line : (here start : DryRunModel) (line : List ℕ) (r : Result Done Fault) (more : List (List ℕ)) → here ≡ start → executed_after here.terms here.first here.setup line ≡ r
     → due start (line ∷ more) ≡ onto here.text (after_line here.number r (λ after. outcome_by here.terms (kind_before here.first (kind_of line)) after (here.number + 1) more))
 due-line here start line r more same is =
@@ -30,7 +30,7 @@ pub due-end : (here start : DryRunModel) (line : List ℕ) (done : Done) (more :
     → due start (line ∷ more) ≡ record { text = here.text ++ commands_text done.commands; ended = ended.Done }
 due-end here start line done more same is end = due-line here start line (Ok done) more same is ∙ rw end refl
 
--- a line after which the run goes on
+-- a line after which the run continues
 pub due-next : (here start : DryRunModel) (line : List ℕ) (done : Done) (more : List (List ℕ)) → here ≡ start → executed_after here.terms here.first here.setup line ≡ Ok done → is_end done.stop ≡ false
     → due start (line ∷ more) ≡ onto (here.text ++ commands_text done.commands) (outcome_by here.terms (kind_before here.first (kind_of line)) done.setup (here.number + 1) more)
 due-next here start line done more same is goes =
@@ -46,13 +46,13 @@ due-begins here start line done more same is = due-begins_at (is_end done.stop) 
     due-begins_at true e = ([], ap (λ (o : Output). o.text) (due-end here start line done more same is e) ∙ sym (append-nil (here.text ++ commands_text done.commands)))
     due-begins_at false e = ((outcome_by here.terms (kind_before here.first (kind_of line)) done.setup (here.number + 1) more).text, ap (λ (o : Output). o.text) (due-next here start line done more same is e))
 
--- what waits was written or waits still, and then the run ended
+-- what waits was written or still waits, and then the run ended
 pub DryRunSpec-drained : {T : Type 0} (a b c : Option (List ℕ)) (waiting left : List ℕ) (end : Ended) (x : T) (r : Result Ended DryFault) → FlushSpec a b waiting left (Ok x) → DryRunSpec b c (record { text = left; ended = end }) r
     → DryRunSpec a c (record { text = waiting; ended = end }) r
 DryRunSpec-drained a b c waiting left end x (Ok e) w f = (subst (Appends a c) (sym w.2) (Appends-trans a b c w.0 left w.1 f.0), f.1)
 DryRunSpec-drained a b c waiting left end x (Err fault) w f = (w.0 ++ f.0, f.1, w.2 ∙ ap (λ l. w.0 ++ l) f.2 ∙ sym (append_assoc w.0 f.0 f.1), Appends-trans a b c w.0 f.0 w.1 f.3)
 
--- what waits was written or waits still
+-- what waits was written or still waits
 pub Goes-drained : {X T : Type 0} (a b : Option (List ℕ)) (f : X → Output) (waiting left : List ℕ) (o : X → Output) (x : T) → ((more : X) → f more ≡ onto waiting (o more)) → FlushSpec a b waiting left (Ok x) → Goes a b f (λ more. onto left (o more))
 Goes-drained a b f waiting left o x e w = record {
   text = w.0;

@@ -13,19 +13,19 @@ use Rattle.ng_block.proofs.LineLemmas.{executed_after-long}
 use Rattle.ng_text.proofs.LineLemmas.{lines-newline, lines-long}
 use Rattle.ng_text.proofs.Streams.{Appends-trans}
 
--- a part that begins elsewhere
+-- a part that begins at an equal place
 pub LineStepSpec-from : {X : Type 0} (a b : Option (List ℕ)) (f before g : X → Output) (r : Result (Option Ended) DryFault) → ((more : X) → before more ≡ f more) → LineStepSpec a b f g r → LineStepSpec a b before g r
 LineStepSpec-from a b f before g (Ok None) e h = record { text = h.text; appends = h.appends; rest = λ more. e more ∙ h.rest more }
 LineStepSpec-from a b f before g (Ok (Some end)) e h = record { text = h.text; appends = h.appends; rest = λ more. e more ∙ h.rest more }
 LineStepSpec-from a b f before g (Err fault) e h = record { text = h.text; appends = h.appends; rest = λ more. let x = h.rest more in (x.0, ap (λ (o : Output). o.text) (e more) ∙ x.1) }
 
--- a part that goes on elsewhere
+-- a part that continues at an equal place
 pub LineStepSpec-onto : {X : Type 0} (a b : Option (List ℕ)) (f g after : X → Output) (r : Result (Option Ended) DryFault) → ((more : X) → g more ≡ after more) → LineStepSpec a b f g r → LineStepSpec a b f after r
 LineStepSpec-onto a b f g after (Ok None) e h = record { text = h.text; appends = h.appends; rest = λ more. h.rest more ∙ ap (onto h.text) (e more) }
 LineStepSpec-onto a b f g after (Ok (Some end)) e h = h
 LineStepSpec-onto a b f g after (Err fault) e h = h
 
--- a part whose continuations are some of all
+-- a part for some of the continuations
 pub LineStepSpec-at : {X Y : Type 0} (a b : Option (List ℕ)) (at : Y → X) (f g : X → Output) (r : Result (Option Ended) DryFault) → LineStepSpec a b f g r → LineStepSpec a b (λ more. f (at more)) (λ more. g (at more)) r
 LineStepSpec-at a b at f g (Ok None) h = record { text = h.text; appends = h.appends; rest = λ more. h.rest (at more) }
 LineStepSpec-at a b at f g (Ok (Some end)) h = record { text = h.text; appends = h.appends; rest = λ more. h.rest (at more) }
@@ -54,7 +54,7 @@ LineStepSpec-after a b c f g h (Err fault) p q = record {
       (x.0, ap (λ (o : Output). o.text) (p.rest more) ∙ ap (λ l. p.text ++ l) x.1 ∙ sym (append_assoc p.text q.text x.0));
 }
 
--- the run has ended, or broke off at its end
+-- the run has ended, or was aborted at its end
 pub EndsRun-finished : {X : Type 0} (a b : Option (List ℕ)) (f : X → Output) (o : Output) (end : Ended) → ((more : X) → f more ≡ o) → DryRunSpec a b o (Ok end) → EndsRun a b f end
 EndsRun-finished a b f o end e h = record { text = o.text; appends = h.0; rest = λ more. e more ∙ ap (λ x. record { text = o.text; ended = x }) (sym h.1) }
 

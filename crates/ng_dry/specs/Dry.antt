@@ -33,14 +33,14 @@ refused number fault = record { text = refusal_text number fault; ended = ended.
 abbrev pub onto : List ℕ → Output → Output
 onto front output = record { text = front ++ output.text; ended = output.ended }
 
--- a line's part, and then what follows from the next state; stops are printed and not waited for
+-- the text of a line, followed by the output from the next state; stops are printed, and the run doesn't wait at them
 abbrev pub after_line : ℕ → Result Done Fault → (StateModel → Output) → Output
 after_line number (Err fault) next = refused number fault
 after_line number (Ok done) next =
     if is_end done.stop then record { text = commands_text done.commands; ended = ended.Done }
     else onto (commands_text done.commands) (next done.setup)
 
--- the fold over the lines that are left, after those before them; a text that ends before the program does is refused
+-- the fold over the lines that are left, given those before them; a text that ends before the program does is refused
 abbrev pub outcome : TermsModel → List (List ℕ) → StateModel → List (List ℕ) → Output
 outcome terms lines_before setup [] = refused (length lines_before + 1) (missing_end (first_kind lines_before))
 outcome terms lines_before setup (l ∷ ls) =
@@ -50,7 +50,7 @@ outcome terms lines_before setup (l ∷ ls) =
 abbrev pub output_of : TermsModel → List ℕ → Output
 output_of terms program = outcome terms [] fresh (lines program)
 
--- a run that has ended wrote the whole text and says how; one that failed wrote a beginning
+-- a run that has ended wrote the whole text and returns how it ended; one that failed wrote a beginning
 abbrev pub DryRunSpec : Option (List ℕ) → Option (List ℕ) → Output → Result Ended DryFault → Type 0
 DryRunSpec old new output (Ok end) = Appends old new output.text × (end ≡ output.ended)
 DryRunSpec old new output (Err fault) = (front : List ℕ) × (after : List ℕ) × (output.text ≡ front ++ after) × Appends old new front

@@ -1,4 +1,4 @@
-//! The dry run: a program's bytes come in, its canonical text goes out.
+//! The dry run: a program's bytes go in, its canonical text comes out.
 ghost use Rattle.std.specs.Prelude.{IfSome};
 ghost use Rattle.ng_dry.specs.Dry.{DryRunSpec, output_of};
 
@@ -20,14 +20,14 @@ const BUFFER: usize = 8192;
 
 /// Runs a program from the fresh state, without a machine, and writes its canonical text.
 ///
-/// The text is that of the commands of the program's lines, one line after the other, up to the program's end,
-/// or to and with the line `REFUSED line K: FAULT` of the first line that is refused; K counts lines from 1. A
-/// text that ends before M2 or M30 is refused after its last line (X3). Nothing after the program's end has an
-/// effect. Lines that begin with a slash are deleted where `block_delete` is set.
+/// The text is that of the commands of the program's lines, one line after the other. It ends at the program's end, or
+/// with the line `REFUSED line K: FAULT` of the first line that is refused; K counts lines from 1. A text that ends
+/// before M2 or M30 is refused after its last line (X3). Nothing after the program's end has an effect. Lines that
+/// begin with a slash are deleted if `block_delete` is set.
 ///
-/// The program is read through a buffer of fixed size, by 1,000,000,000 reads at most, and memory doesn't grow
-/// with it. After `DryFault::Reader`, `Writer` or `Memory` a beginning of the text is
-/// written; after `Reader` and `Memory` all that was found until then. Source: own.
+/// The program is read through a buffer of fixed size, by at most 1,000,000,000 reads, and memory doesn't grow with it.
+/// After `DryFault::Reader`, `Writer` or `Memory` a beginning of the text has been written; after `Reader` and `Memory`
+/// everything that was found until then. Source: own.
 pub fn dry<R: Read, W: Write, A: Allocator + Copy + Drop>(
     alloc: A,
     reader: &mut R,

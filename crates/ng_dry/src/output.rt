@@ -1,4 +1,4 @@
-//! Writing what a run has made.
+//! Writing the text of a run.
 ghost use Rattle.std.specs.Prelude.{◌≡◌, ◌++◌, ◌∷◌, [], map, OnOk, OnErr, codes};
 ghost use Rattle.std.specs.Fmt.{decimal};
 ghost use Rattle.ng_canon.specs.Text.{StaysWithin, canonical, canonical_text, command_text, numeric};
@@ -19,7 +19,7 @@ use ng_num::{Fault, print_whole};
 use std::alloc::{AllocError, Allocator};
 use std::io::Write;
 
-/// Writes all bytes. After a fault a beginning of them is written.
+/// Writes all bytes. After a fault a beginning of them has been written.
 pub fn write_out<W: Write>(writer: &mut W, bytes: &[u8]) -> Result<(), DryFault>
     ensures { WritesOrBeginning (W.contents writer.old) (W.contents writer.new) bytes.now result }
 {
@@ -34,11 +34,12 @@ pub fn write_out<W: Write>(writer: &mut W, bytes: &[u8]) -> Result<(), DryFault>
     Ok(())
 }
 
-/// The text that waits is written once it has so many bytes.
+/// The text that waits is written once it has this many bytes.
 const FULL: usize = 8192;
 
-/// Room for all text that ever waits: what isn't long yet, and after it the text of a command or of a refusal, of which
-/// a comment's is the longest, with fewer than 300 bytes. So a run that has this room takes no memory for its text.
+/// Room for all text that ever waits: text that isn't long yet, followed by the text of one command or refusal. The
+/// longest of these is that of a comment, with fewer than 300 bytes. So a run with this room doesn't allocate for its
+/// text.
 pub const ROOM: usize = FULL + 512;
 
 /// Writes the text that waits.
@@ -58,7 +59,7 @@ pub fn flush<W: Write, A: Allocator + Copy + Drop>(
     }
 }
 
-/// Writes the text that waits where it is long.
+/// Writes the text that waits if it is long.
 #[inline]
 fn relieve<W: Write, A: Allocator + Copy + Drop>(
     text: &mut Vec<u8, A>,
@@ -72,7 +73,7 @@ fn relieve<W: Write, A: Allocator + Copy + Drop>(
     flush(text, writer)
 }
 
-/// Writes the text that waits before a run breaks off; a fault of the writer then comes first.
+/// Writes the text that waits before a run is aborted. If the writer fails, that fault is returned instead.
 pub fn break_off<W: Write, A: Allocator + Copy + Drop>(
     text: &mut Vec<u8, A>,
     writer: &mut W,
@@ -86,8 +87,8 @@ pub fn break_off<W: Write, A: Allocator + Copy + Drop>(
     }
 }
 
-/// Prints a command after the text that waits, and writes that where it is long. Before `DryFault::Memory` what
-/// waited is written.
+/// Prints a command after the text that waits, and writes the text if it is long. Before `DryFault::Memory` the text
+/// that waited is written.
 pub fn put_canon<W: Write, A: Allocator + Copy + Drop>(
     text: &mut Vec<u8, A>,
     writer: &mut W,
@@ -101,7 +102,7 @@ pub fn put_canon<W: Write, A: Allocator + Copy + Drop>(
     }
 }
 
-/// The same of a command whose arguments are numbers, without a copy of it.
+/// Prints a command whose arguments are numbers as `put_canon` does, without a copy of the command.
 #[inline]
 fn put_command<W: Write, A: Allocator + Copy + Drop>(
     text: &mut Vec<u8, A>,
@@ -116,7 +117,7 @@ fn put_command<W: Write, A: Allocator + Copy + Drop>(
     }
 }
 
-/// Prints commands as they come, likewise.
+/// Prints commands as they come, as `put_canon` does.
 fn put_commands<W: Write, A: Allocator + Copy + Drop>(
     text: &mut Vec<u8, A>,
     writer: &mut W,
@@ -160,7 +161,7 @@ fn push_line<A: Allocator + Copy + Drop>(
     text.extend_from_slice(b"\n")
 }
 
-/// Appends the command of a straight move. A refused growth leaves the text as it was.
+/// Appends the command of a straight move. If the text can't grow, it is left as it was.
 #[inline(always)]
 fn print_straight<A: Allocator + Copy + Drop>(
     text: &mut Vec<u8, A>,
@@ -176,7 +177,7 @@ fn print_straight<A: Allocator + Copy + Drop>(
     }
 }
 
-/// Prints a straight move, likewise, without a command of it.
+/// Prints a straight move as `put_canon` does, without building a command.
 #[inline(always)]
 fn put_straight<W: Write, A: Allocator + Copy + Drop>(
     text: &mut Vec<u8, A>,
@@ -191,7 +192,7 @@ fn put_straight<W: Write, A: Allocator + Copy + Drop>(
     }
 }
 
-/// Prints the feed that a line sets, and its move, likewise.
+/// Prints the feed that a line sets, and its move, as `put_canon` does.
 #[inline]
 fn put_move<W: Write, A: Allocator + Copy + Drop>(
     text: &mut Vec<u8, A>,
@@ -214,7 +215,7 @@ fn put_move<W: Write, A: Allocator + Copy + Drop>(
     }
 }
 
-/// Prints all commands of a line, likewise.
+/// Prints all commands of a line, as `put_canon` does.
 fn put_all<W: Write, A: Allocator + Copy + Drop>(
     text: &mut Vec<u8, A>,
     writer: &mut W,
@@ -225,7 +226,7 @@ fn put_all<W: Write, A: Allocator + Copy + Drop>(
     put_commands(text, writer, &mut effect.commands())
 }
 
-/// Prints what a line does, likewise; of nearly every line this is one move.
+/// Prints what a line does, as `put_canon` does. For nearly every line this is one move.
 pub fn put_effect<W: Write, A: Allocator + Copy + Drop>(
     text: &mut Vec<u8, A>,
     writer: &mut W,
@@ -239,7 +240,7 @@ pub fn put_effect<W: Write, A: Allocator + Copy + Drop>(
     }
 }
 
-/// Prints the line that says which line is refused, and why, and writes all that waits.
+/// Prints the line that says which line is refused, and why, and writes all text that waits.
 pub fn put_refusal<W: Write, A: Allocator + Copy + Drop>(
     text: &mut Vec<u8, A>,
     writer: &mut W,
@@ -255,7 +256,7 @@ pub fn put_refusal<W: Write, A: Allocator + Copy + Drop>(
     }
 }
 
-/// Appends the line that says which line is refused, and why. A refused growth leaves the text as it was.
+/// Appends the line that says which line is refused, and why. If the text can't grow, it is left as it was.
 fn print_refusal<A: Allocator + Copy + Drop>(
     text: &mut Vec<u8, A>,
     number: u64,

@@ -20,12 +20,12 @@ use std::marker::Model;
 #[derive(Drop)]
 pub struct DryRun<'a, A: Allocator> {
     terms: Terms<'a>,
-    /// The kind of the first line that isn't blank, of those before.
+    /// The kind of the first line so far that isn't blank.
     first: LineKind,
     state: State<A>,
     number: u64,
     text: Vec<u8, A>,
-    /// The places that each line is executed in.
+    /// The working space for executing a line.
     places: Scratch,
 }
 
@@ -48,8 +48,8 @@ fn is_end(stop: ProgramFlow) -> bool
 }
 
 impl<'a, A: Allocator + Copy + Drop> DryRun<'a, A> {
-    /// A run from the fresh state, before the first line, with room for the text that waits: no line takes memory.
-    /// `AllocError` where the state or that room found none.
+    /// A run from the fresh state, before the first line, with room for the text that waits, so that no line allocates.
+    /// `AllocError` if there is no memory for the state or for that room.
     pub fn new(alloc: A, terms: Terms<'a>) -> Result<DryRun<'a, A>, AllocError>
         ensures { IfOk result (λ r. r ≡ begun terms.entry) }
     {
@@ -74,14 +74,14 @@ impl<'a, A: Allocator + Copy + Drop> DryRun<'a, A> {
         }
     }
 
-    /// Breaks the run off: writes the text that isn't written yet.
+    /// Aborts the run: writes the text that isn't written yet.
     pub fn break_off<W: Write>(&mut self, writer: &mut W, fault: DryFault) -> DryFault
         ensures { Wrote (W.contents writer.old) (W.contents writer.new) self.old.text }
     {
         break_off(&mut self.text, writer, fault)
     }
 
-    /// Ends the run by a refusal of the next line.
+    /// Ends the run because the next line is refused.
     pub fn refuse<W: Write>(&mut self, writer: &mut W, fault: Fault) -> Result<Ended, DryFault>
         ensures ended { DryRunSpec (W.contents writer.old) (W.contents writer.new) (onto self.old.text (refused self.old.number fault)) result }
         ensures number { self.new.number ≡ self.old.number }
@@ -93,8 +93,8 @@ impl<'a, A: Allocator + Copy + Drop> DryRun<'a, A> {
         Ok(Ended::Refused(number, fault))
     }
 
-    /// Executes the next line, and writes what it gives. Within the loop over the lines: a call of its own costs each
-    /// line 22 instructions.
+    /// Executes the next line, and writes what it prints. It is inlined into the loop over the lines: a call would cost
+    /// 22 instructions per line.
     #[inline(always)]
     pub fn execute<W: Write>(
         &mut self,
@@ -131,7 +131,7 @@ impl<'a, A: Allocator + Copy + Drop> DryRun<'a, A> {
         Ok(None)
     }
 
-    /// Ends the run at the end of a text that has no program end.
+    /// Ends the run at the end of a text without a program end.
     pub fn end_of_text<W: Write>(&mut self, writer: &mut W) -> Result<Ended, DryFault>
         ensures { DryRunSpec (W.contents writer.old) (W.contents writer.new) (due self.old []) result }
     {

@@ -1,4 +1,4 @@
-//! The bytes of a program as they come, split into lines.
+//! Splitting the bytes of a program into lines as they come.
 ghost use Rattle.std.specs.Prelude.{◌≡◌, ◌+◌, ◌<◌, ◌≤◌, ◌^◌, ◌∷◌, ◌++◌, [], ℕ, List, length};
 ghost use Rattle.std.specs.Str.Lines.{strip_carriage_return};
 ghost use Rattle.ng_dry.specs.Dry.{Output, DryRunSpec, onto, refused};
@@ -14,10 +14,10 @@ use ng_text::split_line;
 use std::alloc::Allocator;
 use std::io::Write;
 
-/// The most bytes that are kept of a line whose end hasn't come: the longest line and a carriage return.
+/// The most bytes that are kept of a line without its end: the longest line and a carriage return.
 pub const KEPT: usize = 257;
 
-/// Splits bytes into the lines of a run, and keeps the beginning of a line whose end hasn't come.
+/// Splits bytes into the lines of a run, and keeps the beginning of a line until its end comes.
 #[derive(Drop)]
 pub struct LineSplitter<'a, A: Allocator> {
     pub run: DryRun<'a, A>,
@@ -85,7 +85,7 @@ impl<'a, A: Allocator + Copy + Drop> LineSplitter<'a, A> {
         }
     }
 
-    /// Takes the next bytes of the program, and writes what they give.
+    /// Takes the next bytes of the program, and writes what they print.
     pub fn take<W: Write>(
         &mut self,
         writer: &mut W,
@@ -108,7 +108,7 @@ impl<'a, A: Allocator + Copy + Drop> LineSplitter<'a, A> {
         self.keep(writer, left)
     }
 
-    /// Takes the end of the program, and writes what it gives.
+    /// Takes the end of the program, and writes what it prints.
     pub fn close<W: Write>(&mut self, writer: &mut W) -> Result<Ended, DryFault>
         requires kept { HasNoNewline self.old.kept.items }
         requires room { self.old.run.number < 2 ^ 63 }

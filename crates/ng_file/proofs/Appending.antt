@@ -1,4 +1,4 @@
--- Bytes that are appended piece by piece.
+-- Appending bytes piece by piece.
 use Rattle.std.proofs.Common.{◌≡◌, ℕ, ◌+◌, ◌*◌, List, ◌++◌, Option, None, Some, ap, ◌∙◌, append_assoc, replicate, take, drop, length, ◌-◌, arith, length-drop}
 use Rattle.std.proofs.lemmas.List.{replicate-append-replicate, take_all}
 use Rattle.std.specs.Io.KnownBytes.{Appends}
@@ -16,7 +16,7 @@ rest_is i xs = take_all (length xs - i) (drop i xs) (omega (arith, length-drop i
 abbrev zeros : ℕ → List ℕ
 zeros n = replicate n 0
 
--- the zeros of one sector more
+-- one more sector of zeros
 pub zeros_more : (k : ℕ) → zeros (512 * k) ++ zeros 512 ≡ zeros (512 * (k + 1))
 zeros_more k =
     let sum : 512 * k + 512 ≡ 512 * (k + 1) = omega arith in

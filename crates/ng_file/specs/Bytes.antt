@@ -6,11 +6,11 @@ use Rattle.std.specs.Io.KnownBytes.{Appends}
 abbrev pub sector_of : ℕ → List ℕ → List ℕ
 sector_of n held = slice_range held (512 * n) (512 * n + 512)
 
--- these bytes, with others in place of as many from a place on
+-- these bytes, with others in place of the same number of bytes from a place on
 abbrev pub with_bytes : ℕ → List ℕ → List ℕ → List ℕ
 with_bytes place bytes held = take place held ++ bytes ++ drop (place + length bytes) held
 
--- the bytes are put there; a place past the end isn't looked at
+-- the bytes are put there; nothing is said of a place past the end
 abbrev pub Put : ℕ → List ℕ → Option (List ℕ) → Option (List ℕ) → Type 0
 Put place bytes old new = IfSome old (λ held. place + 512 ≤ length held → new ≡ Some (with_bytes place bytes held))
 
@@ -23,10 +23,10 @@ PutInPart place old new = IfSome old (λ held. place + 512 ≤ length held →
 abbrev pub AppendsBeginning : Option (List ℕ) → Option (List ℕ) → List ℕ → Type 0
 AppendsBeginning old new bytes = (n : ℕ) × Appends old new (take n bytes)
 
--- after these bytes stand as many zeros as they are short of so many, none where they aren't
+-- zeros are appended until there are this many bytes; none if there are as many or more
 abbrev pub Lengthened : ℕ → Option (List ℕ) → Option (List ℕ) → Type 0
 Lengthened size old new = IfSome old (λ held. new ≡ Some (held ++ replicate (size - length held) 0))
 
--- the same with fewer zeros, perhaps none, or with all of them
+-- the same with fewer zeros, perhaps none, or all of them
 abbrev pub LengthenedInPart : ℕ → Option (List ℕ) → Option (List ℕ) → Type 0
 LengthenedInPart size old new = IfSome old (λ held. (n : ℕ) × (n ≤ size - length held) × (new ≡ Some (held ++ replicate n 0)))

@@ -14,6 +14,6 @@ failure_count rig = rig.failures
 abbrev pub storage : {S W A : Type 0} → FileRig S W A → S
 storage rig = rig.file
 
--- where it hands out
+-- the writer that it hands out to
 abbrev pub outlet : {S W A : Type 0} → FileRig S W A → W
 outlet rig = rig.out

@@ -21,12 +21,12 @@ spindle_text Stopped = codes "0"
 spindle_text Clockwise = codes "1"
 spindle_text Counterclockwise = codes "2"
 
--- the code of 0 or 1
+-- the digit for a truth value
 abbrev pub truth_digit : Bool → ℕ
 truth_digit false = 48
 truth_digit true = 49
 
--- P, the steps of X, Y and Z, microseconds until the next
+-- P, the steps of X, Y and Z, and the microseconds until the next pulse
 abbrev pub pulse_line : Stepping → List ℕ
 pulse_line p = codes "P " ++ step_text p.x ++ codes " " ++ step_text p.y ++ codes " " ++ step_text p.z ++ codes " " ++ decimal p.period_us ++ codes "\n"
 

@@ -1,4 +1,4 @@
-//! The files of devices, found by their names.
+//! Opening the files of devices by name.
 ghost use Rattle.std.specs.Prelude.{◌*◌, OnOk, replicate};
 ghost use Rattle.std.specs.Io.KnownBytes.{Appends};
 
@@ -14,17 +14,16 @@ use std::rt::Files;
 /// Why a device's file wasn't opened.
 #[derive(Clone, Copy, Debug, PartialEq, Eq)]
 pub enum NoDevice {
-    /// It isn't there, or the system doesn't let it be read and written.
+    /// It doesn't exist, or the system doesn't allow reading and writing it.
     Unopened,
-    /// It is a directory, or another process holds it, or a new one can't be made as long as it has to be, or can't be
-    /// made to last.
+    /// It is a directory; or another process holds it; or a new file can't be made long enough or durable.
     Unusable,
 }
 
 /// Opens the file of a device and holds it for this process alone (own).
 ///
-/// `Unopened` where it isn't there or may not be read and written; `Unusable` where it is a directory or can't be held,
-/// as where another process holds it. Nothing is changed then.
+/// `Unopened` if it doesn't exist or may not be read and written; `Unusable` if it is a directory, or can't be held
+/// because another process holds it. After either nothing has changed.
 pub fn open_device<R: Files>(rt: &R, path: &str) -> Result<OpenedFile<R::File>, NoDevice>
 where
     R::File: Hold,
@@ -39,11 +38,11 @@ where
     held(file)
 }
 
-/// Opens the file of a device and holds it for this process alone; where there is none makes one of so many sectors,
-/// each written in full with zeros, and makes it and the directory in which it stands last over a loss of power (own).
+/// Opens the file of a device and holds it for this process alone. If there is none, makes one with this many sectors,
+/// all of them written with zeros, and makes the file and its directory durable (own).
 ///
-/// `Unopened` where it can't be made, or is there and may not be read and written; `Unusable` as for `open_device`, or
-/// where a new file can't be written so long or can't be made to last: it stays then, perhaps too short.
+/// `Unopened` if it can't be made, or exists but may not be read and written; `Unusable` as for `open_device`, or if a
+/// new file can't be written in full or made durable. Such a file isn't removed; it may be too short.
 pub fn make_device<R: Files>(
     rt: &R,
     path: &str,
@@ -64,7 +63,7 @@ where
     }
 }
 
-/// The bytes of a new file, which this process alone holds, once it has so many sectors and lasts.
+/// The bytes of a new file, held by this process alone, once it has this many sectors and is durable.
 fn made_whole<R: Files>(
     rt: &R,
     path: &str,
@@ -83,14 +82,14 @@ where
     }
 }
 
-/// Writes so many sectors of zeros to a new file, and makes it and the directory in which it stands last.
+/// Writes this many sectors of zeros to a new file, and makes the file and its directory durable.
 fn fill<R: Files>(rt: &R, path: &str, file: &mut R::File, sectors: usize) -> io::Result<()> {
     write_zeros(file, sectors)?;
     file.sync_all()?;
     sync_directory(rt, path)
 }
 
-/// Writes so many sectors of zeros.
+/// Writes this many sectors of zeros.
 fn write_zeros<W: Write>(file: &mut W, sectors: usize) -> io::Result<()>
     ensures { OnOk result (Appends (W.contents file.old) (W.contents file.new) (replicate (512 * sectors) 0)) }
 {
@@ -100,7 +99,7 @@ fn write_zeros<W: Write>(file: &mut W, sectors: usize) -> io::Result<()>
     Ok(())
 }
 
-/// Makes the names in a file's directory last.
+/// Makes the names in a file's directory durable.
 fn sync_directory<R: Files>(rt: &R, path: &str) -> io::Result<()> {
     let directory = match Path::new(path).parent() {
         Some(parent) if !parent.as_str().is_empty() => parent,
@@ -120,7 +119,7 @@ fn is_directory<R: Files>(rt: &R, path: &str) -> bool {
     }
 }
 
-/// The bytes of a file, where this process alone holds it now.
+/// The bytes of a file, if this process can hold it alone.
 fn held<F: Hold + Drop>(file: F) -> Result<OpenedFile<F>, NoDevice> {
     match file.hold() {
         Ok(()) => Ok(OpenedFile::of(file)),

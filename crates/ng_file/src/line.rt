@@ -50,7 +50,7 @@ fn push_pulse<A: Allocator + Copy + Drop>(
     text.extend_from_slice(b"\n")
 }
 
-/// Appends the line of a wait.
+/// Appends the line of a dwell.
 fn push_dwell<A: Allocator + Copy + Drop>(text: &mut Vec<u8, A>, us: u64) -> Result<(), AllocError>
     ensures { OnOk result (text.new.items ≡ text.old.items ++ item_line (Item.Dwell us)) }
 {
@@ -59,7 +59,7 @@ fn push_dwell<A: Allocator + Copy + Drop>(text: &mut Vec<u8, A>, us: u64) -> Res
     text.extend_from_slice(b"\n")
 }
 
-/// Appends how the spindle turns and what coolant flows, and the blank after it.
+/// Appends the spindle and the coolant, and the blank after them.
 fn push_turning<A: Allocator + Copy + Drop>(
     text: &mut Vec<u8, A>,
     outputs: &Outputs,
@@ -98,7 +98,7 @@ fn push_switch<A: Allocator + Copy + Drop>(
 }
 
 /// Appends the line of an item: `P x y z period`, `D microseconds` or `S spindle speed mist flood selected slot`. After
-/// an error a part of it may have been appended. Source: own.
+/// an error part of it may have been appended. Source: own.
 pub(crate) fn push_item<A: Allocator + Copy + Drop>(
     text: &mut Vec<u8, A>,
     item: Item,

@@ -6,7 +6,7 @@ use std::fs::OpenFile;
 use std::io;
 use std::io::{Read, Seek, SeekFrom, Write};
 
-/// A file that was opened to be read and written. What it holds is the system's, and no contract says it.
+/// A file that was opened for reading and writing. What it holds is up to the system, and no contract says it.
 #[derive(Drop)]
 pub struct OpenedFile<F> {
     file: F,

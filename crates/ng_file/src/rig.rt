@@ -13,10 +13,10 @@ use std::io::Write;
 /// Room for the line of any item.
 const LINE: usize = 64;
 
-/// A device whose sectors are those of a file, and whose hand-outs are lines after those that a writer has.
+/// A device whose sectors are those of a file, and whose hand-outs are lines appended to a writer.
 ///
-/// It has as many sectors as were whole when it was made. A call fails where the file or the writer fails, and a write
-/// also where the file has become shorter than its sector.
+/// Its size is the number of whole sectors that the file had when the device was made. A call fails if the file or the
+/// writer fails; a read or a write also fails if the file has become too short for its sector.
 #[derive(Drop)]
 pub struct FileRig<S, W, A: Allocator> {
     file: S,
@@ -35,8 +35,8 @@ impl<S: Storage + Drop, W: Write + Drop, A: Allocator + Copy + Drop> FileRig<S, 
     ghost use Rattle.ng_file.specs.FileRig.{failure_count, outlet, sector_count, storage};
     ghost use Rattle.ng_file.specs.Lines.{item_line};
 
-    /// The device in a file, which hands out to a writer. Fails where the file can't say its length, or there isn't
-    /// enough memory for a line.
+    /// The device in a file, which hands out to a writer. Fails if the file's length can't be read, or if there is no
+    /// memory for a line.
     pub fn over(alloc: A, mut file: S, out: W) -> io::Result<Self>
         ensures size { IfOk result (λ rig. IfSome (S.content file) (λ held. sector_count rig ≡ length held / 512)) }
         ensures bytes { IfOk result (λ rig. S.content (storage rig) ≡ S.content file) }
@@ -68,7 +68,7 @@ impl<S: Storage + Drop, W: Write + Drop, A: Allocator + Copy + Drop> FileRig<S, 
         (file, out)
     }
 
-    /// Puts a sector's bytes into the file, where the file is long enough to have the sector.
+    /// Writes a sector's bytes to the file, if the file is long enough to have the sector.
     fn put(&mut self, sector: usize, bytes: &[u8; 512]) -> io::Result<()>
         requires { sector < sector_count self.old }
         ensures ok { OnOk result (IfSome (S.content (storage self.old)) (λ held. 512 * sector + 512 ≤ length held)) }
@@ -83,7 +83,7 @@ impl<S: Storage + Drop, W: Write + Drop, A: Allocator + Copy + Drop> FileRig<S, 
         self.file.write_at(place, bytes)
     }
 
-    /// Appends the line of an item to what was handed out.
+    /// Appends the line of an item to the writer.
     fn put_line(&mut self, item: Item) -> io::Result<()>
         ensures line { OnOk result (Appends (W.contents (outlet self.old)) (W.contents (outlet self.new)) (item_line item)) }
         ensures part { OnErr result (AppendsBeginning (W.contents (outlet self.old)) (W.contents (outlet self.new)) (item_line item)) }
@@ -136,7 +136,7 @@ impl<S: Storage + Drop, W: Write + Drop, A: Allocator + Copy + Drop> Rig for Fil
         self.failures
     }
 
-    /// Fails where the file does, also where it has become shorter than the sector.
+    /// Fails if the file does, also if it has become too short for the sector.
     fn read(&mut self, sector: usize, into: &mut [u8; 512]) -> Result<(), Failed>
         requires { sector < sector_count self.old }
         ensures value { OnOk result (IfSome (S.content (storage self.old)) (λ held. into.new ≡ sector_of sector held)) }
@@ -148,7 +148,7 @@ impl<S: Storage + Drop, W: Write + Drop, A: Allocator + Copy + Drop> Rig for Fil
         self.counted(read)
     }
 
-    /// Fails where the file does, and where it has become shorter than the sector; then nothing is written.
+    /// Fails if the file does, and if it has become too short for the sector; then nothing is written.
     fn write(&mut self, sector: usize, bytes: &[u8; 512]) -> Result<(), Failed>
         requires { sector < sector_count self.old }
         ensures whole { OnOk result (IfSome (S.content (storage self.old)) (λ held. 512 * sector + 512 ≤ length held)) }
@@ -162,7 +162,7 @@ impl<S: Storage + Drop, W: Write + Drop, A: Allocator + Copy + Drop> Rig for Fil
         self.counted(put)
     }
 
-    /// Fails where the file does. After a good one all that the file holds lasts.
+    /// Fails if the file does. If it succeeds, everything in the file is durable.
     fn sync(&mut self) -> Result<(), Failed>
         ensures lasts { OnOk result (IfSome (S.lasting (storage self.new)) (λ kept. S.content (storage self.new) ≡ Some kept)) }
         ensures stays { (S.content (storage self.new) ≡ S.content (storage self.old)) × (outlet self.new ≡ outlet self.old) }
@@ -173,8 +173,8 @@ impl<S: Storage + Drop, W: Write + Drop, A: Allocator + Copy + Drop> Rig for Fil
         self.counted(synced)
     }
 
-    /// Appends the item's line and flushes the writer. Takes no memory. After a failure a beginning of the line may
-    /// stand there.
+    /// Appends the item's line and flushes the writer. Doesn't allocate. After a failure the beginning of the line may
+    /// have been written.
     fn hand_out(&mut self, item: Item) -> Result<(), Failed>
         ensures line { OnOk result (Appends (W.contents (outlet self.old)) (W.contents (outlet self.new)) (item_line item)) }
         ensures part { OnErr result (AppendsBeginning (W.contents (outlet self.old)) (W.contents (outlet self.new)) (item_line item)) }

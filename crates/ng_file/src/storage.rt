@@ -10,10 +10,10 @@ pub(crate) const SECTOR: usize = 512;
 
 /// The bytes of a file, of which 512 are read or written at a time (own).
 pub trait Storage {
-    /// The bytes that it holds, where that is known.
+    /// The bytes that it holds, if that is known.
     ghost content: { Self → Option (List ℕ) } = { λ _. None };
 
-    /// The bytes that stay over a loss of power, where that is known.
+    /// The bytes that a loss of power leaves, if that is known.
     ghost lasting: { Self → Option (List ℕ) } = { λ _. None };
 
     /// How many bytes it holds.
@@ -26,19 +26,19 @@ pub trait Storage {
         ensures value { OnOk result (IfSome (content self.old) (λ held. into.new ≡ slice_range held place (place + 512))) }
         ensures bytes { content self.new ≡ content self.old };
 
-    /// Writes 512 bytes in place of those from a place on. After an error some of them may have been written.
+    /// Replaces the 512 bytes from a place on. After an error some of them may have been written.
     fn write_at(&mut self, place: u64, bytes: &[u8; 512]) -> io::Result<()>
         requires { place + 512 < 2 ^ 64 }
         ensures ok { OnOk result (Put place bytes.now (content self.old) (content self.new)) }
         ensures err { OnErr result (PutInPart place (content self.old) (content self.new)) };
 
-    /// Makes lasting what was written.
+    /// Makes what was written durable.
     fn sync(&mut self) -> io::Result<()>
         ensures lasts { OnOk result (IfSome (lasting self.new) (λ kept. content self.new ≡ Some kept)) }
         ensures bytes { content self.new ≡ content self.old };
 }
 
-/// A file that can have more bytes (own). A device in a file, `FileRig`, asks for none: its size never changes.
+/// A file that can grow (own). A device in a file, `FileRig`, doesn't need this: its size never changes.
 pub trait Append: Storage {
     /// Writes bytes after the last one. After an error a beginning of them may have been written.
     fn append(&mut self, bytes: &[u8]) -> io::Result<()>

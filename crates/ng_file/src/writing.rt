@@ -1,4 +1,4 @@
-//! Bytes that are written to the end.
+//! Writing all of some bytes.
 ghost use Rattle.std.specs.Prelude.{OnOk, OnErr};
 ghost use Rattle.std.specs.Io.KnownBytes.{Appends};
 ghost use Rattle.ng_file.specs.Bytes.{AppendsBeginning};
@@ -6,7 +6,7 @@ ghost use Rattle.ng_file.specs.Bytes.{AppendsBeginning};
 use std::io;
 use std::io::{ErrorKind, Write};
 
-/// Writes all bytes. After an error a beginning of them is written.
+/// Writes all bytes. After an error a beginning of them has been written.
 pub(crate) fn write_out<W: Write>(writer: &mut W, bytes: &[u8]) -> io::Result<()>
     ensures whole { OnOk result (Appends (W.contents writer.old) (W.contents writer.new) bytes.now) }
     ensures part { OnErr result (AppendsBeginning (W.contents writer.old) (W.contents writer.new) bytes.now) }

@@ -1,5 +1,5 @@
 //! Consoles over readers, writers, devices and heaps that fail at each place, and when they read and write. What a
-//! console answers where nothing fails is said by the cases of `ngc_cases`.
+//! console answers if nothing fails is tested by the cases of `ngc_cases`.
 
 mod ending;
 mod faults;

@@ -1,7 +1,7 @@
-//! Devices, what is made of them, and what is found on them.
+//! Devices, and how they are made and read.
 //!
-//! The calls that these tests are of stand here, each in a function without a contract: so what a test is proved with
-//! is not all that they promise.
+//! The functions that these tests are about are called here, each from a function without a contract, so that a test
+//! isn't proved with everything that they guarantee.
 ghost use Rattle.std.specs.Prelude.{◌≡◌, ◌≤◌, false};
 
 use crate::standing::Found;
@@ -27,24 +27,24 @@ pub fn formatted(alloc: Global) -> Result<Device, Fault> {
     formatted_of(alloc, 1_710)
 }
 
-/// A formatted device of so many sectors, with no calls.
+/// A formatted device with this many sectors, with no calls.
 pub fn formatted_of(alloc: Global, sectors: usize) -> Result<Device, Fault> {
     let mut rig = MemoryRig::new(alloc, sectors)?;
     format(&mut rig)?;
     Ok(cut(&rig)?)
 }
 
-/// The device as a cut of power after its last call leaves it: of what wasn't synced, nothing is kept.
+/// The device as a cut of power after its last call leaves it, with nothing kept of what wasn't synced.
 pub fn cut(rig: &Device) -> Result<Device, AllocError> {
     rig.stopped(usize::MAX, &[])
 }
 
-/// Another device with what this one holds, and with no calls.
+/// Another device with the same content, and with no calls.
 pub fn copy_of(rig: &Device) -> Result<Device, AllocError> {
     rig.stopped(usize::MAX, &[usize::MAX; LARGE])
 }
 
-/// A controller over this device, powered on on the default machine; or why it isn't, and the device.
+/// A controller over this device, powered on for the default machine; or the fault, and the device.
 pub fn powered<R: Rig, A: Allocator + Copy + Drop>(
     alloc: A,
     rig: R,
@@ -75,7 +75,7 @@ pub fn started_bare<R: Rig + Drop>(alloc: Global, rig: R) -> Result<Controller<R
     }
 }
 
-/// Gives a controller an event: its reply.
+/// Gives a controller an event, and returns its reply.
 pub fn give<R: Rig, A: Allocator + Copy + Drop>(
     controller: &mut Controller<R, A>,
     event: Event<A>,
@@ -83,7 +83,7 @@ pub fn give<R: Rig, A: Allocator + Copy + Drop>(
     controller.on(event)
 }
 
-/// Gives a controller events, one after the other: their replies.
+/// Gives a controller events, one after the other, and returns their replies.
 pub fn give_all<R: Rig, A: Allocator + Copy + Drop>(
     controller: &mut Controller<R, A>,
     events: &[Event<A>],
@@ -96,14 +96,14 @@ pub fn rig_of<R: Rig, A: Allocator + Copy + Drop>(controller: Controller<R, A>) 
     controller.into_rig()
 }
 
-/// What is stored on a device, which is powered on by its journal alone, and the device then; or why it isn't, and the
+/// What is stored on a device, which is powered on by its journal alone, and the device then; or the fault, and the
 /// device.
 pub fn recovered(alloc: Global, rig: Device) -> Result<(Stored<Global>, Device), (Fault, Device)> {
     let (journal, stored) = recover(alloc, rig, &Settings::standard().tools)?;
     Ok((stored, journal.into_rig()))
 }
 
-/// A console over a device, on the default machine: its status, and the device then.
+/// Runs a console over a device, for the default machine. Returns its status, and the device then.
 pub fn talk<I: Read, O: Write, R: Rig, A: Allocator + Copy + Drop>(
     alloc: A,
     reader: &mut I,
@@ -113,7 +113,7 @@ pub fn talk<I: Read, O: Write, R: Rig, A: Allocator + Copy + Drop>(
     console(alloc, reader, writer, rig, Settings::standard())
 }
 
-/// What a controller shows.
+/// The status of a controller.
 pub fn shown<R: Rig, A: Allocator + Copy + Drop>(
     controller: &mut Controller<R, A>,
 ) -> Option<Status> {
@@ -136,7 +136,7 @@ fn lines<R: Rig>(
     Ok([first, second])
 }
 
-/// What is read of a program, where its lines can be read.
+/// What is read of a program, if its lines can be read.
 type Lines = Result<[Option<ProgramLine>; 2], Fault>;
 
 /// What is stored on a device, which is powered on by its journal alone, with lines of its program, and the device

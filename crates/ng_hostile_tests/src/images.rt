@@ -1,7 +1,7 @@
-//! Images that were changed by chance from fixed seeds.
+//! Images with random changes, from fixed seeds.
 //!
-//! Expected values are worked out by hand from the formats, or by readers of their own that know the formats alone:
-//! never taken from what the crates answer.
+//! Expected values are worked out by hand from the formats, or by separate readers that know only the formats, never
+//! copied from what the crates return.
 
 mod by_chance;
 mod chance;

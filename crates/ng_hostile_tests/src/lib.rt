@@ -1,5 +1,5 @@
-//! What a controller and its console make of power that is cut at each call, of calls that fail, of memory that is
-//! refused, and of any image, through public calls. No program stands on this crate.
+//! How a controller and its console handle power that is cut at each call, calls that fail, memory that is refused, and
+//! arbitrary images, through public functions. No program depends on this crate.
 #![tactic(auto)]
 
 #[cfg(test)]

@@ -11,8 +11,8 @@ use std::alloc::Global;
 /// The blank lines that fill the log up to its last sector.
 pub const FILLING: usize = 1_021;
 
-/// A line of the operator whose first segment is open. It takes the length of a tool, which a device of format 1 has in
-/// its settings alone.
+/// A line of the operator whose first segment is open. It uses the length of a tool, which a device of format 1 has
+/// only in its settings.
 pub const OPENED: &str = "G43 H1 G0 X0.005";
 
 /// Sets a parameter, which takes a record of two parts.
@@ -27,8 +27,8 @@ fn header(epoch: u64) -> [u8; 512] {
     sector
 }
 
-/// Puts the state field of a fresh controller after so many entries into a sector, from this byte on: G80, G17, G90,
-/// G94, G21, G98, the first system, G64, M48, and the place known.
+/// Puts the state field of a fresh controller after this many entries into a sector, from this byte on: G80, G17, G90,
+/// G94, G21, G98, the first system, G64, M48, and the position known.
 fn put_state(sector: &mut [u8; 512], at: usize, entries: u64) {
     put(sector, at, 8, entries);
     let codes = [80, 17, 90, 94, 21, 98, 1, 2];
@@ -39,7 +39,8 @@ fn put_state(sector: &mut [u8; 512], at: usize, entries: u64) {
     put(sector, at.saturating_add(156), 1, 1);
 }
 
-/// A part of a record of epoch 2: the record's number, the part's, and how many parts and changes the record has.
+/// A part of a record of epoch 2: the record's number, the part's number, and how many parts and changes the record
+/// has.
 fn part(record: u64, number: u64, parts: u64, changes: u64) -> [u8; 512] {
     let mut sector = [0; 512];
     put(&mut sector, 0, 8, 2);
@@ -50,16 +51,16 @@ fn part(record: u64, number: u64, parts: u64, changes: u64) -> [u8; 512] {
     sector
 }
 
-/// The first part of a record of epoch 2, after so many entries.
+/// The first part of a record of epoch 2, after this many entries.
 fn first_part(record: u64, parts: u64, changes: u64, entries: u64) -> [u8; 512] {
     let mut sector = part(record, 0, parts, changes);
     put_state(&mut sector, 32, entries);
     sector
 }
 
-/// A device of so many sectors under the header of epoch 2, with that of epoch 1 beside it, of a fresh controller: of
-/// the parameters 5220 alone isn't 0.
-fn headed(alloc: Global, sectors: usize) -> Result<Device, Fault> {
+/// A device with this many sectors under the header of epoch 2, with that of epoch 1 in the other header sector. It
+/// holds a fresh controller: of the parameters only 5220 isn't 0.
+fn device_with_headers(alloc: Global, sectors: usize) -> Result<Device, Fault> {
     let mut rig = MemoryRig::new(alloc, sectors)?;
     let mut state = [0; 512];
     put_state(&mut state, 0, 0);
@@ -74,7 +75,7 @@ fn headed(alloc: Global, sectors: usize) -> Result<Device, Fault> {
     Ok(rig)
 }
 
-/// Stores, from this sector on, the record of this number, in which parameter 1 becomes 5.
+/// Stores, from this sector on, the record with this number, which sets parameter 1 to 5.
 fn store_change(rig: &mut Device, sector: usize, record: u64) -> Result<(), Fault> {
     let entries = record.saturating_add(1);
     store(rig, sector, &first_part(record, 2, 1, entries))?;
@@ -84,7 +85,7 @@ fn store_change(rig: &mut Device, sector: usize, record: u64) -> Result<(), Faul
     store(rig, sector.saturating_add(1), &change)
 }
 
-/// The record of this number, by which the line is open; there are as many entries as records before it.
+/// The record with this number, which says that the line is open; there are as many entries as records before it.
 fn opened(record: u64) -> [u8; 512] {
     let mut sector = first_part(record, 1, 0, record);
     put(&mut sector, 194, 1, 2);
@@ -96,19 +97,19 @@ fn opened(record: u64) -> [u8; 512] {
     sector
 }
 
-/// A device of format 1 under epoch 2, and what it stands for beside settings without tools. Its log has so many blank
+/// A device of format 1 under epoch 2, and what it stands for with settings without tools. Its log has this many blank
 /// lines, from sector 686 on, then a line that sets a parameter, in two sectors, and a line that is open.
 pub fn of_format_1(alloc: Global, blanks: usize) -> Result<(Device, Standing), Fault> {
     of_format_1_with(alloc, 1_710, blanks)
 }
 
-/// The same of a device of so many sectors.
+/// The same for a device with this many sectors.
 pub fn of_format_1_with(
     alloc: Global,
     sectors: usize,
     blanks: usize,
 ) -> Result<(Device, Standing), Fault> {
-    let mut rig = headed(alloc, sectors)?;
+    let mut rig = device_with_headers(alloc, sectors)?;
     let mut standing = Standing::fresh_on(alloc, sectors)?;
     let mut sector = 686usize;
     let mut record = 0u64;

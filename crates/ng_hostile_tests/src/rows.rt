@@ -1,4 +1,4 @@
-//! Events with what each does, as tables tell them.
+//! Events and what each of them does, as rows of tables.
 use ng_canon::{AxisStep, Item, Outputs, Pulse};
 use ng_core::{Event, Reply, Source, Text};
 use ng_num::{Fault, Len, Point};
@@ -23,7 +23,7 @@ pub enum Order {
     Tick,
 }
 
-/// One of each kind, but of Status.
+/// One of each kind, except Status.
 pub const EACH_KIND: &[Order] = &[
     Order::Load("M2"),
     Order::Start,
@@ -39,7 +39,7 @@ pub const EACH_KIND: &[Order] = &[
     Order::Tick,
 ];
 
-/// An item: a pulse of X, forward or backward, or of Z, upward, of 50 us; all outputs off.
+/// An item: a pulse of X, forward or backward, or of Z, upward, of 50 us; or all outputs off.
 #[derive(Clone, Copy)]
 pub enum Given {
     Forward,
@@ -53,15 +53,15 @@ pub enum Given {
 pub enum Does {
     /// It is refused, and changes nothing.
     Refuses(Fault),
-    /// The program runs, or the half-done block is taken up.
+    /// The program runs, or the half-done block is resumed.
     Goes,
     /// A line is begun.
     Begins,
     /// There is nothing to do.
     Rests,
-    /// It is held, or stays so.
+    /// The machine is held, or stays so.
     Holds,
-    /// There is nothing to do until the program goes on.
+    /// There is nothing to do until the program continues.
     Stops,
     /// It hands this item out.
     Hands(Given),
@@ -73,13 +73,13 @@ pub enum Does {
     Approaches,
     /// An entry: this is the program.
     Loads(&'static str),
-    /// An entry: a line was executed, and the next one begins at this place.
+    /// An entry: a line was executed, and the next line begins at this place.
     Executes(&'static str, u64),
-    /// An entry: the machine is known to stand at this X, in nanometres, in the midst of a half-done block.
+    /// An entry: the machine is known to be at this X, in nanometres, in the middle of a half-done block.
     Stands(i64),
     /// An entry: this is the length, in nanometres, of the tool in this slot.
     Puts(u16, i64),
-    /// An entry: a half-done block is given up of which it isn't known where the machine stands, with all outputs off.
+    /// An entry: a half-done block is abandoned while the machine's position isn't known, with all outputs off.
     GivesUp,
 }
 
@@ -96,7 +96,7 @@ pub const UP: Row = (Order::Tick, Does::Hands(Given::Up), 1);
 
 pub const OFF: Row = (Order::Tick, Does::Hands(Given::Off), 1);
 
-/// An item that isn't looked at.
+/// Some item, whichever it is.
 pub const MOVED: Row = (Order::Tick, Does::Moves, 1);
 
 pub const IDLE: Row = (Order::Tick, Does::Rests, 0);
@@ -107,7 +107,7 @@ pub fn point_at(x_nm: i64) -> Result<Point, Fault> {
     Ok(Point { x, ..Point::zero() })
 }
 
-/// The bytes of a text, as an event brings them.
+/// The bytes of a text, as an event holds them.
 fn text_of<A: Allocator>(alloc: A, text: &str) -> Result<Text<A>, AllocError> {
     Ok(Text::of(Vec::from_slice(alloc, text.as_bytes())?))
 }
@@ -134,12 +134,12 @@ pub fn begins_a_line(order: Order, does: Does) -> bool {
     matches!(order, Order::Tick) && matches!(does, Does::Begins)
 }
 
-/// Whether by an event a half-done block goes on.
-pub fn goes_on(order: Order, does: Does) -> bool {
+/// Whether an event resumes a half-done block.
+pub fn resumes(order: Order, does: Does) -> bool {
     matches!(order, Order::Resume) && matches!(does, Does::Goes)
 }
 
-/// What an event is answered that does this after so many entries.
+/// The reply to an event that does this after this many entries.
 pub fn reply_to(does: Does, entries: u64) -> Reply {
     match does {
         Does::Refuses(fault) => Reply::Refused(fault),

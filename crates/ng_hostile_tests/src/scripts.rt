@@ -1,11 +1,11 @@
-//! Events of some sessions.
+//! The events of some sessions.
 use crate::old::OPENED;
 use crate::rows::{BACKWARD, BEGUN, Does, FORWARD, IDLE, OFF, Order, Row, UP};
 use ng_core::Source;
 use ng_num::Fault;
 use std::alloc::{AllocError, Global};
 
-/// Of 13 bytes.
+/// 13 bytes.
 const PROGRAM: &str = "G0 X0.002\nM2\n";
 
 /// A program is stored and run to its end.
@@ -31,11 +31,11 @@ pub const STORED_THREE_TIMES: &[Row] = &[
     (Order::Load(LINES), Does::Loads(LINES), 93),
 ];
 
-/// Of 35 bytes: its lines begin at bytes 0, 10, 16, 26 and 32.
+/// 35 bytes; its lines begin at bytes 0, 10, 16, 26 and 32.
 const LINES: &str = "G0 X0.001\nG0 X0\nG0 X0.001\nG0 X0\nM2\n";
 
-/// A program of five lines is stored and run to its end. The tick that begins its first line reads the two after it
-/// too, the one that begins the second reads the last two, and the others read nothing.
+/// A program of five lines is stored and run to its end. The tick that begins the first line also reads the two lines
+/// after it, the tick that begins the second reads the last two, and the others read nothing.
 pub const READ_AHEAD: &[Row] = &[
     (Order::Load(LINES), Does::Loads(LINES), 93),
     (Order::Start, Does::Goes, 0),
@@ -71,9 +71,9 @@ pub const BEFORE_A_CUT_OF_A_PROGRAM: &[Row] = &[
     FORWARD,
 ];
 
-/// After the cut the machine stands where that pulse brought it: the approach goes back by one, the line comes whole,
-/// and then the program goes on. The resume reads the line, and the tick that begins the next one reads what comes
-/// before it and the line itself.
+/// After the cut the machine is where that pulse left it: the approach goes back by one pulse, the whole line is
+/// repeated, and then the program continues. The resume reads the line, and the tick that begins the next one reads
+/// what comes before that line and the line itself.
 pub const AFTER_A_CUT_OF_A_PROGRAM: &[Row] = &[
     (Order::Reference(1_000), Does::Stands(1_000), 2),
     (Order::Resume, Does::Goes, 0),
@@ -94,7 +94,7 @@ pub const AFTER_A_CUT_OF_A_PROGRAM: &[Row] = &[
 
 const MOVES: &str = "G0 X0.005";
 
-/// A line of the operator, of which all is handed out and its entry is still to come.
+/// A line of the operator with everything handed out, whose entry is still to come.
 pub const BEFORE_A_CUT: &[Row] = &[
     (Order::Mdi(MOVES), Does::Begins, 0),
     (Order::Tick, Does::Opens(MOVES, Source::Mdi, 0), 2),
@@ -105,8 +105,8 @@ pub const BEFORE_A_CUT: &[Row] = &[
     FORWARD,
 ];
 
-/// After the cut the machine is told to stand where the line begins: the approach is the switch alone, and then the
-/// line comes whole.
+/// After the cut the machine is said to be where the line begins: the approach is only the switch, and then the whole
+/// line is repeated.
 pub const AFTER_A_CUT: &[Row] = &[
     (Order::Resume, Does::Refuses(Fault::PlaceUnknown), 0),
     (Order::Tool(1, 0), Does::Refuses(Fault::Busy), 0),
@@ -125,7 +125,7 @@ pub const AFTER_A_CUT: &[Row] = &[
     IDLE,
 ];
 
-/// After the cut the line is given up, and then a tool's length is taken.
+/// After the cut the line is abandoned, and then a tool's length is set.
 pub const GIVEN_UP: &[Row] = &[
     (Order::Tool(1, 0), Does::Refuses(Fault::Busy), 0),
     (Order::Abandon, Does::GivesUp, 2),
@@ -136,8 +136,8 @@ const TAKES: &str = "G43 H1";
 
 const RISES: &str = "G0 Z0.001";
 
-/// Lines of the operator, and tools' lengths between them. The length that a line took stays in force when its slot
-/// takes another: the machine goes up by six steps.
+/// Lines of the operator, with tools' lengths set between them. The length that a line used stays in force if another
+/// length is set for its slot: the machine goes up by six steps.
 pub const TOOLS: &[Row] = &[
     (Order::Tool(1, 5_000), Does::Puts(1, 5_000), 2),
     (Order::Tool(3, 1_000_000), Does::Refuses(Fault::BadSlot), 0),
@@ -160,11 +160,11 @@ const MOVE: &str = "G0 X0.001";
 
 const TAKES_AND_RISES: &str = "G43 H1 G0 Z0";
 
-/// Of 29 bytes: its lines begin at bytes 0, 10, 13 and 26.
+/// 29 bytes; its lines begin at bytes 0, 10, 13 and 26.
 const STOPPING: &str = "G0 X0.001\nM0\nG43 H1 G0 Z0\nM2\n";
 
-/// A tool's length is given at rest, as a program runs, is held and has stopped. The line after the stop was read ahead
-/// before; what its slot took at the stop is what it takes: three steps of Z.
+/// A tool's length is set at rest, while a program runs, while it is held and after it has stopped. The line after the
+/// stop was read ahead before that; it uses the length that was set at the stop: three steps of Z.
 pub const TOOLS_OF_A_PROGRAM: &[Row] = &[
     (Order::Tool(0, 0), Does::Refuses(Fault::BadSlot), 0),
     (Order::Tool(2, -1), Does::Refuses(Fault::BadSlot), 0),
@@ -180,7 +180,7 @@ pub const TOOLS_OF_A_PROGRAM: &[Row] = &[
         Does::Puts(2, 1_000_000_000),
         2,
     ),
-    // an entry too, though it changes nothing else
+    // an entry too, although it changes nothing else
     (
         Order::Tool(2, 1_000_000_000),
         Does::Puts(2, 1_000_000_000),
@@ -223,7 +223,7 @@ pub const TOOLS_OF_A_PROGRAM: &[Row] = &[
     IDLE,
 ];
 
-/// A move of one pulse that takes two records, of which the second makes so many calls.
+/// A move of one pulse that takes two records, the second of which makes this many calls.
 fn move_by(line: &'static str, pulse: Row, calls: usize) -> [Row; 4] {
     [
         (Order::Mdi(line), Does::Begins, 0),
@@ -233,7 +233,7 @@ fn move_by(line: &'static str, pulse: Row, calls: usize) -> [Row; 4] {
     ]
 }
 
-/// A half-done line of a device of format 1 goes on, with the tool that its settings had as power came.
+/// A half-done line of a device of format 1 is resumed, with the tool that its settings had when power came on.
 pub const AFTER_A_MIGRATION: &[Row] = &[
     (Order::Reference(0), Does::Stands(0), 2),
     (Order::Resume, Does::Goes, 0),
@@ -256,8 +256,8 @@ const FEED: &[Row] = &[
     (Order::Tick, Does::Executes("F100", 0), 2),
 ];
 
-/// An entry in sector 686, and 510 moves there and back by turns. The last of them is opened in sector 1705, the log's
-/// last, so that its entry takes 90 writes and 3 syncs.
+/// An entry in sector 686, and 510 moves, alternately there and back. The last of them is opened in sector 1705, the
+/// log's last, so that its entry takes 90 writes and 3 syncs.
 pub fn filling_the_log(alloc: Global) -> Result<Vec<Row>, AllocError> {
     let mut rows = Vec::new(alloc);
     rows.extend_from_slice(FEED)?;
@@ -278,7 +278,7 @@ const BLANKS_STORED: &[Row] = &[
     (Order::Start, Does::Goes, 0),
 ];
 
-/// The last line of a program is worked.
+/// The last line of a program is executed.
 const ENDED: &[Row] = &[
     BEGUN,
     (Order::Tick, Does::Opens("M2", Source::Program, 0), 2),

@@ -1,4 +1,4 @@
-//! What a device has to stand for, folded from entries.
+//! What a device has to stand for, computed from entries.
 use crate::rows::{Does, Row, entries_after, item_of, point_at};
 use ng_block::execute;
 use ng_canon::Item;
@@ -13,7 +13,7 @@ use std::alloc::{AllocError, Global};
 /// What was found on a device that was powered on.
 #[derive(Drop)]
 pub struct Found {
-    /// What the controller shows.
+    /// The status of the controller.
     pub status: Status,
     /// What is stored.
     pub stored: Stored<Global>,
@@ -60,7 +60,7 @@ impl Begun {
 /// What a device has to stand for once it is powered on, and what was handed out.
 #[derive(Drop)]
 pub struct Standing {
-    /// All but the half-done block.
+    /// Everything but the half-done block.
     stored: Stored<Global>,
     half: Option<Begun>,
     program: &'static str,
@@ -81,7 +81,7 @@ pub fn is_same_table(one: &Tools, other: &Tools) -> bool {
     one.slots() == other.slots() && one.change_to(other).is_none()
 }
 
-/// The same as is stored, but for the half-done block.
+/// A copy of what is stored, without the half-done block.
 fn copy_of(stored: &Stored<Global>) -> Result<Stored<Global>, AllocError> {
     let state = stored.state.copy()?;
     Ok(Stored {
@@ -96,12 +96,12 @@ fn copy_of(stored: &Stored<Global>) -> Result<Stored<Global>, AllocError> {
 }
 
 impl Standing {
-    /// What a formatted device stands for that isn't large.
+    /// What a formatted device of the least size stands for.
     pub fn fresh(alloc: Global) -> Result<Standing, AllocError> {
         Standing::fresh_on(alloc, 1_710)
     }
 
-    /// What a formatted device of so many sectors stands for.
+    /// What a formatted device with this many sectors stands for.
     pub fn fresh_on(alloc: Global, sectors: usize) -> Result<Standing, AllocError> {
         let room = if sectors >= 5_806 { 1_048_576 } else { 131_072 };
         Ok(Standing {
@@ -142,12 +142,12 @@ impl Standing {
         self.stored.tools = Settings::standard().tools;
     }
 
-    /// A device is powered on that hasn't handed out anything.
+    /// A device that hasn't handed out anything is powered on.
     pub fn hand_nothing(&mut self) {
         self.items.clear();
     }
 
-    /// What stands after events that do this.
+    /// The state after events that do this.
     pub fn take_all(&mut self, rows: &[Row]) -> Result<(), Fault> {
         for (_, does, _) in rows {
             self.take(*does)?;
@@ -155,7 +155,7 @@ impl Standing {
         Ok(())
     }
 
-    /// What stands after an event that does this, and is powered on: what it opened is half-done.
+    /// The state after an event that does this and a power on; what the event opened is half-done.
     pub fn take(&mut self, does: Does) -> Result<(), Fault> {
         self.stored.entries = entries_after(does, self.stored.entries);
         match does {
@@ -185,14 +185,14 @@ impl Standing {
         Ok(())
     }
 
-    /// This is known of where the machine stands in the midst of the half-done block.
+    /// Sets what is known of the machine's position in the middle of the half-done block.
     fn stand(&mut self, at: Option<Point>) {
         if let Some(half) = &mut self.half {
             half.at = at;
         }
     }
 
-    /// The tool of a slot has this length, in nanometres. `Fault::Broken` where the table has no such slot.
+    /// Sets the length of a slot's tool, in nanometres. `Fault::Broken` if the table has no such slot.
     fn put(&mut self, slot: u16, nm: i64) -> Result<(), Fault> {
         let length = Len::of_nm(i128::from(nm))?;
         let slot = u8::try_from(slot).unwrap_or(0);
@@ -242,7 +242,7 @@ impl Standing {
         )
     }
 
-    /// What the status shows once power is on.
+    /// The status after power on.
     fn status(&self) -> Status {
         let machine = &self.stored.state.machine;
         let (point, point_known) = match &self.half {
@@ -270,7 +270,7 @@ impl Standing {
         }
     }
 
-    /// Whether all is stored but the half-done block, the parameters and the tools.
+    /// Whether everything is stored but the half-done block, the parameters and the tools.
     fn is_stored(&self, stored: &Stored<Global>) -> bool {
         stored.entries == self.stored.entries
             && stored.place == self.stored.place

@@ -1,9 +1,9 @@
 //! Power is cut at every call of a device, over any number of power cycles.
 //!
-//! What a device has to stand for after a stop is what stood before the event under way or what stands after it, and
-//! after the event's last call the latter alone. Both are folded from the entries by `execute` of `ng_block`, with
-//! places and half-done blocks worked out by hand from the formats and the language: never taken from what a controller
-//! answers.
+//! After a stop a device has to stand for the state before the event under way or for the state after it; after the
+//! event's last call only for the latter. Both are computed from the entries by `execute` of `ng_block`, with places
+//! and half-done blocks worked out by hand from the formats and the language, never copied from what a controller
+//! returns.
 
 mod cuts;
 mod cycles;

@@ -1,4 +1,4 @@
--- What images stand for, where they agree on the sectors that matter, and under a new header.
+-- What images stand for if they agree on the sectors that matter, and under a new header.
 use Rattle.std.proofs.Common.{◌≡◌, ◌≢◌, ◌⊎◌, inl, inr, ⊎_elim, ℕ, zero, suc, ◌+◌, ◌-◌, ◌%◌, ◌<◌, ◌≤◌, ◌==◌, ◌&&◌, nat_lt, nat_le, Bool, true, false, if◌then◌else◌, List, [], Option, Some, None, ℤ, Result, Ok, Err, lit≤, refl, sym, ◌∙◌, ap, subst, arith}
 use Rattle.std.proofs.lemmas.Bool.{cases_eq}
 use Rattle.std.proofs.lemmas.Bool.Decides.{nat_tests}
@@ -22,7 +22,7 @@ use Rattle.ng_num.specs.declared.fault.Fault.{Fault}
 abbrev Image : Type 0
 Image = ℕ → List ℕ
 
--- What a valid header says is within its limits.
+-- The numbers of a valid header are within their limits.
 pub record IsWithin (large : Bool) (k : ℕ) (h : Header) : Type 0 where
   pub counted : 1 ≤ h.epoch
   pub few : h.epoch ≤ greatest_count
@@ -51,7 +51,7 @@ header-within large k sector h is = go (format_of (number_at 4 8 sector)) is
     go None none = absurd (cc)
     go (Some format) some = by-within large k sector (header_at format sector) h some
 
--- the header in force is one of the two, and the other's epoch isn't above its own
+-- the header in force is one of the two, and the other's epoch isn't above its epoch
 pub record IsForce (a b : Option Header) (h : Header) : Type 0 where
   pub one : (a ≡ Some h) ⊎ (b ≡ Some h)
   pub first : (x : Header) → a ≡ Some x → x.epoch ≤ h.epoch
@@ -126,7 +126,7 @@ force-next image base h new large is next_epoch written others =
           ∙ newest-second (header_in (is_large base) 0 (base 0)) new (λ x some. omega (arith, f.first x some))
     ]
 
--- A stretch is the same where its sectors are.
+-- A range of sectors is the same if its sectors are.
 pub stretch-same : (first size : ℕ) (image base : Image) → ((j : ℕ) → j < size → image (first + j) ≡ base (first + j)) → stretch first size image ≡ stretch first size base
 unfolding stretch
 stretch-same first size image base same = λ i n. one n i
@@ -144,7 +144,7 @@ pub stretch-at : (first size : ℕ) (image : Image) (n : ℕ) → n < size → s
 unfolding stretch
 stretch-at first size image n lt = let e : nat_lt n size ≡ true = grind (arith, nat_tests) in rw e refl
 
--- the logs of both formats
+-- the log is at least as long as the shortest one
 pub log-short : (f : Format) → 1020 ≤ log_size f
 log-short One = lit≤ tt
 log-short Two = lit≤ tt
@@ -156,7 +156,7 @@ log-long Two = lit≤ tt
 log_long : (h : Header) → log_size_of h ≤ 1024
 log_long h = log-long h.format
 
--- where the program areas lie
+-- where the program areas are
 pub area-where : (area j : ℕ) → area ≤ 3 → j < program_size area → ((174 ≤ program_first area + j) × (program_first area + j < 686)) ⊎ ((1710 ≤ program_first area + j) × (program_first area + j < 5806))
 area-where zero j most lt = inl (omega arith, omega arith)
 area-where (suc zero) j most lt = inl (omega arith, omega arith)
@@ -164,7 +164,7 @@ area-where (suc (suc zero)) j most lt = inr (omega arith, omega arith)
 area-where (suc (suc (suc zero))) j most lt = inr (omega arith, omega arith)
 area-where (suc (suc (suc (suc n)))) j most lt = absurd (omega arith)
 
--- Two of them are apart.
+-- Two of them don't overlap.
 pub areas-apart : (a b i j : ℕ) → a ≤ 3 → b ≤ 3 → a ≢ b → i < program_size a → j < program_size b → program_first a + i ≡ program_first b + j → ⊥
 areas-apart zero zero i j most few other lt less same = absurd (other refl)
 areas-apart zero (suc zero) i j most few other lt less same = absurd (omega arith)
@@ -205,7 +205,7 @@ other-where area n other =
     let at : n ≡ program_first other.other + (n - program_first other.other) = omega arith in
     subst (λ (m : ℕ). ((174 ≤ m) × (m < 686)) ⊎ ((1710 ≤ m) × (m < 5806))) (sym at) (area-where other.other (n - program_first other.other) other.most (omega arith))
 
--- The sectors that decide aren't spare.
+-- The sectors that matter aren't spare.
 pub header_decides : (h : Header) (n : ℕ) → n < 2 → IsSpare h n → ⊥
 header_decides h n lt spare = elim spare [ inl s ↦ omega (arith, s.from) | inr (inl s) ↦ elim (other-where h.area n s) [ inl w ↦ omega (arith, w.0) | inr w ↦ omega (arith, w.0) ] | inr (inr s) ↦ let from = s.1.from in omega arith ]
 
@@ -251,12 +251,12 @@ log-frame h image base same m lt = same-at h image base same (log_first + m) (lo
 pub program-frame : (h : Header) (image base : Image) → h.area ≤ 3 → SameButSpare h image base → (m : ℕ) → m < program_size h.area → image (program_first h.area + m) ≡ base (program_first h.area + m)
 program-frame h image base area same m lt = same-at h image base same (program_first h.area + m) (program_decides h m area lt)
 
--- what the header in force decides
+-- what the header in force determines
 pub under : (image : Image) (h : Header) → in_force image ≡ Some h → stands image ≡ durable_state_under (program_room (is_large image)) h (stretch (snapshot_first h.epoch) snapshot_size image) (stretch (tools_first h.epoch) tools_size image) (stretch (program_first h.area) (program_size h.area) image) (stretch log_first (log_size_of h) image)
 unfolding stands
 under image h is = λ i. by_header (is i) (λ x. durable_state_under (program_room (is_large image)) x (stretch (snapshot_first x.epoch) snapshot_size image) (stretch (tools_first x.epoch) tools_size image) (stretch (program_first x.area) (program_size x.area) image) (stretch log_first (log_size_of x) image))
 
--- Where images agree on all sectors but the spare ones, they stand for the same.
+-- If images agree on all sectors but the spare ones, they stand for the same.
 pub stands-frame : (h : Header) (image base : Image) → in_force base ≡ Some h → SameButSpare h image base → stands image ≡ stands base
 unfolding stands
 stands-frame h image base is same =
@@ -306,7 +306,7 @@ no-next format length row epoch p start other =
     absent zero some = absurd (some refl)
     absent (suc n) some = first_part row p.at _ n (subst (λ (k : ℕ). number_at 8 0 (row (k + 0)) ≢ epoch) (sym start) other)
 
--- With no record in it, the snapshot and the program are what stands.
+-- If the log has no record, the image stands for the snapshot and the program.
 one-run : (n : ℕ) (format : Format) (length : ℕ) (log : Image) (epoch : ℕ) (p : LogPosition) → next format length log epoch p ≡ None → run n format length log epoch p ≡ p
 unfolding run
 one-run zero format length log epoch p none = refl
@@ -326,11 +326,11 @@ stands-snapshot image h is other =
     under image h is
     ∙ standing-none (program_room (is_large image)) h (stretch (snapshot_first h.epoch) snapshot_size image) (stretch (tools_first h.epoch) tools_size image) (stretch (program_first h.area) (program_size h.area) image) (stretch log_first (log_size_of h) image) (λ e. other (ap (number_at 8 0) (sym first) ∙ e))
 
--- Over an image that has no part of an epoch still to come, a newer header finds none of its own.
+-- If an image has no part of an epoch still to come, its log has no record under a newer header.
 pub none-of-new : (base : Image) (h : Header) → in_force base ≡ Some h → IsWritten base → (m : ℕ) → m < shortest_log → number_at 8 0 (base (log_first + m)) ≤ h.epoch
 none-of-new base h is written m lt = subst (λ (e : ℕ). number_at 8 0 (base (log_first + m)) ≤ e) (ap epoch_in_force is) (written.past m lt)
 
--- and there is none of one to come after it
+-- and it has no part of an epoch after that
 pub written-new : (image base : Image) (h new : Header) → in_force base ≡ Some h → in_force image ≡ Some new → h.epoch ≤ new.epoch → IsWritten base → ((m : ℕ) → m < shortest_log → image (log_first + m) ≡ base (log_first + m)) → IsWritten image
 written-new image base h new is now later written same = record {
   past = λ m lt.
@@ -339,7 +339,7 @@ written-new image base h new is now later written same = record {
       subst (λ (x : ℕ). number_at 8 0 (image (log_first + m)) ≤ x) (sym (ap epoch_in_force now)) (omega arith);
 }
 
--- In format 1, where the log has no record, its last sectors decide nothing.
+-- In format 1, if the log has no record, its last sectors don't matter.
 no_tools : (f : Format) (length : ℕ) (row area other : Image) → f ≡ One → snapshot f length row area ≡ snapshot f length row other
 unfolding snapshot
 no_tools One length row area other is = refl
@@ -370,7 +370,7 @@ module _ (h : Header) (image base : Image) (is : in_force base ≡ Some h) (same
       ∙ (λ i. standing (program_room (is_large base)) (tools i) (program_text h.length (stretch (program_first h.area) (program_size h.area) base)) h.length)
       ∙ sym (stands-snapshot base h is other)
 
--- what stands beside a table, whatever that is
+-- what an image stands for, whatever the table of the settings is
 pub modern-beside : (tools : List ℤ) (image : Image) → IsModern image → stands_beside tools image ≡ stands image
 unfolding stands_beside
 modern-beside tools image m = (λ i. beside_header tools (m.force i) (stands image)) ∙ by (stands image) m.header.format m.format

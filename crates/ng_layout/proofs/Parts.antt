@@ -32,7 +32,7 @@ is_part-below l at old new s le =
     let e = number-below 2 20 at old new s (omega arith) in
     λ i. (a i == l.epoch) && (b i == l.number) && (c i == l.part) && (d i == l.parts) && (e i == l.changes)
 
--- what is put after a label leaves it
+-- what is put after a label doesn't change it
 pub label-below : (l : PartHeader) (at : ℕ) (old new : List ℕ) → SameBelow at old new → 32 ≤ at → HoldsLabel l old → HoldsLabel l new
 label-below l at old new s le h = record {
   is = is_part-below l at old new s (omega arith) ∙ h.is;
@@ -84,7 +84,7 @@ none_later : (sector : List ℕ) (k n : ℕ) → changes_in sector k ≡ None �
 none_later sector k zero none = let e : k + 0 ≡ k = omega arith in ap (changes_in sector) e ∙ none
 none_later sector k (suc n) none = let e : k + suc n ≡ suc (k + n) = omega arith in ap (changes_in sector) e ∙ none_more sector (k + n) (none_later sector k n none)
 
--- one that is out of its range damages all
+-- a change that is out of range makes all of them damaged
 pub one_damaged : (sector : List ℕ) (k n : ℕ) → k < n → change_at sector (32 + 10 * k) ≡ None → changes_in sector n ≡ None
 one_damaged sector k n lt one =
     let e : n ≡ suc k + (n - suc k) = omega arith in
@@ -108,7 +108,7 @@ rest_put at k xs ys room all =
     let none : post_of at k xs ≡ [] = drop-drop k at xs ∙ drop_all (at + k) xs all in
     drop_at (take at xs) (ys ++ post_of at k xs) at front ∙ ap (λ (l : List ℕ). ys ++ l) none ∙ append-nil ys
 
--- what holds of a part that was taken to its end, and of what was put in its place, holds of the row from that place on
+-- what holds of a part up to its end, and of what was put in its place, holds of the sequence from that position on
 pub whole_put : (P : List ℕ → List ℕ → Type 0) (at k : ℕ) (xs ys : List ℕ) → length xs ≡ at + k → P (take k (drop at xs)) ys → P (drop at xs) (drop at (put_mid at k xs ys))
 whole_put P at k xs ys long holds =
     let all : take k (drop at xs) ≡ drop at xs = take_all k (drop at xs) (omega (arith, length-drop at xs, long)) in
@@ -117,7 +117,7 @@ whole_put P at k xs ys long holds =
 pub front_put : (at k : ℕ) (xs ys : List ℕ) → at ≤ length xs → SameBelow at xs (put_mid at k xs ys)
 front_put at k xs ys room = record { same = take_put at k xs ys room }
 
--- all changes of a part were put, and zeros are left after them
+-- all changes of a part were put, followed by zeros
 pub holds_changes : (changes : List Change) (k : ℕ) (sector : List ℕ) → length changes ≤ k → k ≤ length changes → length changes ≤ 48 → changes_in sector k ≡ Some (take k changes) → SameFrom (32 + 10 * k) (replicate 512 0) sector → HoldsChanges changes sector
 holds_changes changes k sector most least few made rest =
     let all : k ≡ length changes = omega arith in

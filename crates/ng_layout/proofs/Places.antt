@@ -1,4 +1,4 @@
--- What is put at a place of a row of bytes, and what stands before it and beyond it.
+-- What is put at a position in a sequence of bytes, and what is before and after it.
 use Rattle.std.proofs.Common.{◌≡◌, ℕ, ◌+◌, ◌-◌, ◌^◌, ◌<◌, ◌≤◌, List, ◌++◌, length, take, drop, refl, sym, ◌∙◌, ap, arith, lit≤, append_assoc, length-append, length-take, length-drop, take-append-drop}
 use Rattle.std.proofs.lemmas.List.{take-take, drop_at, drop-drop, drop-append-le, drop-take, length-take-le, take_at}
 use borrow.Rule.Slice.PartMut.{put_mid, mid_of, post_of, take_put, drop_put}
@@ -8,7 +8,7 @@ use Rattle.std.specs.Int.{w64, cast_signed}
 use Rattle.ng_layout.specs.Fields.{number_at, signed_at, bytes_at, SameBelow, SameFrom, Puts}
 use Rattle.ng_layout.specs.StateField.{triple_at, kept_at, codes_at, half_at, field_at}
 
--- a number written to a part of a row that begins at a place
+-- a number written to a part of a sequence that begins at a position
 module _ (w at x size : ℕ) (xs ys : List ℕ) (sized : length xs ≡ size) (room : at + w ≤ size) (is : ys ≡ little_bytes w x ++ drop w (mid_of at (size - at) xs)) where
   front : length (take at xs) ≡ at
   front = length-take-le at xs (omega (arith, room, sized))
@@ -43,7 +43,7 @@ module _ (w at x size : ℕ) (xs ys : List ℕ) (sized : length xs ≡ size) (ro
     beyond = record { same = put-beyond };
   }
 
--- what stands before the place decides
+-- only what is before the position matters
 pub number-below : (w o at : ℕ) (old new : List ℕ) → SameBelow at old new → o + w ≤ at → number_at w o new ≡ number_at w o old
 unfolding number_at
 number-below w o at old new s le =
@@ -57,7 +57,7 @@ pub signed-below : (o at : ℕ) (old new : List ℕ) → SameBelow at old new �
 unfolding signed_at
 signed-below o at old new s le = ap (cast_signed w64) (number-below 8 o at old new s le)
 
--- one write and then others, each further on
+-- one write and then others further on
 pub below-more : (a b : ℕ) (old mid new : List ℕ) → SameBelow a old mid → SameBelow b mid new → a ≤ b → SameBelow a old new
 below-more a b old mid new s t le = record { same = cut new ∙ ap (λ (l : List ℕ). take a l) t.same ∙ sym (cut mid) ∙ s.same }
   where
@@ -67,7 +67,7 @@ below-more a b old mid new s t le = record { same = cut new ∙ ap (λ (l : List
 pub below-none : (a : ℕ) (l : List ℕ) → SameBelow a l l
 below-none a l = record { same = refl }
 
--- what stands beyond stays
+-- what is after it stays
 pub from-further : (m n : ℕ) (old new : List ℕ) → SameFrom m old new → m ≤ n → SameFrom n old new
 from-further m n old new s le =
     let k = n - m in
@@ -166,7 +166,7 @@ field-below at old new s le =
     let half = half-below at old new s (omega arith) in
     λ i. record { entries = entries i; place = place i; point = point i; feed = feed i; speed = speed i; g92 = g92 i; origin = origin i; tool_length = tool i; kept = kept i; codes = codes i; selected_slot = selected i; spindle_slot = held i; half = half i }
 
--- the same of what stands from a place on
+-- the same for what is from a position on
 pub below-drop : (o at : ℕ) (old new : List ℕ) → SameBelow (o + at) old new → SameBelow at (drop o old) (drop o new)
 below-drop o at old new s = record { same = sym (drop-take o at new) ∙ ap (λ (l : List ℕ). drop o l) s.same ∙ drop-take o at old }
 
@@ -179,7 +179,7 @@ bytes-drop n o k l =
     swap : (k m : ℕ) (l : List ℕ) → drop k (drop m l) ≡ drop (k + m) l
     swap k m l = let e : m + k ≡ k + m = omega arith in drop-drop k m l ∙ ap (λ (x : ℕ). drop x l) e
 
--- bytes copied to a part of a row
+-- bytes copied to a part of a sequence
 pub put-bytes : (n at : ℕ) (xs ys : List ℕ) → at + n ≤ length xs → length ys ≡ n → Puts (bytes_at n at) at (at + n) ys xs (put_mid at (at + n - at) xs ys)
 unfolding bytes_at
 put-bytes n at xs ys room long =

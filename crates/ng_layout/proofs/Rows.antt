@@ -30,11 +30,11 @@ pub bytes-zeros : (n at size : ℕ) → at + n ≤ size → AreZero n at (replic
 unfolding bytes_at
 bytes-zeros n at size room = ap (λ (l : List ℕ). take n l) (drop-replicate at size 0) ∙ take-replicate n (size - at) 0 (omega arith)
 
--- what stands after a place is as in a sector of zeros
+-- after this position the sector is like a sector of zeros
 pub zeros-from : (m at : ℕ) (sector : List ℕ) → SameFrom m (replicate 512 0) sector → m ≤ at → at ≤ 512 → AreZero (512 - at) at sector
 zeros-from m at sector same le within = bytes-from (512 - at) m at (replicate 512 0) sector same le ∙ bytes-zeros (512 - at) at 512 (omega arith)
 
--- the first k values stand, and zeros after them
+-- the first k values are there, followed by zeros
 pub record ValuesTo (table : List ℤ) (first k : ℕ) (sector : List ℕ) : Type 0 where
   pub each : (j : ℕ) → j < k → first + j < 5399 → signed_at (8 * j) sector ≡ get_or table (first + j) (pos 0)
   pub past : (j : ℕ) → j < k → j < 64 → 5399 ≤ first + j → AreZero (512 - 8 * j) (8 * j) sector
@@ -82,14 +82,14 @@ holds_text text sector first end within is bytes =
       ];
     }
 
--- the first k values of a sector are taken over
+-- the first k values of a sector are copied
 pub record TakenTo (old new : List ℤ) (first k : ℕ) (sector : List ℕ) : Type 0 where
   pub here : (j : ℕ) → j < k → first + j < 5399 → first + j < length old → get_or new (first + j) (pos 0) ≡ signed_at (8 * j) sector
   pub counts : (j : ℕ) → j < k → first + j < 5399 → IsCount (signed_at (8 * j) sector)
   pub before : (p : ℕ) → p < first → get_or new p (pos 0) ≡ get_or old p (pos 0)
   pub long : length new ≡ length old
 
--- A table in which all values but one are 0.
+-- A table whose values are all 0 but one.
 value_zero : (n i : ℕ) → get_or (replicate n (pos 0)) i (pos 0) ≡ pos 0
 value_zero zero i = refl
 value_zero (suc n) zero = refl
@@ -104,7 +104,7 @@ that_value n p v lt = get_or-set_same (replicate n (pos 0)) p v (pos 0) (omega (
 zero_count : IsCount (pos 0)
 zero_count = lit≤ tt
 
--- a sector of zeros, where that one isn't in it
+-- a sector of zeros, if that one isn't in it
 pub zeros_hold : (n p first : ℕ) (v : ℤ) → (p < first) ⊎ (first + 64 ≤ p) → HoldsValues (set (replicate n (pos 0)) p v) first (replicate 512 0)
 zeros_hold n p first v outside = record {
   each = λ k lt within. signed-zeros (8 * k) 512 ∙ sym (other_value n p (first + k) v (λ e. ⊎_elim (λ before. omega arith) (λ after. omega arith) outside));
@@ -112,7 +112,7 @@ zeros_hold n p first v outside = record {
   counts = λ k lt within. subst IsCount (sym (signed-zeros (8 * k) 512)) zero_count;
 }
 
--- and the sector that has it
+-- and the sector that contains it
 pub one_holds : (n p first : ℕ) (v : ℤ) (sector : List ℕ) → p < n → p < 5399 → first ≤ p → p < first + 64 → IsCount v → Puts (signed_at (8 * (p - first))) (8 * (p - first)) (8 * (p - first) + 8) v (replicate 512 0) sector → HoldsValues (set (replicate n (pos 0)) p v) first sector
 one_holds n p first v sector there within from to small put = record {
   each = λ k lt here. elim (cases_eq k place) [

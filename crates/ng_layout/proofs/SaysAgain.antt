@@ -1,4 +1,4 @@
--- What is written as numbers says the same again.
+-- What is written as numbers reads back as the same.
 use Rattle.std.proofs.Common.{◌≡◌, ℕ, ◌≤◌, ◌==◌, Bool, true, false, ℤ, pos, negsuc, ◌≤ℤ◌, unsigned_abs, Option, Some, None, is_some, unwrap_or, refl, arith, if◌then◌else◌, ◌%◌, ◌/◌}
 use Rattle.std.proofs.lemmas.Bool.Decides.{nat_tests}
 use Rattle.std.proofs.lemmas.Int.{ints}

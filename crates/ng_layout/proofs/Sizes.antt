@@ -1,4 +1,4 @@
--- What a device's size says of its program areas.
+-- What a device's size implies for its program areas.
 use Rattle.std.proofs.Common.{◌≡◌, ℕ, zero, suc, ◌+◌, ◌≤◌, nat_le, Bool, true, false, if◌then◌else◌, refl, arith}
 use Rattle.std.proofs.lemmas.Bool.Decides.{nat_tests}
 use Rattle.ng_layout.specs.Areas.{greatest_area, is_large_size, large_size, least_size, program_first, program_size}
@@ -23,7 +23,7 @@ area-room sectors area least most = by (is_large_size sectors) refl (area-end (i
     by true is end = let size : large_size ≤ sectors = grind (arith, nat_tests) in omega arith
     by false is end = omega arith
 
--- A program that an area holds is one that the device has room for.
+-- The device has room for each program that an area holds.
 pub area-longest : (large : Bool) (area : ℕ) → area ≤ greatest_area large → longest_in area ≤ program_room large
 area-longest true zero most = omega arith
 area-longest true (suc zero) most = omega arith

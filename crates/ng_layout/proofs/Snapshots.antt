@@ -1,4 +1,4 @@
--- Rows of sectors that hold a table or a text, read as a whole.
+-- Sequences of sectors that hold a table or a text, read as a whole.
 use Rattle.std.proofs.Common.{◌≡◌, ◌⊎◌, inl, inr, ℕ, zero, suc, ◌+◌, ◌*◌, ◌/◌, ◌%◌, ◌<◌, ◌≤◌, ◌&&◌, nat_le, Bool, true, false, List, [], ◌∷◌, ◌++◌, map, take, length, get_or, ℤ, pos, unsigned_abs, Option, Some, None, if◌then◌else◌, refl, sym, ◌∙◌, ap, subst, arith}
 use Rattle.std.specs.List.{range_with_len, list_all}
 use Rattle.std.proofs.lemmas.Bool.Decides.{nat_tests}
@@ -74,7 +74,7 @@ earlier n p lt = elim (lt_cases p (64 * n)) [ inl before ↦ inl before | inr he
     lt_cases : (m k : ℕ) → (m < k) ⊎ (k ≤ m)
     lt_cases m k = grind arith
 
--- one sector more is taken over
+-- one more sector is copied
 pub table-more : (old new : List ℤ) (n : ℕ) (row : Row) → TableTo old n row → TakesValues old new (64 * n) (row (1 + n)) → TableTo new (n + 1) row
 table-more old new n row so_far taken = record {
   here = λ p lt within. elim (earlier n p lt) [
@@ -97,7 +97,7 @@ pub record IsTable (table : List ℤ) (row : Row) : Type 0 where
   pub is : table ≡ values 5399 row
   pub counted : all_counts (values 5399 row) ≡ Some (values 5399 row)
 
--- and when all are, it is the table of the row
+-- and when all are, it is the table of the sectors
 pub table-whole : (table : List ℤ) (row : Row) → TableTo table 85 row → IsTable table row
 unfolding values
 table-whole table row all = record {
@@ -105,7 +105,7 @@ table-whole table row all = record {
   counted = counts-some _ (all_true is_count (value_at row) 0 5399 (λ p from to. is_count-true (value_at row p) (all.counts p (omega arith) (omega arith))));
 }
 
--- a value beyond the range damages the table
+-- a value out of range makes the table damaged
 pub table-beyond : (n : ℕ) (row : Row) → n < 85 → IsBeyond (64 * n) (row (1 + n)) → all_counts (values 5399 row) ≡ None
 unfolding values
 table-beyond n row lt b =
@@ -117,7 +117,7 @@ table-beyond n row lt b =
     let none = one_false is_count (value_at row) 0 5399 p (omega arith) (let t = b.there in omega arith) large in
     λ i. if none i then Some (map (value_at row) (range_with_len 0 5399)) else None
 
--- A row whose sectors hold a table is that table.
+-- If sectors hold a table, they read as that table.
 pub values-whole : (table : List ℤ) (row : Row) → length table ≡ 5399 → ((i : ℕ) → i < 85 → HoldsValues table (64 * i) (row (1 + i))) → IsTable table row
 values-whole table row long each = table-whole table row (record {
   here = λ p lt within. let e = (each (p / 64) (omega arith)).each (p % 64) (omega arith) (omega arith) in ap (λ (x : ℕ). get_or table x (pos 0)) (parts p) ∙ sym e;
@@ -128,7 +128,7 @@ values-whole table row long each = table-whole table row (record {
     parts : (p : ℕ) → p ≡ 64 * (p / 64) + p % 64
     parts p = omega arith
 
--- Rows whose sectors hold a snapshot's parts and a tool area's are that snapshot.
+-- If sectors hold the parts of a snapshot and of a tool area, they read as that snapshot.
 pub snapshot-new : (format : Format) (saved : StoredModel) (row area : Row) → length saved.setup.params ≡ 5399 → ((part : ℕ) → part < 86 → HoldsPart saved part (row part)) → tools_in format (row 0) area ≡ Some saved.tools
     → snapshot format saved.length row area ≡ Some (record { report = decoded_state_in saved; params = saved.setup.params; tools = saved.tools })
 unfolding snapshot
@@ -138,7 +138,7 @@ snapshot-new format saved row area long each table_is =
     let counted : all_counts (values 5399 row) ≡ Some saved.setup.params = table.counted ∙ ap (λ (xs : List ℤ). Some xs) (sym table.is) in
     λ i. and_then (report i) (λ r. and_then (counted i) (λ xs. and_then (table_is i) (λ tools. Some (record { report = r; params = xs; tools = tools }))))
 
--- A tool area whose sectors hold a table is that table.
+-- If a tool area holds a table, it reads as that table.
 module _ (tools : List ℤ) (area : Row) (each : (part : ℕ) → part < 2 → HoldsLengths tools (64 * part) (area part)) (long : All IsToolLength tools) (few : length tools ≤ 128) where
   one-length : (n : ℕ) → n < length tools → tool_length_of (signed_at (8 * (n % 64)) (area (n / 64))) ≡ Some (get_or tools n (pos 0))
   one-length n lt =
@@ -160,7 +160,7 @@ module _ (tools : List ℤ) (area : Row) (each : (part : ℕ) → part < 2 → H
 up-to : (limit n : ℕ) → n ≤ limit → up_to limit n ≡ Some n
 up-to limit n le = grind (arith, nat_tests)
 
--- what a format has of a table: none in format 1
+-- the table that a format stores: none in format 1
 pub tools-new : (format : Format) (saved : StoredModel) (first : List ℕ) (area : Row) → number_at 2 456 first ≡ length saved.tools → length saved.tools ≤ 128 → All IsToolLength saved.tools → (format ≡ One → saved.tools ≡ []) → (format ≡ Two → (part : ℕ) → part < 2 → HoldsToolPart saved part (area part)) → tools_in format first area ≡ Some saved.tools
 tools-new One saved first area slots few long none parts = ap (λ (l : List ℤ). Some l) (sym (none refl))
 tools-new Two saved first area slots few long none parts =
@@ -168,7 +168,7 @@ tools-new Two saved first area slots few long none parts =
     ∙ ap (λ (o : Option ℕ). and_then o (λ n. lengths_in area n)) (up-to 128 (length saved.tools) few)
     ∙ lengths-whole saved.tools area (parts refl) long few
 
--- A row whose sectors hold a text is that text.
+-- If sectors hold a text, they read as that text.
 pub text-whole : (text : List ℕ) (row : Row) → ((j : ℕ) → 512 * j < length text → HoldsText text (512 * j) (row j)) → program_text (length text) row ≡ text
 unfolding program_text
 text-whole text row each = sym (fill_by_all (λ i. get_or (row (i / 512)) (i % 512) 0) text (length text) 0 refl (λ p lt.

@@ -19,7 +19,7 @@ use Rattle.ng_layout.specs.Sound.{IsSound}
 use Rattle.ng_layout.specs.Storable.{IsStorableMachine, IsStorableHalf}
 use Rattle.ng_layout.specs.Stored.{HalfModel, DecodedStateModel}
 
--- what comes of a value came of one
+-- what follows from a value followed from some value
 pub record Came {A B : Type 0} (o : Option A) (f : A → Option B) (y : B) : Type 0 where
   pub value : A
   pub was : o ≡ Some value

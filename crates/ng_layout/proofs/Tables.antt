@@ -1,4 +1,4 @@
--- A table as far as it was read from a snapshot.
+-- A table that was read from a snapshot in part.
 use Rattle.std.specs.Prelude.{◌≡◌, ◌+◌, ◌*◌, ◌/◌, ◌%◌, ◌<◌, ℕ, List, length, get_or, ℤ, pos}
 use Rattle.ng_num.specs.Range.{IsCount}
 use Rattle.ng_params.specs.Numbers.{parameter_count}

@@ -1,4 +1,4 @@
--- Tool tables: a change that was written is read again.
+-- Tool tables: a change that was written reads back.
 use Rattle.std.proofs.Common.{◌≡◌, ◌≤◌, ◌<◌, ◌⊎◌, inl, inr, ℕ, zero, suc, ◌+◌, ◌-◌, ◌*◌, ◌/◌, ◌%◌, ◌==◌, ◌&&◌, nat_le, if◌then◌else◌, Bool, true, false, List, [], ◌∷◌, ◌++◌, length, get_or, replicate, set, ℤ, pos, Option, Some, None, refl, sym, ◌∙◌, ap, subst, arith, length-append, add-one}
 use Rattle.std.proofs.lemmas.Bool.{cases_eq, cases_lt}
 use Rattle.std.proofs.lemmas.List.{get_or_append_left, get_or-append_right}
@@ -38,7 +38,7 @@ tools-made Two sector tools change is slot tool lawful =
     let back : slot_change_in (length tools) sector ≡ Some change = (λ i. slot_change_by (length tools) (slot i) (tool i)) ∙ change-back tools change lawful in
     λ i. and_then (back i) (λ c. Some (with_change c tools))
 
--- ---- what is read of a tool area
+-- ---- what is read from a tool area
 
 pub length-small : (n m : ℤ) → tool_length_of n ≡ Some m → IsToolLength m
 length-small n m is = go (int_le (pos 0) n && int_le n (pos 1_000_000_000)) refl is
@@ -87,7 +87,7 @@ module _ (area : ℕ → List ℕ) where
         let e : 64 * part + n ≡ suc (64 * part + k) + (n - suc k) = omega arith in
         ap (lengths_in area) e ∙ none-later (suc (64 * part + k)) (n - suc k) (suc-more (64 * part + k) xs None before (here ∙ none))
 
--- the table of an area, by its two sectors
+-- the table of an area, from its two sectors
 module _ (first : List ℕ) (area : ℕ → List ℕ) (slots : ℕ) (o : Option ℕ) (some : o ≡ Some slots) (is : o ≡ up_to 128 (number_at 2 456 first)) where
   table-is : tools_in Two first area ≡ lengths_in area slots
   table-is = ap (λ (x : Option ℕ). and_then x (λ n. lengths_in area n)) (sym is ∙ some)
@@ -124,7 +124,7 @@ storable-more xs tool lt small s = record {
   ];
 }
 
--- the first k lengths stand in a sector, and zeros after them
+-- the first k lengths are in a sector, followed by zeros
 pub record LengthsTo (tools : List ℤ) (first k : ℕ) (sector : List ℕ) : Type 0 where
   pub each : (j : ℕ) → j < k → first + j < length tools → signed_at (8 * j) sector ≡ get_or tools (first + j) (pos 0)
   pub past : (j : ℕ) → j < k → j < 64 → length tools ≤ first + j → AreZero (512 - 8 * j) (8 * j) sector
@@ -150,7 +150,7 @@ lengths-past tools first k sector so_far beyond = record {
   rest = from-further (8 * k) (8 * (k + 1)) (replicate 512 0) sector so_far.rest (omega arith);
 }
 
--- the length of the slot after so many
+-- the length of the slot after this many
 pub slot-after : (tools : List ℤ) (n : ℕ) → length_of_slot tools (n + 1) ≡ get_or tools n (pos 0)
 slot-after tools n = ap (λ (m : ℕ). get_or (pos 0 ∷ tools) m (pos 0)) (add-one n)
 
@@ -195,7 +195,7 @@ same-none s (a ∷ xs) =
 pub no-change : (tools : List ℤ) → None ≡ first_change tools tools
 no-change tools = sym (same-none 1 tools)
 
--- where one element is put in, the first that differs is that, or none does
+-- if one element is put in, it is the first that differs, or none differs
 pub record Finds (s : ℕ) (old new : List ℤ) : Type 0 where
   pub found : ((change_from s old new ≡ None) × (new ≡ old)) ⊎ ((j : ℕ) × (b : ℤ) × (j ≤ length old) × (j < length new) × (change_from s old new ≡ Some (record { slot = s + j; length = b })) × (new ≡ put_at j b old) × (get_or new j (pos 0) ≡ b))
 

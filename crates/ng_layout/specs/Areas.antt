@@ -1,6 +1,6 @@
--- What lies where on a device: sectors 0 and 1 hold headers, then come two snapshot areas, two program areas, the log;
--- in format 2 the log is shorter, and two tool areas come after it. A large device has two larger program areas at its
--- end (own).
+-- Which sectors of a device are used for what: sectors 0 and 1 hold headers, then come two snapshot areas, two program
+-- areas, and the log. In format 2 the log is shorter and is followed by two tool areas. A large device has two larger
+-- program areas at its end (own).
 use Rattle.std.specs.Prelude.{ℕ, ◌+◌, ◌-◌, ◌*◌, ◌%◌, ◌==◌, Bool, true, false, nat_le, if◌then◌else◌}
 use Rattle.ng_layout.specs.declared.header.Format.{Format}
 use Rattle.ng_layout.specs.declared.header.Format.TheVariants.{One, Two}
@@ -18,15 +18,15 @@ snapshot_size = 86
 abbrev pub snapshot_first : ℕ → ℕ
 snapshot_first epoch = header_count + snapshot_size * (epoch % 2)
 
--- the number of sectors from which on a device is large
+-- the least number of sectors of a large device
 abbrev pub large_size : ℕ
 large_size = 5806
 
--- a device of so many sectors is large
+-- whether a device with this many sectors is large
 abbrev pub is_large_size : ℕ → Bool
 is_large_size sectors = nat_le large_size sectors
 
--- the greatest number of a program area, on a large device and on any other; the least is 0
+-- the greatest number of a program area, on a large device or on a small one; the least is 0
 abbrev pub greatest_area : Bool → ℕ
 greatest_area true = 3
 greatest_area false = 1
@@ -39,7 +39,7 @@ program_size area = if nat_le 2 area then 2048 else 256
 abbrev pub program_first : ℕ → ℕ
 program_first area = if nat_le 2 area then 1710 + 2048 * (area - 2) else 174 + 256 * area
 
--- the program area that a load writes while this one is in force
+-- the program area that a load writes to while this one is in force
 abbrev pub spare_area : Bool → ℕ → ℕ
 spare_area true area = if area == 2 then 3 else 2
 spare_area false area = 1 - area
@@ -52,7 +52,7 @@ log_first = 686
 abbrev pub longest_log : ℕ
 longest_log = 1024
 
--- how many sectors are the log's in each format
+-- how many sectors belong to the log in both formats
 abbrev pub shortest_log : ℕ
 shortest_log = 1020
 

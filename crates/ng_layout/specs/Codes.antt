@@ -1,4 +1,4 @@
--- The numbers by which modes stand on a device: those of the report's words, where it has one (own).
+-- The numbers that stand for modes on a device: those of the report's words, if there are such words (own).
 use Rattle.std.specs.Prelude.{ℕ, ◌==◌, Bool, true, false, List, [], ◌∷◌, Option, Some, None, if◌then◌else◌}
 use Rattle.ng_num.specs.declared.unit.Unit.{Unit as LengthUnit}
 use Rattle.ng_num.specs.declared.unit.Unit.TheVariants.{Inches, Millimetres}
@@ -23,7 +23,7 @@ use Rattle.ng_layout.specs.declared.half.Source.TheVariants.{Program, Mdi}
 use Rattle.ng_layout.specs.declared.half.Opened.{Opened}
 use Rattle.ng_layout.specs.declared.half.Opened.TheVariants.{Segment, Approach}
 
--- what stands beside a number in a list of codes
+-- the value for a number in a list of codes
 abbrev pub among : {X : Type 0} → List (ℕ × X) → ℕ → Option X
 among [] code = None
 among (entry ∷ entries) code = if code == entry.0 then Some entry.1 else among entries code
@@ -112,7 +112,7 @@ abbrev pub code_of_truth : Bool → ℕ
 code_of_truth false = 0
 code_of_truth true = 1
 
--- whose line a half-done block was; 0 says that there is none
+-- the source of a half-done block's line; 0 for no block
 abbrev pub source_of : ℕ → Option (Option Source)
 source_of code = among ((0, None) ∷ (1, Some Program) ∷ (2, Some Mdi) ∷ []) code
 
@@ -120,7 +120,7 @@ abbrev pub code_of_source : Source → ℕ
 code_of_source Program = 1
 code_of_source Mdi = 2
 
--- what of it is open; 0 says nothing
+-- what part of it is open; 0 for nothing
 abbrev pub opened_of : ℕ → Option (Option Opened)
 opened_of code = among ((0, None) ∷ (1, Some Segment) ∷ (2, Some Approach) ∷ []) code
 

@@ -1,4 +1,4 @@
--- The header of an epoch, where a sector holds a valid one (own).
+-- The header of an epoch, if a sector holds a valid one (own).
 use Rattle.std.specs.Prelude.{◌≡◌, ℕ, ◌≤◌, ◌*◌, ◌%◌, ◌==◌, ◌&&◌, Bool, true, nat_le, List, Option, Some, None, if◌then◌else◌, codes}
 use Rattle.ng_layout.specs.Areas.{greatest_area, program_size}
 use Rattle.ng_layout.specs.Codes.{format_of, code_of_format}
@@ -20,19 +20,19 @@ is_marked sector = number_at 8 0 sector == number_at 8 0 (codes "RS274NGC")
 abbrev pub longest_in : ℕ → ℕ
 longest_in area = sector_size * program_size area
 
--- the most bytes of a program on a large device, and on any other
+-- the most bytes of a program on a large device, or on a small one
 abbrev pub program_room : Bool → ℕ
 program_room large = longest_in (greatest_area large)
 
 abbrev pub is_valid_header : Bool → Header → Bool
 is_valid_header large h = nat_le 1 h.epoch && nat_le h.epoch greatest_count && nat_le h.area (greatest_area large) && nat_le h.length (longest_in h.area)
 
--- this header, where the sector begins with that text, each of its numbers is within its limits, and it stands in the
--- sector of its epoch
+-- this header, if the sector begins with that text, each number is within its limits, and the sector is the one of its
+-- epoch
 abbrev pub header_by : Bool → ℕ → List ℕ → Header → Option Header
 header_by large k sector h = if is_marked sector && is_valid_header large h && h.epoch % 2 == k then Some h else None
 
--- the valid header of sector k, on a large device or on any other
+-- the valid header of sector k, on a large device or on a small one
 unfoldable pub header_in : Bool → ℕ → List ℕ → Option Header
 header_in large k sector = and_then (format_of (number_at 4 8 sector)) (λ format. header_by large k sector (header_at format sector))
 
@@ -43,8 +43,7 @@ pub record IsValidHeader (large : Bool) (h : Header) : Type 0 where
   pub area : h.area ≤ greatest_area large
   pub length : h.length ≤ longest_in h.area
 
--- The sector is written with this header: its text, its format, its fields, and 0 in each byte that none of these
--- names.
+-- The sector is written with this header: its text, its format, its fields, and 0 in all other bytes.
 pub record HoldsHeader (h : Header) (sector : List ℕ) : Type 0 where
   pub marked : is_marked sector ≡ true
   pub format : number_at 4 8 sector ≡ code_of_format h.format

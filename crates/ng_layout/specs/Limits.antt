@@ -1,15 +1,15 @@
--- The limits of what is stored, and the sizes of what stands in a sector (own).
+-- The limits of what is stored, and the sizes of what is in a sector (own).
 use Rattle.std.specs.Prelude.{ℕ}
 
--- of epochs and of the entry count
+-- the greatest epoch and the greatest entry count
 abbrev pub greatest_count : ℕ
 greatest_count = 1_000_000_000_000
 
--- of the bytes of a program, on a large device
+-- the most bytes of a program, on a large device
 abbrev pub longest_program : ℕ
 longest_program = 1_048_576
 
--- of the numbers of slots
+-- the greatest number of a slot
 abbrev pub greatest_slot : ℕ
 greatest_slot = 128
 
@@ -17,18 +17,18 @@ greatest_slot = 128
 abbrev pub sector_lengths : ℕ
 sector_lengths = 64
 
--- the byte of a snapshot's first sector at which the number of slots stands
+-- the byte of a snapshot's first sector at which the number of slots is stored
 abbrev pub slots_at : ℕ
 slots_at = 456
 
--- the bytes of a record's first part at which the slot that changes stands, and its length
+-- the byte of a record's first part at which the slot that changes is stored, and its length after it
 abbrev pub slot_at : ℕ
 slot_at = 488
 
 abbrev pub slot_length_at : ℕ
 slot_length_at = 496
 
--- of the bytes of a half-done block's text
+-- the most bytes of a half-done block's text
 abbrev pub longest_text : ℕ
 longest_text = 256
 
@@ -44,7 +44,7 @@ sector_values = 64
 abbrev pub label_size : ℕ
 label_size = 22
 
--- the byte of a part at which its content begins, and how many bytes that has
+-- the byte of a part at which its content begins, and how many bytes the content has
 abbrev pub content_first : ℕ
 content_first = 32
 
@@ -55,11 +55,11 @@ content_size = 480
 abbrev pub change_size : ℕ
 change_size = 10
 
--- of the changes of a part
+-- the most changes of a part
 abbrev pub part_changes : ℕ
 part_changes = 48
 
--- of the changes of a record, whose label has two bytes for them, and of its parts
+-- the most changes of a record, whose label has two bytes for their number, and the most parts
 abbrev pub record_changes : ℕ
 record_changes = 65_535
 

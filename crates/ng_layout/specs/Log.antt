@@ -12,7 +12,7 @@ use Rattle.ng_layout.specs.StateField.{field_at}
 use Rattle.ng_layout.specs.Report.{and_then, count_of, decoded_state_of}
 use Rattle.ng_layout.specs.Stored.{DecodedStateModel}
 
--- what a part says of itself
+-- the label of a part
 pub record PartHeader : Type 0 where
   pub epoch : ℕ
   pub number : ℕ
@@ -23,12 +23,12 @@ pub record PartHeader : Type 0 where
 unfoldable pub is_part : PartHeader → List ℕ → Bool
 is_part l sector = (number_at 8 0 sector == l.epoch) && (number_at 8 8 sector == l.number) && (number_at 2 16 sector == l.part) && (number_at 2 18 sector == l.parts) && (number_at 2 20 sector == l.changes)
 
--- the first n parts of a record stand from this sector on
+-- the first n parts of a record are in the sectors from this one on
 unfoldable pub parts_stand : (ℕ → List ℕ) → ℕ → PartHeader → ℕ → Bool
 parts_stand row at l zero = true
 parts_stand row at l (suc n) = is_part (record l { part = n }) (row (at + n)) && parts_stand row at l n
 
--- the n-th change of a record; nothing where its index or its value is out of range
+-- the n-th change of a record; None if its index or its value is out of range
 abbrev pub change_at : List ℕ → ℕ → Option Change
 change_at sector at = and_then (index_of (pos (number_at 2 at sector))) (λ index. and_then (count_of (signed_at (at + 2) sector)) (λ value. Some (record { index = index; value = value })))
 
@@ -37,29 +37,29 @@ unfoldable pub changes_of : (ℕ → List ℕ) → ℕ → ℕ → Option (List 
 changes_of row at zero = Some []
 changes_of row at (suc n) = and_then (changes_of row at n) (λ earlier. and_then (change_at (row (at + 1 + n / part_changes)) (content_first + change_size * (n % part_changes))) (λ change. Some (earlier ++ change ∷ [])))
 
--- a report with the parameters and the tools beside it
+-- the state so far, with the parameters and the tools
 pub record ReplayState : Type 0 where
   pub report : DecodedStateModel
   pub params : List ℤ
   pub tools : List ℤ
 
--- where a record begins, its number, and what was found before it; nothing where that is damaged
+-- where a record begins, its number, and the state before it; None if that is damaged
 pub record LogPosition : Type 0 where
   pub at : ℕ
   pub number : ℕ
   pub found : Option ReplayState
 
--- what is found with a record: its state field, and the parameters and the tools with its changes
+-- the state with a record: its state field, and the parameters and the tools with its changes
 abbrev pub with_record : Format → ℕ → (ℕ → List ℕ) → ℕ → ℕ → ReplayState → Option ReplayState
 with_record format length row at changes before =
     and_then (decoded_state_of length (field_at (drop content_first (row at)))) (λ report. and_then (changes_of row at changes) (λ made. and_then (tools_after format (row at) before.tools) (λ tools.
     Some (record { report = report; params = with_changes before.params made; tools = tools }))))
 
--- how many parts a record of so many changes has
+-- how many parts a record with this many changes has
 abbrev pub parts_for : ℕ → ℕ
 parts_for changes = 1 + (changes + (part_changes - 1)) / part_changes
 
--- the place after the record that begins here, where it is complete and within the log of its format
+-- the position after the record that begins here, if it is complete and within the log of its format
 unfoldable pub next : Format → ℕ → (ℕ → List ℕ) → ℕ → LogPosition → Option LogPosition
 next format length row epoch p =
     let parts = number_at 2 18 (row p.at) in
@@ -72,7 +72,7 @@ abbrev pub after_step : Option LogPosition → (LogPosition → LogPosition) →
 after_step None go p = p
 after_step (Some q) go p = go q
 
--- the place after at most so many complete records
+-- the position after at most this many complete records
 unfoldable pub run : ℕ → Format → ℕ → (ℕ → List ℕ) → ℕ → LogPosition → LogPosition
 run zero format length row epoch p = p
 run (suc n) format length row epoch p = after_step (next format length row epoch p) (λ q. run n format length row epoch q) p

@@ -1,2 +1,2 @@
--- What only contracts of private functions cite.
+-- What only the contracts of private functions cite.
 pub mod FieldParts

@@ -1,4 +1,4 @@
--- What the numbers of a state field say; nothing where one of them is out of its range (own).
+-- The meaning of the numbers in a state field; None if one of them is out of range (own).
 use Rattle.std.specs.Prelude.{ℕ, ◌/◌, ◌%◌, ◌==◌, ◌&&◌, ◌||◌, Bool, true, false, not, nat_le, is_none, ℤ, pos, take, Option, Some, None, if◌then◌else◌}
 use Rattle.std.specs.Option.{option_map}
 use Rattle.std.specs.Result.{result_ok}
@@ -21,7 +21,7 @@ use Rattle.ng_layout.specs.declared.field.CodeField.{CodeField}
 use Rattle.ng_layout.specs.declared.field.HalfField.{HalfField}
 use Rattle.ng_layout.specs.declared.field.StateField.{StateField}
 
--- what follows from a value, where there is one
+-- what follows from a value, if there is one
 abbrev pub and_then : {A B : Type 0} → Option A → (A → Option B) → Option B
 and_then None f = None
 and_then (Some x) f = f x
@@ -50,7 +50,7 @@ abbrev pub offsets_of : StateField → Option Offsets
 offsets_of f =
     and_then (point_of f.origin) (λ origin. and_then (point_of f.g92) (λ g92. and_then (count_of f.tool_length) (λ length. Some (record { origin = origin; g92 = g92; tool_length = length }))))
 
--- a word that a cycle keeps; its range counts also where its bit says that it isn't kept
+-- a word that a cycle keeps; its number has to be within the range even if its bit says that it isn't kept
 abbrev pub word_of : Bool → ℤ → Option (Option ℤ)
 word_of kept n = and_then (count_of n) (λ count. Some (if kept then Some count else None))
 
@@ -64,12 +64,12 @@ machine_of f =
     and_then (modes_of f.codes) (λ modes. and_then (count_of (pos f.feed)) (λ feed. and_then (outputs_of f) (λ outputs. and_then (offsets_of f) (λ offsets. and_then (kept_of f.codes.kept f.kept) (λ kept. and_then (point_of f.point) (λ point. and_then (truth_of f.codes.point_known) (λ known.
     Some (record { modes = modes; feed_per_min = feed; outputs = outputs; offsets = offsets; kept = kept; point = point; point_known = known }))))))))
 
--- where the machine stands; its numbers count only where that is known
+-- where the machine is; the numbers matter only if that is known
 abbrev pub known_point : Bool → Triple → Option (Option Point)
 known_point false t = Some None
 known_point true t = option_map Some (point_of t)
 
--- Nothing is open and no point known where there is no half-done block, nor a point known where something is open.
+-- Without a half-done block nothing is open and no point is known. While something is open no point is known.
 abbrev pub half_by : HalfField → Option Opened → Bool → Option Source → Option (Option HalfModel)
 half_by f opened known None = if is_none opened && not known then Some None else None
 half_by f opened known (Some source) =
@@ -80,7 +80,7 @@ half_by f opened known (Some source) =
 abbrev pub half_of : HalfField → Option (Option HalfModel)
 half_of f = and_then (opened_of f.opened) (λ opened. and_then (truth_of f.at_known) (λ known. and_then (source_of f.source) (λ source. half_by f opened known source)))
 
--- all of it, beside a program of this length
+-- the whole field, for a program of this length
 unfoldable pub decoded_state_of : ℕ → StateField → Option DecodedStateModel
 decoded_state_of length f =
     and_then (up_to greatest_count f.entries) (λ entries. and_then (up_to length f.place) (λ place. and_then (machine_of f) (λ machine. and_then (half_of f.half) (λ half.

@@ -8,11 +8,11 @@ use Rattle.ng_layout.specs.Sectors.{HoldsValues}
 use Rattle.ng_layout.specs.Stored.{DecodedStateModel, StoredModel}
 use Rattle.ng_layout.specs.Writing.{field_of}
 
--- what its state field says
+-- what the state field says
 abbrev pub decoded_state_in : StoredModel → DecodedStateModel
 decoded_state_in s = record { entries = s.entries; place = s.place; machine = s.setup.machine; half = s.half }
 
--- These bytes are written with the state field of this report: its numbers, and 0 in the byte that none of them names.
+-- These bytes are written with the state field of this state: its numbers, and 0 in the unused byte.
 pub record HoldsDecodedState (report : DecodedStateModel) (bytes : List ℕ) : Type 0 where
   pub numbers : field_at bytes ≡ field_of report
   pub gap : AreZero 1 free_byte bytes

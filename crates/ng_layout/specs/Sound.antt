@@ -1,10 +1,10 @@
--- What holds of each report that is read (own).
+-- What holds of each state that is read (own).
 use Rattle.std.specs.Prelude.{◌≤◌, ℕ, IfSome}
 use Rattle.ng_layout.specs.Limits.{greatest_count}
 use Rattle.ng_layout.specs.Storable.{IsStorableMachine, IsStorableHalf}
 use Rattle.ng_layout.specs.Stored.{DecodedStateModel}
 
--- it can be stored again beside a program of this length
+-- it can be stored again, for a program of this length
 pub record IsSound (length : ℕ) (report : DecodedStateModel) : Type 0 where
   pub entries : report.entries ≤ greatest_count
   pub place : report.place ≤ length

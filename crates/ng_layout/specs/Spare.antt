@@ -1,4 +1,4 @@
--- The sectors that what stands doesn't depend on (own).
+-- The sectors on which the meaning of an image doesn't depend (own).
 use Rattle.std.specs.Prelude.{ℕ, ◌+◌, ◌<◌, ◌≤◌}
 
 pub record IsAmong (first size n : ℕ) : Type 0 where

@@ -19,7 +19,7 @@ use Rattle.ng_layout.specs.declared.header.Format.TheVariants.{One, Two}
 use Rattle.ng_layout.specs.Log.{ReplayState, run}
 use Rattle.ng_layout.specs.Stored.{HalfModel, StoredModel, DurableState}
 
--- so many sectors of an image from the first on, and nothing past them
+-- this many sectors of an image from the first on, and nothing past them
 unfoldable pub stretch : ℕ → ℕ → (ℕ → List ℕ) → ℕ → List ℕ
 stretch first size image n = if nat_lt n size then image (first + n) else []
 
@@ -27,7 +27,7 @@ stretch first size image n = if nat_lt n size then image (first + n) else []
 abbrev pub program_under : Header → (ℕ → List ℕ) → List ℕ
 program_under h image = program_text h.length (stretch (program_first h.area) (program_size h.area) image)
 
--- of two valid headers that of the greater epoch
+-- of two valid headers the one with the greater epoch
 abbrev pub newer : Option Header → Option Header → Option Header
 newer None b = b
 newer (Some a) None = Some a
@@ -41,7 +41,7 @@ is_large image = nat_lt 0 (length (image (large_size - 1)))
 unfoldable pub in_force : (ℕ → List ℕ) → Option Header
 in_force image = newer (header_in (is_large image) 0 (image 0)) (header_in (is_large image) 1 (image 1))
 
--- these values, where each is within the range
+-- these values, if each is within the range
 abbrev pub all_counts : List ℤ → Option (List ℤ)
 all_counts params = if list_all (λ n. nat_le (unsigned_abs n) greatest) params then Some params else None
 
@@ -51,7 +51,7 @@ snapshot format length row area =
     and_then (decoded_state_of length (field_at (row 0))) (λ report. and_then (all_counts (values parameter_count row)) (λ params. and_then (tools_in format (row 0) area) (λ tools.
     Some (record { report = report; params = params; tools = tools }))))
 
--- what was found, with the program and the room for one
+-- the state that was found, with the program and the room for one
 abbrev pub standing : ℕ → Option ReplayState → List ℕ → ℕ → Result DurableState Fault
 standing room None program length = Err Damaged
 standing room (Some f) program length = Ok (record {
@@ -68,16 +68,16 @@ abbrev pub by_header : Option Header → (Header → Result DurableState Fault) 
 by_header None f = Err NotFormatted
 by_header (Some h) f = f h
 
--- what an image stands for by itself: a device of format 1 has no tool table
+-- what an image stands for by itself; a device of format 1 has no tool table
 unfoldable pub stands : (ℕ → List ℕ) → Result DurableState Fault
 stands image = by_header (in_force image) (λ h. durable_state_under (program_room (is_large image)) h (stretch (snapshot_first h.epoch) snapshot_size image) (stretch (tools_first h.epoch) tools_size image) (stretch (program_first h.area) (program_size h.area) image) (stretch log_first (log_size_of h) image))
 
--- the epoch in force, 0 where none is
+-- the epoch in force, 0 if there is none
 abbrev pub epoch_in_force : Option Header → ℕ
 epoch_in_force None = 0
 epoch_in_force (Some h) = h.epoch
 
--- a table beside what is stored in a format that has none
+-- what is stored, with this table if the format has none
 abbrev pub saved_beside : List ℤ → Format → StoredModel → StoredModel
 saved_beside tools One s = record s { tools = tools }
 saved_beside tools Two s = s
@@ -90,25 +90,25 @@ beside_header tools None x = x
 beside_header tools (Some h) (Ok s) = Ok (beside_format tools h.format s)
 beside_header tools (Some h) (Err e) = Err e
 
--- what an image stands for beside the table of the settings, which counts where the header in force is of format 1
+-- what an image stands for, given the table of the settings, which counts if the header in force is of format 1
 unfoldable pub stands_beside : List ℤ → (ℕ → List ℕ) → Result DurableState Fault
 stands_beside tools image = beside_header tools (in_force image) (stands image)
 
--- The header in force is of format 2, so no table of the settings counts.
+-- The header in force is of format 2, so the table of the settings doesn't count.
 pub record IsModern (image : ℕ → List ℕ) : Type 0 where
   pub header : Header
   pub force : in_force image ≡ Some header
   pub format : header.format ≡ Two
 
--- No part in the sectors that are the log's in each format is of an epoch that is still to come. Each image that the
--- journal leaves is such.
+-- The sectors that belong to the log in both formats hold no part of an epoch still to come. This holds of each image
+-- that the journal leaves.
 pub record IsWritten (image : ℕ → List ℕ) : Type 0 where
   pub past : (m : ℕ) → m < shortest_log → number_at 8 0 (image (log_first + m)) ≤ epoch_in_force (in_force image)
 
--- nothing open: where something was, it isn't known where the machine stands
+-- nothing open; if something was open, the machine's position isn't known
 abbrev pub closed : HalfModel → HalfModel
 closed half = record half { at = if is_some half.opened then None else half.at; opened = None }
 
--- what power on makes of what an image stands for
+-- what power on makes of a durable state
 abbrev pub recovered : DurableState → DurableState
 recovered s = record s { saved = record s.saved { half = option_map closed s.saved.half } }

@@ -1,4 +1,4 @@
--- The numbers of a state field, each at its place (own). What they mean is said elsewhere.
+-- The numbers of a state field by position (own). Their meaning is defined elsewhere.
 use Rattle.std.specs.Prelude.{ℕ, ◌+◌, List}
 use Rattle.ng_layout.specs.Fields.{number_at, signed_at, bytes_at}
 use Rattle.ng_layout.specs.Limits.{longest_text}
@@ -8,11 +8,11 @@ use Rattle.ng_layout.specs.declared.field.CodeField.{CodeField}
 use Rattle.ng_layout.specs.declared.field.HalfField.{HalfField}
 use Rattle.ng_layout.specs.declared.field.StateField.{StateField}
 
--- the byte that it leaves free
+-- the unused byte
 abbrev pub free_byte : ℕ
 free_byte = 165
 
--- how many bytes it has
+-- how many bytes the field has
 abbrev pub field_size : ℕ
 field_size = 456
 

@@ -8,19 +8,19 @@ use Rattle.ng_offsets.specs.Tools.{AreTools, IsSlotChange, IsToolLength}
 use Rattle.ng_offsets.specs.declared.tools.SlotChange.{SlotChange}
 use Rattle.ng_layout.specs.Stored.{HalfModel, StoredModel}
 
--- feed and speed aren't negative, and slots have their numbers
+-- feed and speed aren't negative, and the slots' numbers are valid
 pub record IsStorableMachine (machine : Machine) : Type 0 where
   pub feed : pos 0 ≤ℤ machine.feed_per_min
   pub speed : pos 0 ≤ℤ machine.outputs.speed
   pub selected : machine.outputs.selected_slot ≤ greatest_slot
   pub held : machine.outputs.spindle_slot ≤ greatest_slot
 
--- while something is open, where the machine stands isn't known
+-- while something is open, the machine's position isn't known
 pub record IsStorableHalf (half : HalfModel) : Type 0 where
   pub unknown : IsSome half.opened → IsNone half.at
   pub text : length half.text ≤ longest_text
 
--- no more slots than there may be, each of a length within its limits
+-- at most as many slots as there may be, each with a length within its limits
 abbrev pub IsStorableTools : List ℤ → Type 0
 IsStorableTools tools = AreTools tools
 

@@ -6,7 +6,7 @@ use Rattle.ng_state.specs.declared.machine.Machine.{Machine}
 use Rattle.ng_layout.specs.declared.half.Source.{Source}
 use Rattle.ng_layout.specs.declared.half.Opened.{Opened}
 
--- a block that was begun and isn't done
+-- a block that was begun and isn't finished
 pub record HalfModel : Type 0 where
   pub text : List ℕ
   pub source : Source
@@ -14,14 +14,14 @@ pub record HalfModel : Type 0 where
   pub at : Option Point
   pub opened : Option Opened
 
--- what a state field says: all but the parameters and the program
+-- what a state field says: everything but the parameters, the tools and the program
 pub record DecodedStateModel : Type 0 where
   pub entries : ℕ
   pub place : ℕ
   pub machine : Machine
   pub half : Option HalfModel
 
--- all but the program's text
+-- everything but the program's text
 pub record StoredModel : Type 0 where
   pub entries : ℕ
   pub setup : StateModel
@@ -33,15 +33,15 @@ pub record StoredModel : Type 0 where
   pub room : ℕ
   pub half : Option HalfModel
 
--- on a device with this room
+-- a fresh controller on a device with this room
 abbrev pub fresh_stored : ℕ → StoredModel
 fresh_stored room = record { entries = 0; setup = fresh_setup; tools = []; place = 0; length = 0; room = room; half = None }
 
--- what a state field says beside parameters, tools, the length of a program and the room for one
+-- what a state field says, with parameters, tools, the length of a program and the room for one
 abbrev pub with_decoded_state : StoredModel → DecodedStateModel → ℕ → StoredModel
 with_decoded_state s r length = record { entries = r.entries; setup = record { params = s.setup.params; machine = r.machine }; tools = s.tools; place = r.place; length = length; room = s.room; half = r.half }
 
--- all of it
+-- everything
 pub record DurableState : Type 0 where
   pub saved : StoredModel
   pub program : List ℕ

@@ -1,4 +1,4 @@
--- How what is stored stands in the numbers of a state field (own). What isn't known or kept is written as 0.
+-- The numbers of the state field for what is stored (own). What isn't known or kept is written as 0.
 use Rattle.std.specs.Prelude.{ℕ, ◌+◌, ◌-◌, ◌++◌, pos, unsigned_abs, length, replicate, Option, Some, None, is_some, unwrap_or, if◌then◌else◌}
 use Rattle.ng_num.specs.Points.{zero_point}
 use Rattle.ng_num.specs.declared.point.Point.{Point}

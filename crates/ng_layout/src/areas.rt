@@ -1,5 +1,6 @@
-//! What lies where on a device: two headers, two snapshot areas, two program areas, the log, which in format 2 is
-//! shorter and has two tool areas after it; on a large device two larger program areas come last.
+//! Which sectors of a device are used for what: two headers, two snapshot areas, two program areas, and the log. In
+//! format 2 the log is shorter and is followed by two tool areas. A large device has two larger program areas at its
+//! end.
 ghost use Rattle.std.specs.Prelude.{true, false, ◌≡◌, ◌≢◌, ◌≤◌, ◌+◌};
 ghost use Rattle.ng_layout.specs.Areas.{least_size, large_size, snapshot_size, snapshot_first, greatest_area};
 ghost use Rattle.ng_layout.specs.Areas.{program_size, program_first, spare_area, tools_size, tools_first};
@@ -19,10 +20,10 @@ const FIRST_PROGRAM: usize = HEADERS + 2 * SNAPSHOT_SIZE;
 /// How many sectors program areas 0 and 1 have.
 const PROGRAM_SIZE: usize = 256;
 
-/// How many sectors program areas 2 and 3 have, which a large device alone has.
+/// How many sectors program areas 2 and 3 have. Only a large device has them.
 const LARGE_PROGRAM_SIZE: usize = 2048;
 
-/// The number of sectors from which on a device is large.
+/// The least number of sectors of a large device.
 pub const LARGE_SIZE: usize = LEAST_SIZE + 2 * LARGE_PROGRAM_SIZE;
 
 /// The first sector of the log.
@@ -47,7 +48,7 @@ pub fn snapshot_first(epoch: u64) -> usize
     HEADERS + SNAPSHOT_SIZE * (epoch % 2) as usize
 }
 
-/// The greatest number of a program area, on a large device and on any other.
+/// The greatest number of a program area, on a large device or on a small one.
 pub(crate) fn greatest_area(is_large: bool) -> u64
     ensures { result ≡ greatest_area is_large }
 {
@@ -72,7 +73,7 @@ pub(crate) fn longest_in(area: u64) -> u64
     (SECTOR_BYTES * program_size(area)) as u64
 }
 
-/// The most bytes of a program on a large device, and on any other (own).
+/// The most bytes of a program on a large device, or on a small one (own).
 pub fn program_room(is_large: bool) -> u64
     ensures { result ≡ program_room is_large }
 {
@@ -93,7 +94,7 @@ pub fn program_first(area: u64) -> usize
     }
 }
 
-/// The program area that a load writes while this one is in force, on a large device or on any other (own).
+/// The program area that a load writes to while this one is in force, on a large device or on a small one (own).
 pub fn spare_area(is_large: bool, area: u64) -> u64
     requires { area ≤ greatest_area is_large }
     ensures is { result ≡ spare_area is_large area }

@@ -1,4 +1,4 @@
-//! Numbers at places of a row of bytes, the lowest byte first.
+//! Numbers at positions in a sequence of bytes, the lowest byte first.
 ghost use Rattle.std.specs.Prelude.{◌≡◌, ◌+◌, ◌≤◌, length};
 ghost use Rattle.ng_layout.specs.Fields.{number_at, signed_at, bytes_at, Puts};
 ghost use Rattle.ng_layout.specs.Limits.{longest_text};
@@ -82,7 +82,7 @@ pub(crate) fn put_i64(bytes: &mut [u8], at: usize, x: i64)
     put_u64(bytes, at, x.cast_unsigned());
 }
 
-/// The bytes of a text from a place on.
+/// The bytes of a text from a position on.
 #[tactic(auto, unfolding(crate::specs::Fields::bytes_at))]
 pub(crate) fn get_text(bytes: &[u8], at: usize) -> [u8; LONGEST_TEXT]
     requires { at + longest_text ≤ length bytes.now }

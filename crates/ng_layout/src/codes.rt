@@ -1,4 +1,4 @@
-//! The bytes by which modes and outputs stand in a state field.
+//! The bytes that stand for modes and outputs in a state field.
 ghost use Rattle.std.specs.Prelude.{◌≡◌};
 ghost use Rattle.ng_layout.specs.Codes.{motion_of, plane_of, distance_of, feed_mode_of, unit_of, retract_of, path_of};
 ghost use Rattle.ng_layout.specs.Codes.{spindle_of, truth_of, source_of, opened_of};

@@ -1,4 +1,4 @@
-//! The state field: the numbers of a state by their places, whatever they mean.
+//! The state field: the numbers of a state by position, without their meaning.
 ghost use Rattle.std.specs.Prelude.{◌≡◌, ◌+◌, ◌≤◌, length};
 ghost use Rattle.ng_layout.specs.Fields.{bytes_at, Puts};
 ghost use Rattle.ng_layout.specs.Private.FieldParts.{kept_first, codes_first, slots_first, half_first};
@@ -28,7 +28,7 @@ pub struct KeptField {
     pub q: i64,
 }
 
-/// What stands in one byte each.
+/// The values that take one byte each.
 #[derive(Clone, Copy)]
 pub struct CodeField {
     pub motion: u8,
@@ -44,7 +44,7 @@ pub struct CodeField {
     pub flood: u8,
     pub overrides: u8,
     pub point_known: u8,
-    /// Which words a cycle keeps, a bit each.
+    /// Which words a cycle keeps, one bit for each.
     pub kept: u8,
 }
 
@@ -54,14 +54,15 @@ pub struct HalfField {
     pub source: u8,
     pub opened: u8,
     pub at_known: u8,
-    /// How many bytes of the text count.
+    /// How many bytes of the text are used.
     pub length: u16,
     pub index: u64,
     pub at: Triple,
     pub text: [u8; LONGEST_TEXT],
 }
 
-/// All of it: lengths in nanometres, the feed in nanometres a minute, the speed in millionths of a turn a minute.
+/// The whole field. Lengths are in nanometres, the feed in nanometres a minute, the speed in millionths of a turn a
+/// minute.
 #[derive(Clone, Copy)]
 pub struct StateField {
     pub entries: u64,
@@ -197,7 +198,7 @@ fn put_half(bytes: &mut [u8], half: &HalfField)
 }
 
 impl StateField {
-    /// The state field that begins with the first byte.
+    /// The state field at the start of these bytes.
     #[tactic(auto, unfolding(crate::specs::StateField::field_at))]
     pub fn read(bytes: &[u8]) -> StateField
         requires { field_size ≤ length bytes.now }
@@ -220,7 +221,7 @@ impl StateField {
         }
     }
 
-    /// Puts it where the first bytes stand. The byte that it leaves free stays, and so do all after it.
+    /// Writes the field to the start of these bytes. The unused byte and all bytes after the field stay as they are.
     pub fn write(&self, bytes: &mut [u8])
         requires { field_size ≤ length bytes.old }
         ensures put { Puts field_at 0 field_size self.now bytes.old bytes.new }

@@ -1,4 +1,4 @@
-//! The bytes of a state field at which its numbers begin: each of them is read and written by its name.
+//! The bytes of a state field at which its numbers begin, by name.
 
 pub(crate) const ENTRIES_AT: usize = 0;
 
@@ -16,7 +16,7 @@ pub(crate) const ORIGIN_AT: usize = 80;
 
 pub(crate) const TOOL_LENGTH_AT: usize = 104;
 
-/// Of the words that a cycle keeps.
+/// The words that a cycle keeps.
 pub(crate) const KEPT_R_AT: usize = 112;
 
 pub(crate) const KEPT_Z_AT: usize = 120;
@@ -25,7 +25,7 @@ pub(crate) const KEPT_P_AT: usize = 128;
 
 pub(crate) const KEPT_Q_AT: usize = 136;
 
-/// Of what stands in one byte each.
+/// The values that take one byte each.
 pub(crate) const MOTION_AT: usize = 144;
 
 pub(crate) const PLANE_AT: usize = 145;
@@ -54,12 +54,12 @@ pub(crate) const POINT_KNOWN_AT: usize = 156;
 
 pub(crate) const KEPT_WORDS_AT: usize = 157;
 
-/// Of the slots.
+/// The slots.
 pub(crate) const SELECTED_SLOT_AT: usize = 158;
 
 pub(crate) const SPINDLE_SLOT_AT: usize = 160;
 
-/// Of a half-done block; one byte is left free after the third.
+/// A half-done block. One byte after the third number is unused.
 pub(crate) const SOURCE_AT: usize = 162;
 
 pub(crate) const OPENED_AT: usize = 163;

@@ -13,12 +13,12 @@ pub enum Source {
     Mdi,
 }
 
-/// What of a half-done block is open: it may have been handed out in part (own).
+/// What part of a half-done block is open: it may have been handed out in part (own).
 #[derive(Clone, Copy)]
 pub enum Opened {
-    /// The segment of its index.
+    /// The segment with its index.
     Segment,
-    /// The way back to where that segment begins.
+    /// The way back to the start of that segment.
     Approach,
 }
 
@@ -37,15 +37,15 @@ pub fn text_from(bytes: &[u8]) -> ArrayVec<u8, LONGEST_TEXT>
     text
 }
 
-/// A block that was begun and isn't done (own). Contracts see a `HalfModel`.
+/// A block that was begun and isn't finished (own). Contracts see a `HalfModel`.
 #[derive(Drop)]
 pub struct Half {
-    /// Its line, without the line's end.
+    /// The line of the block, without the line's end.
     pub text: ArrayVec<u8, LONGEST_TEXT>,
     pub source: Source,
     /// The segment that is open or comes next, counted from 0.
     pub index: u64,
-    /// Where the machine stands, in machine coordinates, if that is known.
+    /// Where the machine is, in machine coordinates, if that is known.
     pub at: Option<Point>,
     pub opened: Option<Opened>,
 }
@@ -61,7 +61,7 @@ impl Model for Half {
 impl Half {
     ghost use Rattle.std.specs.Prelude.{◌≡◌};
 
-    /// One equal to it.
+    /// A copy.
     pub fn copy(&self) -> Half
         ensures { result ≡ self.now }
     {

@@ -1,4 +1,4 @@
-//! The header of an epoch: what names the snapshot, the program and the tool table in force.
+//! The header of an epoch. It names the snapshot, the program and the tool table in force.
 ghost use Rattle.std.specs.Prelude.{◌≡◌, ◌≤◌, IfSome};
 
 use crate::areas::{LONGEST_LOG, SHORTEST_LOG, greatest_area, longest_in};
@@ -21,7 +21,7 @@ const LENGTH_AT: usize = 32;
 /// The format of a device.
 #[derive(Clone, Copy, Debug, PartialEq, Eq)]
 pub enum Format {
-    /// Without a tool table: it is only read, and made into the other when power comes on.
+    /// Without a tool table. It is only read, and converted to format 2 when power comes on.
     One,
     /// With a tool table.
     Two,
@@ -50,7 +50,7 @@ impl Format {
         }
     }
 
-    /// How many sectors its log has, from `LOG_FIRST` on.
+    /// How many sectors the log has, from `LOG_FIRST` on.
     pub fn log_size(self) -> usize
         ensures value { result ≡ log_size self }
         ensures most { result ≤ longest_log }
@@ -78,7 +78,7 @@ impl Header {
     ghost use Rattle.ng_layout.specs.Header.{is_valid_header, header_in, IsValidHeader, HoldsHeader};
     ghost use Rattle.ng_layout.specs.Areas.{longest_log, log_size_of};
 
-    /// The header that sector `k` holds, on a large device or on any other; none where it isn't valid there.
+    /// The header in sector `k`, on a large device or on a small one. `None` if it isn't valid there.
     #[tactic(auto, unfolding(crate::specs::Header::header_in, crate::specs::Header::header_at, crate::specs::Header::is_marked))]
     pub fn read(is_large: bool, k: u64, sector: &[u8; SECTOR_BYTES]) -> Option<Header>
         ensures value { result ≡ header_in is_large k sector.now }
@@ -107,7 +107,7 @@ impl Header {
             && self.length <= longest_in(self.area)
     }
 
-    /// How many sectors its log has, from `LOG_FIRST` on.
+    /// How many sectors the log has, from `LOG_FIRST` on.
     pub fn log_size(self) -> usize
         ensures value { result ≡ log_size_of self }
         ensures most { result ≤ longest_log }
@@ -115,7 +115,7 @@ impl Header {
         self.format.log_size()
     }
 
-    /// The sector that holds it, in which what it doesn't name is 0.
+    /// The sector with this header. All other bytes are 0.
     pub fn write(self) -> [u8; SECTOR_BYTES]
         ensures { HoldsHeader self result }
     {

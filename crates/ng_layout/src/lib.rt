@@ -1,9 +1,8 @@
-//! Where what the journal stores stands in the sectors of a device, and what such sectors stand for (own;
-//! docs/DEVICE.md).
+//! How the journal's data is laid out in the sectors of a device, and what such sectors mean (own; docs/DEVICE.md).
 //!
-//! What is written is read back, or refused as damaged exactly where a field is out of its range: `Header`,
-//! `StateField`, `Stored::sector`, `text_sector`, `first_part`, `changes_part`. specs/Stands.antt says what an image of
-//! a device stands for, specs/Areas.antt what lies where. No device is called here.
+//! What is written is read back, or refused as damaged exactly if a field is out of its range: `Header`, `StateField`,
+//! `Stored::sector`, `text_sector`, `first_part`, `changes_part`. specs/Stands.antt says what an image of a device
+//! stands for, and specs/Areas.antt which sectors are used for what. No device is called here.
 #![tactic(auto)]
 
 mod areas;

@@ -1,7 +1,7 @@
 //! The parts of a record in the log, one sector each (own; docs/DEVICE.md).
 //!
-//! A record holds the whole state field in its first part, and its changes of parameters in the others, as many
-//! in each but the last as it has room for. Each part begins with the same label but for its own number.
+//! The first part of a record holds the whole state field. The other parts hold the record's changes of parameters;
+//! each but the last is full. All parts begin with the same label, except for the number of the part.
 ghost use Rattle.std.specs.Prelude.{◌≡◌, ◌≤◌, ◌+◌, ◌-◌, length, drop, replicate, IfSome};
 ghost use Rattle.ng_num.specs.Range.{IsCount};
 ghost use Rattle.ng_layout.specs.Limits.{greatest_count, sector_size, label_size, content_first, change_size, part_changes, record_changes, record_parts, slot_at, slot_length_at};
@@ -47,7 +47,7 @@ const CHANGES_AT: usize = 20;
 /// The byte of a change at which its value begins.
 const VALUE_AT: usize = 2;
 
-/// What a part says of itself (own).
+/// The label of a part (own).
 #[derive(Clone, Copy, Debug, PartialEq, Eq)]
 pub struct PartLabel {
     /// The epoch of its record.
@@ -63,8 +63,8 @@ pub struct PartLabel {
 }
 
 impl PartLabel {
-    /// What a sector says of itself where it is a part; whether it is one, and of which record, has to be seen from
-    /// that.
+    /// The numbers in a sector where the label of a part would be. The caller has to check whether the sector is a
+    /// part, and of which record.
     pub fn read(sector: &[u8; SECTOR_BYTES]) -> PartLabel
         ensures { result ≡ label_at sector.now }
     {
@@ -77,7 +77,7 @@ impl PartLabel {
         }
     }
 
-    /// Whether a sector says this of itself.
+    /// Whether a sector has this label.
     #[tactic(auto, unfolding(crate::specs::Log::is_part))]
     pub fn is_of(self, sector: &[u8; SECTOR_BYTES]) -> bool
         ensures { result ≡ is_part (label_of self) sector.now }
@@ -89,7 +89,7 @@ impl PartLabel {
             && get_u16(sector, CHANGES_AT) == self.changes
     }
 
-    /// A sector that says this, in which all else is 0.
+    /// A sector with this label. All other bytes are 0.
     fn sector(self) -> [u8; SECTOR_BYTES]
         ensures label { HoldsLabel (label_of self) result }
         ensures rest { SameFrom label_size (replicate sector_size 0) result }
@@ -104,7 +104,7 @@ impl PartLabel {
     }
 }
 
-/// How many parts a record of so many changes has.
+/// How many parts a record with this many changes has.
 pub fn parts_for(changes: usize) -> usize
     requires { changes ≤ record_changes }
     ensures value { result ≡ parts_for changes }
@@ -113,8 +113,8 @@ pub fn parts_for(changes: usize) -> usize
     1 + (changes + PART_CHANGES - 1) / PART_CHANGES
 }
 
-/// The first part of a record of what is stored, and of the slot that changes with it, in which what no field names is
-/// 0; its label says part 0. It takes no memory.
+/// The first part of a record of what is stored, and of the slot that changes with it. Its label is that of part 0;
+/// bytes that no field names are 0. It doesn't allocate.
 pub fn first_part<A: Allocator + Copy + Drop>(
     label: PartLabel,
     stored: &Stored<A>,
@@ -131,7 +131,7 @@ pub fn first_part<A: Allocator + Copy + Drop>(
     sector
 }
 
-/// Puts the slot that changes after a state field, and its length; 0 where none does. All before it stays.
+/// Writes the slot that changes, and its length, after a state field; 0 if none changes. All bytes before them stay.
 fn put_change(sector: &mut [u8; SECTOR_BYTES], change: Option<SlotChange>)
     ensures below { SameBelow slot_at sector.old sector.new }
     ensures slot { number_at 2 slot_at sector.new ≡ slot_number change }
@@ -145,7 +145,7 @@ fn put_change(sector: &mut [u8; SECTOR_BYTES], change: Option<SlotChange>)
     put_i64(sector, SLOT_LENGTH_AT, length);
 }
 
-/// The number of the slot that changes and the length that it takes; 0 where none does.
+/// The number of the slot that changes and its new length; both 0 if none changes.
 fn change_numbers(change: Option<SlotChange>) -> (u16, i64)
     ensures slot { result.0 ≡ slot_number change }
     ensures tool { result.1 ≡ slot_length change }
@@ -157,7 +157,7 @@ fn change_numbers(change: Option<SlotChange>) -> (u16, i64)
     }
 }
 
-/// Puts a state field after a label. The byte of the content that it leaves free stays, and so do all after it.
+/// Writes a state field after a label. The content's unused byte and all bytes after the field stay.
 fn put_content(sector: &mut [u8; SECTOR_BYTES], field: &StateField)
     ensures label { SameBelow content_first sector.old sector.new }
     ensures put { Puts field_at 0 field_size field.now (drop content_first sector.old) (drop content_first sector.new) }
@@ -166,8 +166,8 @@ fn put_content(sector: &mut [u8; SECTOR_BYTES], field: &StateField)
     field.write(&mut sector[CONTENT..]);
 }
 
-/// What the state field of a record's first part says beside a program of this length, in bytes; none where a number of
-/// it is out of its range.
+/// What the state field in a record's first part says, for a program of this length in bytes. `None` if one of its
+/// numbers is out of range.
 pub fn decoded_state_of_part(sector: &[u8; SECTOR_BYTES], length: u64) -> Option<DecodedState>
     ensures value { result ≡ decoded_state_of length (field_at (drop content_first sector.now)) }
     ensures sound { IfSome result (IsSound length) }
@@ -175,7 +175,7 @@ pub fn decoded_state_of_part(sector: &[u8; SECTOR_BYTES], length: u64) -> Option
     StateField::read(&sector[CONTENT..]).report(length)
 }
 
-/// Another part of a record, with these changes, in which what none of them names is 0. It takes no memory.
+/// A later part of a record, with these changes. All other bytes are 0. It doesn't allocate.
 pub fn changes_part(label: PartLabel, changes: &[Change]) -> [u8; SECTOR_BYTES]
     requires { length changes.now ≤ part_changes }
     ensures label { HoldsLabel (label_of label) result }
@@ -190,7 +190,7 @@ pub fn changes_part(label: PartLabel, changes: &[Change]) -> [u8; SECTOR_BYTES]
     sector
 }
 
-/// The change at a place of a part; none where its index or its value is out of range.
+/// The change at a position in a part. `None` if its index or its value is out of range.
 fn change_at(sector: &[u8; SECTOR_BYTES], at: usize) -> Option<Change>
     requires { at + change_size ≤ sector_size }
     ensures { result ≡ change_at sector.now at }
@@ -201,7 +201,8 @@ fn change_at(sector: &[u8; SECTOR_BYTES], at: usize) -> Option<Change>
     })
 }
 
-/// Makes the first changes of a part in a table; false where one is out of its range, and those before it were made.
+/// Applies the first changes of a part to a table. Returns false if one is out of range; then those before it were
+/// applied.
 pub fn take_changes<A: Allocator + Copy + Drop>(
     table: &mut Params<A>,
     sector: &[u8; SECTOR_BYTES],

@@ -1,4 +1,4 @@
-//! What the numbers of a state field say.
+//! The meaning of the numbers in a state field.
 ghost use Rattle.std.specs.Prelude.{◌≡◌, ℕ, pos, IfSome};
 ghost use Rattle.ng_layout.specs.Limits.{greatest_slot};
 ghost use Rattle.ng_layout.specs.Sound.{IsSound};
@@ -232,7 +232,7 @@ fn decoded_state_of(field: &StateField, length: u64) -> Option<DecodedState>
 }
 
 impl StateField {
-    /// What it says beside a program of this length; none where a number of it is out of its range.
+    /// What the field says, for a program of this length. `None` if one of its numbers is out of range.
     pub fn report(&self, length: u64) -> Option<DecodedState>
         ensures value { result ≡ decoded_state_of length self.now }
         ensures sound { IfSome result (IsSound length) }

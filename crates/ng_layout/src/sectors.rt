@@ -20,7 +20,7 @@ const VALUE: usize = 8;
 /// How many bytes a sector has.
 pub const SECTOR_BYTES: usize = 512;
 
-/// The sector of parameters, the first of them at this index of the table, counted from 0.
+/// The sector of parameters whose first one has this index in the table, counted from 0.
 pub(crate) fn values_sector<A: Allocator + Copy + Drop>(
     table: &Params<A>,
     first: usize,
@@ -38,13 +38,14 @@ pub(crate) fn values_sector<A: Allocator + Copy + Drop>(
     sector
 }
 
-/// The index of parameter 5220 in a table, the one that isn't 0 in a fresh one.
+/// The index in a table of parameter 5220, the only one that isn't 0 in a fresh table.
 const SYSTEM_INDEX: usize = 5219;
 
 /// The number 1, in millionths.
 const ONE: i64 = 1_000_000;
 
-/// The same sector of the table of a fresh controller, in which the system in force is 1 and all else 0.
+/// The sector of parameters of a fresh controller whose first one has this index: the system in force is 1, all else is
+/// 0.
 pub(crate) fn fresh_values_sector(first: usize) -> [u8; SECTOR_BYTES]
     requires { first ≤ parameter_count }
     ensures { HoldsValues defaults first result }
@@ -56,8 +57,8 @@ pub(crate) fn fresh_values_sector(first: usize) -> [u8; SECTOR_BYTES]
     sector
 }
 
-/// Takes over the values of a sector, the first of them for this index; false where one is beyond the range, and
-/// those before it were taken over.
+/// Copies the values of a sector into the table, the first one to this index. Returns false if one is out of range;
+/// then those before it were copied.
 pub fn take_values<A: Allocator + Copy + Drop>(
     table: &mut Params<A>,
     first: usize,
@@ -90,7 +91,7 @@ pub(crate) fn copy_table<A: Allocator + Copy + Drop>(into: &mut Params<A>, from:
     }
 }
 
-/// The sector that begins with these bytes and goes on with zeros.
+/// The sector that begins with these bytes, followed by zeros.
 fn padded(bytes: &[u8]) -> [u8; SECTOR_BYTES]
     requires { length bytes.now ≤ sector_size }
     ensures { result ≡ bytes.now ++ replicate (sector_size - length bytes.now) 0 }
@@ -100,7 +101,7 @@ fn padded(bytes: &[u8]) -> [u8; SECTOR_BYTES]
     sector
 }
 
-/// The sector of bytes of a text, the first of them at this index; zeros past the text's end.
+/// The sector of a text's bytes from this index on. Past the text's end it has zeros.
 pub fn text_sector(text: &[u8], first: usize) -> [u8; SECTOR_BYTES]
     requires within { first ≤ length text.now }
     requires small { length text.now ≤ longest_program }

@@ -23,7 +23,7 @@ use ng_state::{Machine, State};
 use std::alloc::{AllocError, Allocator};
 use std::marker::Model;
 
-/// What is stored beside the program's text (own). Contracts see a `StoredModel`.
+/// What is stored in addition to the program's text (own). Contracts see a `StoredModel`.
 #[derive(Drop)]
 pub struct Stored<A: Allocator> {
     /// The number of entries that were committed.
@@ -52,8 +52,8 @@ impl<A: Allocator + Copy + Drop> Stored<A> {
     ghost use Rattle.ng_layout.specs.Stored.{fresh_stored, with_decoded_state};
     ghost use Rattle.ng_layout.specs.Stands.{closed};
 
-    /// Of a fresh controller with no program, on a device with this room for one. `AllocError` where the table found no
-    /// memory.
+    /// A fresh controller with no program, on a device with this room for one. `AllocError` if there is no memory for
+    /// the table.
     pub fn fresh(alloc: A, room: u64) -> Result<Stored<A>, AllocError>
         ensures value { IfOk result (λ s. s ≡ fresh_stored room) }
         ensures table { IfOk result (λ s. length s.setup.params ≡ parameter_count) }
@@ -69,7 +69,7 @@ impl<A: Allocator + Copy + Drop> Stored<A> {
         })
     }
 
-    /// Takes over what a state field says beside a program of this length; the parameters, the tools and the room stay.
+    /// Takes over what a state field says, for a program of this length. The parameters, the tools and the room stay.
     pub fn take_decoded_state(&mut self, report: DecodedState, length: u64)
         ensures { self.new ≡ with_decoded_state self.old report length }
     {
@@ -80,7 +80,7 @@ impl<A: Allocator + Copy + Drop> Stored<A> {
         self.half = report.half;
     }
 
-    /// Nothing is open any more: where something was, it isn't known where the machine stands.
+    /// Closes what is open. If something was open, the machine's position isn't known any more.
     pub fn close(&mut self)
         ensures value { self.new ≡ record self.old { half = option_map closed self.old.half } }
         ensures storable { IsStorable self.old → IsStorable self.new }
@@ -93,21 +93,21 @@ impl<A: Allocator + Copy + Drop> Stored<A> {
         }
     }
 
-    /// Takes over a tool table; all else stays. It takes no memory.
+    /// Takes over a tool table; all else stays. It doesn't allocate.
     pub fn take_tools(&mut self, tools: &Tools)
         ensures { self.new ≡ record self.old { tools = tools.now } }
     {
         self.tools = tools.copy();
     }
 
-    /// Takes over a half-done block; all else stays. It takes no memory.
+    /// Takes over a half-done block; all else stays. It doesn't allocate.
     pub fn take_half(&mut self, half: &Half)
         ensures { self.new ≡ record self.old { half = Some half.now } }
     {
         self.half = Some(half.copy());
     }
 
-    /// Takes over all of another. It takes no memory.
+    /// Takes over everything from another. It doesn't allocate.
     pub fn take_over(&mut self, other: &Stored<A>)
         requires own { length self.old.setup.params ≡ parameter_count }
         requires other { length other.now.setup.params ≡ parameter_count }
@@ -117,7 +117,7 @@ impl<A: Allocator + Copy + Drop> Stored<A> {
         self.take_all_but_parameters(other);
     }
 
-    /// Takes over all of another that has the same parameters: these are left as they are. It takes no memory.
+    /// Takes over everything from another that has the same parameters; those are not copied. It doesn't allocate.
     pub fn take_all_but_parameters(&mut self, other: &Stored<A>)
         requires { self.old.setup.params ≡ other.now.setup.params }
         ensures { self.new ≡ other.now }
@@ -134,7 +134,7 @@ impl<A: Allocator + Copy + Drop> Stored<A> {
         };
     }
 
-    /// Its state field.
+    /// The state field.
     pub(crate) fn field(&self) -> StateField
         requires count { self.now.entries ≤ greatest_count }
         requires storable { IsStorable self.now }
@@ -149,8 +149,8 @@ impl<A: Allocator + Copy + Drop> Stored<A> {
         )
     }
 
-    /// The sector of a snapshot that holds this part of it: the state field first, then the parameters. What no field
-    /// names is 0.
+    /// The sector of a snapshot that holds this part of it: the state field first, then the parameters. Bytes that no
+    /// field names are 0.
     pub fn sector(&self, part: usize) -> [u8; SECTOR_BYTES]
         requires part { part < snapshot_size }
         requires count { self.now.entries ≤ greatest_count }
@@ -164,7 +164,7 @@ impl<A: Allocator + Copy + Drop> Stored<A> {
         }
     }
 
-    /// The sector of a tool area that holds this part of its tool table. What no slot has is 0.
+    /// The sector of a tool area that holds this part of the tool table. Bytes that no slot uses are 0.
     pub fn tool_sector(&self, part: usize) -> [u8; SECTOR_BYTES]
         requires part { part < tools_size }
         ensures { HoldsToolPart self.now part result }
@@ -173,7 +173,7 @@ impl<A: Allocator + Copy + Drop> Stored<A> {
     }
 }
 
-/// The sector of a fresh controller's snapshot that holds this part of it. It takes no memory.
+/// The sector of a fresh controller's snapshot that holds this part of it. It doesn't allocate.
 pub fn fresh_sector(part: usize) -> [u8; SECTOR_BYTES]
     requires { part < snapshot_size }
     ensures { (room : ℕ) → HoldsPart (fresh_stored room) part result }
@@ -185,7 +185,7 @@ pub fn fresh_sector(part: usize) -> [u8; SECTOR_BYTES]
     }
 }
 
-/// The sector that holds a state field and a number of slots, in which all else is 0.
+/// The sector that holds a state field and a number of slots. All other bytes are 0.
 fn first_sector(field: &StateField, slots: usize) -> [u8; SECTOR_BYTES]
     requires { slots ≤ greatest_slot }
     ensures field { field_at result ≡ field.now }

@@ -25,12 +25,12 @@ const LENGTH: usize = 8;
 /// The greatest tool length, in nanometres.
 const LONGEST_TOOL: i64 = 1_000_000_000;
 
-/// The bytes of a record's first part at which the slot that changes stands, and its length.
+/// The byte of a record's first part at which the slot that changes is stored, and its length after it.
 pub(crate) const SLOT_AT: usize = 488;
 
 pub(crate) const SLOT_LENGTH_AT: usize = 496;
 
-/// The byte of a snapshot's first sector at which the number of slots stands.
+/// The byte of a snapshot's first sector at which the number of slots is stored.
 pub(crate) const SLOTS_AT: usize = 456;
 
 fn tool_length_of(nm: i64) -> Option<Len>
@@ -44,7 +44,7 @@ fn tool_length_of(nm: i64) -> Option<Len>
     }
 }
 
-/// The sector of tool lengths, the first of them at this index of the table, counted from 0.
+/// The sector of tool lengths whose first one has this index in the table, counted from 0.
 pub(crate) fn lengths_sector(tools: &Tools, first: usize) -> [u8; SECTOR_BYTES]
     requires { first ≤ sector_lengths }
     ensures { HoldsLengths tools.now first result }
@@ -59,8 +59,8 @@ pub(crate) fn lengths_sector(tools: &Tools, first: usize) -> [u8; SECTOR_BYTES]
     sector
 }
 
-/// Adds so many lengths of a sector of a tool area to the table; false where one is out of its range, and those before
-/// it were added.
+/// Appends this many lengths from a sector of a tool area to the table. Returns false if one is out of range; then
+/// those before it were appended.
 fn take_lengths(tools: &mut Tools, part: usize, sector: &[u8; SECTOR_BYTES], count: usize) -> bool
     requires count { count ≤ sector_lengths }
     requires room { sector_lengths * part + count ≤ SLOTS }
@@ -80,7 +80,7 @@ fn take_lengths(tools: &mut Tools, part: usize, sector: &[u8; SECTOR_BYTES], cou
     true
 }
 
-/// What changes of a table of so many slots, by the first part of a record; none where that is out of its range.
+/// The change of a table with this many slots that the first part of a record makes. `None` if it is out of range.
 #[tactic(auto, unfolding(crate::specs::Tools::slot_change_in))]
 fn slot_change(sector: &[u8; SECTOR_BYTES], slots: usize) -> Option<Option<SlotChange>>
     requires { slots ≤ SLOTS }
@@ -103,8 +103,8 @@ fn slot_change(sector: &[u8; SECTOR_BYTES], slots: usize) -> Option<Option<SlotC
     }))
 }
 
-/// Makes in a tool table what the first part of a record changes of it; false where that is out of its range. In format
-/// 1 there is none.
+/// Applies the change in the first part of a record to a tool table. Returns false if it is out of range. In format 1
+/// there is no change.
 pub fn take_slot(format: Format, tools: &mut Tools, sector: &[u8; SECTOR_BYTES]) -> bool
     ensures makes { MatchBool result (tools_after format sector.now tools.old ≡ Some tools.new)
         (tools_after format sector.now tools.old ≡ None) }
@@ -124,7 +124,7 @@ pub fn take_slot(format: Format, tools: &mut Tools, sector: &[u8; SECTOR_BYTES])
     }
 }
 
-/// The number of slots of a snapshot, by its first sector; none where that is out of its range.
+/// The number of slots of a snapshot, from its first sector. `None` if it is out of range.
 fn slots_of(sector: &[u8; SECTOR_BYTES]) -> Option<usize>
     ensures { result ≡ up_to greatest_slot (number_at 2 slots_at sector.now) }
 {
@@ -132,8 +132,8 @@ fn slots_of(sector: &[u8; SECTOR_BYTES]) -> Option<usize>
     if slots <= SLOTS { Some(slots) } else { None }
 }
 
-/// Takes over the tool table of a snapshot with this first sector, by the two sectors of its tool area; false where
-/// that is damaged.
+/// Takes over the tool table of a snapshot with this first sector, from the two sectors of its tool area. Returns false
+/// if it is damaged.
 pub fn take_area(
     tools: &mut Tools,
     first: &[u8; SECTOR_BYTES],

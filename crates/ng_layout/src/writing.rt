@@ -1,4 +1,4 @@
-//! The numbers of a state field that say what is stored.
+//! The numbers of the state field for what is stored.
 ghost use Rattle.std.specs.Prelude.{◌≡◌, ◌≤◌, ◌≤ℤ◌, ◌++◌, ◌-◌, ℕ, pos, length, replicate, unsigned_abs, unwrap_or, IfSome, Some, None};
 ghost use Rattle.std.specs.Option.{option_copied};
 ghost use Rattle.ng_num.specs.Range.{IsCount};
@@ -118,7 +118,7 @@ fn half_field(half: &Half) -> HalfField
     }
 }
 
-/// Where there is no half-done block.
+/// The field without a half-done block.
 fn no_half_field() -> HalfField
     ensures is { result ≡ half_field None }
     ensures means { half_of result ≡ Some None }
@@ -146,7 +146,7 @@ fn half_field_of(half: Option<&Half>) -> HalfField
 }
 
 impl StateField {
-    /// The state field of what is stored: it says that, beside any program that the place lies in.
+    /// The state field of what is stored. Read back, it says the same, for any program that contains the place.
     pub fn of(entries: u64, place: u64, machine: &Machine, half: Option<&Half>) -> StateField
         requires count { entries ≤ greatest_count }
         requires machine { IsStorableMachine machine.now }

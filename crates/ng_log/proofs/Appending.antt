@@ -80,7 +80,7 @@ read_other trace m n bytes e = grind (arith, nat_tests)
 belongs : (e : LogRecord) (m : ℕ) (bytes : List ℕ) → IsPartOf e m bytes → BelongsToRecord e (log_first + m) bytes
 belongs e m bytes p = let back : m ≡ log_first + m - log_first = omega arith in record { log = omega arith; part = subst (λ (k : ℕ). IsPartOf e k bytes) back p }
 
--- Only parts of the record are written, each to its sector, and the first n of them stand there.
+-- Only parts of the record are written, each to its sector, and the first n of them are there.
 pub record RecordTo (n : ℕ) (e : LogRecord) (old new : Trace) : Type 0 where
   pub writes : WritesOnly (BelongsToRecord e) old new
   pub parts : (j : ℕ) → j < n → IsPartOf e (e.at + j) (reads new (log_first + (e.at + j)))
@@ -88,7 +88,7 @@ pub record RecordTo (n : ℕ) (e : LogRecord) (old new : Trace) : Type 0 where
 pub record_none : (e : LogRecord) (trace : Trace) → RecordTo 0 e trace trace
 record_none e trace = record { writes = only_none (BelongsToRecord e) trace; parts = λ j lt. absurd (omega arith) }
 
--- one part more
+-- one more part
 pub record_more : (k : ℕ) (e : LogRecord) (old mid new : Trace) (n : ℕ) (bytes : List ℕ) → n ≡ log_first + (e.at + k) → IsPartOf e (e.at + k) bytes → RecordTo k e old mid → new ≡ Wrote n bytes mid → RecordTo (k + 1) e old new
 record_more k e old mid new n bytes place right p is = record {
   writes = only_more (BelongsToRecord e) old mid new p.writes (let ok : Result ℕ ℕ = Ok 0 in only_write (BelongsToRecord e) ok n bytes mid new (subst (λ (x : ℕ). BelongsToRecord e x bytes) (sym place) (belongs e (e.at + k) bytes right)) is);
@@ -120,7 +120,7 @@ record_unsynced f result e old mid new w is = record { writes = subst (λ (l : T
 pub record_synced : {T U E F : Type 0} (v : T) (u : U) (e : LogRecord) (old mid new : Trace) → WritesParts {E = E} (Ok v) e old mid → new ≡ Synced mid → WritesRecord {E = F} (Ok u) e old new
 record_synced {F = F} v u e old mid new w is = subst (λ (l : Trace). WritesRecord {E = F} (Ok u) e old l) (sym is) (record { writes = only_synced (BelongsToRecord e) old mid w.writes; parts = w.parts; synced = is_synced mid })
 
--- The stops of all that.
+-- The stops of all these calls.
 module _ (old : Trace) (header : Header) (before : DurableState) (end : LogEnd) (saved : StoredModel) (changes : List Change) (slot : Option SlotChange) (at : IsAtEnd old header before end) (next : IsNext (reads old) header before end saved changes slot) where
   abbrev e : LogRecord
   e = record_at header.epoch end saved changes slot

@@ -27,7 +27,7 @@ none_more : (o : Changes) → o ≡ then_more o (Some [])
 none_more None = refl
 none_more (Some a) = ap (λ (l : List Change). Some l) (sym (append-nil a))
 
--- the changes of a record up to one of its parts, and those of that part
+-- the changes in a record's parts before one of them, and those of that part
 pub changes-join : (log : Image) (at i n : ℕ) → n ≤ 48 → changes_of log at (48 * i + n) ≡ then_more (changes_of log at (48 * i)) (changes_in (log (at + 1 + i)) n)
 unfolding changes_of changes_in
 changes-join log at i zero le = let e : 48 * i + 0 ≡ 48 * i = omega arith in ap (changes_of log at) e ∙ none_more (changes_of log at (48 * i))
@@ -68,7 +68,7 @@ module _ (log : Image) (at : ℕ) (changes : List Change) (each : (i : ℕ) → 
       ∙ (λ k. then_more (before k) (here k))
       ∙ ap (λ (l : List Change). Some l) (sym (take-add (48 * i) 48 changes) ∙ ap (λ (n : ℕ). take n changes) (sym e))
 
-  -- all of them, where each part has its piece
+  -- all of them, if each part has its piece
   pub changes-whole : changes_of log at (length changes) ≡ Some changes
   changes-whole =
       let i = length changes / 48 in

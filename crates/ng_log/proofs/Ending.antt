@@ -1,4 +1,4 @@
--- What images stand for whose log ends somewhere, and what those do in which some parts of a record have lasted.
+-- What an image stands for if its log ends somewhere, and what it stands for if some parts of a record are kept.
 use Rattle.std.proofs.Common.{◌≡◌, ◌⊎◌, inl, inr, ⊎_elim, ℕ, ◌+◌, ◌-◌, ◌<◌, ◌≤◌, List, length, nat_lt, Option, Some, Ok, sym, ◌∙◌, ap, subst, arith}
 use Rattle.std.specs.Prelude.{IfSome}
 use Rattle.ng_params.specs.Changes.{with_changes}
@@ -25,7 +25,7 @@ use Rattle.ng_log.specs.Runs.{log_of, beginning, IsLongest, EndsAt}
 use Rattle.ng_log.proofs.Mixture.{Mixture, place_before, position_after_record, mixture-ends, mixture-longest}
 use Rattle.ng_log.proofs.Runs.{ends-longest, part-says, run-longest}
 
--- the longest run decides
+-- only the longest run matters
 pub stands-longest : (image : Image) (header : Header) (last : LogPosition) → in_force image ≡ Some header → IsLongest header.format header.length (log_of header image) header.epoch (beginning image header) last → last.at ≤ log_size_of header
     → stands image ≡ standing (program_room (is_large image)) last.found (program_text header.length (stretch (program_first header.area) (program_size header.area) image)) header.length
 unfolding durable_state_under
@@ -43,11 +43,11 @@ stands-saved image header saved program end force l room text long limit =
 pub ends-stand : (image : Image) (header : Header) (standing : DurableState) (end : LogEnd) → EndsIn image header standing end → stands image ≡ Ok standing
 ends-stand image header standing end e = stands-saved image header standing.saved standing.program end e.force (ends-longest header.format header.length (log_of header image) header.epoch (beginning image header) (position_of end standing.saved) e.ends) e.ends.room e.program e.long e.room
 
--- a device whose log ends somewhere is at rest, and stands for that alone
+-- a device whose log ends somewhere is at rest, and stands only for that
 pub at-end : (trace : Trace) (header : Header) (standing : DurableState) (end : LogEnd) → IsAtEnd trace header standing end → IsSynced trace × (in_force (reads trace) ≡ Some header) × (stands (reads trace) ≡ Ok standing) × IsWritten (reads trace)
 at-end trace header standing end at = (at.synced, at.image.force, ends-stand (reads trace) header standing end at.image, at.image.written)
 
--- Each sector is as in another image, or holds its part of a record after the end of that one's log.
+-- Each sector is as in another image, or holds its part of a record after the end of the other's log.
 pub record IsBlend (base image : Image) (e : LogRecord) : Type 0 where
   pub each : (n : ℕ) → (image n ≡ base n) ⊎ BelongsToRecord e n (image n)
 
@@ -110,7 +110,7 @@ module _ (base image : Image) (header : Header) (before : DurableState) (end : L
   after_is : position_after_record e (replay_state_in before.saved) ≡ position_of (end_after end (length changes)) saved
   after_is = let restored = n.restored in let slot_is = n.slot_is in λ i. record { at = end.sector + size_of e; number = end.number + 1; found = Some (record { report = (replay_state_in saved).report; params = restored i; tools = slot_is i }) }
 
-  -- an image with some of the record's parts and not others stands for the old or for the new
+  -- an image with some of the record's parts but not others stands for the old or for the new state
   pub blend-stands : (stands image ≡ Ok before) ⊎ (stands image ≡ Ok (record before { saved = saved }))
   blend-stands = ⊎_elim
       (λ old. inl (stands-saved image header before.saved before.program end blend-force
@@ -132,7 +132,7 @@ module _ (base image : Image) (header : Header) (before : DurableState) (end : L
         (b.each (log_first + m)));
   }
 
-  -- with all of them its log ends after the record
+  -- with all of them, its log ends after the record
   pub blend-ends : ((j : ℕ) → j < size_of e → IsPartOf e (end.sector + j) (image (log_first + (end.sector + j)))) → EndsIn image header (record before { saved = saved }) (end_after end (length changes))
   blend-ends all = record {
     force = blend-force;

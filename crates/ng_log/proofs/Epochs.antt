@@ -1,4 +1,4 @@
--- A new header ends the log of the epoch before, and what else leaves the end of a log as it is.
+-- A new header ends the log of the epoch before; and what doesn't change the end of a log.
 use Rattle.std.proofs.Common.{◌≡◌, inl, inr, ⊎_elim, ℕ, ◌+◌, ◌%◌, ◌<◌, ◌≤◌, List, Option, Some, None, Ok, Err, sym, ◌∙◌, ap, subst, arith}
 use Rattle.std.proofs.lemmas.Bool.{cases_eq}
 use Rattle.ng_num.specs.declared.fault.Fault.TheVariants.{Damaged}
@@ -62,7 +62,7 @@ run-damaged image header old new force snap r =
 decides : (h : Header) (j : ℕ) → j < 86 → IsSpare h (snapshot_first h.epoch + j) → ⊥
 decides h j lt spare = snapshot_decides h j lt spare
 
--- Where images agree on all sectors but the spare ones, their logs end alike.
+-- If images agree on all sectors but the spare ones, their logs end at the same place.
 pub ends-frame : (image base : Image) (header : Header) (standing : DurableState) (end : LogEnd) → SameButSpare header image base → EndsIn base header standing end → EndsIn image header standing end
 ends-frame image base header standing end same e =
     let most : header.area ≤ 3 = omega (arith, (force-within base header e.force).area, area-most (is_large base)) in

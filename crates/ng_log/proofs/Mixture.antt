@@ -20,15 +20,15 @@ use Rattle.ng_log.specs.Records.{LogRecord, size_of, label, IsPartOf}
 use Rattle.ng_log.proofs.Changing.{changes-whole}
 use Rattle.ng_log.proofs.Runs.{step-to, reaches-frame, reaches-step, parts-all, part-says, torn-first, torn-next, clean-next}
 
--- what is found with it, where this was found before
+-- what is found with it, given what was found before
 abbrev pub found_with : LogRecord → ReplayState → ReplayState
 found_with e before = record { report = decoded_state_in e.saved; params = with_changes before.params e.changes; tools = with_change e.slot before.tools }
 
--- where it begins, with what was found before
+-- the position where it begins, with what was found before
 abbrev pub place_before : LogRecord → ReplayState → LogPosition
 place_before e before = record { at = e.at; number = e.number; found = Some before }
 
--- the place after it
+-- the position after it
 abbrev pub position_after_record : LogRecord → ReplayState → LogPosition
 position_after_record e before = record { at = e.at + size_of e; number = e.number + 1; found = Some (found_with e before) }
 
@@ -43,7 +43,7 @@ all_or_one (suc k) A B each = elim (all_or_one k A B (λ j lt. each j (omega ari
   ]
 ]
 
--- Each sector of a log is as in another one that ends where a record begins, or holds its part of that record.
+-- Each sector of a log is as in another log that ends where a record begins, or holds its part of that record.
 pub record Mixture (format : Format) (base log : Image) (first : LogPosition) (e : LogRecord) (before : ReplayState) : Type 0 where
   pub ends : EndsAt format e.saved.length base e.epoch first (place_before e before)
   pub room : e.at + size_of e ≤ log_size format
@@ -74,7 +74,7 @@ module _ (format : Format) (base log : Image) (first : LogPosition) (e : LogReco
       (λ p. torn-next format e.saved.length log e.epoch (place_before e before) (size_of e) j (part-says (label e (e.at - e.at)) (log e.at) p.holds.label.is).parts lt other)
       (m.each e.at (omega arith))
 
-  -- where all parts are there, the record is complete
+  -- if all parts are there, the record is complete
   module _ (all : (j : ℕ) → j < size_of e → IsPartOf e (e.at + j) (log (e.at + j))) where
     holds : (j : ℕ) → j < size_of e → HoldsRecordPart (label e j) e.saved e.changes e.slot (log (e.at + j))
     holds j lt = let back : e.at + j - e.at ≡ j = omega arith in subst (λ (k : ℕ). HoldsRecordPart (label e k) e.saved e.changes e.slot (log (e.at + j))) back (all j lt).holds

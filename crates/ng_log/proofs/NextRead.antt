@@ -1,4 +1,4 @@
--- Whether a record stands, by what was read of it, and runs of such records.
+-- Whether a record is there, from what was read of it, and runs of such records.
 use Rattle.std.proofs.Common.{◌≡◌, ◌⊎◌, inl, inr, ℕ, zero, suc, ◌+◌, ◌<◌, ◌≤◌, ◌==◌, nat_le, Bool, true, false, List, length, Option, Some, None, refl, sym, ◌∙◌, ap, subst, arith}
 use Rattle.std.proofs.lemmas.Bool.{cases_eq}
 use Rattle.std.proofs.lemmas.Bool.Decides.{nat_tests}
@@ -22,7 +22,7 @@ use Rattle.ng_log.specs.Private.ReadSteps.{from_log, begins, LaterPartsStand, Fi
 use Rattle.ng_log.proofs.Runs.{RunsTo, Says, part-says, says-part, part_label, position_after, Step, step-from, step-to, step-at, reaches-at, reaches-step, not_some, torn-first, parts-part, parts-all, parts-frame, record-frame, all_five, five_true, equal, equals}
 use Rattle.ng_log.proofs.Scanned.{StandTo}
 
--- What a label says that begins a record at the end of a log.
+-- The label of a part that begins a record at the end of a log.
 pub record Begins (first : PartHeader) (header : Header) (end : LogEnd) : Type 0 where
   pub epoch : first.epoch ≡ header.epoch
   pub number : first.number ≡ end.number
@@ -44,7 +44,7 @@ begun first header end is =
 begins_true : (first : PartHeader) (header : Header) (end : LogEnd) → Begins first header end → begins first header end ≡ true
 begins_true first header end b = five_true _ _ _ _ _ (equals _ header.epoch b.epoch) (equals _ end.number b.number) (equals _ 0 b.part) (equals _ (parts_for first.changes) b.counted) (is_below _ (log_size_of header) b.room)
 
--- a label that was read of a sector
+-- a label that was read from a sector
 pub says_read : (first : PartLabel) (sector : List ℕ) → first ≡ label_at sector → Says (label_of first) sector
 says_read first sector is = record {
   epoch = sym (ap (λ (l : PartLabel). l.epoch) is);
@@ -70,7 +70,7 @@ module _ (header : Header) (end : LogEnd) (old : StoredModel) (image : Image) wh
   pub none_at_end : end.sector ≡ log_size_of header → after ≡ None
   none_at_end is = torn-first header.format header.length log header.epoch here (λ lt. absurd (omega arith))
 
-  -- by the sector that stands there, and its label
+  -- from the sector there, and its label
   module _ (first : PartHeader) (sector : List ℕ) (lt : end.sector < log_size_of header) (is : sector ≡ from_log image end.sector) (says : Says first sector) where
     head : log end.sector ≡ sector
     head = in_log end.sector lt ∙ sym is
@@ -147,15 +147,15 @@ module _ (header : Header) (end : LogEnd) (old : StoredModel) (image : Image) wh
         pub one_record : (new : StoredModel) → FindsRecord header.format header.length end.sector first.changes old new image true → after ≡ Some (position_of (record { sector = end.sector + first.parts; number = end.number + 1 }) new)
         one_record new found = let made = found_is ∙ found.0 in step_on ∙ (λ i. Some (record { at = end.sector + first.parts; number = end.number + 1; found = made i }))
 
--- what was read of the later parts, of a device that has not changed
+-- what was read of the later parts, if the device hasn't changed
 pub parts_at : (at : ℕ) (first : PartHeader) (begun mid : Trace) (b v : Bool) → mid ≡ begun → b ≡ v → LaterPartsStand at first (reads mid) b → LaterPartsStand at first (reads begun) v
 parts_at at first begun mid b v same is t = subst (λ (x : Bool). LaterPartsStand at first (reads begun) x) is (subst (λ (l : Trace). LaterPartsStand at first (reads l) b) same t)
 
--- a record that was taken, or not, of a device that has not changed
+-- a record that was taken over, or not, if the device hasn't changed
 pub taken_at : (format : Format) (length : ℕ) (first : List ℕ) (at changes : ℕ) (old new : StoredModel) (begun mid : Trace) (b v : Bool) → mid ≡ begun → b ≡ v → TakesRecord format length first at changes old new (reads mid) b → first ≡ from_log (reads begun) at → FindsRecord format length at changes old new (reads begun) v
 taken_at format length first at changes old new begun mid b v same is t = subst (λ (x : Bool). TakesRecord format length first at changes old new (reads begun) x) is (subst (λ (l : Trace). TakesRecord format length first at changes old new (reads l) b) same t)
 
--- Runs of records, and one that is damaged after them.
+-- Runs of records, perhaps followed by one that is damaged.
 
 by_cases : (o : Option LogPosition) → (o ≡ None) ⊎ ((m : LogPosition) × (o ≡ Some m))
 by_cases None = inl refl
@@ -196,7 +196,7 @@ module _ (format : Format) (length : ℕ) (log : Image) (epoch : ℕ) where
   pub runs_end : (p q : LogPosition) → RunsTo format length log epoch p q → next format length log epoch q ≡ None → IsLongest format length log epoch p q
   runs_end p q r none = record { records = r.records; reached = r.reached; none = none }
 
--- what was read, at the variant that it is
+-- what was read, by the variant that it is
 pub next_is : (header : Header) (end : LogEnd) (old new : StoredModel) (begun mid : Trace) (x v : Next) → mid ≡ begun → x ≡ v → IsNextOf header end old new (reads mid) x → IsNextOf header end old new (reads begun) v
 next_is header end old new begun mid x v same is n = subst (λ (y : Next). IsNextOf header end old new (reads begun) y) is (subst (λ (l : Trace). IsNextOf header end old new (reads l) x) same n)
 

@@ -1,4 +1,4 @@
--- The differences that one call after the other takes are the pieces of all of them.
+-- The differences that consecutive calls take are the pieces of all differences.
 use Rattle.std.proofs.Common.{◌≡◌, ◌⊎◌, inl, inr, ⊎_elim, min, ℕ, ◌+◌, ◌-◌, ◌*◌, ◌<◌, List, [], ◌++◌, length, take, drop, ℤ, refl, sym, ◌∙◌, ap, arith, append_assoc, append-nil}
 use Rattle.std.proofs.lemmas.Bool.{cases_lt}
 use Rattle.std.proofs.lemmas.List.{length-append, drop_at, take_at, take_all}
@@ -7,7 +7,7 @@ use Rattle.ng_params.specs.declared.change.Change.{Change}
 use Rattle.ng_params.proofs.Differing.{differences-begin, differences-all}
 use Rattle.ng_layout.specs.Part.{piece}
 
--- a list's beginning of another ends where its length says
+-- if one list is the beginning of another, it ends where its length says
 rest_at : (xs ys : List Change) (n : ℕ) → length xs ≡ n → drop n (xs ++ ys) ≡ ys
 rest_at xs ys n is = drop_at xs ys n is
 
@@ -37,7 +37,7 @@ module _ (old new : List ℤ) (from next : ℕ) (taken : List Change) (t : Takes
       (λ none. ap (λ (l : List Change). take 48 (taken ++ l)) none ∙ ap (λ (l : List Change). take 48 l) (append-nil taken) ∙ take_all 48 taken few)
       w.2
 
-  -- and so many differences are before what comes next
+  -- and this many differences come before the next piece
   pub taken-next : (i : ℕ) → length (differences_to from old new) ≡ 48 * i → length (differences_to next old new) ≡ min (48 * (i + 1)) (length (differences old new))
   taken-next i count =
       let w = whole in

@@ -61,7 +61,7 @@ all_five true true false d e is = absurd (cc)
 all_five true false c d e is = absurd (cc)
 all_five false b c d e is = absurd (cc)
 
--- The numbers of a label stand where a part says them.
+-- The numbers of a label are in a part.
 pub record Says (l : PartHeader) (sector : List ℕ) : Type 0 where
   pub epoch : number_at 8 0 sector ≡ l.epoch
   pub number : number_at 8 8 sector ≡ l.number
@@ -85,7 +85,7 @@ part-says l sector is =
     let each = all_five (number_at 8 0 sector == l.epoch) (number_at 8 8 sector == l.number) (number_at 2 16 sector == l.part) (number_at 2 18 sector == l.parts) (number_at 2 20 sector == l.changes) is in
     record { epoch = equal _ l.epoch each.0; number = equal _ l.number each.1; part = equal _ l.part each.2; parts = equal _ l.parts each.3; changes = equal _ l.changes each.4 }
 
--- the sectors of a record's changes decide
+-- only the sectors of a record's changes matter
 pub changes-frame : (log base : Image) (at n : ℕ) → ((j : ℕ) → j < (n + 47) / 48 → log (at + 1 + j) ≡ base (at + 1 + j)) → changes_of log at n ≡ changes_of base at n
 unfolding changes_of
 changes-frame log base at zero same = refl
@@ -101,11 +101,11 @@ record-frame format length log base at changes before same =
     let tail : changes_of log at changes ≡ changes_of base at changes = changes-frame log base at changes (λ j lt. let e : at + 1 + j ≡ at + (1 + j) = omega arith in subst (λ (n : ℕ). log n ≡ base n) (sym e) (same (1 + j) (omega arith))) in
     λ i. and_then (decoded_state_of length (field_at (drop 32 (head i)))) (λ report. and_then (tail i) (λ made. and_then (tools_after format (head i) before.tools) (λ tools. Some (record { report = report; params = with_changes before.params made; tools = tools }))))
 
--- the place after a record of so many parts and changes
+-- the position after a record with this many parts and changes
 abbrev pub position_after : Format → ℕ → Image → LogPosition → ℕ → ℕ → LogPosition
 position_after format length log p parts changes = record { at = p.at + parts; number = p.number + 1; found = and_then p.found (λ before. with_record format length log p.at changes before) }
 
--- A complete record leads from one place to another.
+-- A complete record leads from one position to another.
 pub record Step (format : Format) (length : ℕ) (log : Image) (epoch : ℕ) (p q : LogPosition) : Type 0 where
   pub parts : ℕ
   pub changes : ℕ
@@ -172,7 +172,7 @@ module _ (format : Format) (length : ℕ) where
   reaches-at zero log epoch p q is = let e : p.at ≡ q.at = ap (λ (x : LogPosition). x.at) is in omega arith
   reaches-at (suc n) log epoch p q r = let one = step-at format length log epoch p r.0 (step-from format length log epoch p r.0 r.1) in omega (arith, one.0, reaches-at n log epoch r.0 q r.2)
 
-  -- the sectors before the end decide
+  -- only the sectors before the end matter
   pub reaches-frame : (n : ℕ) (log base : Image) (epoch : ℕ) (p q : LogPosition) → Reaches n format length base epoch p q → ((m : ℕ) → p.at ≤ m → m < q.at → log m ≡ base m) → Reaches n format length log epoch p q
   reaches-frame zero log base epoch p q is same = is
   reaches-frame (suc n) log base epoch p q r same =
@@ -216,14 +216,14 @@ module _ (format : Format) (length : ℕ) (log : Image) (epoch : ℕ) (p : LogPo
       let same : s.parts ≡ parts = sym s.parts_are ∙ is in
       other (part-says _ (log (p.at + j)) (parts-part log p.at (part_label epoch p.number 0 s.parts s.changes) s.parts j s.stand (omega (arith, same)))).epoch)
 
-  -- after a clean end nothing stands
+  -- after a clean end there is nothing more
   pub clean-next : IsClean (log_size format) log epoch p.at → next format length log epoch p ≡ None
   clean-next clean = torn-first (λ lt. clean.none (p.at + 0) (omega arith) (omega arith))
 
 pub ends-longest : (format : Format) (length : ℕ) (log : Image) (epoch : ℕ) (first last : LogPosition) → EndsAt format length log epoch first last → IsLongest format length log epoch first last
 ends-longest format length log epoch first last e = record { records = e.records; reached = e.reached; none = clean-next format length log epoch last e.clean }
 
--- so many complete records lead from one place to another
+-- this many complete records lead from one position to another
 pub record RunsTo (format : Format) (length : ℕ) (log : Image) (epoch : ℕ) (first last : LogPosition) : Type 0 where
   pub records : ℕ
   pub reached : Reaches records format length log epoch first last

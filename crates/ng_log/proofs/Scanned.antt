@@ -1,4 +1,4 @@
--- What was read of a log, step by step.
+-- What was read from a log, step by step.
 use Rattle.std.proofs.Common.{◌≡◌, inl, inr, ℕ, ◌+◌, ◌-◌, ◌*◌, ◌<◌, min, Bool, true, false, List, [], ◌∷◌, ◌++◌, length, drop, ℤ, Option, Some, None, refl, sym, ◌∙◌, ap, subst, arith}
 use Rattle.ng_params.specs.Changes.{with_changes}
 use Rattle.ng_params.specs.Table.{with_value}
@@ -20,11 +20,11 @@ use Rattle.ng_log.specs.Private.ReadSteps.{from_log, MakesAll, MakesAllOrDamaged
 use Rattle.ng_log.proofs.Changing.{changes-join, no-changes, none-later, then_more}
 use Rattle.ng_log.proofs.Runs.{parts-part}
 
--- a sector read of a device that has not changed
+-- a sector read from a device that hasn't changed
 pub sector_here : (old mid : Trace) (n m : ℕ) (sector : List ℕ) → n ≡ log_first + m → mid ≡ old → sector ≡ reads mid n → sector ≡ from_log (reads old) m
 sector_here old mid n m sector place same is = is ∙ ap (λ (l : Trace). reads l n) same ∙ ap (reads old) place
 
--- the parts of a record after its first one stand, up to the n-th
+-- the later parts of a record are there, up to the n-th
 abbrev pub StandTo : ℕ → ℕ → PartHeader → Image → Type 0
 StandTo n at first image = (j : ℕ) → 0 < j → j < n → is_part (record first { part = j }) (from_log image (at + j)) ≡ true
 
@@ -79,13 +79,13 @@ damaged_part log at i count changes sector old mid before lt count_is there none
     let later : changes_in (log (at + 1 + i)) count ≡ None = ap (λ (s : List ℕ). changes_in s count) (sym there) ∙ none in
     ap (changes_of log at) rest ∙ none-later log at (48 * i + count) (changes - (48 * i + count)) (changes-join log at i count (omega arith) ∙ (λ k. then_more (first k) (later k)))
 
--- All that a record says.
+-- Everything that a record says.
 
--- the parameters read, with what the state field says
+-- the parameters that were read, with what the state field says
 abbrev pub taken : List ℤ → List ℤ → DecodedStateModel → ℕ → ℕ → StoredModel
 taken table tools r length room = record { entries = r.entries; setup = record { params = table; machine = r.machine }; tools = tools; place = r.place; length = length; room = room; half = r.half }
 
--- what the state field of a record's first part says, where that was read
+-- what the state field in a record's first part says, if it was read
 module _ (format : Format) (length at changes : ℕ) (old new : StoredModel) (image : Image) (sector : List ℕ) (o : Option DecodedStateModel) (there : sector ≡ from_log image at) (is : o ≡ decoded_state_of length (field_at (drop 32 sector))) where
   reported : (v : Option DecodedStateModel) → o ≡ v → decoded_state_of length (field_at (drop 32 (from_log image at))) ≡ v
   reported v o_is = ap (λ (s : List ℕ). decoded_state_of length (field_at (drop 32 s))) (sym there) ∙ sym is ∙ o_is
@@ -96,7 +96,7 @@ module _ (format : Format) (length at changes : ℕ) (old new : StoredModel) (im
       λ i. and_then (e i) (λ report. and_then (changes_of (from_log image) at changes) (λ made. and_then (tools_after format (from_log image at) old.tools) (λ tools. Some (record { report = report; params = with_changes old.setup.params made; tools = tools }))))
 
   module _ (r : DecodedStateModel) (some : o ≡ Some r) where
-    -- the slot that changes is out of its range
+    -- the slot that changes is out of range
     pub no_slot : (tools : List ℤ) (was : List ℤ) (b : Bool) → b ≡ false → was ≡ old.tools → MatchBool b (tools_after format sector was ≡ Some tools) (tools_after format sector was ≡ None) → FindsRecord format length at changes old new image false
     no_slot tools was b off was_is made =
         let e = reported (Some r) some in

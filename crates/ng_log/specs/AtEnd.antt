@@ -15,7 +15,7 @@ use Rattle.ng_layout.specs.Stored.{StoredModel, DurableState}
 use Rattle.ng_log.specs.declared.log_end.LogEnd.{LogEnd}
 use Rattle.ng_log.specs.Runs.{log_of, beginning, EndsAt}
 
--- what a run of records finds where it leads to this
+-- what a run of records finds if it leads to this
 abbrev pub replay_state_in : StoredModel → ReplayState
 replay_state_in s = record { report = decoded_state_in s; params = s.setup.params; tools = s.tools }
 
@@ -26,12 +26,12 @@ position_of end saved = record { at = end.sector; number = end.number; found = S
 abbrev pub no_records : LogEnd
 no_records = record { sector = 0; number = 0 }
 
--- the end of a log after one more record of so many changes
+-- the end of a log after one more record with this many changes
 abbrev pub end_after : LogEnd → ℕ → LogEnd
 end_after end changes = record { sector = end.sector + parts_for changes; number = end.number + 1 }
 
--- The image stands under this header, of format 2, for this; its log ends here and has no part of the epoch after, nor
--- any of an epoch to come.
+-- The image stands under this header, of format 2, for this state. Its log ends here; after that the log has no part of
+-- the epoch, and nowhere a part of an epoch to come.
 pub record EndsIn (image : Image) (header : Header) (standing : DurableState) (end : LogEnd) : Type 0 where
   pub force : in_force image ≡ Some header
   pub format : header.format ≡ Two
@@ -41,7 +41,7 @@ pub record EndsIn (image : Image) (header : Header) (standing : DurableState) (e
   pub long : standing.saved.length ≡ header.length
   pub room : standing.saved.room ≡ program_room (is_large image)
 
--- The device has one image, and that is such.
+-- The device has one image, and that image is so.
 pub record IsAtEnd (trace : Trace) (header : Header) (standing : DurableState) (end : LogEnd) : Type 0 where
   pub synced : IsSynced trace
   pub image : EndsIn (reads trace) header standing end

@@ -1,3 +1,3 @@
--- What only contracts of private functions cite.
+-- What only the contracts of private functions cite.
 pub mod ReadSteps
 pub mod WriteSteps

@@ -22,7 +22,7 @@ pub record LogRecord : Type 0 where
 abbrev pub size_of : LogRecord → ℕ
 size_of r = parts_for (length r.changes)
 
--- what its n-th part says of itself
+-- the label of its n-th part
 abbrev pub label : LogRecord → ℕ → PartHeader
 label r n = record { epoch = r.epoch; number = r.number; part = n; parts = size_of r; changes = length r.changes }
 
@@ -41,6 +41,6 @@ pub record BelongsToRecord (r : LogRecord) (n : ℕ) (bytes : List ℕ) : Type 0
 abbrev pub record_at : ℕ → LogEnd → StoredModel → List Change → Option SlotChange → LogRecord
 record_at epoch end saved changes slot = record { epoch = epoch; number = end.number; at = end.sector; saved = saved; changes = changes; slot = slot }
 
--- the record that makes this of older parameters, with the slot that changes
+-- the record of the changes from older parameters to this, with the slot that changes
 abbrev pub record_from : ℕ → LogEnd → List ℤ → Option SlotChange → StoredModel → LogRecord
 record_from epoch end old slot saved = record_at epoch end saved (differences old saved.setup.params) slot

@@ -16,12 +16,12 @@ log_of header image = stretch log_first (log_size_of header) image
 abbrev pub beginning : Image → Header → LogPosition
 beginning image header = record { at = 0; number = 0; found = snapshot header.format header.length (stretch (snapshot_first header.epoch) snapshot_size image) (stretch (tools_first header.epoch) tools_size image) }
 
--- n complete records lead from one place of a log to another
+-- n complete records lead from one position in a log to another
 abbrev pub Reaches : ℕ → Format → ℕ → Image → ℕ → LogPosition → LogPosition → Type 0
 Reaches zero format length log epoch p q = p ≡ q
 Reaches (suc n) format length log epoch p q = (m : LogPosition) × (next format length log epoch p ≡ Some m) × Reaches n format length log epoch m q
 
--- from this sector of a log on, none has a part of this epoch
+-- from this sector of a log on, no sector has a part of this epoch
 pub record IsClean (size : ℕ) (log : Image) (epoch at : ℕ) : Type 0 where
   pub none : (m : ℕ) → at ≤ m → m < size → number_at 8 0 (log m) ≢ epoch
 

@@ -1,15 +1,14 @@
-//! The log of a journal: records after the snapshot of an epoch, one of them for each state stored since (own;
-//! docs/DEVICE.md).
+//! The log of a journal: records after the snapshot of an epoch, one for each state stored since (own; docs/DEVICE.md).
 //!
-//! `append` writes a record after the last one and syncs it. A record is written in parts, in sectors that follow one
-//! another, and says which parameters changed, and which slot of the tool table. `read_log` reads the longest run of
-//! complete records back; a record of which a part is missing counts for nothing. Both work in the memory of the state
-//! that they are given. specs/AtEnd.antt says where the log of an image ends and what every stop of a device leaves,
-//! whichever parts of the record that was being written have lasted; specs/Runs.antt says which records count;
-//! proofs/Ending.antt and proofs/Epochs.antt are the laws of images that crates above cite.
+//! `append` writes a record after the last one and syncs it. A record is written in parts, in consecutive sectors. It
+//! says which parameters changed, and which slot of the tool table. `read_log` reads the longest run of complete
+//! records back; a record with a missing part doesn't count. Both work in the memory of the state that they are given.
+//! specs/AtEnd.antt says where the log of an image ends and what each stop of a device leaves, whichever parts of the
+//! record being written are kept; specs/Runs.antt says which records count. proofs/Ending.antt and proofs/Epochs.antt
+//! are the laws of images that proofs in other crates cite.
 //!
-//! The crate stands on `ng_layout` for the bytes of a part and on `ng_rig` for the device. That the log has room for a
-//! record, and what comes where it has none, are left out here.
+//! The crate depends on `ng_layout` for the bytes of a part and on `ng_rig` for the device. Whether the log has room
+//! for a record, and what happens if it has none, is up to the caller.
 #![tactic(auto)]
 
 mod log_end;

@@ -1,11 +1,11 @@
 //! Where a log ends.
 
-/// The place that the next record of a log takes (own).
+/// The position of the next record in a log (own).
 #[derive(Clone, Copy, Debug, PartialEq, Eq)]
 pub struct LogEnd {
-    /// Its first sector, counted from the log's first one: so many sectors the records take.
+    /// Its first sector, counted from the log's first sector: the records take this many sectors.
     pub sector: usize,
-    /// Its number in the epoch: so many records there are.
+    /// Its number in the epoch: there are this many records.
     pub number: u64,
 }
 

@@ -1,4 +1,4 @@
-//! Sectors read.
+//! Reading sectors.
 ghost use Rattle.std.specs.Prelude.{◌≡◌, ◌<◌};
 ghost use Rattle.ng_rig.specs.Calls.{IfHonest, FailureCountSpec};
 ghost use Rattle.ng_log.specs.Reading.{ReadSpec};
@@ -6,7 +6,7 @@ ghost use Rattle.ng_log.specs.Reading.{ReadSpec};
 use ng_layout::SECTOR_BYTES;
 use ng_rig::{Failed, Rig};
 
-/// The bytes of a sector (own). Fails where the read fails.
+/// The bytes of a sector (own). Fails if the read fails.
 pub fn read_sector<R: Rig>(rig: &mut R, sector: usize) -> Result<[u8; SECTOR_BYTES], Failed>
     requires { sector < R.sectors rig.old }
     ensures read { IfHonest (R.honest rig.old) (R.honest rig.new)

@@ -1,7 +1,7 @@
 //! The longest run of complete records, read in the memory of one state.
 //!
-//! Of a record the labels of all its parts are read first, and then what they hold: one that isn't complete leaves what
-//! is stored alone.
+//! The labels of all parts of a record are read before their contents, so a record that isn't complete changes nothing
+//! in what is stored.
 ghost use Rattle.std.specs.Prelude.{◌≡◌, ◌≤◌, ◌<◌, ◌+◌, length, IfOk, IfSome};
 ghost use Rattle.std.specs.Bool.{OnTrue};
 ghost use Rattle.ng_rig.specs.Calls.{IfHonest, FailureCountSpec};
@@ -25,19 +25,19 @@ use ng_params::Params;
 use ng_rig::{Failed, Rig};
 use std::alloc::Allocator;
 
-/// What stands at the end of a run of records.
+/// What is at the end of a run of records.
 #[derive(Clone, Copy)]
 pub(crate) enum Next {
     /// No complete record.
     Last,
-    /// A complete record with a field that is out of its range.
+    /// A complete record with a field that is out of range.
     Damaged,
-    /// A record, and after it the log goes on here.
+    /// A record, after which the log continues here.
     After(LogEnd),
 }
 
-/// Whether a part with this label begins a record at the end of a log: the next of its epoch, with as many parts as its
-/// changes need, and all of them within the log.
+/// Whether a part with this label begins a record at the end of a log: the next record of its epoch, with as many parts
+/// as its changes need, all of them within the log.
 fn begins_record(first: PartLabel, header: Header, end: LogEnd) -> bool
     requires { end.sector ≤ log_size_of header }
     ensures { result ≡ begins (label_of first) header end }
@@ -49,7 +49,7 @@ fn begins_record(first: PartLabel, header: Header, end: LogEnd) -> bool
         && end.sector + first.parts as usize <= header.log_size()
 }
 
-/// Whether the parts of a record stand after its first one, which is in this sector of the log.
+/// Whether the later parts of a record are there. The first one is in this sector of the log.
 fn later_parts_stand<R: Rig>(rig: &mut R, at: usize, first: PartLabel) -> Result<bool, Failed>
     requires sectors { least_size ≤ R.sectors rig.old }
     requires room { at + first.parts ≤ longest_log }
@@ -68,7 +68,7 @@ fn later_parts_stand<R: Rig>(rig: &mut R, at: usize, first: PartLabel) -> Result
     Ok(true)
 }
 
-/// Makes the changes of a record that begins at a sector of the log; false where one is out of its range.
+/// Applies the changes of a record that begins at a sector of the log. Returns false if one is out of range.
 fn take_all_changes<R: Rig, A: Allocator + Copy + Drop>(
     rig: &mut R,
     at: usize,
@@ -81,7 +81,7 @@ fn take_all_changes<R: Rig, A: Allocator + Copy + Drop>(
     requires long { length table.old ≡ parameter_count }
     ensures read { IfHonest (R.honest rig.old) (R.honest rig.new)
         (ReadSpec result (MakesAllOrDamaged at changes table.old table.new) (R.trace rig.old) (R.trace rig.new)) }
-    // without honesty too
+    // also if the device isn't honest
     ensures long { IfOk result (λ whole. OnTrue whole (length table.new ≡ parameter_count)) }
     ensures size { R.sectors rig.new ≡ R.sectors rig.old }
     ensures failures { FailureCountSpec result (R.failed rig.old) (R.failed rig.new) }
@@ -96,8 +96,8 @@ fn take_all_changes<R: Rig, A: Allocator + Copy + Drop>(
     Ok(true)
 }
 
-/// Takes over what a record says that begins at a sector of the log, whose content was read as `first`; false where it
-/// is damaged.
+/// Takes over what a record says that begins at a sector of the log, whose content was read as `first`. Returns false
+/// if it is damaged.
 fn take_record<R: Rig, A: Allocator + Copy + Drop>(
     rig: &mut R,
     first: &[u8; SECTOR_BYTES],
@@ -116,7 +116,7 @@ fn take_record<R: Rig, A: Allocator + Copy + Drop>(
     ensures read { IfHonest (R.honest rig.old) (R.honest rig.new)
         (ReadSpec result (TakesRecord header.format header.length first.now at changes stored.old stored.new)
         (R.trace rig.old) (R.trace rig.new)) }
-    // without honesty too
+    // also if the device isn't honest
     ensures storable { IfOk result (λ whole. OnTrue whole (IsStorable stored.new)) }
     ensures count { IfOk result (λ whole. OnTrue whole (stored.new.entries ≤ greatest_count)) }
     ensures long { IfOk result (λ whole. OnTrue whole (stored.new.length ≡ header.length)) }
@@ -140,7 +140,7 @@ fn take_record<R: Rig, A: Allocator + Copy + Drop>(
     }
 }
 
-/// Whether a complete record begins where a log has been read to, and what is found with it.
+/// Whether a complete record begins at the end of what was read of the log; if so, takes over what it says.
 fn next_record<R: Rig, A: Allocator + Copy + Drop>(
     rig: &mut R,
     header: Header,
@@ -155,7 +155,7 @@ fn next_record<R: Rig, A: Allocator + Copy + Drop>(
     requires long { stored.old.length ≡ header.length }
     ensures read { IfHonest (R.honest rig.old) (R.honest rig.new)
         (ReadSpec result (IsNextOf header end stored.old stored.new) (R.trace rig.old) (R.trace rig.new)) }
-    // without honesty too
+    // also if the device isn't honest
     ensures on { IfOk result (IsOn header end) }
     ensures storable { IfOk result (λ next. Goes next (IsStorable stored.new)) }
     ensures count { IfOk result (λ next. Goes next (stored.new.entries ≤ greatest_count)) }
@@ -194,10 +194,10 @@ fn next_record<R: Rig, A: Allocator + Copy + Drop>(
     }))
 }
 
-/// Takes over the longest run of complete records of a log, beside the snapshot of its header; where it ends, or none
-/// where what is found is damaged. It takes no memory (own).
+/// Takes over the longest run of complete records of a log, on top of the snapshot of its header. Returns where it
+/// ends; `None` if what is found is damaged. It doesn't allocate (own).
 ///
-/// Before the call `stored` is what the snapshot says. Fails where a read fails. Then, and where what is found is
+/// Before the call `stored` is what the snapshot says. Fails if a read fails. After a failure, and if what is found is
 /// damaged, `stored` may hold parts of several records.
 pub fn read_log<R: Rig, A: Allocator + Copy + Drop>(
     rig: &mut R,
@@ -210,7 +210,7 @@ pub fn read_log<R: Rig, A: Allocator + Copy + Drop>(
     requires long { stored.old.length ≡ header.length }
     ensures read { IfHonest (R.honest rig.old) (R.honest rig.new)
         (ReadSpec result (IsRunOf header stored.old stored.new) (R.trace rig.old) (R.trace rig.new)) }
-    // without honesty too
+    // also if the device isn't honest
     ensures room { IfOk result (λ end. IfSome end (λ e. e.sector ≤ log_size_of header)) }
     ensures number { IfOk result (λ end. IfSome end (λ e. e.number ≤ e.sector)) }
     ensures storable { IfOk result (λ end. IfSome end (λ e. IsStorable stored.new)) }

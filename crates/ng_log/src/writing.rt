@@ -1,4 +1,4 @@
-//! A record written after the last one.
+//! Writing a record after the last one.
 ghost use Rattle.std.specs.Prelude.{◌≡◌, ◌≤◌, ◌+◌, length, IfOk, IfSome};
 ghost use Rattle.ng_rig.specs.Calls.{IfHonest, FailureCountSpec};
 ghost use Rattle.ng_layout.specs.Limits.{greatest_count, part_changes};
@@ -25,7 +25,7 @@ use ng_params::{Change, Params, next_differences};
 use ng_rig::{Failed, Rig};
 use std::alloc::Allocator;
 
-/// The next changes that make what is stored of an older table.
+/// The next changes from an older table to what is stored.
 fn next_changes<A: Allocator + Copy + Drop>(
     old: &Params<A>,
     stored: &Stored<A>,
@@ -37,7 +37,7 @@ fn next_changes<A: Allocator + Copy + Drop>(
     next_differences(old, &stored.state.params, from)
 }
 
-/// Writes the parts of the record that makes what is stored of an older table.
+/// Writes the parts of the record of the changes from an older table to what is stored.
 fn write_parts<R: Rig, A: Allocator + Copy + Drop>(
     rig: &mut R,
     epoch: u64,
@@ -83,13 +83,13 @@ fn write_parts<R: Rig, A: Allocator + Copy + Drop>(
     Ok(())
 }
 
-/// Writes what is stored as a record after the end of a log, syncs it, and gives the log's end after it. It takes no
-/// memory (own).
+/// Writes what is stored as a record after the end of a log, syncs it, and returns the log's end after it. It doesn't
+/// allocate (own).
 ///
-/// `old` is the table that stands, and `count` says in how many parameters that of `stored` differs from it
-/// (`difference_count`); `slot` what changes of the tool table that stands. Records are written in format 2 alone.
-/// Fails where a write or the sync fails. Then some of the record's parts may have been written, and a stop leaves what
-/// stood or the whole record.
+/// `old` is the table before, `count` the number of parameters in which that of `stored` differs from it
+/// (`difference_count`), and `slot` the change of the tool table. Records are written only in format 2. Fails if a
+/// write or the sync fails. Then some of the record's parts may have been written, and a stop leaves the old state or
+/// the whole record.
 pub fn append<R: Rig, A: Allocator + Copy + Drop>(
     rig: &mut R,
     header: Header,
@@ -113,7 +113,7 @@ pub fn append<R: Rig, A: Allocator + Copy + Drop>(
         → before.saved.setup.params ≡ old.now → IfSome slot (IsStorableChange before.saved.tools)
         → with_change slot before.saved.tools ≡ stored.now.tools → before.saved.room ≡ stored.now.room
         → AppendSpec result header before stored.now (R.trace rig.old) (R.trace rig.new)) }
-    // whatever stands on the device
+    // whatever is on the device
     ensures writes { IfHonest (R.honest rig.old) (R.honest rig.new)
         (WritesRecord result (record_from header.epoch end old.now slot stored.now) (R.trace rig.old) (R.trace rig.new)) }
     ensures end { IfOk result (λ after. after ≡ end_after end count) }

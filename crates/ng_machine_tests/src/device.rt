@@ -25,7 +25,7 @@ fn three_items() -> [Item; 3] {
     ]
 }
 
-/// Six writes to three sectors, a sync and three hand-outs: whether each succeeds.
+/// Six writes to three sectors, a sync and three hand-outs. Returns whether each succeeds.
 fn make_ten_calls<R: Rig>(rig: &mut R, items: &[Item; 3]) -> bool {
     store(rig, 0, &[1; 512])
         && store(rig, 1, &[2; 512])
@@ -39,8 +39,8 @@ fn make_ten_calls<R: Rig>(rig: &mut R, items: &[Item; 3]) -> bool {
         && rig.hand_out(items[2]).is_ok()
 }
 
-/// What each of the three sectors holds in all its bytes after so many of these calls, by how many of its
-/// unsynced writes it keeps, and how many items are handed out.
+/// What each of the three sectors holds in all its bytes after this many of these calls, by how many of its unsynced
+/// writes it keeps, and how many items have been handed out.
 const LEFT: &[([[u8; 3]; 3], usize)] = &[
     ([[0, 0, 0], [0, 0, 0], [0, 0, 0]], 0),
     ([[0, 1, 1], [0, 0, 0], [0, 0, 0]], 0),
@@ -60,7 +60,7 @@ fn holds<R: Rig>(rig: &mut R, sector: usize, byte: u8) -> bool {
     sector_of(rig, sector) == [byte; 512]
 }
 
-/// Whether the device stopped so holds these bytes, has no calls and has handed out nothing.
+/// Whether the device that such a stop leaves holds these bytes, has no calls and has handed nothing out.
 fn leaves<A: Allocator + Copy + Drop>(
     rig: &MemoryRig<A>,
     n: usize,
@@ -78,8 +78,8 @@ fn leaves<A: Allocator + Copy + Drop>(
     )
 }
 
-/// How many unsynced writes of each sector are kept, after so many of these calls and past their ends, and what each
-/// sector then holds.
+/// How many unsynced writes of each sector are kept, after this many of these calls and past their ends, and what each
+/// sector holds then.
 const KEPT: &[(usize, &[usize], [u8; 3])] = &[
     (10, &[], [3, 2, 0]),
     (10, &[9, 1], [3, 4, 0]),
@@ -88,7 +88,7 @@ const KEPT: &[(usize, &[usize], [u8; 3])] = &[
     (usize::MAX, &[0, 2, 0], [3, 6, 0]),
 ];
 
-/// Whether a device stopped so leaves, by each choice of kept writes, what these bytes say.
+/// Whether stops of a device leave, for each choice of kept writes, what these bytes say.
 fn leaves_each<A: Allocator + Copy + Drop>(
     rig: &MemoryRig<A>,
     n: usize,
@@ -131,10 +131,10 @@ fn a_stop_keeps_as_many_writes_as_there_are(rt: HostRuntime) -> Result<(), Fail>
     Ok(())
 }
 
-/// Which of four calls succeed, whether the last gives what was written, and the device's sectors and failures then.
+/// Which of four calls succeed, whether the last returns what was written, and the device's sectors and failures then.
 type Four = ([bool; 4], bool, usize, u64);
 
-/// Writes, syncs, hands out and reads, which fails where a sector is all 255.
+/// Writes, syncs, hands out and reads, which fails if a sector is all 255.
 fn four_calls<R: Rig>(rig: &mut R, byte: u8) -> Four {
     let is_written = store(rig, 0, &[byte; 512]);
     let is_synced = rig.sync().is_ok();
@@ -145,9 +145,9 @@ fn four_calls<R: Rig>(rig: &mut R, byte: u8) -> Four {
     (succeed, read == [byte; 512], rig.size(), rig.failures())
 }
 
-/// What four calls make of a device, of a fuse around it that passes nine, of a device around that which fails the
-/// fifth, and of that once more; and the calls that the inmost one has after the first four and after all, with its
-/// failures.
+/// What four calls do on a device, on a fuse around it that passes nine calls, on a device around the fuse that fails
+/// the fifth call, and on that device once more. Then the calls of the inmost device after the first four and after
+/// all, and its failures.
 fn four_calls_each(alloc: Global) -> Result<([Four; 4], [usize; 2], u64), AllocError> {
     let mut plain = MemoryRig::new(alloc, 1)?;
     let first = four_calls(&mut plain, 8);
@@ -166,10 +166,10 @@ fn four_calls_each(alloc: Global) -> Result<([Four; 4], [usize; 2], u64), AllocE
 }
 
 #[test]
-fn the_three_devices_are_called_as_one(rt: HostRuntime) -> Result<(), Fail> {
+fn the_three_devices_behave_alike(rt: HostRuntime) -> Result<(), Fail> {
     let (found, calls, failures) = four_calls_each(rt.alloc())?;
     let good = ([true; 4], true, 1, 0);
-    // the fuse has one call left, and the outer device fails the next before it
+    // the fuse has one call left, and before that the outer device fails one
     let last = ([false, true, false, false], false, 1, 3);
     assert_eq!(rt; found, [good, good, good, last]);
     assert_eq!(rt; (calls, failures), ([3, 10], 0));
@@ -185,7 +185,7 @@ fn eight_calls<R: Rig>(rig: &mut R) -> Eight {
     ([first, second], [before, after])
 }
 
-/// How many calls a fuse passes, which of four calls then succeed, how many of them fail, and how many writes, syncs
+/// How many calls a fuse passes, which of four calls succeed then, how many of them fail, and how many writes, syncs
 /// and hand-outs are made.
 const FUSES: &[(u64, [bool; 4], u64, usize)] = &[
     (0, [false, false, false, false], 4, 0),
@@ -195,7 +195,7 @@ const FUSES: &[(u64, [bool; 4], u64, usize)] = &[
     (4, [true, true, true, true], 0, 3),
 ];
 
-/// What eight calls make of a fuse that passes so many, and the calls and failures of the device in it.
+/// What eight calls do on a fuse that passes this many, and the calls and failures of the device in it.
 fn eight_calls_of_a_fuse(alloc: Global, passed: u64) -> Result<(Eight, usize, u64), AllocError> {
     let mut fuse = FuseRig::new(MemoryRig::new(alloc, 1)?, passed);
     let found = eight_calls(&mut fuse);
@@ -204,7 +204,7 @@ fn eight_calls_of_a_fuse(alloc: Global, passed: u64) -> Result<(Eight, usize, u6
 }
 
 #[test]
-fn a_fuse_passes_so_many_calls(rt: HostRuntime) -> Result<(), Fail> {
+fn a_fuse_passes_a_number_of_calls(rt: HostRuntime) -> Result<(), Fail> {
     for (passed, succeed, fail, calls) in FUSES {
         let want = ([*succeed, [false; 4]], [*fail, fail.saturating_add(4)]);
         let found = eight_calls_of_a_fuse(rt.alloc(), *passed)?;
@@ -213,8 +213,8 @@ fn a_fuse_passes_so_many_calls(rt: HostRuntime) -> Result<(), Fail> {
     Ok(())
 }
 
-/// After how many calls one fails, which of four calls then succeed, which of the next four, how many of the first four
-/// fail, and how many writes, syncs and hand-outs are made of all.
+/// After how many calls one fails, which of four calls succeed then, which of the next four, how many of the first four
+/// fail, and how many writes, syncs and hand-outs are made in all.
 const ONE_FAILS: &[(u64, [[bool; 4]; 2], u64, usize)] = &[
     (
         0,
@@ -248,7 +248,7 @@ const ONE_FAILS: &[(u64, [[bool; 4]; 2], u64, usize)] = &[
     ),
 ];
 
-/// What eight calls make of a device that fails one after so many, and the calls and failures of the device in it.
+/// What eight calls do on a device that fails one after this many, and the calls and failures of the device in it.
 fn eight_calls_one_fails(alloc: Global, passed: u64) -> Result<(Eight, usize, u64), AllocError> {
     let mut once = FailRig::new(MemoryRig::new(alloc, 1)?, passed);
     let found = eight_calls(&mut once);
@@ -279,7 +279,7 @@ fn failures_have_no_effect_and_are_counted(rt: HostRuntime) -> Result<(), Fail> 
     Ok(())
 }
 
-/// Syncs twice: whether that succeeds, and how many failures are counted after it.
+/// Syncs twice. Returns whether each succeeds, and how many failures are counted after it.
 fn two_syncs<R: Rig>(rig: &mut R) -> [(bool, u64); 2] {
     let first = rig.sync().is_ok();
     let failures = rig.failures();
@@ -303,8 +303,8 @@ fn failures_of_all_devices_are_counted(rt: HostRuntime) {
     assert_eq!(rt; once.into_inner().failures(), u64::MAX);
 }
 
-/// Writes each sector and syncs, three times over.
-fn fill_thrice<R: Rig>(rig: &mut R) -> bool {
+/// Writes each sector and syncs, three times.
+fn fill_three_times<R: Rig>(rig: &mut R) -> bool {
     fill(rig, 9)
         && rig.sync().is_ok()
         && fill(rig, 9)
@@ -314,9 +314,9 @@ fn fill_thrice<R: Rig>(rig: &mut R) -> bool {
 }
 
 #[test]
-fn as_many_sectors_as_a_full_journal(rt: HostRuntime) -> Result<(), Fail> {
+fn a_device_of_the_size_of_a_full_journal(rt: HostRuntime) -> Result<(), Fail> {
     let mut rig = MemoryRig::new(rt.alloc(), 5_806)?;
-    assert!(rt; fill_thrice(&mut rig));
+    assert!(rt; fill_three_times(&mut rig));
     assert_eq!(rt; (rig.calls(), rig.size()), (17_421, 5_806));
     for n in [0, 9_000, 17_420, 17_421] {
         assert_eq!(rt; rig.stopped(n, &[1; 5_806])?.size(), 5_806);

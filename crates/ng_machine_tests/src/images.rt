@@ -9,19 +9,18 @@ use std::test::Fail;
 mod records;
 mod sizes;
 
-/// A device before one of its numbers is changed, of format 2 where it isn't said. Its program has 131,072 bytes, and
-/// all that isn't named is as in a fresh state.
+/// A device before one of its numbers is changed; its format is 2 unless stated. Its program has 131,072 bytes, and
+/// everything that isn't mentioned is as in a fresh state.
 #[derive(Clone, Copy, Debug, PartialEq, Eq)]
 enum Base {
     /// Epoch 1: the header in sector 1, its snapshot in sectors 88 to 173.
     Odd,
-    /// Epoch 2: the header in sector 0, its snapshot in sectors 2 to 87; 128 slots, whose lengths stand in sectors 1706
+    /// Epoch 2: the header in sector 0, its snapshot in sectors 2 to 87; 128 slots, whose lengths are in sectors 1706
     /// and 1707.
     Even,
-    /// Epoch 1, with all words of a cycle kept and a half-done block of 256 bytes; it is known where the machine
-    /// stands.
+    /// Epoch 1, with all words of a cycle kept and a half-done block of 256 bytes; the machine's position is known.
     Full,
-    /// Epoch 1, with a half-done block of 3 bytes; it isn't known where the machine stands.
+    /// Epoch 1, with a half-done block of 3 bytes; the machine's position isn't known.
     Lost,
     /// Format 1, epoch 1.
     OldOdd,
@@ -29,19 +28,19 @@ enum Base {
     OldEven,
 }
 
-/// What power on answers to an image with a number changed, and what it writes in that number's place.
+/// What power on does with an image in which a number was changed, and what it writes in place of that number.
 #[derive(Clone, Copy, Debug, PartialEq, Eq)]
 enum Answer {
-    /// It stands, and the same number is written again.
+    /// The image is accepted, and the same number is written again.
     Same,
-    /// The same, while other numbers of the half-done block don't last: there is none, or it isn't known where the
-    /// machine stands.
+    /// As `Same`, but other numbers of the half-done block aren't kept: there is no such block, or the machine's
+    /// position isn't known.
     Alone,
-    /// It stands, and the next number is written.
+    /// The image is accepted, and the next number is written.
     Next,
-    /// It stands, and the number after the next is written.
+    /// The image is accepted, and the number after the next is written.
     Second,
-    /// It stands; the number isn't looked at or doesn't last, and 0 is written.
+    /// The image is accepted; the number is ignored or isn't kept, and 0 is written.
     Zero,
     Refused(Fault),
 }
@@ -72,19 +71,19 @@ const LONGEST: i64 = 131_072;
 pub const METRE: i64 = 1_000_000_000;
 /// The greatest length in nanometres and number in millionths.
 const MOST: i64 = 9_999_999_999_999;
-/// Both ends of their range, and what lies one past it or as far as can be.
+/// Both ends of the range, and numbers one past them or as far as possible.
 const ENDS: &[i64] = &[-MOST, MOST];
 
 const PAST: &[i64] = &[-MOST - 1, MOST + 1, i64::MIN, i64::MAX];
-/// The same of what isn't negative.
+/// The same for numbers that aren't negative.
 const FROM_0: &[i64] = &[0, MOST];
 
 const PAST_0: &[i64] = &[MOST + 1, -1];
-/// The same of the length of a tool.
+/// The same for the length of a tool.
 const TOOLS: &[i64] = &[0, METRE];
 
 const PAST_TOOLS: &[i64] = &[METRE + 1, -1, i64::MIN, i64::MAX];
-/// Every number of the bits of the kept words.
+/// Every number for the bits of the kept words.
 const BITS: &[i64] = &[0, 1, 2, 3, 4, 5, 6, 7, 8, 9, 10, 11, 12, 13, 14, 15];
 
 const MOTIONS: &[i64] = &[0, 1, 2, 3, 80, 81, 82, 83, 85, 86, 89];
@@ -102,8 +101,8 @@ type Case = (
     Answer,
 );
 
-/// Each field at its limits and past them: its name, the device, its sector, byte and width, what stands there, and
-/// what power on makes of each such device. -1 is the greatest number of its width where that has no sign.
+/// Each field at its limits and past them: its name, the device, its sector, byte and width, its values, and what power
+/// on does with each such device. -1 is the greatest number of the width if the field has no sign.
 const CASES: &[Case] = &[
     ("text", Base::Odd, 1, 0, 8, &[MARK], SAME),
     (
@@ -140,7 +139,7 @@ const CASES: &[Case] = &[
     ("epoch", Base::Even, 0, 16, 8, &[2, 4, COUNT - 2], NEXT),
     ("epoch", Base::Even, 0, 16, 8, &[COUNT], J4),
     ("epoch", Base::Even, 0, 16, 8, &[0, 1, COUNT + 2, -2], J2),
-    // of format 1 two epochs have to be left
+    // in format 1 two epochs have to be left
     ("epoch", Base::OldOdd, 1, 16, 8, &[1, COUNT - 3], SECOND),
     ("epoch", Base::OldOdd, 1, 16, 8, &[COUNT - 1], J4),
     ("epoch", Base::OldOdd, 1, 16, 8, &[0, 2, COUNT + 1, -1], J2),
@@ -308,7 +307,7 @@ const CASES: &[Case] = &[
     ("slots", Base::Odd, 88, 456, 2, &[129, 256, 257, -1], J3),
     ("slots", Base::Even, 2, 456, 2, &[0, 1, 64, 65, 128], SAME),
     ("slots", Base::Even, 2, 456, 2, &[129, -1], J3),
-    // format 1 has none, and the settings that are given have none
+    // format 1 has none, and the given settings have none
     ("slots", Base::OldOdd, 88, 456, 2, &[1, 128, 129, -1], ZERO),
     ("slots", Base::OldEven, 2, 456, 2, &[1, 128, 129, -1], ZERO),
     ("unnamed, 458", Base::Odd, 88, 458, 8, &[-1], ZERO),
@@ -340,12 +339,12 @@ const CASES: &[Case] = &[
     ("#1", Base::OldOdd, 89, 0, 8, PAST, J3),
     ("unnamed, 184", Base::Odd, 173, 184, 8, PAST, ZERO),
     ("unnamed, 504", Base::Odd, 173, 504, 8, PAST, ZERO),
-    // no record: it would have no parts
+    // not a record: it would have no parts
     ("log", Base::Odd, 686, 0, 8, &[0, 1, 2], SAME),
     ("log", Base::Even, 686, 0, 8, &[1, 2, 3], SAME),
 ];
 
-/// Puts a number of so many bytes into a sector, its lowest byte first.
+/// Puts a number with this many bytes into a sector, the lowest byte first.
 pub fn put(sector: &mut [u8; 512], at: usize, width: usize, number: i64) {
     let bytes = number.to_le_bytes();
     for k in 0..width.min(8) {
@@ -355,7 +354,7 @@ pub fn put(sector: &mut [u8; 512], at: usize, width: usize, number: i64) {
     }
 }
 
-/// A sector that holds these numbers, each with its byte and width, and is 0 elsewhere.
+/// A sector with these numbers, each with its byte and width, and 0 elsewhere.
 pub fn sector_with(fields: &[(usize, usize, i64)]) -> [u8; 512] {
     let mut sector = [0; 512];
     for (at, width, number) in fields {
@@ -364,7 +363,7 @@ pub fn sector_with(fields: &[(usize, usize, i64)]) -> [u8; 512] {
     sector
 }
 
-/// What a sector reads as; all 255 where it can't be read.
+/// What a sector reads as; all 255 if it can't be read.
 pub fn sector_of<R: Rig>(rig: &mut R, sector: usize) -> [u8; 512] {
     let mut bytes = [255; 512];
     if sector < rig.size() && rig.read(sector, &mut bytes).is_ok() {
@@ -374,12 +373,12 @@ pub fn sector_of<R: Rig>(rig: &mut R, sector: usize) -> [u8; 512] {
     }
 }
 
-/// Writes a sector; false where that can't be.
+/// Writes a sector. Returns false if that fails.
 pub fn store<R: Rig>(rig: &mut R, sector: usize, bytes: &[u8; 512]) -> bool {
     sector < rig.size() && rig.write(sector, bytes).is_ok()
 }
 
-/// The modes of a fresh state: G80 G17 G90 G94 G21 G98 G54 G64 M48, and the place known.
+/// The modes of a fresh state: G80 G17 G90 G94 G21 G98 G54 G64 M48, and the position known.
 pub const FRESH: [(usize, usize, i64); 10] = [
     (144, 1, 80),
     (145, 1, 17),
@@ -393,7 +392,7 @@ pub const FRESH: [(usize, usize, i64); 10] = [
     (156, 1, 1),
 ];
 
-/// A program's block that is half-done before its segment 2, at (1, 2, 3) nm, with 256 bytes of text; words kept.
+/// A block of a program that is half-done before its segment 2, at (1, 2, 3) nm, with 256 bytes of text; words kept.
 const HALF: [(usize, usize, i64); 8] = [
     (157, 1, 15),
     (162, 1, 1),
@@ -426,7 +425,7 @@ fn state_of(base: Base) -> [u8; 512] {
     state
 }
 
-/// The header of a device of this kind, and where the snapshot begins.
+/// The header of a device of this kind, and the first sector of its snapshot.
 fn header_and_area(base: Base) -> ([u8; 512], usize) {
     match base {
         Base::Odd | Base::Full | Base::Lost => (header_of(2, 1, 0, LONGEST), 88),
@@ -436,8 +435,8 @@ fn header_and_area(base: Base) -> ([u8; 512], usize) {
     }
 }
 
-/// Makes the device of a row, with this number in the row's place.
-fn lay<R: Rig>(rig: &mut R, case: &Case, number: i64) -> bool {
+/// Writes the device of a row, with this number in the row's place.
+fn write_device<R: Rig>(rig: &mut R, case: &Case, number: i64) -> bool {
     let (header, area) = header_and_area(case.1);
     let sector = if area == 2 { 0 } else { 1 };
     let is_laid = store(rig, sector, &header) && store(rig, area, &state_of(case.1));
@@ -446,7 +445,7 @@ fn lay<R: Rig>(rig: &mut R, case: &Case, number: i64) -> bool {
     is_laid && store(rig, case.2, &changed) && rig.sync().is_ok()
 }
 
-/// Where the next epoch writes what stands in this sector: headers, snapshot areas and tool areas change places.
+/// The sector to which the next epoch writes what is in this sector: headers, snapshot areas and tool areas alternate.
 fn twin(sector: usize) -> usize {
     match sector {
         0 => 1,
@@ -459,7 +458,7 @@ fn twin(sector: usize) -> usize {
     }
 }
 
-/// Where power on writes what stands in this sector of a device: in format 1 that of the epoch after the next.
+/// The sector to which power on writes what is in this sector; in format 1 that of the epoch after the next.
 fn written(base: Base, sector: usize) -> usize {
     match base {
         Base::OldOdd | Base::OldEven => sector,
@@ -467,7 +466,7 @@ fn written(base: Base, sector: usize) -> usize {
     }
 }
 
-/// Powers on with no tools in the settings; why not, if so, and the device.
+/// Powers on with no tools in the settings. Returns the fault, if any, and the device.
 pub fn powered<A: Allocator + Copy + Drop, R: Rig>(alloc: A, rig: R) -> (Option<Fault>, R) {
     match recover(alloc, rig, &Tools::new()) {
         Ok((journal, _)) => (None, journal.into_rig()),
@@ -476,7 +475,7 @@ pub fn powered<A: Allocator + Copy + Drop, R: Rig>(alloc: A, rig: R) -> (Option<
 }
 
 /// How many calls power on makes: 89 writes (86 of a snapshot, 2 of a tool area, a header) and 3 syncs; over format 1
-/// before them another 87 writes and 2 syncs, without a tool area.
+/// another 87 writes and 2 syncs before them, without a tool area.
 fn calls(base: Base) -> usize {
     match base {
         Base::Odd | Base::Even | Base::Full | Base::Lost => 92,
@@ -484,7 +483,7 @@ fn calls(base: Base) -> usize {
     }
 }
 
-/// What power on answers, what it writes in place of this number, and how many calls it makes.
+/// What power on returns, what it writes in place of this number, and how many calls it makes.
 fn wanted(case: &Case, number: i64) -> (Option<Fault>, i64, usize) {
     let calls = calls(case.1);
     match case.6 {
@@ -497,15 +496,15 @@ fn wanted(case: &Case, number: i64) -> (Option<Fault>, i64, usize) {
     }
 }
 
-/// Whether power on makes of a device with a number changed what a row says: its answer, its calls, and what stands in
-/// the number's place afterwards.
+/// Whether power on does with the changed device what a row says: its result, its calls, and what is in the number's
+/// place afterwards.
 fn answers<A: Allocator + Copy + Drop>(
     alloc: A,
     case: &Case,
     number: i64,
 ) -> Result<bool, AllocError> {
     let mut rig = MemoryRig::new(alloc, 1_710)?;
-    let is_laid = lay(&mut rig, case, number);
+    let is_laid = write_device(&mut rig, case, number);
     let before = rig.calls();
     let (fault, mut rig) = powered(alloc, rig);
     let (refusal, again, calls) = wanted(case, number);
@@ -521,8 +520,8 @@ fn answers<A: Allocator + Copy + Drop>(
     Ok(is_laid && fault == refusal && is_called && found == want)
 }
 
-/// The first of a row's numbers of which power on makes something else.
-fn first_unlike<A: Allocator + Copy + Drop>(
+/// The first number of a row with which power on does something else.
+fn first_mismatch<A: Allocator + Copy + Drop>(
     alloc: A,
     case: &Case,
     numbers: &[i64],
@@ -538,7 +537,7 @@ fn first_unlike<A: Allocator + Copy + Drop>(
 #[test]
 fn each_field_at_its_limits_and_past_them(rt: HostRuntime) -> Result<(), Fail> {
     for case in CASES {
-        let unlike = first_unlike(rt.alloc(), case, case.5)?;
+        let unlike = first_mismatch(rt.alloc(), case, case.5)?;
         assert_eq!(rt; unlike, None, "{}", case.0);
     }
     Ok(())

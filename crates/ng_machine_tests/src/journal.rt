@@ -22,12 +22,12 @@ mod replacing;
 
 use counting::Counting;
 
-/// The sector of a header of format 2 and this epoch, with this program area and length.
+/// The sector of a header of format 2 with this epoch, program area and length.
 pub fn header(epoch: i64, area: i64, length: i64) -> [u8; 512] {
     header_of(2, epoch, area, length)
 }
 
-/// The same of this format.
+/// The sector of a header of this format.
 pub fn header_of(format: i64, epoch: i64, area: i64, length: i64) -> [u8; 512] {
     sector_with(&[
         (0, 8, MARK),
@@ -38,8 +38,8 @@ pub fn header_of(format: i64, epoch: i64, area: i64, length: i64) -> [u8; 512] {
     ])
 }
 
-/// Makes what a device holds once it is formatted: the fresh state as epoch 1, in area 1, no program and no slots.
-fn lay_formatted<R: Rig>(rig: &mut R) -> bool {
+/// Writes what a device holds after a format: the fresh state as epoch 1, in area 1, no program and no slots.
+fn write_formatted<R: Rig>(rig: &mut R) -> bool {
     let one = sector_with(&[(280, 8, 1_000_000)]);
     store(rig, 88, &sector_with(&FRESH))
         && store(rig, 170, &one)
@@ -47,8 +47,8 @@ fn lay_formatted<R: Rig>(rig: &mut R) -> bool {
         && rig.sync().is_ok()
 }
 
-/// Devices by their sectors, whether they are formatted, and the bytes of the heap: what power on answers, and how many
-/// calls it makes. A table of parameters has 43,192 bytes, and power on wants two.
+/// The sectors of a device, whether it is formatted, and the bytes of the heap; what power on returns, and how many
+/// calls it makes. A table of parameters has 43,192 bytes, and power on needs two.
 const DEVICES: &[(usize, bool, usize, Option<Fault>, usize)] = &[
     (0, false, 100_000, Some(Fault::NotFormatted), 0),
     (1, false, 100_000, Some(Fault::NotFormatted), 0),
@@ -66,14 +66,14 @@ const DEVICES: &[(usize, bool, usize, Option<Fault>, usize)] = &[
     (5_806, true, 100_000, None, 92),
 ];
 
-/// A device of so many sectors, formatted or not.
+/// A device with this many sectors, formatted or not.
 pub fn device<A: Allocator + Copy + Drop>(
     alloc: A,
     sectors: usize,
     is_laid: bool,
 ) -> Result<MemoryRig<A>, Fail> {
     let mut rig = MemoryRig::new(alloc, sectors)?;
-    if !is_laid || lay_formatted(&mut rig) {
+    if !is_laid || write_formatted(&mut rig) {
         Ok(rig)
     } else {
         Err(Fail::from("a device isn't laid"))
@@ -85,7 +85,7 @@ pub fn formatted<A: Allocator + Copy + Drop>(alloc: A) -> Result<MemoryRig<A>, F
     device(alloc, 1_710, true)
 }
 
-/// What power on answers with so many bytes of heap, how many calls it makes, and the device's sectors and failures.
+/// What power on returns with this many bytes of heap, how many calls it makes, and the device's sectors and failures.
 fn power_on(
     alloc: Global,
     rig: MemoryRig<Global>,
@@ -112,24 +112,24 @@ fn devices_that_power_on_refuses(rt: HostRuntime) -> Result<(), Fail> {
     Ok(())
 }
 
-/// Lays the state of a fresh controller with so many entries, in this area.
-pub fn lay_state<R: Rig>(rig: &mut R, first: usize, entries: i64) -> bool {
+/// Writes the state of a fresh controller with this many entries to this area.
+pub fn write_state<R: Rig>(rig: &mut R, first: usize, entries: i64) -> bool {
     let mut state = sector_with(&FRESH);
     put(&mut state, 0, 8, entries);
     store(rig, first, &state)
 }
 
-/// The format and the epoch of a header; there is none where the epoch is 0.
+/// The format and the epoch of a header; epoch 0 means that there is none.
 type Head = (i64, i64);
 
-/// A device with these headers, whose state has 7 entries in area 0 and 8 in area 1.
+/// A device with these headers. Its state has 7 entries in area 0 and 8 in area 1.
 fn two_headers<A: Allocator + Copy + Drop>(
     alloc: A,
     even: Head,
     odd: Head,
 ) -> Result<MemoryRig<A>, Fail> {
     let mut rig = MemoryRig::new(alloc, 1_710)?;
-    let are_states = lay_state(&mut rig, 2, 7) && lay_state(&mut rig, 88, 8);
+    let are_states = write_state(&mut rig, 2, 7) && write_state(&mut rig, 88, 8);
     let is_even = even.1 == 0 || store(&mut rig, 0, &header_of(even.0, even.1, 0, 0));
     let is_odd = odd.1 == 0 || store(&mut rig, 1, &header_of(odd.0, odd.1, 0, 0));
     if are_states && is_even && is_odd {
@@ -139,7 +139,7 @@ fn two_headers<A: Allocator + Copy + Drop>(
     }
 }
 
-/// Where a header of this epoch stands.
+/// The sector of a header with this epoch.
 fn header_sector(epoch: i64) -> usize {
     if epoch % 2 == 0 { 0 } else { 1 }
 }
@@ -160,8 +160,8 @@ pub fn entries_found<A: Allocator + Copy + Drop, R: Rig + Drop>(
     }
 }
 
-/// The two headers: the entries of the area in force (7 in area 0, 8 in area 1), or why there is none, and the epoch
-/// that power on ends in: the next one, or after format 1 the one after that.
+/// The two headers; the entries of the area in force (7 in area 0, 8 in area 1), or the fault if there is none; and the
+/// epoch in which power on ends: the next one, or over format 1 the one after that.
 const HEADERS: &[(Head, Head, Result<u64, Fault>, i64)] = &[
     ((2, 0), (2, 0), Err(Fault::NotFormatted), 0),
     ((2, 2), (2, 0), Ok(7), 3),
@@ -172,9 +172,9 @@ const HEADERS: &[(Head, Head, Result<u64, Fault>, i64)] = &[
     ((2, 256), (2, 257), Ok(8), 258),
     ((2, LAST), (2, 1), Err(Fault::CountersUsed), 0),
     ((2, LAST - 2), (2, LAST - 1), Ok(8), LAST),
-    // headers in each other's sector
+    // each header in the other's sector
     ((2, 1), (2, 2), Err(Fault::NotFormatted), 0),
-    // past the limit, so the other one counts
+    // past the limit, so the other one is used
     ((2, LAST + 2), (2, 3), Ok(8), 4),
     ((1, 2), (1, 0), Ok(7), 4),
     ((1, 0), (1, 1), Ok(8), 3),
@@ -188,7 +188,7 @@ const HEADERS: &[(Head, Head, Result<u64, Fault>, i64)] = &[
     ((1, LAST), (2, 1), Err(Fault::CountersUsed), 0),
     ((2, LAST - 2), (1, LAST - 1), Err(Fault::CountersUsed), 0),
     ((1, LAST - 2), (2, LAST - 1), Ok(8), LAST),
-    // of no format, so the other one counts
+    // no valid format, so the other one is used
     ((3, 4), (2, 3), Ok(8), 4),
     ((3, 4), (1, 3), Ok(8), 5),
     ((0, 4), (3, 3), Err(Fault::NotFormatted), 0),
@@ -211,18 +211,18 @@ fn the_header_of_the_greater_epoch_is_in_force(rt: HostRuntime) -> Result<(), Fa
     Ok(())
 }
 
-/// What is done to a journal once it is recovered.
+/// An operation on a journal after it was recovered.
 #[derive(Clone, Copy, Debug, PartialEq, Eq)]
-enum Deed {
+enum Operation {
     Nothing,
-    /// An entry by which parameter 1 becomes 5.
+    /// An entry that sets parameter 1 to 5.
     Commit,
-    /// An entry by which slot 1 is 5,000 nm long.
+    /// An entry that sets the length of slot 1 to 5,000 nm.
     Tool,
     /// The first segment of an Mdi block, `G0X5`, is open.
     Open,
     HandOut,
-    /// An entry by which the program becomes `G0 X0.002` and `M2`.
+    /// An entry that makes the program `G0 X0.002` and `M2`.
     Load,
 }
 
@@ -242,7 +242,7 @@ pub fn open_half() -> Half
     }
 }
 
-/// A tool's length; none where it isn't within its limits.
+/// A tool's length. `None` if it isn't within its limits.
 fn tool_length(nm: i64) -> Option<Len>
     ensures { IfSome result IsToolLength }
 {
@@ -253,8 +253,8 @@ fn tool_length(nm: i64) -> Option<Len>
     }
 }
 
-/// The change of a table of so many slots by which this one, or the one after its last, is so long; none where there is
-/// no such slot or length.
+/// The change of a table with this many slots that sets the length of this slot, or of the one after its last. `None`
+/// if there is no such slot or length.
 fn slot_change(slots: usize, slot: u8, nm: i64) -> Option<SlotChange>
     requires { slots ≤ SLOTS }
     ensures slot { IfSome result (λ change. (1 ≤ change.slot) × (change.slot ≤ slots + 1) × (change.slot ≤ SLOTS)) }
@@ -268,7 +268,7 @@ fn slot_change(slots: usize, slot: u8, nm: i64) -> Option<SlotChange>
     }
 }
 
-/// Makes such a change, where there is one.
+/// Makes such a change, if there is one.
 #[tactic(auto, using(crate::proofs::Slots::one_slot))]
 fn change_slot(tools: &mut Tools, slot: u8, nm: i64)
     ensures one { IsOneSlotFrom tools.old tools.new }
@@ -279,8 +279,8 @@ fn change_slot(tools: &mut Tools, slot: u8, nm: i64)
     }
 }
 
-/// A slot of a table becomes this long, or the one after its last is added; nothing changes where there is no such slot
-/// or length.
+/// Sets the length of a slot in a table, or adds the slot after its last. Nothing changes if there is no such slot or
+/// length.
 pub fn set_slot(tools: &mut Tools, slot: u8, nm: i64)
     ensures one { IsOneSlotFrom tools.old tools.new }
     ensures are { AreTools tools.new }
@@ -290,11 +290,11 @@ pub fn set_slot(tools: &mut Tools, slot: u8, nm: i64)
     let _ = tools.slots();
 }
 
-/// Does it; an entry is then the one of this number.
+/// Does the operation; an entry gets this number.
 fn make<A: Allocator + Copy + Drop, R: Rig>(
     journal: &mut Journal<R, A>,
     stored: &mut Stored<A>,
-    deed: Deed,
+    operation: Operation,
     entries: u64,
 ) -> Result<(), Fault>
     requires whole { journal.old.broken ≡ false }
@@ -302,20 +302,20 @@ fn make<A: Allocator + Copy + Drop, R: Rig>(
     requires same { stored.old ≡ journal.old.saved }
 {
     stored.entries = entries;
-    match deed {
-        Deed::Nothing => Ok(()),
-        Deed::Commit => {
+    match operation {
+        Operation::Nothing => Ok(()),
+        Operation::Commit => {
             let five = Num::of(5_000_000).unwrap_or_default();
             stored.state.params.set(Index::known(1), five);
             journal.commit(stored)
         }
-        Deed::Tool => {
+        Operation::Tool => {
             set_slot(&mut stored.tools, 1, 5_000);
             journal.commit(stored)
         }
-        Deed::Open => journal.open_segment(&open_half()),
-        Deed::HandOut => journal.hand_out(Item::Dwell { us: 7 }),
-        Deed::Load => {
+        Operation::Open => journal.open_segment(&open_half()),
+        Operation::HandOut => journal.hand_out(Item::Dwell { us: 7 }),
+        Operation::Load => {
             stored.place = 0;
             stored.length = 13;
             journal.load_program(PROGRAM, stored)
@@ -323,31 +323,31 @@ fn make<A: Allocator + Copy + Drop, R: Rig>(
     }
 }
 
-/// Powers on and does it: what is answered, whether the journal is broken then, and the device.
+/// Powers on and does the operation. Returns the result, whether the journal is broken then, and the device.
 fn after<A: Allocator + Copy + Drop, R: Rig>(
     alloc: A,
     rig: R,
-    deed: Deed,
+    operation: Operation,
     entries: u64,
 ) -> (Result<(), Fault>, bool, R) {
     match recover(alloc, rig, &Tools::new()) {
         Ok((mut journal, mut stored)) => {
-            let done = make(&mut journal, &mut stored, deed, entries);
+            let done = make(&mut journal, &mut stored, operation, entries);
             (done, journal.broken(), journal.into_rig())
         }
         Err((fault, rig)) => (Err(fault), false, rig),
     }
 }
 
-/// The entries of a device, parameter 1, the bytes of its program, of a half-done block whether something is open, and
-/// whether it is known where the machine stands, and the length of slot 1; or why power on refuses it.
+/// What a device stands for: its entries, parameter 1, the bytes of its program, for a half-done block whether
+/// something is open and whether the machine's position is known, and the length of slot 1; or why power on refuses it.
 type Standing = Result<(u64, i64, u64, Option<(bool, bool)>, Option<i64>), Fault>;
 
 const NOTHING_DONE: Standing = Ok((0, 0, 0, None, None));
 
 const COMMITTED: Standing = Ok((1, 5_000_000, 0, None, None));
 
-/// The length of slot 1; none where a table has no slots.
+/// The length of slot 1. `None` if a table has no slots.
 fn first_tool(tools: &Tools) -> Option<i64> {
     if tools.slots() == 0 {
         None
@@ -374,16 +374,16 @@ fn standing<A: Allocator + Copy + Drop, R: Rig + Drop>(alloc: A, rig: R) -> Stan
     }
 }
 
-/// What a sector holds after a deed.
+/// What a sector holds after an operation.
 #[derive(Clone, Copy)]
 enum Holds {
     /// The modes of a fresh state.
     Fresh,
     /// The second of two parts of the first record of epoch 2, which has one change: parameter 1 is 5.
     Five,
-    /// The one part of the first record of epoch 2, by which slot 1 is 5,000 nm long.
+    /// The only part of the first record of epoch 2, which sets the length of slot 1 to 5,000 nm.
     Tool,
-    /// The one part of the first record of epoch 2: a fresh state with the block `G0X5` open.
+    /// The only part of the first record of epoch 2: a fresh state with the block `G0X5` open.
     Open,
     Text,
 }
@@ -415,35 +415,35 @@ fn content(holds: Holds) -> [u8; 512] {
     }
 }
 
-/// How many writes and syncs power on makes and then each deed, the header that is then in force, and what a sector
-/// holds.
-type Row = (Deed, u64, u64, (i64, i64, i64), usize, Holds);
+/// An operation, how many writes and syncs power on and the operation make, the header in force after it, and what a
+/// sector holds.
+type Row = (Operation, u64, u64, (i64, i64, i64), usize, Holds);
 
-const DEEDS: &[Row] = &[
-    (Deed::Nothing, 89, 3, (2, 0, 0), 2, Holds::Fresh),
-    (Deed::Commit, 91, 4, (2, 0, 0), 687, Holds::Five),
-    (Deed::Tool, 90, 4, (2, 0, 0), 686, Holds::Tool),
-    (Deed::Open, 90, 4, (2, 0, 0), 686, Holds::Open),
-    (Deed::HandOut, 89, 3, (2, 0, 0), 2, Holds::Fresh),
-    (Deed::Load, 179, 6, (3, 1, 13), 430, Holds::Text),
+const OPERATIONS: &[Row] = &[
+    (Operation::Nothing, 89, 3, (2, 0, 0), 2, Holds::Fresh),
+    (Operation::Commit, 91, 4, (2, 0, 0), 687, Holds::Five),
+    (Operation::Tool, 90, 4, (2, 0, 0), 686, Holds::Tool),
+    (Operation::Open, 90, 4, (2, 0, 0), 686, Holds::Open),
+    (Operation::HandOut, 89, 3, (2, 0, 0), 2, Holds::Fresh),
+    (Operation::Load, 179, 6, (3, 1, 13), 430, Holds::Text),
 ];
 
-/// What a deed on a formatted device answers, whether the journal is broken then, how many writes and syncs there are
-/// from power on, and the device.
+/// What an operation on a formatted device returns, whether the journal is broken then, how many writes and syncs there
+/// are from power on, and the device.
 fn counted<A: Allocator + Copy + Drop>(
     alloc: A,
-    deed: Deed,
+    operation: Operation,
 ) -> Result<((Result<(), Fault>, bool, u64, u64), MemoryRig<A>), Fail> {
     let mut rig = MemoryRig::new(alloc, 1_710)?;
     format(&mut rig)?;
-    let (done, is_broken, counting) = after(alloc, Counting::new(rig), deed, 1);
+    let (done, is_broken, counting) = after(alloc, Counting::new(rig), operation, 1);
     let ([_, writes, syncs], rig) = counting.counted();
     Ok(((done, is_broken, writes, syncs), rig))
 }
 
-/// What the deed of a row answers, whether the journal is broken then, the writes and syncs, and whether the row's
-/// header is in force and its sector holds what it says.
-fn deed_of(
+/// What the operation of a row returns, whether the journal is broken then, the writes and syncs, and whether the row's
+/// header is in force and its sector holds what the row says.
+fn operation_of(
     alloc: Global,
     row: &Row,
 ) -> Result<(Result<(), Fault>, bool, u64, u64, bool, bool), Fail> {
@@ -455,10 +455,10 @@ fn deed_of(
 }
 
 #[test]
-fn writes_and_syncs_of_each_deed(rt: HostRuntime) -> Result<(), Fail> {
-    for row in DEEDS {
+fn writes_and_syncs_of_each_operation(rt: HostRuntime) -> Result<(), Fail> {
+    for row in OPERATIONS {
         let wanted = (Ok(()), false, row.1, row.2, true, true);
-        assert_eq!(rt; deed_of(rt.alloc(), row)?, wanted, "{:?}", row.0);
+        assert_eq!(rt; operation_of(rt.alloc(), row)?, wanted, "{:?}", row.0);
     }
     Ok(())
 }
@@ -492,42 +492,47 @@ fn a_header_is_written_and_read(rt: HostRuntime) {
     }
 }
 
-/// What a deed answers, whether the journal is broken then, and the failures.
+/// What an operation returns, whether the journal is broken then, and the failures.
 type Done = (Result<(), Fault>, bool, u64);
 
-/// Does it on a formatted device of which one call after so many fails with no effect.
+/// Does the operation on a formatted device of which one call after this many fails without effect.
 fn done_failing<A: Allocator + Copy + Drop>(
     alloc: A,
-    deed: Deed,
+    operation: Operation,
     calls: u64,
 ) -> Result<(Done, FailRig<MemoryRig<A>>), Fail> {
     let rig = FailRig::new(formatted(alloc)?, calls);
-    let (done, is_broken, rig) = after(alloc, rig, deed, 1);
+    let (done, is_broken, rig) = after(alloc, rig, operation, 1);
     Ok(((done, is_broken, rig.failures()), rig))
 }
 
-/// The same, and what stands then.
+/// The same, and what the device stands for then.
 fn failing<A: Allocator + Copy + Drop>(
     alloc: A,
-    deed: Deed,
+    operation: Operation,
     calls: u64,
 ) -> Result<(Done, Standing), Fail> {
-    let (done, rig) = done_failing(alloc, deed, calls)?;
+    let (done, rig) = done_failing(alloc, operation, calls)?;
     Ok((done, standing(alloc, rig.into_inner())))
 }
 
-/// The deeds that call the device, how many calls each makes, and what stands after it. Only the last sync can fail
-/// with the new state in place.
-const FAILED: &[(Deed, u64, Standing)] = &[
-    (Deed::Commit, 3, COMMITTED),
-    (Deed::Tool, 2, Ok((1, 0, 0, None, Some(5_000)))),
-    (Deed::Open, 2, Ok((0, 0, 0, Some((false, false)), None))),
-    (Deed::HandOut, 1, NOTHING_DONE),
-    (Deed::Load, 93, Ok((1, 0, 13, None, None))),
+/// The operations that call the device, how many calls each makes, and what the device stands for after it. Only the
+/// last sync can fail with the new state in place.
+const FAILED: &[(Operation, u64, Standing)] = &[
+    (Operation::Commit, 3, COMMITTED),
+    (Operation::Tool, 2, Ok((1, 0, 0, None, Some(5_000)))),
+    (
+        Operation::Open,
+        2,
+        Ok((0, 0, 0, Some((false, false)), None)),
+    ),
+    (Operation::HandOut, 1, NOTHING_DONE),
+    (Operation::Load, 93, Ok((1, 0, 13, None, None))),
 ];
 
-/// The calls of power on (183) that fail, by how many there are before: the first sync, two headers, 86 sectors of a
-/// snapshot, two of a tool area and one of the log are read, then 88 are written; a sync, a header and a sync.
+/// The calls of power on (183) that fail, by how many come before. First a sync, two headers, 86 sectors of a snapshot,
+/// two of a tool area and one of the log are read; then 88 sectors are written, and there is a sync, a header and a
+/// sync.
 const CALLS_OF_POWER_ON: &[u64] = &[
     0, 1, 2, 3, 4, 88, 89, 90, 91, 92, 177, 178, 179, 180, 181, 182,
 ];
@@ -535,27 +540,32 @@ const CALLS_OF_POWER_ON: &[u64] = &[
 #[test]
 fn each_call_of_power_on_fails_once(rt: HostRuntime) -> Result<(), Fail> {
     let wanted = ((Err(Fault::DeviceFailed), false, 1), NOTHING_DONE);
-    for (deed, _, _) in FAILED {
+    for (operation, _, _) in FAILED {
         for k in CALLS_OF_POWER_ON {
-            assert_eq!(rt; failing(rt.alloc(), *deed, *k)?, wanted, "{deed:?} {k}");
+            assert_eq!(rt;
+                failing(rt.alloc(), *operation, *k)?,
+                wanted,
+                "{operation:?} {k}"
+            );
         }
     }
     Ok(())
 }
 
-/// The calls of a deed that fail, by how many of its own there are before.
-const CALLS_OF_DEEDS: &[u64] = &[0, 1, 2, 43, 87, 88, 89, 90, 91, 92];
+/// The calls of an operation that fail, by how many of its calls come before.
+const CALLS_OF_OPERATIONS: &[u64] = &[0, 1, 2, 43, 87, 88, 89, 90, 91, 92];
 
-/// The first of those calls of a deed, which makes so many and leaves what stands after them, whose failure isn't
-/// answered and counted once, doesn't break the journal or leaves something else; and what is found there.
-fn first_unlike_failure<A: Allocator + Copy + Drop>(
+/// The first of those calls of an operation for which a failure goes wrong, and what is found then. The operation makes
+/// this many calls and leaves what is expected after them. A failure goes wrong if it isn't returned and counted once,
+/// doesn't break the journal or leaves something else.
+fn first_wrong_failure<A: Allocator + Copy + Drop>(
     alloc: A,
-    (deed, calls, new): (Deed, u64, Standing),
+    (operation, calls, new): (Operation, u64, Standing),
 ) -> Result<Option<(u64, Done, Standing)>, Fail> {
-    for k in CALLS_OF_DEEDS {
+    for k in CALLS_OF_OPERATIONS {
         if *k < calls {
             let stands = if *k + 1 == calls { new } else { NOTHING_DONE };
-            let (done, found) = failing(alloc, deed, 183 + *k)?;
+            let (done, found) = failing(alloc, operation, 183 + *k)?;
             if done != (Err(Fault::DeviceFailed), true, 1) || found != stands {
                 return Ok(Some((*k, done, found)));
             }
@@ -565,24 +575,25 @@ fn first_unlike_failure<A: Allocator + Copy + Drop>(
 }
 
 #[test]
-fn each_call_of_a_deed_fails_once(rt: HostRuntime) -> Result<(), Fail> {
+fn each_call_of_an_operation_fails_once(rt: HostRuntime) -> Result<(), Fail> {
     for row in FAILED {
-        assert_eq!(rt; first_unlike_failure(rt.alloc(), *row)?, None, "{row:?}");
+        assert_eq!(rt; first_wrong_failure(rt.alloc(), *row)?, None, "{row:?}");
     }
     Ok(())
 }
 
 #[test]
-fn a_deed_makes_so_many_calls(rt: HostRuntime) -> Result<(), Fail> {
-    for (deed, calls, new) in FAILED {
-        let (done, rig) = done_failing(rt.alloc(), *deed, 183u64.saturating_add(*calls))?;
+fn an_operation_makes_a_number_of_calls(rt: HostRuntime) -> Result<(), Fail> {
+    for (operation, calls, new) in FAILED {
+        let (done, rig) = done_failing(rt.alloc(), *operation, 183u64.saturating_add(*calls))?;
         let stands = standing(rt.alloc(), rig.into_inner());
-        assert_eq!(rt; (done, stands), ((Ok(()), false, 0), *new), "{deed:?}");
+        assert_eq!(rt; (done, stands), ((Ok(()), false, 0), *new), "{operation:?}");
     }
     Ok(())
 }
 
-/// What stands after a stop after so many calls, with none of the unsynced writes kept and with all of them.
+/// What the device stands for after a stop after this many calls, with none of the unsynced writes kept and with all of
+/// them.
 fn cut<A: Allocator + Copy + Drop>(
     alloc: A,
     rig: &MemoryRig<A>,
@@ -593,12 +604,12 @@ fn cut<A: Allocator + Copy + Drop>(
     Ok([standing(alloc, none), standing(alloc, all)])
 }
 
-/// What stands after a cut after each call of an entry that changes a parameter: two writes and a sync.
+/// What the device stands for after a cut after each call of an entry that changes a parameter: two writes and a sync.
 #[test]
 fn a_cut_leaves_the_old_or_the_new(rt: HostRuntime) -> Result<(), Fail> {
     let (_, rig) = powered(rt.alloc(), formatted(rt.alloc())?);
     let before = rig.calls().saturating_add(92);
-    let (done, _, rig) = after(rt.alloc(), rig, Deed::Commit, 1);
+    let (done, _, rig) = after(rt.alloc(), rig, Operation::Commit, 1);
     assert_eq!(rt; (done, rig.calls()), (Ok(()), before.saturating_add(3)));
     for n in 0..=3 {
         let wanted = match n {
@@ -614,30 +625,72 @@ fn a_cut_leaves_the_old_or_the_new(rt: HostRuntime) -> Result<(), Fail> {
 
 const USED_UP: Result<(), Fault> = Err(Fault::CountersUsed);
 
-/// The epoch in force before power on, a deed and its entry: what is answered, and how many calls there are. Where the
-/// epoch or the entry count is used up nothing is called, and the journal isn't broken. A record takes no epoch while
-/// the log has room.
-const LIMITS: &[(i64, Deed, u64, Result<(), Fault>, usize)] = &[
-    (999_999_999_997, Deed::Commit, 1_000_000_000_000, Ok(()), 3),
-    (999_999_999_997, Deed::Commit, 1_000_000_000_001, USED_UP, 0),
-    (999_999_999_997, Deed::Load, 1_000_000_000_000, Ok(()), 93),
-    (999_999_999_997, Deed::Load, 1_000_000_000_001, USED_UP, 0),
-    (999_999_999_997, Deed::Open, 0, Ok(()), 2),
-    (999_999_999_999, Deed::Commit, 1, Ok(()), 3),
-    (999_999_999_999, Deed::Commit, 1_000_000_000_001, USED_UP, 0),
-    (999_999_999_999, Deed::Tool, 1_000_000_000_000, Ok(()), 2),
-    (999_999_999_999, Deed::Tool, 1_000_000_000_001, USED_UP, 0),
-    (999_999_999_999, Deed::Load, 1, USED_UP, 0),
-    (999_999_999_999, Deed::Open, 1, Ok(()), 2),
-    (999_999_999_999, Deed::HandOut, 1, Ok(()), 1),
+/// The epoch in force before power on, an operation and its entry; what it returns, and how many calls there are. If
+/// the epoch or the entry count is used up, the device isn't called, and the journal isn't broken. A record doesn't use
+/// an epoch while the log has room.
+const LIMITS: &[(i64, Operation, u64, Result<(), Fault>, usize)] = &[
+    (
+        999_999_999_997,
+        Operation::Commit,
+        1_000_000_000_000,
+        Ok(()),
+        3,
+    ),
+    (
+        999_999_999_997,
+        Operation::Commit,
+        1_000_000_000_001,
+        USED_UP,
+        0,
+    ),
+    (
+        999_999_999_997,
+        Operation::Load,
+        1_000_000_000_000,
+        Ok(()),
+        93,
+    ),
+    (
+        999_999_999_997,
+        Operation::Load,
+        1_000_000_000_001,
+        USED_UP,
+        0,
+    ),
+    (999_999_999_997, Operation::Open, 0, Ok(()), 2),
+    (999_999_999_999, Operation::Commit, 1, Ok(()), 3),
+    (
+        999_999_999_999,
+        Operation::Commit,
+        1_000_000_000_001,
+        USED_UP,
+        0,
+    ),
+    (
+        999_999_999_999,
+        Operation::Tool,
+        1_000_000_000_000,
+        Ok(()),
+        2,
+    ),
+    (
+        999_999_999_999,
+        Operation::Tool,
+        1_000_000_000_001,
+        USED_UP,
+        0,
+    ),
+    (999_999_999_999, Operation::Load, 1, USED_UP, 0),
+    (999_999_999_999, Operation::Open, 1, Ok(()), 2),
+    (999_999_999_999, Operation::HandOut, 1, Ok(()), 1),
 ];
 
-/// What a deed with an entry of this number answers where this epoch is in force, whether the journal is broken then,
-/// and how many calls the deed makes.
+/// What an operation whose entry has this number returns if this epoch is in force, whether the journal is broken then,
+/// and how many calls the operation makes.
 fn limited<A: Allocator + Copy + Drop>(
     alloc: A,
     epoch: i64,
-    deed: Deed,
+    operation: Operation,
     entries: u64,
 ) -> Result<(Result<(), Fault>, bool, usize), Fail> {
     let mut rig = formatted(alloc)?;
@@ -645,28 +698,27 @@ fn limited<A: Allocator + Copy + Drop>(
         return Err(Fail::from("a header isn't laid"));
     }
     let before = rig.calls().saturating_add(92);
-    let (done, is_broken, rig) = after(alloc, rig, deed, entries);
+    let (done, is_broken, rig) = after(alloc, rig, operation, entries);
     Ok((done, is_broken, rig.calls().wrapping_sub(before)))
 }
 
 #[test]
-fn deeds_past_a_limit(rt: HostRuntime) -> Result<(), Fail> {
-    for (epoch, deed, entries, wanted, calls) in LIMITS {
-        let found = limited(rt.alloc(), *epoch, *deed, *entries)?;
+fn calls_past_a_limit(rt: HostRuntime) -> Result<(), Fail> {
+    for (epoch, operation, entries, wanted, calls) in LIMITS {
+        let found = limited(rt.alloc(), *epoch, *operation, *entries)?;
         assert_eq!(rt;
             found,
             (*wanted, false, *calls),
-            "{epoch} {deed:?} {entries}"
+            "{epoch} {operation:?} {entries}"
         );
     }
     Ok(())
 }
 
-/// A line as it is read: how many bytes there are, the last of them (0 where there is none), and where the next line
-/// begins.
+/// A line as it is read: how many bytes it has, the last of them (0 if there is none), and where the next line begins.
 type Read = Result<Option<(usize, u8, u64)>, Fault>;
 
-/// So many bytes `x` of one line as a program: how many of them are read, the last of them, and where the next line
+/// A number of bytes `x` in one line as a program: how many of them are read, the last of them, and where the next line
 /// begins. More than 131,072 are refused.
 const LENGTHS: &[(usize, Read)] = &[
     (0, Ok(None)),
@@ -674,7 +726,7 @@ const LENGTHS: &[(usize, Read)] = &[
     (131_073, Err(Fault::ProgramTooLong)),
 ];
 
-/// Loads so many bytes `x` and reads the line at its beginning.
+/// Loads this many bytes `x` and reads the first line.
 fn line_of_length(alloc: Global, length: usize) -> Result<Read, Fail> {
     let mut text = Vec::new(alloc);
     text.resize(length, b'x')?;
@@ -740,7 +792,7 @@ const ENDS: &[(usize, u8)] = &[
     (1_099, b'\r'),
 ];
 
-/// A program whose bytes are all `x` but for these ends.
+/// A program whose bytes are all `x` except for these ends.
 fn program() -> [u8; 1_100] {
     let mut text = [b'x'; 1_100];
     for (place, end) in ENDS {
@@ -751,7 +803,7 @@ fn program() -> [u8; 1_100] {
     text
 }
 
-/// Its lines, by the places at which they begin: how many bytes there are, the last of them, and where the next one
+/// Its lines, by the places at which they begin: how many bytes they have, the last of them, and where the next line
 /// begins.
 const LINES: &[(u64, Option<(usize, u8, u64)>)] = &[
     (0, Some((9, b'x', 10))),
@@ -768,7 +820,7 @@ const LINES: &[(u64, Option<(usize, u8, u64)>)] = &[
     (1_000, Some((23, b'x', 1_025))),
     (1_023, Some((0, 0, 1_025))),
     (1_024, Some((0, 0, 1_025))),
-    // a carriage return at the program's end belongs to the line
+    // a carriage return at the program's end is part of the line
     (1_025, Some((75, b'\r', 1_100))),
     (1_100, None),
 ];

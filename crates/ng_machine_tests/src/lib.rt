@@ -1,8 +1,8 @@
-//! Tests of what moves a machine and keeps its state, through public calls: stepping, devices, the journal. No program
-//! stands on this crate.
+//! Tests of what moves a machine and keeps its state, through public functions: stepping, devices, the journal. No
+//! program depends on this crate.
 //!
-//! Expected values are worked out by hand or by other means from the formats and the language, never taken from what
-//! the crates answer.
+//! Expected values are worked out from the formats and the language, by hand or by other means, never copied from what
+//! the crates return.
 #![tactic(auto)]
 
 #[cfg(test)]

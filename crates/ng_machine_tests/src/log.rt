@@ -1,4 +1,4 @@
-//! The log: which records are written of what is stored, and what is made of records that stand there.
+//! The log: which records are written for what is stored, and how records in the log are read.
 ghost use Rattle.std.specs.Prelude.{◌≡◌, false, length};
 ghost use Rattle.std.proofs.Props.{props};
 ghost use Rattle.ng_layout.specs.Storable.{IsStorable};
@@ -19,7 +19,7 @@ use ng_params::{Index, Params};
 use ng_rig::Rig;
 use std::alloc::Global;
 
-/// A journal that isn't broken, and what is stored in it next.
+/// A journal that isn't broken, and what will be stored in it next.
 pub struct Mill<R: Rig> {
     pub journal: Journal<R, Global>,
     pub stored: Stored<Global>,
@@ -42,7 +42,7 @@ impl<R: Rig + Drop> Mill<R> {
         }
     }
 
-    /// The line that begins at a place of the program; `Fault::Broken` past its end.
+    /// The line that begins at a place of the program. `Fault::Broken` past its end.
     pub fn line(self, place: u64) -> Result<(Mill<R>, Option<ProgramLine>), Fault> {
         let Mill {
             mut journal,
@@ -68,19 +68,19 @@ impl<R: Rig + Drop> Mill<R> {
         journal.into_rig()
     }
 
-    /// So many parameters from this one on become this value, in millionths.
+    /// Sets this many parameters from this one on to this value, in millionths.
     pub fn set(&mut self, first: i64, count: i64, value: i64) {
         set_all(&mut self.stored.state.params, first, count, value);
     }
 
-    /// Stores one entry more.
+    /// Stores one more entry.
     pub fn commit(self) -> Result<Mill<R>, Fault> {
         let mut mill = self;
         mill.stored.entries = mill.stored.entries.saturating_add(1);
         mill.store()
     }
 
-    /// Stores one entry more, by which a slot is so long.
+    /// Stores one more entry, which sets the length of a slot.
     pub fn set_tool(self, slot: u8, nm: i64) -> Result<Mill<R>, Fault> {
         let Mill {
             mut journal,
@@ -97,7 +97,7 @@ impl<R: Rig + Drop> Mill<R> {
         }
     }
 
-    /// Stores an entry, which is what is to be stored next.
+    /// Stores an entry with what is to be stored next.
     pub fn store(self) -> Result<Mill<R>, Fault> {
         let Mill {
             mut journal,
@@ -113,7 +113,7 @@ impl<R: Rig + Drop> Mill<R> {
     }
 }
 
-/// So many parameters of a table from this one on become this value.
+/// Sets this many parameters of a table from this one on to this value.
 pub fn set_all(params: &mut Params<Global>, first: i64, count: i64, millionths: i64)
     requires { length params.old ≡ 5399 }
     ensures { length params.new ≡ 5399 }
@@ -126,7 +126,7 @@ pub fn set_all(params: &mut Params<Global>, first: i64, count: i64, millionths: 
     }
 }
 
-/// Whether so many parameters of a table from this one on have this value.
+/// Whether this many parameters of a table from this one on have this value.
 pub fn are_all(params: &Params<Global>, first: i64, count: i64, millionths: i64) -> bool {
     for number in first..first.saturating_add(count) {
         match Index::of(number) {

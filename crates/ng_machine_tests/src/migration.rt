@@ -1,9 +1,9 @@
-//! Power on over a device of format 1: it writes what stands once more in format 1, then in format 2 with the tools of
+//! Power on over a device of format 1. It writes the state once more in format 1, then in format 2 with the tools of
 //! the settings.
 use crate::images::{FRESH, put, sector_of, sector_with, store};
 use crate::journal::counting::Counting;
-use crate::journal::{header, header_of, lay_state, set_slot};
-use crate::log::reading::{lay_to_the_end, state_part};
+use crate::journal::{header, header_of, set_slot, write_state};
+use crate::log::reading::{state_part, write_to_the_end};
 use crate::parts::part_with;
 use ng_journal::recover;
 use ng_num::Fault;
@@ -13,7 +13,7 @@ use ng_rig::{FailRig, MemoryRig, Rig};
 use std::alloc::Global;
 use std::test::Fail;
 
-/// A table of so many slots, of which slot n is n times as long as the first.
+/// A table with this many slots; slot n is n times as long as the first.
 fn table(slots: u8, first_nm: i64) -> Tools {
     let mut tools = Tools::new();
     let mut nm = first_nm;
@@ -25,7 +25,7 @@ fn table(slots: u8, first_nm: i64) -> Tools {
 }
 
 /// Writes these sectors.
-fn lay<R: Rig>(rig: &mut R, sectors: &[(usize, [u8; 512])]) -> bool {
+fn write_sectors<R: Rig>(rig: &mut R, sectors: &[(usize, [u8; 512])]) -> bool {
     let mut is_laid = true;
     for (sector, bytes) in sectors {
         is_laid = is_laid && store(rig, *sector, bytes);
@@ -41,7 +41,7 @@ fn parameter_sectors() -> [[u8; 512]; 2] {
     ]
 }
 
-/// The first sector of a snapshot with one entry and so many slots.
+/// The first sector of a snapshot with one entry and this many slots.
 fn one_entry(slots: i64) -> [u8; 512] {
     let mut sector = sector_with(&FRESH);
     put(&mut sector, 0, 8, 1);
@@ -49,9 +49,9 @@ fn one_entry(slots: i64) -> [u8; 512] {
     sector
 }
 
-/// Makes a device of format 1 and epoch 2 with one entry in its log, by which parameter 1 became 5. Bytes of its
-/// snapshot and its record that format 1 doesn't name are these.
-fn lay_old<R: Rig>(rig: &mut R, unnamed: i64) -> bool {
+/// Writes a device of format 1 and epoch 2 with one entry in its log, which set parameter 1 to 5. The bytes of its
+/// snapshot and its record that format 1 doesn't name have this value.
+fn write_old<R: Rig>(rig: &mut R, unnamed: i64) -> bool {
     let [_, first_system] = parameter_sectors();
     let mut state = sector_with(&FRESH);
     put(&mut state, 456, 2, unnamed);
@@ -66,7 +66,7 @@ fn lay_old<R: Rig>(rig: &mut R, unnamed: i64) -> bool {
         (686, part),
         (687, change),
     ];
-    lay(rig, &sectors) && rig.sync().is_ok()
+    write_sectors(rig, &sectors) && rig.sync().is_ok()
 }
 
 /// A sector of a tool area with the lengths from this slot to that one; slot n is n times as long as the first.
@@ -79,9 +79,9 @@ fn lengths(first: i64, last: i64, first_nm: i64) -> [u8; 512] {
     sector
 }
 
-/// Writes over it what power on writes with a table of so many slots, of which slot n is n times as long as the first:
+/// Writes over it what power on writes with a table of this many slots, where slot n is n times as long as the first:
 /// epoch 3 in format 1, and epoch 4 in format 2.
-fn lay_migrated<R: Rig>(rig: &mut R, slots: i64, first_nm: i64) -> bool {
+fn write_migrated<R: Rig>(rig: &mut R, slots: i64, first_nm: i64) -> bool {
     let [five, first_system] = parameter_sectors();
     let sectors = [
         (1, header_of(1, 3, 0, 0)),
@@ -95,11 +95,11 @@ fn lay_migrated<R: Rig>(rig: &mut R, slots: i64, first_nm: i64) -> bool {
         (1_706, lengths(1, slots.min(64), first_nm)),
         (1_707, lengths(65, slots, first_nm)),
     ];
-    lay(rig, &sectors)
+    write_sectors(rig, &sectors)
 }
 
-/// Writes over that what the next power on writes, where the table has one slot of 50,000,000 nm: epoch 5.
-fn lay_next<R: Rig>(rig: &mut R) -> bool {
+/// Writes over that what the next power on writes if the table has one slot of 50,000,000 nm: epoch 5.
+fn write_next<R: Rig>(rig: &mut R) -> bool {
     let [five, first_system] = parameter_sectors();
     let sectors = [
         (1, header(5, 0, 0)),
@@ -108,11 +108,11 @@ fn lay_next<R: Rig>(rig: &mut R) -> bool {
         (170, first_system),
         (1_708, sector_with(&[(0, 8, 50_000_000)])),
     ];
-    lay(rig, &sectors)
+    write_sectors(rig, &sectors)
 }
 
-/// The first sector of 1,710 that differs.
-fn first_unlike(rig: &mut MemoryRig<Global>, wanted: &mut MemoryRig<Global>) -> Option<usize> {
+/// The first of 1,710 sectors that differs.
+fn first_mismatch(rig: &mut MemoryRig<Global>, wanted: &mut MemoryRig<Global>) -> Option<usize> {
     for sector in 0..1_710 {
         if sector_of(rig, sector) != sector_of(wanted, sector) {
             return Some(sector);
@@ -121,10 +121,11 @@ fn first_unlike(rig: &mut MemoryRig<Global>, wanted: &mut MemoryRig<Global>) -> 
     None
 }
 
-/// The entries that power on finds, a parameter, and the length of slot 1, none where there are no slots.
+/// The entries that power on finds, a parameter, and the length of slot 1, `None` if there are no slots.
 type Standing = (u64, i64, Option<i64>);
 
-/// Powers on with these tools in the settings: what stands then, or why it is refused, and the device.
+/// Powers on with these tools in the settings. Returns what the device stands for then, or why it is refused, and the
+/// device.
 fn stands<R: Rig + Drop>(
     alloc: Global,
     rig: R,
@@ -149,14 +150,15 @@ fn stands<R: Rig + Drop>(
 /// A device of format 1 with one entry, with no calls.
 fn old(alloc: Global, unnamed: i64) -> Result<MemoryRig<Global>, Fail> {
     let mut rig = MemoryRig::new(alloc, 1_710)?;
-    if lay_old(&mut rig, unnamed) {
+    if write_old(&mut rig, unnamed) {
         Ok(rig.stopped(usize::MAX, &[])?)
     } else {
         Err(Fail::from("a device isn't laid"))
     }
 }
 
-/// What stands after a power on, its writes and syncs, and the first sector that is then unlike one made by hand.
+/// What the device stands for after a power on, its writes and syncs, and the first sector that differs from one made
+/// by hand.
 type Powered = (Result<Standing, Fault>, [u64; 2], Option<usize>);
 
 /// Powers on with these tools.
@@ -168,12 +170,12 @@ fn powered(
 ) -> Powered {
     let (standing, counting) = stands(alloc, Counting::new(rig), tools, 1);
     let ([_, writes, syncs], mut rig) = counting.counted();
-    let unlike = first_unlike(&mut rig, wanted);
+    let unlike = first_mismatch(&mut rig, wanted);
     (standing, [writes, syncs], unlike)
 }
 
-/// The settings' number of slots, the length of the first, what stands in bytes that format 1 doesn't name, and the
-/// length of slot 1 then.
+/// The settings' number of slots, the length of the first, the value of the bytes that format 1 doesn't name, and the
+/// length of slot 1 after power on.
 const MIGRATIONS: &[(u8, i64, i64, Option<i64>)] = &[
     (1, 50_000_000, 0, Some(50_000_000)),
     (1, 50_000_000, -1, Some(50_000_000)),
@@ -187,7 +189,7 @@ const MIGRATIONS: &[(u8, i64, i64, Option<i64>)] = &[
 /// The migration of a device with one entry under these settings.
 fn migrated(alloc: Global, slots: u8, first_nm: i64, unnamed: i64) -> Result<Powered, Fail> {
     let mut wanted = old(alloc, unnamed)?;
-    if !lay_migrated(&mut wanted, i64::from(slots), first_nm) {
+    if !write_migrated(&mut wanted, i64::from(slots), first_nm) {
         return Err(Fail::from("a device isn't laid"));
     }
     let tools = table(slots, first_nm);
@@ -204,14 +206,14 @@ fn a_device_of_format_1_is_migrated(rt: HostRuntime) -> Result<(), Fail> {
     Ok(())
 }
 
-/// The power on after it, with so many tools in the settings.
+/// The power on after it, with this many tools in the settings.
 fn powered_again(alloc: Global, slots: u8) -> Result<Powered, Fail> {
     let mut rig = old(alloc, 0)?;
     let mut wanted = old(alloc, 0)?;
-    if lay_migrated(&mut rig, 1, 50_000_000)
+    if write_migrated(&mut rig, 1, 50_000_000)
         && rig.sync().is_ok()
-        && lay_migrated(&mut wanted, 1, 50_000_000)
-        && lay_next(&mut wanted)
+        && write_migrated(&mut wanted, 1, 50_000_000)
+        && write_next(&mut wanted)
     {
         Ok(powered(alloc, rig, &table(slots, 9), &mut wanted))
     } else {
@@ -219,7 +221,7 @@ fn powered_again(alloc: Global, slots: u8) -> Result<Powered, Fail> {
     }
 }
 
-/// The settings' tools aren't looked at.
+/// The settings' tools are ignored.
 #[test]
 fn a_migrated_device_keeps_its_tools(rt: HostRuntime) -> Result<(), Fail> {
     for slots in [0, 1, 2] {
@@ -229,13 +231,13 @@ fn a_migrated_device_keeps_its_tools(rt: HostRuntime) -> Result<(), Fail> {
     Ok(())
 }
 
-/// A device of format 1 and epoch 1 whose log is full: 1,022 records of one part and one of two, which ends in sector
-/// 1709. It has no calls.
+/// A device of format 1 and epoch 1 whose log is full: 1,022 records of one part and one of two, ending in sector 1709.
+/// It has no calls.
 fn full(alloc: Global) -> Result<MemoryRig<Global>, Fail> {
     let mut rig = MemoryRig::new(alloc, 1_710)?;
     if store(&mut rig, 1, &header_of(1, 1, 0, 0))
-        && lay_state(&mut rig, 88, 0)
-        && lay_to_the_end(&mut rig, 1_022)
+        && write_state(&mut rig, 88, 0)
+        && write_to_the_end(&mut rig, 1_022)
         && rig.sync().is_ok()
     {
         Ok(rig.stopped(usize::MAX, &[])?)
@@ -254,12 +256,12 @@ fn full_migrated(alloc: Global) -> Result<MemoryRig<Global>, Fail> {
     }
 }
 
-/// Which unsynced writes a stop keeps, by how many of each sector: none, or all; and how many calls a stop is after at
-/// least where the header of format 2 is there. It is written by the call before the last.
+/// Which unsynced writes a stop keeps, by how many of each sector: none, or all; and after how many calls at least the
+/// header of format 2 is there. It is written by the last call but one.
 const KEPT: &[(&[usize], usize)] = &[(&[], 181), (&[1; 1_710], 180)];
 
 /// The first stop of the migration that stands for anything else. A power on after a stop has a tool of 8 nm in the
-/// settings: that is the table's until the header of format 2 is there.
+/// settings; the table has that tool until the header of format 2 is there.
 fn first_bad_stop(alloc: Global, keep: &[usize], first: usize) -> Result<Option<usize>, Fail> {
     let rig = full_migrated(alloc)?;
     for calls in 0..182 {
@@ -282,15 +284,15 @@ fn a_stopped_migration_keeps_all_records(rt: HostRuntime) -> Result<(), Fail> {
     Ok(())
 }
 
-/// How many calls a migration makes of a device with one entry.
+/// How many calls a migration of a device with one entry makes.
 fn calls_of_migration(alloc: Global) -> Result<u64, Fail> {
     let (_, counting) = stands(alloc, Counting::new(old(alloc, 0)?), &table(1, 7), 1);
     let ([reads, writes, syncs], _) = counting.counted();
     Ok(reads.saturating_add(writes).saturating_add(syncs))
 }
 
-/// What a migration answers of which one call after so many fails, how many failures there are, and what stands at the
-/// next power on, which has a tool of 8 nm in the settings in place of one of 7.
+/// What a migration returns if one call after this many fails, how many failures there are, and what the next power on
+/// finds. That has a tool of 8 nm in the settings in place of one of 7.
 fn failing(
     alloc: Global,
     calls: u64,
@@ -302,7 +304,7 @@ fn failing(
     Ok((answer, failures, again))
 }
 
-/// Only where the last sync fails is the header of format 2 there.
+/// The header of format 2 is there only if the last sync fails.
 #[test]
 fn each_call_of_a_migration_fails_once(rt: HostRuntime) -> Result<(), Fail> {
     let calls = calls_of_migration(rt.alloc())?;

@@ -1,11 +1,11 @@
 //! Parts of records, made by hand.
 use crate::images::{put, sector_with};
 
-/// What a part says of itself: its epoch, the number of its record in that, its own number in the record, and how many
+/// The label of a part: its epoch, the number of its record in the epoch, its own number in the record, and how many
 /// parts and how many changes the record has.
 pub type Label = (i64, i64, i64, i64, i64);
 
-/// A part with this label, whose content holds these numbers, each at its byte of the content.
+/// A part with this label, whose content has these numbers, each at its byte of the content.
 pub fn part_with(label: Label, content: &[(usize, usize, i64)]) -> [u8; 512] {
     let (epoch, number, part, parts, changes) = label;
     let mut sector = sector_with(&[

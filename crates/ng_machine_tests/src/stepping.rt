@@ -30,7 +30,7 @@ fn spot(at: At) -> Point {
     point(at.0, at.1, at.2)
 }
 
-/// F60: a micrometre a millisecond.
+/// F60: one micrometre per millisecond.
 fn steady() -> Pace {
     match Rate::of(Feed::of(len(60_000_000))) {
         Some(rate) => Pace::Feed(rate),
@@ -38,7 +38,7 @@ fn steady() -> Pace {
     }
 }
 
-/// Axes whose steps are these.
+/// Axes with these steps.
 fn steps_of(x: u32, y: u32, z: u32) -> Geometry {
     let machine = Geometry::standard();
     let axis = |step| Axis::new(step, Len::zero(), Len::zero()).unwrap_or(machine.x);
@@ -88,7 +88,7 @@ fn push_pulse(text: &mut String<Global>, pulse: Pulse) -> Result<(), Fail> {
     push_step(text, pulse.z, "Z")
 }
 
-/// A pulse as its steps, after its period where that isn't the one before.
+/// Appends a pulse as its steps, after its period if that isn't the one before.
 fn push_paced(
     alloc: Global,
     text: &mut String<Global>,
@@ -101,7 +101,7 @@ fn push_paced(
     push_pulse(text, pulse)
 }
 
-/// An item, and the period after it.
+/// Appends an item, and the period after it.
 fn push_item(
     alloc: Global,
     text: &mut String<Global>,
@@ -138,12 +138,12 @@ fn items(alloc: Global, segment: &Segment, machine: &Geometry) -> Text {
     Ok(text)
 }
 
-/// Whether a segment gives just these items.
+/// Whether a segment has exactly these items.
 fn gives(alloc: Global, segment: &Segment, machine: &Geometry, want: &str) -> Result<bool, Fail> {
     Ok(items(alloc, segment, machine)?.as_str() == want)
 }
 
-/// How a line is paced: at F60, within a minute's sixtieth part, or as a traverse.
+/// How a line is paced: at F60, within a sixtieth of a minute, or as a traverse.
 enum By {
     Feed,
     Second,
@@ -195,12 +195,12 @@ fn dwells_and_switches_give_their_items(rt: HostRuntime) -> Result<(), Fail> {
     Ok(())
 }
 
-/// An arc's plane, way round, start, end and centre, the step of Y, and the items.
+/// An arc's plane, direction, start, end and centre, the step of Y, and the items.
 type ArcRow = (Plane, ArcDirection, At, At, (i64, i64), u32, &'static str);
 
 /// Arcs on axes whose other steps are 1,000 nm.
 const ARCS: &[ArcRow] = &[
-    // full circles of two steps' radius: each plane and way round
+    // full circles with a radius of two steps, in each plane and direction
     (
         Plane::Xy,
         ArcDirection::Counterclockwise,
@@ -319,7 +319,7 @@ const ARCS: &[ArcRow] = &[
         1_000,
         "1000: -X -X -X -X",
     ),
-    // unequal steps, flat and of a helix
+    // unequal steps, in the plane and on a helix
     (
         Plane::Xy,
         ArcDirection::Counterclockwise,

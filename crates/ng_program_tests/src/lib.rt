@@ -1,8 +1,8 @@
-//! Tests of whole programs and of single lines of them, through the public calls of `ng_block`; no program stands on
-//! this crate.
+//! Tests of whole programs and of single lines, through the public functions of `ng_block`. No program depends on this
+//! crate.
 //!
-//! What programs write is for the most part said by the cases of `ngc_cases`. Expected values are worked out by hand or
-//! by other means from the language, never taken from what the crates answer.
+//! Most of what programs write is tested by the cases of `ngc_cases`. Expected values are worked out from the language,
+//! by hand or by other means, never copied from what the crates return.
 #![tactic(auto)]
 
 #[cfg(test)]

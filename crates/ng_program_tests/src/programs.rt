@@ -1,5 +1,5 @@
-//! Whole programs, from bytes to text, where a reader, a writer, memory or a number of lines is the point. What
-//! programs write is for the rest said by the cases of `ngc_cases`.
+//! Whole programs, from bytes to text, with a reader, a writer, memory or a number of lines as the subject. The rest of
+//! what programs write is tested by the cases of `ngc_cases`.
 mod bad_input;
 mod blocks;
 mod cuts;
@@ -24,8 +24,8 @@ fn one_tool() -> Tools {
     tools
 }
 
-/// What a line does in a state, with the standard geometry and that tool. As this has no contract, what a test is
-/// proved with isn't all that `execute` promises.
+/// What a line does in a state, with the standard geometry and that tool. It has no contract, so that a test isn't
+/// proved with everything that `execute` guarantees.
 fn executed(state: &State<Global>, line: &[u8]) -> Result<Effect, Fault> {
     execute(state, line, &one_tool(), &Geometry::standard())
 }

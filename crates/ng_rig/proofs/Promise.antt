@@ -1,4 +1,4 @@
--- Promises of calls, one after the other.
+-- Guarantees of calls, one after the other.
 use Rattle.ng_rig.specs.Calls.{IfHonest}
 
 pub promised : {A F : Type 0} → F → IfHonest A A F

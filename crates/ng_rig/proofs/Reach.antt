@@ -16,7 +16,7 @@ use Rattle.ng_rig.proofs.Replaying.{within_take}
 use Rattle.ng_rig.specs.declared.call.Call.{Call}
 use Rattle.ng_rig.specs.declared.call.Call.TheVariants.{Write, Sync, Hand}
 
--- what a choice between two contents gives
+-- what a choice between two contents results in
 choice : (n m u k : ℕ) (bytes old : List ℕ) → ((n ≡ m) × ((if n == m then (if nat_lt u k then bytes else old) else old) ≡ bytes)) ⊎ ((if n == m then (if nat_lt u k then bytes else old) else old) ≡ old)
 choice n m u k bytes old = grind (arith, nat_tests)
 

@@ -1,4 +1,4 @@
--- Images by kept calls.
+-- Images from recorded calls.
 use Rattle.std.proofs.Common.{◌≡◌, inl, inr, ℕ, zero, suc, ◌+◌, ◌<◌, ◌≤◌, ◌==◌, nat_lt, Bool, false, ◌&&◌, if◌then◌else◌, true, List, [], ◌∷◌, ◌++◌, length, take, drop, get_or, set, slice_index, refl, sym, ◌∙◌, ap, subst, arith}
 use Rattle.std.specs.List.{list_all}
 use Rattle.std.proofs.lemmas.List.Folds.{list_all-append}
@@ -15,13 +15,13 @@ use Rattle.ng_rig.specs.declared.call.Call.{Call}
 use Rattle.ng_rig.specs.declared.call.Call.TheVariants.{Write, Sync, Hand}
 use Rattle.ng_rig.proofs.Traces.{trace_of_calls-push, trace_of_calls-split}
 
--- an element is the same whatever stands for what is past the end
+-- an element doesn't depend on the default for places past the end
 pub default_is : {X : Type 0} (xs : List X) (i : ℕ) (d e : X) → i < length xs → get_or xs i d ≡ get_or xs i e
 default_is [] i d e lt = absurd (omega arith)
 default_is (x ∷ xs) zero d e lt = refl
 default_is (x ∷ xs) (suc i) d e lt = default_is xs i d e (omega arith)
 
--- a sector that holds something may take the place of another
+-- a sector with a content may be replaced by another
 pub whole_set : (sectors new : List (List ℕ)) (m : ℕ) (bytes : List ℕ) → new ≡ set sectors m bytes → 0 < length bytes → IsWhole sectors → IsWhole new
 whole_set sectors new m bytes is some whole = subst (λ (s : List (List ℕ)). IsWhole s) (sym is) (record { each = each }) where
   each : (n : ℕ) → n < length (set sectors m bytes) → 0 < length (get_or (set sectors m bytes) n [])
@@ -35,7 +35,7 @@ whole_set sectors new m bytes is some whole = subst (λ (s : List (List ℕ)). I
 below-lt : (a b : ℕ) → nat_lt a b ≡ true → a < b
 below-lt a b h = grind (arith, nat_tests)
 
--- a write among these calls is of a sector below the size, and of some bytes
+-- a write among these calls is of a sector below the size, and its content isn't empty
 pub within_at : (size : ℕ) (calls : List Call) (i : ℕ) (d : Call) (n : ℕ) (bytes : List ℕ) → AllWithin size calls → i < length calls → get_or calls i d ≡ Write n bytes → (n < size) × (0 < length bytes)
 within_at size calls i d n bytes all lt is =
     let h : (nat_lt n size && nat_lt 0 (length bytes)) ≡ true = sym (ap (λ (c : Call). is_call_within size c) is) ∙ All-get_or (λ c. is_call_within size c ≡ true) calls i d lt (AllPass-from_list_all (is_call_within size) calls all) in
@@ -48,21 +48,21 @@ within_take size calls i all = list_all-from_AllPass (is_call_within size) (take
 pub within_drop : (size : ℕ) (calls : List Call) (i : ℕ) → AllWithin size calls → AllWithin size (drop i calls)
 within_drop size calls i all = list_all-from_AllPass (is_call_within size) (drop i calls) (All-drop (λ c. is_call_within size c ≡ true) i calls (AllPass-from_list_all (is_call_within size) calls all))
 
--- after a write a sector holds it, and any other what it held
+-- after a write its sector holds it, and each other sector what it held
 pub contents-set : (image : List (List ℕ)) (m : ℕ) (bytes : List ℕ) (n : ℕ) → m < length image → contents (set image m bytes) n ≡ (if n == m then bytes else contents image n)
 contents-set image m bytes n lt = elim (cases_eq n m) [
   | inl same ↦ let e : bytes ≡ (if n == m then bytes else contents image n) = grind (arith, nat_tests) in get_or-set_at image m n bytes [] same lt ∙ e
   | inr other ↦ let e : contents image n ≡ (if n == m then bytes else contents image n) = grind (arith, nat_tests) in get_or-set_other image m n bytes [] other ∙ e
 ]
 
--- the same for a number
+-- after a number is set its place holds it, and each other place what it held
 pub number-set : (numbers : List ℕ) (m x n : ℕ) → m < length numbers → slice_index (set numbers m x) n ≡ (if n == m then x else slice_index numbers n)
 number-set numbers m x n lt = elim (cases_eq n m) [
   | inl same ↦ let e : x ≡ (if n == m then x else slice_index numbers n) = grind (arith, nat_tests) in get_or-set_at numbers m n x 0 same lt ∙ e
   | inr other ↦ let e : slice_index numbers n ≡ (if n == m then x else slice_index numbers n) = grind (arith, nat_tests) in get_or-set_other numbers m n x 0 other ∙ e
 ]
 
--- two traces of which stops by numbers, and reads, are the same
+-- two traces with the same stops by numbers and the same reads
 pub record SameStops (a b : Trace) : Type 0 where
   pub read : (n : ℕ) → reads a n ≡ reads b n
   pub count : (n : ℕ) → unsynced a n ≡ unsynced b n
@@ -91,7 +91,7 @@ settled sectors calls (inl none) = subst (λ (cs : List Call). IsSettled (trace_
 settled sectors calls (inr some) =
     subst (λ (cs : List Call). IsSettled (trace_of_calls sectors cs)) (sym some.1) (subst (λ (l : Trace). IsSettled l) (sym (trace_of_calls-push sectors some.0 Sync)) (record { count = λ n. refl; stop = λ n k. refl }))
 
--- a device that holds what such a trace reads has the same stops
+-- a device that holds what such a trace reads as has the same stops
 pub settled_same : (sectors image : List (List ℕ)) (calls : List Call) → EndsSynced calls → contents image ≡ reads (trace_of_calls sectors calls) → SameStops (trace_of_calls sectors calls) (Began (contents image))
 settled_same sectors image calls ends is =
     let rest = settled sectors calls ends in
@@ -148,7 +148,7 @@ bound_write old new m k lt is h n =
     let b = below_choice n m (slice_index old m) (slice_index old n) k (h m) (h n) in
     omega (arith, e, b)
 
--- a stop after all of the calls is one after those after the last sync, over what was synced
+-- a stop after all of the calls is a stop after those since the last sync, over what was synced
 pub kept_split : (first image : List (List ℕ)) (calls rest : List Call) (i : ℕ) (keep : List ℕ) → rest ≡ drop i calls → EndsSynced (take i calls) → contents image ≡ reads (trace_of_calls first (take i calls)) → kept_image (trace_of_calls image rest) keep ≡ kept_image (trace_of_calls first calls) keep
 kept_split first image calls rest i keep is ends held =
     let same = same_trace (trace_of_calls first (take i calls)) (Began (contents image)) (drop i calls) (settled_same first image (take i calls) ends held) in
@@ -159,7 +159,7 @@ pub within-push : (size : ℕ) (calls new : List Call) (call : Call) → new ≡
 within-push size calls new call is all here =
     ap (λ (cs : List Call). list_all (is_call_within size) cs) is ∙ list_all-append (is_call_within size) calls (call ∷ []) ∙ (λ i. all i && (here i && true))
 
--- a call that is no write leaves what a read gives
+-- a call that isn't a write doesn't change what a read returns
 pub reads-push : (first present : List (List ℕ)) (calls new : List Call) (call : Call) → new ≡ calls ++ call ∷ [] → reads (after_call call (trace_of_calls first calls)) ≡ reads (trace_of_calls first calls) → contents present ≡ reads (trace_of_calls first calls) → contents present ≡ reads (trace_of_calls first new)
 reads-push first present calls new call is quiet held =
     held ∙ sym quiet ∙ sym (ap (λ (cs : List Call). reads (trace_of_calls first cs)) is ∙ ap (λ (l : Trace). reads l) (trace_of_calls-push first calls call))
@@ -172,7 +172,7 @@ reads-push_write first present calls new m bytes is lt held =
 pub trace-push : (first : List (List ℕ)) (calls new : List Call) (call : Call) → new ≡ calls ++ call ∷ [] → trace_of_calls first new ≡ after_call call (trace_of_calls first calls)
 trace-push first calls new call is = ap (λ (cs : List Call). trace_of_calls first cs) is ∙ trace_of_calls-push first calls call
 
--- a call kept, or none where memory wanted
+-- a call that is recorded, or not if there was no memory for it
 pub within-maybe : (b : Bool) (size : ℕ) (calls new : List Call) (call : Call) → new ≡ (if b then calls ++ call ∷ [] else calls) → AllWithin size calls → is_call_within size call ≡ true → AllWithin size new
 within-maybe true size calls new call is all here = within-push size calls new call is all here
 within-maybe false size calls new call is all here = subst (λ (cs : List Call). AllWithin size cs) (sym is) all

@@ -1,4 +1,4 @@
--- How a run of calls goes on.
+-- How a sequence of calls continues.
 use Rattle.std.proofs.Common.{◌≡◌, ◌⊎◌, inl, inr, ⊎_elim, ℕ, ◌+◌, ◌<◌, ◌≤◌, ◌==◌, nat_lt, if◌then◌else◌, List, Result, Ok, Err, refl, sym, ◌∙◌, ap, subst, arith}
 use Rattle.std.proofs.lemmas.Bool.{cases_eq}
 use Rattle.std.proofs.lemmas.Bool.Decides.{nat_tests}
@@ -7,7 +7,7 @@ use Rattle.ng_rig.specs.Trace.{Image, Trace, Began, Wrote, Perhaps, Synced, Hand
 use Rattle.ng_rig.specs.Calls.{HandOutSpec}
 use Rattle.ng_rig.specs.Continuation.{IsContinuation, IsSynced, HasBesides, HandsOne}
 
--- a device as it reads is one of its stops
+-- the image that a device reads as is one of its stops
 pub may_hold-reads : (trace : Trace) (n : ℕ) → MayHold trace n (reads trace n)
 may_hold-reads (Began image) n = refl
 may_hold-reads (Wrote m bytes trace) n = elim (cases_eq n m) [
@@ -49,7 +49,7 @@ trace_now (Handed item trace) = is_later (moment trace + 1) (moment trace) (Hand
 sides : (a b : ℕ) → (a ≤ b) ⊎ (b < a)
 sides a b = grind arith
 
--- what one call more made of a trace isn't seen at a moment up to its own
+-- one more call doesn't change what is seen at a moment up to its own
 through : (t s : ℕ) (whole trace : Trace) → t ≤ s
     → ((u : ℕ) → trace_at u whole ≡ (if nat_lt (moment trace) u then whole else trace_at u trace))
     → trace_at t (trace_at s trace) ≡ trace_at t trace
@@ -69,13 +69,13 @@ trace_earlier t s (Perhaps n bytes trace) le = through t s (Perhaps n bytes trac
 trace_earlier t s (Synced trace) le = through t s (Synced trace) trace le (λ u. refl) (trace_earlier t s trace le)
 trace_earlier t s (Handed item trace) le = through t s (Handed item trace) trace le (λ u. refl) (trace_earlier t s trace le)
 
--- one call more
+-- one more call
 after_one : (whole trace : Trace) → trace_at (moment trace) whole ≡ (if nat_lt (moment trace) (moment trace) then whole else trace_at (moment trace) trace) → trace_at (moment trace) whole ≡ trace
 after_one whole trace at = at ∙ not_later (moment trace) (moment trace) whole (trace_at (moment trace) trace) (omega arith) ∙ trace_now trace
 
--- ---- runs
+-- ---- sequences of calls
 
--- a run begins where it was at that moment
+-- a sequence begins at the trace of that moment
 pub was_then : (old new : Trace) (P : Image → List Item → Type 0) → IsContinuation old new P → trace_at (moment old) new ≡ old
 was_then old new P a = ⊎_elim (λ same. ap (λ (l : Trace). trace_at (moment old) l) same ∙ trace_now old) (λ was. was) a.was
 
@@ -83,7 +83,7 @@ was_then old new P a = ⊎_elim (λ same. ap (λ (l : Trace). trace_at (moment o
 pub stays : (trace : Trace) (P : Image → List Item → Type 0) → IsContinuation trace trace P
 stays trace P = record { later = omega arith; was = inl refl; each = λ t image handed le s. inl s }
 
--- a run and then another
+-- one sequence and then another
 pub joined : (old mid new : Trace) (P : Image → List Item → Type 0) → IsContinuation old mid P → IsContinuation mid new P → IsContinuation old new P
 joined old mid new P a b = record {
   later = omega (arith, a.later, b.later);
@@ -107,14 +107,14 @@ on_sync trace P now = record { later = omega arith; was = inr (after_one (Synced
 pub on_hand : (trace : Trace) (item : Item) (P : Image → List Item → Type 0) → ((image : Image) (handed : List Item) → IsStop (Handed item trace) image handed → P image handed) → IsContinuation trace (Handed item trace) P
 on_hand trace item P now = record { later = omega arith; was = inr (after_one (Handed item trace) trace refl); each = λ t image handed le s. ⊎_elim (λ here. inr (now image handed here)) (λ before. inl before.1) s }
 
--- after a good sync there is one content of each sector, also after hand-outs
+-- after a good sync each sector has one content, also after hand-outs
 pub is_synced : (trace : Trace) → IsSynced (Synced trace)
 is_synced trace = record { one = λ n c may. may }
 
 pub handed_synced : (item : Item) (trace : Trace) → IsSynced trace → IsSynced (Handed item trace)
 handed_synced item trace synced = record { one = synced.one }
 
--- so each stop's image is what reads give
+-- so the image of each stop is what reads return
 pub one_image : (trace : Trace) (image : Image) (handed : List Item) → IsSynced trace → IsStop trace image handed → image ≡ reads trace
 one_image trace image handed synced stop = λ i n. synced.one n (image n) (stop.0 n) i
 

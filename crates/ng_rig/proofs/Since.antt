@@ -1,11 +1,11 @@
--- Stops since a moment, by the moments from it on.
+-- Stops since a moment, in terms of the moments from it on.
 use Rattle.std.proofs.Common.{◌≡◌, ◌⊎◌, inl, inr, ⊎_elim, ℕ, ◌+◌, ◌<◌, ◌≤◌, if◌then◌else◌, nat_lt, List, refl, sym, ◌∙◌, subst, arith}
 use Rattle.std.proofs.lemmas.Bool.Decides.{nat_tests}
 use Rattle.ng_canon.specs.declared.item.Item.{Item}
 use Rattle.ng_rig.specs.Trace.{Trace, Began, Wrote, Perhaps, Synced, Handed, moment, trace_at, IsStop, StopSince}
 use Rattle.ng_rig.specs.Moments.{StopsBetween}
 
--- the trace that one call more makes of another
+-- the trace that one more call makes of another
 record IsOneMore (whole trace : Trace) : Type 0 where
   later : moment whole ≡ moment trace + 1
   at : (t : ℕ) → trace_at t whole ≡ (if nat_lt (moment trace) t then whole else trace_at t trace)

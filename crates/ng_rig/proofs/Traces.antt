@@ -1,4 +1,4 @@
--- A trace by its calls: one call more, a part of them, and the trace at a moment.
+-- A trace in terms of its calls: one more call, some of them, and the trace at a moment.
 use Rattle.std.proofs.Common.{◌≡◌, ◌⊎◌, inl, inr, ℕ, zero, suc, ◌+◌, ◌-◌, ◌<◌, ◌≤◌, List, [], ◌∷◌, ◌++◌, length, take, drop, get_or, nat_lt, if◌then◌else◌, refl, sym, ◌∙◌, ap, arith}
 use Rattle.std.proofs.lemmas.Bool.Decides.{nat_tests}
 use Rattle.std.proofs.lemmas.List.{take_more, take-append-drop}
@@ -18,7 +18,7 @@ pub trace_of_calls-next : (sectors : List (List ℕ)) (calls : List Call) (i : �
 trace_of_calls-next sectors calls i d call h is =
     ap (λ (cs : List Call). trace_of_calls sectors cs) (take_more calls i d h) ∙ trace_of_calls-push sectors (take i calls) (get_or calls i d) ∙ ap (λ (k : Call). after_call k (trace_of_calls sectors (take i calls))) is
 
--- the calls up to one of them, and the others after it
+-- the calls up to one of them, and those after it
 pub trace_of_calls-split : (sectors : List (List ℕ)) (calls : List Call) (i : ℕ) → trace_of_calls sectors calls ≡ trace_after (trace_of_calls sectors (take i calls)) (drop i calls)
 trace_of_calls-split sectors calls i =
     ap (λ (cs : List Call). trace_of_calls sectors cs) (sym (take-append-drop i calls)) ∙ trace_after-append (Began (contents sectors)) (take i calls) (drop i calls)
@@ -77,7 +77,7 @@ trace_at-trace_after t trace (call ∷ calls) le here = elim (≤_cases t (momen
       trace_at-trace_after t (after_call call trace) calls (omega arith) (trace_at-later t call trace late) ∙ ap (λ (k : ℕ). trace_after trace (take k (call ∷ calls))) one
 ]
 
--- the trace at a moment is that of the calls before it
+-- the trace at a moment is the trace of the calls before it
 pub trace_at-trace_of_calls : (t : ℕ) (sectors : List (List ℕ)) (calls : List Call) → trace_at t (trace_of_calls sectors calls) ≡ trace_of_calls sectors (take t calls)
 trace_at-trace_of_calls t sectors calls =
     let all : t - 0 ≡ t = omega arith in

@@ -1,4 +1,4 @@
--- Writes of what may be written.
+-- Writes of contents that may be written.
 use Rattle.std.proofs.Common.{◌≡◌, inl, inr, ⊎_elim, ℕ, List, refl, sym, ◌∙◌, subst, Result, Ok, Err}
 use Rattle.ng_rig.specs.Trace.{Trace, Wrote, Perhaps, Synced, MayHold, reads, items}
 use Rattle.ng_rig.specs.Calls.{WriteSpec, SyncSpec}
@@ -41,7 +41,7 @@ module _ (May : ℕ → List ℕ → Type 0) where
   only_write (Err _) m bytes old new may (inr (inl is)) = subst (λ (l : Trace). WritesOnly May old l) (sym is) (only_one old m bytes may)
   only_write (Err _) m bytes old new may (inr (inr is)) = subst (λ (l : Trace). WritesOnly May old l) (sym is) (only_perhaps old m bytes may)
 
-  -- what a read gives is such a blend
+  -- what a read returns is such a mix
   pub reads_blend : (old new : Trace) → WritesOnly May old new → IsMixOf old May (reads new) (items new)
   reads_blend old new w = record { each = λ n. w.holds n (reads new n) (may_hold-reads new n); handed_is = w.items_are }
 
@@ -49,7 +49,7 @@ module _ (May : ℕ → List ℕ → Type 0) where
   pub only_sync : (old mid : Trace) → WritesOnly May old mid → IsContinuation old (Synced mid) (IsMixOf old May)
   only_sync old mid w = joined old mid (Synced mid) (IsMixOf old May) w.stops (on_sync mid (IsMixOf old May) (λ image handed s. record { each = λ n. w.holds n (image n) (subst (λ (c : List ℕ). MayHold mid n c) (sym (s.0 n)) (may_hold-reads mid n)); handed_is = s.1 ∙ w.items_are }))
 
-  -- a run goes on over a sync
+  -- a sequence continues over a sync
   pub only_synced : (old mid : Trace) → WritesOnly May old mid → WritesOnly May old (Synced mid)
   only_synced old mid w = record {
     stops = only_sync old mid w;
@@ -57,12 +57,12 @@ module _ (May : ℕ → List ℕ → Type 0) where
     items_are = w.items_are;
   }
 
-  -- also over one that fails
+  -- also over a sync that fails
   pub only_syncs : {T E : Type 0} (result : Result T E) (old mid new : Trace) → WritesOnly May old mid → SyncSpec result mid new → WritesOnly May old new
   only_syncs (Ok _) old mid new w is = subst (λ (l : Trace). WritesOnly May old l) (sym is) (only_synced old mid w)
   only_syncs (Err _) old mid new w is = subst (λ (l : Trace). WritesOnly May old l) (sym is) w
 
--- from fewer places to more
+-- from fewer allowed contents to more
 pub only_wider : (Fewer More : ℕ → List ℕ → Type 0) (old new : Trace) → ((n : ℕ) (c : List ℕ) → Fewer n c → More n c) → WritesOnly Fewer old new → WritesOnly More old new
 only_wider Fewer More old new wider w = record {
   stops = weaker old new (IsMixOf old Fewer) (IsMixOf old More) w.stops (λ image handed b. record { each = λ n. ⊎_elim (λ was. inl was) (λ may. inr (wider n (image n) may)) (b.each n); handed_is = b.handed_is });

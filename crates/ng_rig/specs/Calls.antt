@@ -1,20 +1,20 @@
--- What each call of a device leaves of its trace (own).
+-- What each call of a device does to its trace (own).
 use Rattle.std.specs.Prelude.{◌≡◌, ◌⊎◌, ℕ, ◌+◌, ◌%◌, ◌^◌, List, Result, Ok, Err}
 use Rattle.ng_canon.specs.declared.item.Item.{Item}
 use Rattle.ng_rig.specs.Trace.{Trace, Wrote, Perhaps, Synced, Handed}
 
--- A call keeps honesty in both directions, and at an honest device the fact holds.
+-- A call preserves honesty in both directions, and the fact holds if the device is honest.
 pub record IfHonest (before after fact : Type 0) : Type 0 where
   pub keeps : before → after
   pub back : after → before
   pub holds : before → fact
 
--- A failed write may have happened: then a read gives it or the content before.
+-- A failed write may have happened: then a read returns it or the old content.
 abbrev pub WriteSpec : {T E : Type 0} → Result T E → ℕ → List ℕ → Trace → Trace → Type 0
 WriteSpec (Ok _) n bytes old new = new ≡ Wrote n bytes old
 WriteSpec (Err _) n bytes old new = (new ≡ old) ⊎ ((new ≡ Wrote n bytes old) ⊎ (new ≡ Perhaps n bytes old))
 
--- a failed sync stands as none
+-- a failed sync counts as none
 abbrev pub SyncSpec : {T E : Type 0} → Result T E → Trace → Trace → Type 0
 SyncSpec (Ok _) old new = new ≡ Synced old
 SyncSpec (Err _) old new = new ≡ old
@@ -29,7 +29,7 @@ abbrev pub FailureCountSpec : {T E : Type 0} → Result T E → ℕ → ℕ → 
 FailureCountSpec (Ok _) old new = new ≡ old
 FailureCountSpec (Err _) old new = new ≡ (old + 1) % 2 ^ 64
 
--- the trace with the call, or without it where it failed
+-- the trace with the call, or without it if it failed
 abbrev pub KeepsOrNot : {T E : Type 0} → Result T E → Trace → Trace → Trace → Type 0
 KeepsOrNot (Ok _) with_it without new = new ≡ with_it
 KeepsOrNot (Err _) with_it without new = new ≡ without

@@ -1,4 +1,4 @@
--- A device that fails one call, once (own).
+-- A device that fails one call once (own).
 use Rattle.std.specs.Prelude.{◌≡◌, ◌+◌, ◌-◌, ◌==◌, if◌then◌else◌, ℕ, Option, Some, None, Result, IsErr}
 use Rattle.ng_rig.specs.Calls.{FailureCountSpec}
 use Rattle.ng_rig.specs.declared.fail.FailRig.{FailRig}
@@ -11,7 +11,7 @@ inner rig = rig.rig
 abbrev pub failure_count : {R : Type 0} → FailRig R → ℕ
 failure_count rig = rig.failures
 
--- how many calls are passed on before the one that fails; none where it has failed
+-- how many calls are passed on before the one that fails; None if that one has failed
 abbrev pub calls_before : {R : Type 0} → FailRig R → Option ℕ
 calls_before rig = rig.before
 
@@ -20,7 +20,7 @@ abbrev pub after_one : Option ℕ → Option ℕ
 after_one None = None
 after_one (Some n) = if n == 0 then None else Some (n - 1)
 
--- One call fails with no effect; each other one is passed on, and fails exactly where the inner device fails.
+-- One call fails without effect; every other call is passed on, and fails exactly if the inner device fails.
 pub record FailRigSpec {R T E : Type 0} (result : Result T E) (failed : R → ℕ) (old new : FailRig R) : Type 0 where
   pub sooner : (n : ℕ) → calls_before old ≡ Some (n + 1) → (calls_before new ≡ Some n) × FailureCountSpec result (failed (inner old)) (failed (inner new))
   pub failing : calls_before old ≡ Some 0 → (calls_before new ≡ None) × IsErr result × (inner new ≡ inner old)

@@ -1,4 +1,4 @@
--- A device that passes some calls on, and then fails each one (own).
+-- A device that passes a number of calls on, and then fails every call (own).
 use Rattle.std.specs.Prelude.{◌≡◌, ◌<◌, ◌+◌, ℕ, Result, IsErr}
 use Rattle.ng_rig.specs.Calls.{FailureCountSpec}
 use Rattle.ng_rig.specs.declared.fuse.FuseRig.{FuseRig}
@@ -11,11 +11,11 @@ inner fuse = fuse.rig
 abbrev pub failure_count : {R : Type 0} → FuseRig R → ℕ
 failure_count fuse = fuse.failures
 
--- how many calls more are passed on
+-- how many more calls are passed on
 abbrev pub calls_left : {R : Type 0} → FuseRig R → ℕ
 calls_left fuse = fuse.left
 
--- A call that is passed on fails exactly where the inner device fails; each one after those fails with no effect.
+-- A call that is passed on fails exactly if the inner device fails; each call after those fails without effect.
 pub record FuseRigSpec {R T E : Type 0} (result : Result T E) (failed : R → ℕ) (old new : FuseRig R) : Type 0 where
   pub passed : 0 < calls_left old → (calls_left new + 1 ≡ calls_left old) × FailureCountSpec result (failed (inner old)) (failed (inner new))
   pub blown : calls_left old ≡ 0 → (calls_left new ≡ 0) × IsErr result × (inner new ≡ inner old)

@@ -1,4 +1,4 @@
--- The calls that a device in memory keeps, and its trace by them (own).
+-- The calls that a device in memory records, and the trace that they make (own).
 use Rattle.std.specs.Prelude.{◌≡◌, ◌≢◌, ◌⊎◌, ◌<◌, ◌≤◌, ℕ, Bool, true, List, [], ◌∷◌, ◌++◌, length, take, drop, get_or, nat_lt, ◌&&◌}
 use Rattle.std.specs.List.{list_all}
 use Rattle.ng_rig.specs.Trace.{Image, Trace, Began, Wrote, Synced, Handed}
@@ -14,7 +14,7 @@ abbrev pub trace_after : Trace → List Call → Trace
 trace_after trace [] = trace
 trace_after trace (call ∷ calls) = trace_after (after_call call trace) calls
 
--- what these sectors hold, and nothing past them
+-- these sectors, and nothing past them
 abbrev pub contents : List (List ℕ) → Image
 contents sectors n = get_or sectors n []
 
@@ -22,7 +22,7 @@ contents sectors n = get_or sectors n []
 abbrev pub trace_of_calls : List (List ℕ) → List Call → Trace
 trace_of_calls sectors calls = trace_after (Began (contents sectors)) calls
 
--- each sector holds something
+-- each sector has a content
 pub record IsWhole (sectors : List (List ℕ)) : Type 0 where
   pub each : (n : ℕ) → n < length sectors → 0 < length (get_or sectors n [])
 
@@ -31,7 +31,7 @@ is_call_within size (Write n bytes) = nat_lt n size && nat_lt 0 (length bytes)
 is_call_within size Sync = true
 is_call_within size (Hand item) = true
 
--- each write is of a sector below the size, and of some bytes
+-- each write is of a sector below the size, and its content isn't empty
 abbrev pub AllWithin : ℕ → List Call → Type 0
 AllWithin size calls = list_all (is_call_within size) calls ≡ true
 

@@ -1,4 +1,4 @@
--- Runs of calls that write only what may be written (own).
+-- Sequences of calls that write only what may be written (own).
 use Rattle.std.specs.Prelude.{◌≡◌, ◌⊎◌, ℕ, List}
 use Rattle.ng_canon.specs.declared.item.Item.{Item}
 use Rattle.ng_rig.specs.Trace.{Image, Trace, MayHold, items}
@@ -9,7 +9,7 @@ pub record IsMixOf (old : Trace) (May : ℕ → List ℕ → Type 0) (image : Im
   pub each : (n : ℕ) → MayHold old n (image n) ⊎ May n (image n)
   pub handed_is : handed ≡ items old
 
--- Only such contents are written, and nothing handed out.
+-- Only such contents are written, and nothing is handed out.
 pub record WritesOnly (May : ℕ → List ℕ → Type 0) (old new : Trace) : Type 0 where
   pub stops : IsContinuation old new (IsMixOf old May)
   pub holds : (n : ℕ) (c : List ℕ) → MayHold new n c → MayHold old n c ⊎ May n c

@@ -1,4 +1,4 @@
--- A stop by numbers: how many of its unsynced contents each sector keeps (own).
+-- A stop described by numbers: how many of its unsynced contents each sector keeps (own).
 use Rattle.std.specs.Prelude.{◌≡◌, ◌≤◌, ℕ, ◌+◌, ◌==◌, List, length, if◌then◌else◌, nat_lt, slice_index}
 use Rattle.ng_rig.specs.Trace.{Image, Trace, Began, Wrote, Perhaps, Synced, Handed, reads, moment}
 
@@ -10,7 +10,7 @@ unsynced (Perhaps m bytes trace) n = if n == m then unsynced trace n + 1 else un
 unsynced (Synced trace) n = 0
 unsynced (Handed item trace) n = unsynced trace n
 
--- what a sector holds where the k-th of them is kept: at 0 none of them, beyond them the last
+-- what a sector holds if the k-th of them is kept; for 0 none of them, past their number the last
 abbrev pub kept : Trace → ℕ → ℕ → List ℕ
 kept (Began image) n k = image n
 kept (Wrote m bytes trace) n k = if n == m then (if nat_lt (unsynced trace n) k then bytes else kept trace n k) else kept trace n k
@@ -18,11 +18,11 @@ kept (Perhaps m bytes trace) n k = if n == m then (if nat_lt (unsynced trace n) 
 kept (Synced trace) n k = reads trace n
 kept (Handed item trace) n k = kept trace n k
 
--- what each sector holds by a list of such numbers, 0 past its end
+-- what each sector holds, given a list of such numbers; 0 past its end
 abbrev pub kept_image : Trace → List ℕ → Image
 kept_image trace keep n = kept trace n (slice_index keep n)
 
--- some list of numbers leaves this image: at most one for each sector, and none above the number of calls
+-- some list of numbers leaves this image: at most one number for each sector, and none greater than the number of calls
 pub record IsReached (sectors : ℕ) (trace : Trace) (image : Image) : Type 0 where
   pub keep : List ℕ
   pub short : length keep ≤ sectors

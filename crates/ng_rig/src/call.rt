@@ -1,10 +1,10 @@
-//! The calls that a device in memory keeps.
+//! The calls that a device in memory records.
 use ng_canon::Item;
 
-/// A call that a device in memory keeps.
+/// A call that a device in memory records.
 #[derive(Clone, Copy, Drop)]
 pub(crate) enum Call {
-    /// Of a sector, its bytes.
+    /// The sector and its bytes.
     Write(usize, [u8; 512]),
     Sync,
     Hand(Item),

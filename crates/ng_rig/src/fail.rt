@@ -1,10 +1,10 @@
-//! A device of which one call fails.
+//! A device that fails one call.
 ghost use Rattle.std.specs.Prelude.{◌≡◌};
 
 use crate::rig::{Failed, Rig};
 use ng_canon::Item;
 
-/// A device that fails one call with no effect, and passes all others on to another. Reads, writes, syncs and
+/// A device that fails one call without effect, and passes all others on to another device. Reads, writes, syncs and
 /// hand-outs count.
 #[derive(Drop)]
 pub struct FailRig<R> {
@@ -18,7 +18,7 @@ impl<R: Rig> FailRig<R> {
     ghost use Rattle.ng_rig.specs.Calls.{FailureCountSpec};
     ghost use Rattle.ng_rig.specs.FailOnce.{inner, failure_count, calls_before, after_one};
 
-    /// Fails the call after this many, and counts failures on from those of the device.
+    /// Passes this many calls on, then fails one. The count of failures continues from the device's.
     pub fn new(rig: R, calls: u64) -> Self
         ensures inner { inner result ≡ rig }
         ensures calls { calls_before result ≡ Some calls }
@@ -32,7 +32,7 @@ impl<R: Rig> FailRig<R> {
         }
     }
 
-    /// Whether the next call is passed on; it is taken off those before the one that fails.
+    /// Whether the next call is passed on. If so, it is counted.
     fn passes(&mut self) -> bool
         ensures when { IsTrue result ↔ (calls_before self.old ≢ Some 0) }
         ensures next { calls_before self.new ≡ after_one (calls_before self.old) }

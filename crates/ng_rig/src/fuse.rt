@@ -1,11 +1,11 @@
-//! A device whose power is cut after some calls.
+//! A device whose power is cut after a number of calls.
 ghost use Rattle.std.specs.Prelude.{◌≡◌};
 
 use crate::rig::{Failed, Rig};
 use ng_canon::Item;
 
-/// A device that passes some calls on to another, and then fails each one with no effect: as a device does whose
-/// power was cut. Reads, writes, syncs and hand-outs count.
+/// A device that passes a number of calls on to another device, and then fails each call without effect, as a device
+/// without power does. Reads, writes, syncs and hand-outs count.
 #[derive(Drop)]
 pub struct FuseRig<R> {
     rig: R,
@@ -18,7 +18,7 @@ impl<R: Rig> FuseRig<R> {
     ghost use Rattle.ng_rig.specs.Calls.{FailureCountSpec};
     ghost use Rattle.ng_rig.specs.Fuse.{inner, failure_count, calls_left};
 
-    /// Passes this many calls on, and counts failures on from those of the device.
+    /// Passes this many calls on. The count of failures continues from the device's.
     pub fn new(rig: R, calls: u64) -> Self
         ensures inner { inner result ≡ rig }
         ensures calls { calls_left result ≡ calls }
@@ -32,7 +32,7 @@ impl<R: Rig> FuseRig<R> {
         }
     }
 
-    /// Whether the next call is passed on; it is taken off those left.
+    /// Whether the next call is passed on. If so, it is counted.
     fn passes(&mut self) -> bool
         ensures when { IsTrue result ↔ (0 < calls_left self.old) }
         ensures passed { result ≡ true → calls_left self.new + 1 ≡ calls_left self.old }

@@ -1,4 +1,4 @@
-//! A device in memory, with all that was done to it.
+//! A device in memory that records everything done to it.
 ghost use Rattle.std.specs.Prelude.{◌≡◌, ◌<◌, ◌≤◌, ℕ, length};
 ghost use Rattle.ng_rig.specs.Trace.{reads};
 ghost use Rattle.ng_rig.specs.Kept.{contents, trace_of_calls, AllWithin, IsWhole};
@@ -9,8 +9,8 @@ use crate::rig::{Failed, Rig};
 use ng_canon::Item;
 use std::alloc::{AllocError, Allocator};
 
-/// A device in memory, which keeps its writes, syncs and hand-outs, and can be stopped after any of them. It is
-/// always honest; only want of memory makes a call of it fail.
+/// A device in memory that records its writes, syncs and hand-outs, and can be stopped after any of them. It is always
+/// honest; a call fails only if there is no memory to record it.
 #[derive(Drop)]
 pub struct MemoryRig<A: Allocator + Copy + Drop> {
     alloc: A,
@@ -62,30 +62,31 @@ impl<A: Allocator + Copy + Drop> MemoryRig<A> {
         })
     }
 
-    /// How many writes, syncs and hand-outs were made that didn't fail.
+    /// How many writes, syncs and hand-outs have succeeded.
     pub fn calls(&self) -> usize
         ensures { result ≡ moment (trace_of self.now) }
     {
         self.calls.len()
     }
 
-    /// The items handed out by the first n of its calls, or by all where there are fewer.
+    /// The items handed out by the first n of its calls, or by all if there are fewer.
     pub fn handed(&self, n: usize) -> Result<Vec<Item, A>, AllocError>
         ensures { IfOk result (λ handed. handed.items ≡ items (trace_at n (trace_of self.now))) }
     {
         items_of(self.alloc, self.before(n))
     }
 
-    /// The first n of its calls, or all where there are fewer.
+    /// The first n of its calls, or all if there are fewer.
     fn before(&self, n: usize) -> &[Call]
         ensures { result.now ≡ take n self.now.calls.items }
     {
         &self.calls[..n.min(self.calls.len())]
     }
 
-    /// The device as power leaves it when it is cut after the first n calls, or after all where there are fewer:
-    /// sector i keeps the keep[i]-th content that was written to it since the last sync, from 1. At 0, and past the
-    /// end of `keep`, it keeps none of them, and beyond their number the last. It has no calls and no failures.
+    /// The device as a loss of power leaves it after the first n calls, or after all if there are fewer. Sector i keeps
+    /// the keep[i]-th of the contents written to it since the last sync, counted from 1. If the number is 0, or past
+    /// the end of `keep`, the sector keeps none of them; if it is greater than their number, the last. The new device
+    /// has no calls and no failures.
     pub fn stopped(&self, n: usize, keep: &[usize]) -> Result<Self, AllocError>
         ensures size { IfOk result (λ rig. sector_count rig ≡ sector_count self.now) }
         ensures exact { IfOk result (λ rig. trace_of rig ≡ Began (kept_image (trace_at n (trace_of self.now)) keep.now)) }

@@ -1,4 +1,4 @@
-//! What kept calls come to: the items handed out, and the image that a stop leaves.
+//! What recorded calls come to: the items handed out, and the image that a stop leaves.
 ghost use Rattle.std.specs.Prelude.{◌≡◌, ◌≤◌, ◌<◌, ◌+◌, ℕ, List, length, take, drop, IfOk, slice_index};
 ghost use Rattle.ng_rig.specs.Trace.{reads, items};
 ghost use Rattle.ng_rig.specs.Kept.{contents, trace_of_calls, AllWithin, NoSync, IsLastSync, IsWhole};
@@ -26,7 +26,7 @@ pub(crate) fn items_of<A: Allocator + Copy + Drop>(
     Ok(handed)
 }
 
-/// The number of calls up to the last sync, which counts too; 0 where there is none.
+/// The number of calls up to and including the last sync; 0 if there is none.
 fn synced_calls(calls: &[Call]) -> usize
     ensures { IsLastSync calls.now result }
 {
@@ -41,7 +41,7 @@ fn synced_calls(calls: &[Call]) -> usize
     synced
 }
 
-/// Makes the image what a read gives after these calls.
+/// Makes the image what a read returns after these calls.
 fn replay(image: &mut [[u8; 512]], calls: &[Call])
     requires { AllWithin (length image.old) calls.now }
     ensures whole { IsWhole image.old → IsWhole image.new }
@@ -56,7 +56,7 @@ fn replay(image: &mut [[u8; 512]], calls: &[Call])
     }
 }
 
-/// The number at a place, 0 past the end.
+/// The number at a place; 0 past the end.
 fn number_at(numbers: &[usize], place: usize) -> usize
     ensures { result ≡ slice_index numbers.now place }
 {
@@ -67,8 +67,8 @@ fn number_at(numbers: &[usize], place: usize) -> usize
     }
 }
 
-/// Makes the image what a stop leaves after these calls, of which none is a sync. `written` counts the writes of
-/// each sector, and begins at 0.
+/// Makes the image what a stop leaves after these calls, none of which is a sync. `written` counts the writes of each
+/// sector and starts at 0.
 fn replay_kept(image: &mut [[u8; 512]], written: &mut [usize], calls: &[Call], keep: &[usize])
     requires within { AllWithin (length image.old) calls.now }
     requires size { length written.old ≡ length image.old }
@@ -92,7 +92,7 @@ fn replay_kept(image: &mut [[u8; 512]], written: &mut [usize], calls: &[Call], k
     }
 }
 
-/// Makes the image what a stop leaves after these calls. `written` counts, and begins at 0.
+/// Makes the image what a stop leaves after these calls. `written` counts the writes of each sector and starts at 0.
 fn replay_stop(image: &mut [[u8; 512]], written: &mut [usize], calls: &[Call], keep: &[usize])
     requires within { AllWithin (length image.old) calls.now }
     requires size { length written.old ≡ length image.old }
@@ -105,7 +105,7 @@ fn replay_stop(image: &mut [[u8; 512]], written: &mut [usize], calls: &[Call], k
     replay_kept(image, written, &calls[synced..], keep);
 }
 
-/// The image that a stop leaves after these calls, by the number of unsynced writes kept of each sector.
+/// The image that a stop leaves after these calls, given how many unsynced writes of each sector are kept.
 pub(crate) fn stop_image<A: Allocator + Copy + Drop>(
     alloc: A,
     first: &[[u8; 512]],

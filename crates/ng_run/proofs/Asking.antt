@@ -1,4 +1,4 @@
--- What a text asks, one order after the other.
+-- What a text asks, order by order.
 use Rattle.std.proofs.Common.{◌≡◌, ℕ, List, [], ◌∷◌, ◌++◌, Option, None, Some, Result, Ok, false, refl, sym, ap, ◌∙◌, subst, append-nil}
 use Rattle.std.specs.List.{flat_map}
 use Rattle.std.proofs.lemmas.List.Concat.{flat_map-append}
@@ -13,7 +13,7 @@ asks_more : {A : Type 0} (text rest next : List ℕ) (talk : List (Exchange A)) 
 asks_more text rest next [] x p q = (next, subst (λ (t : List ℕ). BeginsWithOrder t x.order next) p q, refl)
 asks_more text rest next (y ∷ talk) x p q = (p.0, p.1, asks_more p.0 rest next talk x p.2 q)
 
--- all of a text is left where nothing was read
+-- if nothing was read, the whole text is left
 pub text_unread : (w : Waiting) (left : Option (List ℕ)) → w ≡ record { bytes = []; ended = false } → text_left w left ≡ left
 text_unread w left e = ap (λ (i : Waiting). text_left i left) e ∙ text_unread_at left
   where
@@ -21,7 +21,7 @@ text_unread w left e = ap (λ (i : Waiting). text_left i left) e ∙ text_unread
     text_unread_at None = refl
     text_unread_at (Some xs) = refl
 
--- nothing is asked where the end is answered
+-- if the end is returned, nothing is asked
 pub asks_none : {X E : Type 0} (r : Result (Option X) E) (o : Option X) (x : X) → r ≡ Ok None → r ≡ Ok o → o ≡ Some x → ⊥
 asks_none r o x p q e = absurd cc
 

@@ -1,4 +1,4 @@
--- A conversation, one order after the other.
+-- A conversation, order by order.
 use Rattle.std.proofs.Common.{◌≡◌, ℕ, List, [], ◌∷◌, ◌++◌, Option, Some, Result, Ok, Err, All, IfSome, refl, sym, subst, append-nil}
 use Rattle.std.specs.Io.KnownBytes.{Appends}
 use Rattle.std.proofs.lemmas.List.Elements.{All-nil, All-push}
@@ -20,7 +20,7 @@ use Rattle.ng_run.specs.declared.ending.ConsoleAbort.TheVariants.{Input, Output}
 use Rattle.ng_run.proofs.Asking.{hears_more, hears_none, one_more}
 use Rattle.ng_core.proofs.InTurn.{turns_joined, turns_pass}
 
--- so much of the text was heard, and is answered whole
+-- this part of the text was read and is answered in full
 pub record Talked {R : Type 0} (A : Type 0) (honest : R → Type 0) (trace : R → Trace) (failed sectors : R → ℕ) (text rest old new : Option (List ℕ)) (before after : ControllerModel R) : Type 0 where
   pub talk : List (Exchange A)
   pub each : All IsAnswered talk
@@ -38,7 +38,7 @@ talked_none A honest trace failed sectors text old c = record {
   tells = Appends-nil old;
 }
 
--- the events of an exchange more
+-- the events of one more exchange
 given_more : {R : Type 0} (A : Type 0) (honest : R → Type 0) (trace : R → Trace) (failed sectors : R → ℕ) (talk : List (Exchange A)) (x : Exchange A) (before mid after : ControllerModel R)
     → AreAnsweredEvents honest trace failed sectors (events_in talk) (replies_in talk) before mid → AreAnsweredEvents honest trace failed sectors (events_of x.order x.replies) x.replies mid after
     → AreAnsweredEvents honest trace failed sectors (events_in (talk ++ x ∷ [])) (replies_in (talk ++ x ∷ [])) before after
@@ -61,7 +61,7 @@ talked_more A honest trace failed sectors order done text rest next old mid new 
           (Appends-trans old mid new (words_in p.talk) (words_of order a.replies) p.tells a.tells.1);
     }
 
--- a conversation by what was answered whole and what was begun
+-- a conversation, in terms of what was answered in full and what was begun
 conversed : {R : Type 0} (A : Type 0) (honest : R → Type 0) (trace : R → Trace) (failed sectors : R → ℕ) (ended : Result ConsoleEnd ConsoleAbort) (text rest old new : Option (List ℕ)) (before after : ControllerModel R)
     (answered begun talk : List (Exchange A)) (written : List ℕ) → answered ++ begun ≡ talk → All IsAnswered answered → Hears text talk rest
     → AreAnsweredEvents honest trace failed sectors (events_in talk) (replies_in talk) before after → Appends old new (words_in answered ++ written)

@@ -16,7 +16,7 @@ use Rattle.ng_run.specs.Talks.{Exchange, IsAnswered, last_line, earlier_lines}
 use Rattle.ng_core.specs.AnsweredEvents.{IsAnsweredEvent}
 use Rattle.ng_core.proofs.InTurn.{turns_one}
 
--- the lines before the last are written; then the answer is, or it is broken off in its last line
+-- the lines before the last are written; then the last is written, or it is broken off
 told_after : {A T : Type 0} (x : Exchange A) (result : Result T OutputError) (old mid new : Option (List ℕ))
     → IsAnswered x → Appends old mid (earlier_lines x.order x.replies) → Sends mid new (last_line x.order x.replies) result → Told x result old new
 told_after x (Ok done) old mid new answered p q = (answered, Appends-trans old mid new (earlier_lines x.order x.replies) (last_line x.order x.replies) p q)

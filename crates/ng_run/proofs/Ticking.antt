@@ -24,7 +24,7 @@ tick_for A r = event.Tick
 abbrev pub ticks_of : (A : Type 0) → List Reply → List (Event A)
 ticks_of A replies = map (tick_for A) replies
 
--- so many ticks were made, which all go on
+-- this many ticks were made, and all of them continue
 pub record Ticked {R : Type 0} (A : Type 0) (honest : R → Type 0) (trace : R → Trace) (failed sectors : R → ℕ) (count : ℕ) (old new : Option (List ℕ)) (before after : ControllerModel R) : Type 0 where
   pub replies : List Reply
   pub go_on : AllPass continues_ticks replies

@@ -1,4 +1,4 @@
--- What a console does: what it is asked and answers, and what becomes of its controller and device (own).
+-- What a console does: what it is asked and answers, and what happens to its controller and device (own).
 use Rattle.std.specs.Prelude.{◌≡◌, ◌≤◌, ◌<◌, ℕ, Bool, false, List, [], ◌∷◌, ◌++◌, Option, Result, Ok, Err, All, IfOk, IfErr, IfSome, IsErrAnd, length, take, flat_map}
 use Rattle.std.specs.Io.KnownBytes.{Appends}
 use Rattle.ng_num.specs.declared.fault.Fault.{Fault}
@@ -29,12 +29,13 @@ use Rattle.ng_run.specs.declared.ending.ConsoleAbort.TheVariants.{Input, Output}
 
 -- ---- one order
 
--- the replies to the ticks of one command are so many, and their lines are written; or the ticks are broken off
+-- there are this many replies to the ticks of one command, and their lines are written; or the ticks are broken off
 abbrev pub MakesTicks : {E : Type 0} → ℕ → Result ℕ E → List Reply → Option (List ℕ) → Option (List ℕ) → Type 0
 MakesTicks most (Ok made) replies old new = AreTicks most replies × (made ≡ length replies) × Appends old new (flat_map tick_line replies)
 MakesTicks most (Err fault) replies old new = (written : List ℕ) × AreBrokenOff most replies written × Appends old new written
 
--- The controller is given ticks, and the lines of their replies are written, or they are broken off in the last.
+-- The controller is given ticks, and the lines of their replies are written; or the ticks are broken off in the last
+-- line.
 pub record TickOnSpec {R : Type 0} (A : Type 0) (honest : R → Type 0) (trace : R → Trace) (failed sectors : R → ℕ) (most : ℕ) (made : Result ℕ OutputError) (old new : Option (List ℕ)) (before after : ControllerModel R) : Type 0 where
   pub replies : List Reply
   pub given : AreAnsweredEvents honest trace failed sectors (events_of {A = A} (Ticks most) replies) replies before after
@@ -53,16 +54,16 @@ pub record AnswerSpec {A R T : Type 0} (honest : R → Type 0) (trace : R → Tr
 
 -- ---- the text
 
--- How a conversation ends, with this rest of its text, and with an answer of which this is written, if one is broken
--- off.
+-- How a conversation ends, with this rest of its text, and with this much written of an answer that was broken off, if
+-- one was.
 abbrev pub EndsConversation : {A : Type 0} → Result ConsoleEnd ConsoleAbort → Bool → Option (List ℕ) → List (Exchange A) → List ℕ → Type 0
 EndsConversation (Ok ended) broken rest begun written = (ended ≡ ended_by broken) × IfSome rest EndsText × (begun ≡ []) × (written ≡ [])
 EndsConversation (Err Input) broken rest begun written = (begun ≡ []) × (written ≡ [])
 EndsConversation {A} (Err Output) broken rest begun written = (last : Exchange A) × (begun ≡ last ∷ []) × IsBegun last written
 
--- A text is heard and answered in turn: the events that it asks are given, and the words of the answers are written.
--- Over an honest device each stop leaves what stands after those that came of the events answered by then, or after the
--- one under way too, and the items handed out are the session's.
+-- A text is read and answered step by step: the events that it asks for are given, and the lines of the answers are
+-- written. Over an honest device each stop leaves the state after the events answered by then, perhaps with the effect
+-- of the event under way, and the items handed out are those of the session.
 pub record Conversation {R : Type 0} (A : Type 0) (honest : R → Type 0) (trace : R → Trace) (failed sectors : R → ℕ) (ended : Result ConsoleEnd ConsoleAbort) (text old new : Option (List ℕ)) (before after : ControllerModel R) : Type 0 where
   pub answered : List (Exchange A)
   pub begun : List (Exchange A)
@@ -79,17 +80,17 @@ pub record Conversation {R : Type 0} (A : Type 0) (honest : R → Type 0) (trace
 
 -- ---- the console
 
--- a fault of power on is told, or a beginning of it
+-- a fault of power on is reported, or a beginning of the line is written
 abbrev pub RefuseSpec : Fault → Result ConsoleEnd ConsoleAbort → Option (List ℕ) → Option (List ℕ) → Type 0
 RefuseSpec fault (Ok ended) old new = (ended ≡ NotPowered) × Appends old new (refused_line fault)
 RefuseSpec fault (Err stop) old new = (stop ≡ Output) × ((n : ℕ) × Appends old new (take n (refused_line fault)))
 
--- what comes of power on, and the device that is left
+-- what happens after power on, and the device that is left
 abbrev pub ConsoleAfterPowerOn : {R : Type 0} → Type 0 → (R → Type 0) → (R → Trace) → (failed sectors : R → ℕ) → PowerOnResult R → Result ConsoleEnd ConsoleAbort → R → Option (List ℕ) → Option (List ℕ) → Option (List ℕ) → Type 0
 ConsoleAfterPowerOn {R} A honest trace failed sectors (Ok c) ended left text old new = (after : ControllerModel R) × Conversation A honest trace failed sectors ended text old new c after × (left ≡ after.journal.rig)
 ConsoleAfterPowerOn {R} A honest trace failed sectors (Err e) ended left text old new = (left ≡ e.1) × RefuseSpec e.0 ended old new
 
--- A console over a device: power on, and what comes of it.
+-- A console over a device: power on, and what happens after it.
 pub record ConsoleRunSpec {R : Type 0} (A : Type 0) (sectors failed : R → ℕ) (honest : R → Type 0) (trace : R → Trace) (settings : Settings) (rig : R) (text old new : Option (List ℕ)) (result : Result ConsoleEnd ConsoleAbort × R) : Type 0 where
   pub powered : PowerOnResult R
   pub starts : PowerOnSpec honest trace failed sectors settings rig powered

@@ -4,12 +4,12 @@ use Rattle.ng_run.specs.declared.ending.ConsoleEnd.{ConsoleEnd}
 use Rattle.ng_run.specs.declared.ending.ConsoleEnd.TheVariants.{Answered, DeviceFailed, NotPowered}
 use Rattle.ng_run.specs.declared.ending.ConsoleAbort.{ConsoleAbort}
 
--- the whole text is answered, by a whole controller or by a broken one
+-- the whole text is answered, by a controller that works or by a broken one
 abbrev pub ended_by : Bool → ConsoleEnd
 ended_by false = Answered
 ended_by true = DeviceFailed
 
--- the exit status: 0 where the whole text is answered and the device never failed
+-- the exit status: 0 if the whole text is answered and the device never failed
 abbrev pub status_of : Result ConsoleEnd ConsoleAbort → ℕ
 status_of (Ok Answered) = 0
 status_of (Ok DeviceFailed) = 2

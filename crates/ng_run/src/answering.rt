@@ -1,4 +1,4 @@
-//! One thing that the console is asked: what it gives the controller, and what it writes of that.
+//! Carrying out one order: what it gives the controller, and what is written in reply.
 ghost use Rattle.ng_run.specs.Consoles.{AnswerSpec, TickOnSpec};
 
 use ng_commands::continues_ticks;
@@ -8,7 +8,8 @@ use ng_rig::Rig;
 use std::alloc::Allocator;
 use std::io::Write;
 
-/// Gives the controller what an order asks, and writes the answer: a beginning of it where the writer fails.
+/// Gives the controller what an order asks, and writes the answer. If the writer fails, a beginning of the answer is
+/// written.
 pub(crate) fn answer<W: Write, R: Rig, A: Allocator + Copy + Drop>(
     alloc: A,
     writer: &mut W,
@@ -30,8 +31,8 @@ pub(crate) fn answer<W: Write, R: Rig, A: Allocator + Copy + Drop>(
     }
 }
 
-/// Gives the controller ticks, up to so many or until one ends them, and writes the line of each before the next. The
-/// number of ticks.
+/// Gives the controller ticks, at most this many, or until one ends them, and writes the line of each before the next.
+/// Returns the number of ticks.
 fn tick_on<W: Write, R: Rig, A: Allocator + Copy + Drop>(
     alloc: A,
     writer: &mut W,

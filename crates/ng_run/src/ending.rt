@@ -2,34 +2,35 @@
 ghost use Rattle.std.specs.Prelude.{◌≡◌, ◌≤◌};
 ghost use Rattle.ng_run.specs.Endings.{ended_by, status_of};
 
-/// A console that did all that it was to do (own).
+/// How a console that wasn't aborted ended (own).
 #[derive(Clone, Copy)]
 pub enum ConsoleEnd {
-    /// All of the text is answered, up to its end or to `quit`.
+    /// The whole text is answered, up to its end or to `quit`.
     Answered,
-    /// The same, and a call of the device failed meanwhile.
+    /// The whole text is answered, but a call of the device failed.
     DeviceFailed,
-    /// Power on was refused, and the line that says so is written.
+    /// Power on was refused, and the line that says so was written.
     NotPowered,
 }
 
-/// Why a console breaks off (own).
+/// Why a console is aborted (own).
 #[derive(Clone, Copy)]
 pub enum ConsoleAbort {
-    /// A read failed, or one more than can be made was needed, or a line of the operator found no memory: what was
-    /// asked before is answered.
+    /// A read failed, or too many reads were needed, or there was no memory for a line of the operator. What was asked
+    /// before is answered.
     Input,
-    /// A write or a flush failed, or an answer's line found no memory: a beginning of the answer is written.
+    /// A write or a flush failed, or there was no memory for the line of an answer. A beginning of the answer was
+    /// written.
     Output,
 }
 
-/// The exit status when all is done (own).
+/// The exit status if everything is done (own).
 pub const DONE: u8 = 0;
 
-/// The exit status when anything failed (own).
+/// The exit status if anything failed (own).
 pub const FAILED: u8 = 2;
 
-/// How a console ends whose text is answered.
+/// How a console ends if its text is answered.
 pub(crate) fn ended_by(is_broken: bool) -> ConsoleEnd
     ensures { result ≡ ended_by is_broken }
 {

@@ -1,10 +1,10 @@
-//! The console of a machine: an operator's lines are read, a controller answers them over a device, and the answers are
-//! written.
+//! The console of a machine: it reads an operator's lines, passes them to a controller over a device, and writes the
+//! answers.
 //!
 //! `console` powers on, gives the controller what a text asks line by line, and writes the line of each reply before it
-//! reads on. specs/Talks says what is asked and answered, and specs/Consoles how a console ends. What a line asks and
-//! how a reply reads is said in `ng_commands` and `ng_dialogue`, what events do to the controller and to its device in
-//! `ng_core`.
+//! reads on. specs/Talks says what is asked and answered, and specs/Consoles how a console ends. `ng_commands` and
+//! `ng_dialogue` define what a line asks and the text of a reply; `ng_core` defines what events do to the controller
+//! and to its device.
 #![tactic(auto)]
 
 mod answering;

@@ -12,15 +12,15 @@ use ng_settings::Settings;
 use std::alloc::Allocator;
 use std::io::{Read, Write};
 
-/// Powers on over a device, answers an operator's lines until they end or one asks to quit, and gives the exit status
+/// Powers on over a device, answers an operator's lines until they end or one asks to quit, and returns the exit status
 /// and the device (own).
 ///
-/// A line that is no command is refused, and so is what the controller refuses: the console goes on. 0: all is
-/// answered. 2: all is answered, and a call of the device failed meanwhile; or power on is refused, and that is told;
-/// or the reader or the writer failed, or there wasn't enough memory for a line of the operator or of an answer, and a
-/// beginning of the answers is written. Each line is flushed. No tick is made after one whose line can't be written. A
-/// tick reads nothing. It takes memory for its line, and where it begins a line of the program: it is refused by M1
-/// where that finds none.
+/// A line that isn't a command is refused, and so is what the controller refuses; the console continues. The exit
+/// status is 0 if everything is answered. It is 2 if everything is answered but a call of the device failed; if power
+/// on is refused, which is reported; or if the reader or the writer failed, or there was no memory for a line of the
+/// operator or of an answer. In the last case a beginning of the answers is written. Each line is flushed. After a tick
+/// whose line can't be written no tick is made. A tick reads nothing. It allocates for its line, and when it begins a
+/// line of the program; if there is no memory for that, it is refused with M1.
 pub fn console<I: Read, W: Write, R: Rig, A: Allocator + Copy + Drop>(
     alloc: A,
     reader: &mut I,
@@ -35,7 +35,7 @@ pub fn console<I: Read, W: Write, R: Rig, A: Allocator + Copy + Drop>(
     (status(&ended), rig)
 }
 
-/// The same, with how it ended.
+/// Does what `console` does, and returns how it ended.
 fn run<I: Read, W: Write, R: Rig, A: Allocator + Copy + Drop>(
     alloc: A,
     reader: &mut I,
@@ -55,7 +55,7 @@ fn run<I: Read, W: Write, R: Rig, A: Allocator + Copy + Drop>(
     }
 }
 
-/// Tells why power on is refused.
+/// Reports why power on is refused.
 fn refuse<W: Write, A: Allocator + Copy + Drop>(
     alloc: A,
     writer: &mut W,

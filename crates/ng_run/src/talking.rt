@@ -25,8 +25,8 @@ pub(crate) fn talk<I: Read, W: Write, R: Rig, A: Allocator + Copy + Drop>(
     talk_on(alloc, &mut input, reader, writer, controller)
 }
 
-/// The same after what was read before. The end of the text is final: where it was found before, nothing is read,
-/// nothing is written and the controller is given nothing.
+/// Answers what a text asks after what was read before, until it ends or asks to quit. The end of the text is final: if
+/// it was found before, nothing is read, nothing is written and the controller is given nothing.
 fn talk_on<I: Read, W: Write, R: Rig, A: Allocator + Copy + Drop>(
     alloc: A,
     input: &mut Input,

@@ -4,7 +4,7 @@ use ng_num::{Len, Point};
 use std::alloc::Allocator;
 use std::test::Fail;
 
-/// A length of whole nanometres, 0 where it is out of range.
+/// A length of whole nanometres, 0 if it is out of range.
 fn nm(count: i64) -> Len {
     Len::of_nm(count as i128).unwrap_or_default()
 }
@@ -18,7 +18,7 @@ fn point(x: i64, y: i64, z: i64) -> Point {
     }
 }
 
-/// Whether a command of 63 bytes was printed after three bytes, and the text is as it then must be.
+/// Whether a command of 63 bytes was printed after three bytes, and whether the text is right after that.
 fn grows<A: Allocator + Copy + Drop>(alloc: A, canon: &Canon<'_>) -> (bool, bool) {
     let mut text = Vec::new(alloc);
     if text.extend_from_slice(b"N1\n").is_err() {
@@ -59,7 +59,7 @@ fn refused_growth_leaves_the_text(rt: HostRuntime) -> Result<(), Fail> {
 /// The most nanometres of an axis on either side.
 const FAR: i64 = 10_000_000_000;
 
-/// An axis's step, its ends, and whether it is within its limits.
+/// An axis's step, its ends, and whether they are within the limits.
 const AXES: &[(u32, i64, i64, bool)] = &[
     (10, 0, 0, true),
     (1_000_000, -FAR, FAR, true),
@@ -79,7 +79,8 @@ fn axes_have_limits(rt: HostRuntime) {
     }
 }
 
-/// A machine's traverse rate in nanometres a minute, its period in microseconds, and whether they are within their limits.
+/// A machine's traverse rate in nanometres a minute, its period in microseconds, and whether they are within the
+/// limits.
 const MACHINES: &[(i64, u32, bool)] = &[
     (1, 1, true),
     (100_000_000_000, 1_000_000, true),

@@ -1,9 +1,9 @@
-//! Tests of the crates below `ng_block` through their public calls, where no case of `ngc_cases` can say it, as the cases say what arcs,
-//! cycles and offsets do; no program stands on this crate.
+//! Tests of the crates below `ng_block` through their public functions, for what no case of `ngc_cases` can show. The
+//! cases show what arcs, cycles and offsets do. No program depends on this crate.
 //!
-//! Expected values are worked out by hand or by other means from the language, never taken from what the crates
-//! answer. They stand in crates of their own because a crate with tests is proved twice. Tests that need private parts of a
-//! crate stand in that crate.
+//! Expected values are worked out from the language, by hand or by other means, never copied from what the crates
+//! return. The tests are in crates of their own because a crate with tests is proved twice. Tests that need private
+//! parts of a crate are in that crate.
 #![tactic(auto)]
 
 #[cfg(test)]

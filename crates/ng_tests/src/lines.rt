@@ -79,7 +79,7 @@ const LINES: &[Row] = &[
     ),
 ];
 
-/// Lines with one word X, and the codes of its value's nodes, made by hand (see `code`).
+/// Lines with one word X, and the codes of its value's nodes, written by hand (see `code`).
 const VALUES: &[(&[u8], &[u8])] = &[
     (b"X[1+2]", b"12+]"),
     (b"X[1+2*3]", b"123*+]"),
@@ -127,7 +127,7 @@ const SETTINGS: &[(&[u8], &[u8], &[u8])] = &[
     (b"#5=##6", b"5", b"6##"),
 ];
 
-/// A node's code: a number's digit, and a mark for anything else.
+/// A node's code: the digit of a number, and a mark for anything else.
 fn code(node: &Node) -> u8 {
     match node {
         Node::Number(None) => b'?',
@@ -173,7 +173,7 @@ fn operation_code(operation: Operation) -> u8 {
     }
 }
 
-/// Whether a tree has just the nodes of these codes.
+/// Whether a tree has exactly the nodes of these codes.
 fn has_codes(tree: &Tree<'_>, codes: &[u8]) -> bool {
     let nodes = tree.nodes();
     if nodes.len() != codes.len() {
@@ -187,7 +187,7 @@ fn has_codes(tree: &Tree<'_>, codes: &[u8]) -> bool {
     true
 }
 
-/// Whether a tree is a number alone, of this count of millionths.
+/// Whether a tree is only a number, with this count of millionths.
 fn is_number(tree: &Tree<'_>, millionths: Option<i64>) -> bool {
     match tree.nodes() {
         [Node::Number(value)] => value.map(|v| v.count()) == millionths,
@@ -247,7 +247,7 @@ fn is_end(pieces: &mut Pieces<'_>) -> bool {
     }
 }
 
-/// Whether a line has just these words.
+/// Whether a line has exactly these words.
 fn has_words(line: &Line, words: &[(Letter, i64)]) -> bool {
     let mut pieces = line.pieces();
     for (letter, millionths) in words {
@@ -269,7 +269,8 @@ fn count(line: &Line) -> usize {
     PIECES + 1
 }
 
-/// Reads a line: whether it is deletable, by itself and by its bytes, its block number, and whether it has just these words.
+/// Reads a line. Returns whether it is deletable, by itself and by its bytes, its block number, and whether it has
+/// exactly these words.
 fn read_words(
     line: &mut Line,
     text: &[u8],
@@ -286,7 +287,7 @@ fn read_words(
 }
 
 #[test]
-fn lines_are_read_as_they_stand(rt: HostRuntime) {
+fn lines_are_read(rt: HostRuntime) {
     let mut line = Line::new();
     for (i, (text, deletable, number, words)) in LINES.iter().enumerate() {
         let found = read_words(&mut line, text, words);
@@ -298,7 +299,7 @@ fn lines_are_read_as_they_stand(rt: HostRuntime) {
     }
 }
 
-/// No line of a file has a newline within it.
+/// No line of a file contains a newline.
 #[test]
 fn a_newline_within_a_line_is_refused(rt: HostRuntime) {
     let mut line = Line::new();
@@ -306,7 +307,7 @@ fn a_newline_within_a_line_is_refused(rt: HostRuntime) {
     assert_eq!(rt; (read, count(&line)), (Err(Fault::Unreadable), 0));
 }
 
-/// Reads a line: whether its first piece is a word X with these codes, and whether no other follows.
+/// Reads a line. Returns whether its first piece is a word X with these codes, and whether no other piece follows.
 fn read_value(line: &mut Line, text: &[u8], codes: &[u8]) -> Result<(bool, bool), Fault> {
     line.read(text)?;
     let mut pieces = line.pieces();
@@ -315,7 +316,7 @@ fn read_value(line: &mut Line, text: &[u8], codes: &[u8]) -> Result<(bool, bool)
 }
 
 #[test]
-fn values_are_read_as_they_stand(rt: HostRuntime) {
+fn values_are_read(rt: HostRuntime) {
     let mut line = Line::new();
     for (i, (text, codes)) in VALUES.iter().enumerate() {
         assert_eq!(rt;
@@ -327,7 +328,7 @@ fn values_are_read_as_they_stand(rt: HostRuntime) {
 }
 
 #[test]
-fn settings_are_read_as_they_stand(rt: HostRuntime) {
+fn settings_are_read(rt: HostRuntime) {
     let mut line = Line::new();
     for (i, (text, index, value)) in SETTINGS.iter().enumerate() {
         assert!(rt; line.read(text).is_ok(), "setting {i}");
@@ -337,7 +338,8 @@ fn settings_are_read_as_they_stand(rt: HostRuntime) {
     }
 }
 
-/// Whether the pieces of a line are a word G, a comment, a setting, a value X, a comment and a word Y, and no more.
+/// Whether the pieces of a line are a word G, a comment, a setting, a value X, a comment and a word Y, and nothing
+/// else.
 fn pieces_in_order(line: &Line) -> [bool; 7] {
     let mut pieces = line.pieces();
     [
@@ -365,7 +367,7 @@ fn reads_pieces_in_order(rt: HostRuntime) {
     assert_eq!(rt; (read, line.last_comment().is_none()), (Ok(()), true));
 }
 
-/// A line of as many words as one can have pieces.
+/// A line with as many words as a line can have pieces.
 fn longest_words() -> [u8; 256] {
     let mut words = [b'0'; 256];
     for i in 0..PIECES {
@@ -382,7 +384,7 @@ fn longest_indices() -> [u8; 256] {
     indices
 }
 
-/// A word whose value stands in 127 pairs of brackets.
+/// A word whose value is in 127 pairs of brackets.
 fn longest_brackets() -> [u8; 256] {
     let mut brackets = [b'['; 256];
     brackets[0] = b'X';
@@ -393,13 +395,13 @@ fn longest_brackets() -> [u8; 256] {
     brackets
 }
 
-/// Reads a line: how many pieces it has.
+/// Reads a line. Returns how many pieces it has.
 fn read_count(line: &mut Line, text: &[u8]) -> Result<usize, Fault> {
     line.read(text)?;
     Ok(count(line))
 }
 
-/// How many pieces a text has that is read as a line of its own.
+/// How many pieces a text has if it is read as a line of its own.
 fn count_of(text: &[u8]) -> Result<usize, Fault> {
     let line = read_line(text)?;
     Ok(count(&line))

@@ -21,7 +21,7 @@ enum Operation {
     Millimetres(i64),
 }
 
-/// What it answers: a count of millionths or nanometres, or a whole number; or why there is none.
+/// The result: a count of millionths or nanometres, or a whole number; or the fault if there is none.
 #[derive(Clone, Copy, Debug, PartialEq, Eq)]
 enum Answer {
     Is(i64),
@@ -41,7 +41,7 @@ fn num(count: i64) -> Num {
     Num::of(count as i128).unwrap_or_default()
 }
 
-/// The answer that is a number, or its fault.
+/// The result that is a number, or its fault.
 fn number(answer: Result<Num, Fault>) -> Answer {
     match answer {
         Ok(number) => Is(number.count()),
@@ -49,7 +49,7 @@ fn number(answer: Result<Num, Fault>) -> Answer {
     }
 }
 
-/// The answer that is a length, or its fault.
+/// The result that is a length, or its fault.
 fn length(answer: Result<Len, Fault>) -> Answer {
     match answer {
         Ok(length) => Is(length.nm()),
@@ -57,7 +57,7 @@ fn length(answer: Result<Len, Fault>) -> Answer {
     }
 }
 
-/// What the crate answers.
+/// What the crate returns.
 fn answered(operation: Operation) -> Answer {
     match operation {
         Add(a, b) => number(num(a).add(num(b))),
@@ -80,8 +80,8 @@ fn answered(operation: Operation) -> Answer {
     }
 }
 
-/// Operations and their answers, worked out apart from this crate, from the definitions in exact fractions, each rounded half
-/// away from zero (roots cut, of 200 decimals).
+/// Operations and their results, computed without this crate from the definitions in exact fractions, each rounded half
+/// away from zero (roots with 200 decimals, cut off).
 const ANSWERS: &[(Operation, Answer)] = &[
     (Add(1_500_000, 2_250_000), Is(3_750_000)),
     (Add(9_999_999_999_998, 1), Is(GREATEST)),
@@ -103,7 +103,7 @@ const ANSWERS: &[(Operation, Answer)] = &[
     (Mul(GREATEST, 1_000_001), Not(Fault::OutOfRange)),
     (Mul(3_000_000_000, 3_333_333_333), Is(9_999_999_999_000)),
     (Mul(2_000_000, 5_000_000_000_000), Not(Fault::OutOfRange)),
-    // to either side of 2^64 in the product of counts
+    // just below and just above 2^64 in the product of counts
     (Mul(4_294_967_295, 4_294_967_297), Not(Fault::OutOfRange)),
     (Mul(4_294_967_296, -4_294_967_296), Not(Fault::OutOfRange)),
     (Mul(GREATEST, GREATEST), Not(Fault::OutOfRange)),
@@ -136,7 +136,7 @@ const ANSWERS: &[(Operation, Answer)] = &[
     (Modulo(0, 0), Not(Fault::BadArithmetic)),
     (Sqrt(0), Is(0)),
     (Sqrt(1), Is(1_000)),
-    // between two millionths: cut, not rounded
+    // between two millionths: cut off, not rounded
     (Sqrt(2), Is(1_414)),
     (Sqrt(3), Is(1_732)),
     (Sqrt(2_000_000), Is(1_414_213)),
@@ -237,7 +237,7 @@ const ANSWERS: &[(Operation, Answer)] = &[
 ];
 
 #[test]
-fn operations_answer_what_exact_fractions_say(rt: HostRuntime) {
+fn operations_match_exact_fractions(rt: HostRuntime) {
     for (operation, answer) in ANSWERS {
         let found = answered(*operation);
         assert!(rt; found == *answer, "{found:?} in place of {answer:?}");

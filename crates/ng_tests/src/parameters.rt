@@ -4,7 +4,7 @@ use ng_params::{Change, Index, Params, System, g92_changes};
 use std::alloc::{AllocError, Allocator, Global};
 use std::test::Fail;
 
-/// A parameter's count of millionths, 0 for a number that names none.
+/// A parameter's count of millionths, 0 for a number without a parameter.
 fn count<A: Allocator + Copy + Drop>(params: &Params<A>, number: i64) -> i64 {
     match Index::of(number) {
         Some(index) => params.get(index).count(),
@@ -12,14 +12,14 @@ fn count<A: Allocator + Copy + Drop>(params: &Params<A>, number: i64) -> i64 {
     }
 }
 
-/// Gives a parameter a count of millionths, where both are in range.
+/// Sets a parameter to a count of millionths, if both are in range.
 fn put<A: Allocator + Copy + Drop>(params: &mut Params<A>, number: i64, count: i64) {
     if let (Some(index), Ok(value)) = (Index::of(number), Num::of(count as i128)) {
         params.set(index, value);
     }
 }
 
-/// Parameters, and whether they outlive a program.
+/// Parameters, and whether they are kept after a program.
 const LASTING: &[(i64, bool)] = &[
     (5161, true),
     (5163, true),
@@ -50,7 +50,7 @@ const LASTING: &[(i64, bool)] = &[
     (5399, false),
 ];
 
-/// Gives each parameter its own number as its count of millionths.
+/// Sets each parameter to its own number as its count of millionths.
 fn fill<A: Allocator + Copy + Drop>(params: &mut Params<A>) {
     for number in 1..=5399 {
         put(params, number, number);
@@ -69,7 +69,7 @@ fn filled<A: Allocator + Copy + Drop>(params: &Params<A>) -> u32 {
 }
 
 #[test]
-fn what_outlives_a_program(rt: HostRuntime) -> Result<(), Fail> {
+fn parameters_kept_after_a_program(rt: HostRuntime) -> Result<(), Fail> {
     let mut params = Params::new(rt.alloc())?;
     let fresh = [
         count(&params, 1),
@@ -86,7 +86,7 @@ fn what_outlives_a_program(rt: HostRuntime) -> Result<(), Fail> {
     Ok(())
 }
 
-/// A point of whole nanometres, 0 where one is out of range.
+/// A point of whole nanometres, 0 if one is out of range.
 fn point(x: i64, y: i64, z: i64) -> Point {
     let nm = |count: i64| Len::of_nm(count as i128).unwrap_or_default();
     Point {
@@ -172,8 +172,8 @@ fn changes_set_their_parameters(rt: HostRuntime) -> Result<(), Fail> {
     Ok(())
 }
 
-/// Whether a table was made, copied, changed, compared and brought up to date, all in one heap.
-fn lives<A: Allocator + Copy + Drop>(alloc: A) -> Result<bool, AllocError> {
+/// Whether a table can be made, copied, changed, compared and updated, all in one heap.
+fn works<A: Allocator + Copy + Drop>(alloc: A) -> Result<bool, AllocError> {
     let old = Params::new(alloc)?;
     let mut new = old.copy()?;
     put(&mut new, 5399, 3);
@@ -196,7 +196,7 @@ fn lives<A: Allocator + Copy + Drop>(alloc: A) -> Result<bool, AllocError> {
     Ok(numbers && count(&again, 5399) == 3 && count(&again, 5220) == 0 && count(&again, 1) == 0)
 }
 
-/// Bytes of heaps: some hold all tables, some don't.
+/// Bytes of heaps: some have room for all tables, some don't.
 const SIZES: &[usize] = &[
     1_000, 44_000, 60_000, 87_000, 90_000, 120_000, 131_000, 140_000,
 ];
@@ -204,12 +204,12 @@ const SIZES: &[usize] = &[
 #[test]
 fn each_growth_may_be_refused(rt: HostRuntime) -> Result<(), Fail> {
     let alloc: Global = rt.alloc();
-    assert!(rt; lives(alloc)?);
+    assert!(rt; works(alloc)?);
     let mut refused = 0;
     let mut lived = 0;
     for size in SIZES {
         let heap = LocalHeap::new(alloc, *size)?;
-        match lives(&heap) {
+        match works(&heap) {
             Ok(whole) => {
                 assert!(rt; whole);
                 lived = 1;

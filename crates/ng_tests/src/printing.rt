@@ -3,7 +3,7 @@ use ng_num::{Num, print_number, print_whole};
 use std::alloc::Global;
 use std::test::Fail;
 
-/// No text of a program has a whole number as great as this.
+/// No program prints a whole number as great as this.
 #[test]
 fn the_greatest_whole_number_prints(rt: HostRuntime) -> Result<(), Fail> {
     let mut text = Vec::new(rt.alloc());
@@ -12,8 +12,7 @@ fn the_greatest_whole_number_prints(rt: HostRuntime) -> Result<(), Fail> {
     Ok(())
 }
 
-/// Prints the least number over a heap of a size until a growth is refused, at most nine times; answers the
-/// text that then stands.
+/// Prints the least number over a heap with this size until a growth is refused, at most nine times. Returns the text.
 fn printed(alloc: Global, size: usize) -> Result<Vec<u8>, Fail> {
     let heap = LocalHeap::new(alloc, size)?;
     let mut text = Vec::new(&heap);
@@ -27,7 +26,7 @@ fn printed(alloc: Global, size: usize) -> Result<Vec<u8>, Fail> {
 }
 
 /// The first number of a text that isn't the whole least one.
-fn broken(text: &[u8]) -> Option<&[u8]> {
+fn first_other_number(text: &[u8]) -> Option<&[u8]> {
     for number in text.chunks(17) {
         if number != b"-9999999.999999, ".as_slice() {
             return Some(number);
@@ -42,7 +41,7 @@ fn a_refused_growth_leaves_the_text(rt: HostRuntime) -> Result<(), Fail> {
     for size in 0..55usize {
         let text = printed(rt.alloc(), 16 * size)?;
         assert_eq!(rt;
-            (broken(&text), text.len() >= most),
+            (first_other_number(&text), text.len() >= most),
             (None, true),
             "over a heap of {size} blocks"
         );

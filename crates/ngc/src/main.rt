@@ -1,4 +1,4 @@
-//! The program `ngc`: one line over `ng_console`, which does the work and says what is promised of it.
+//! The program `ngc`: one call of `ng_console`, which does the work and whose contracts say what it does.
 #![tactic(auto)]
 
 use ng_console::start;

@@ -1,11 +1,11 @@
-//! Cases as a file has them: titles, parts and their text.
+//! Cases as they are in a file: titles, parts and their text.
 use crate::escapes::push_line;
 use anyhow::{Context, Result, bail, ensure};
 use std::alloc::Global;
 use std::fs;
 use std::rt::Files;
 
-/// What a line begins: the first part stands below a title.
+/// What a line begins. The first part comes below a title.
 #[derive(Clone, Copy)]
 pub enum Head<'a> {
     Title,
@@ -15,15 +15,15 @@ pub enum Head<'a> {
     Says(&'a str, &'a str),
 }
 
-/// A part of a case: its head, and the lines below, without empty ones at the end.
+/// A part of a case: its head, and the lines below it, without empty ones at the end.
 #[derive(Drop)]
 pub struct Part<'a> {
     pub head: Head<'a>,
-    /// The lines after `>`: what an operator asks.
+    /// The lines after `>`: the operator's input.
     pub asked: Vec<u8>,
     /// The other lines.
     pub text: Vec<u8>,
-    /// Empty lines that belong to the text where another line of it comes.
+    /// Empty lines that belong to the text if another line of it follows.
     empty_lines: usize,
 }
 
@@ -37,12 +37,12 @@ impl<'a> Part<'a> {
         }
     }
 
-    /// Whether nothing stands in it.
+    /// Whether the part is empty.
     pub fn is_empty(&self) -> bool {
         self.asked.is_empty() && self.text.is_empty()
     }
 
-    /// Takes a line up.
+    /// Adds a line.
     fn put(&mut self, line: &str) -> Result<()> {
         if line.is_empty() {
             self.empty_lines = self.empty_lines.saturating_add(1);
@@ -61,7 +61,7 @@ impl<'a> Part<'a> {
     }
 }
 
-/// What an operator asks in a line, where it is one of these.
+/// The operator's input in a line, if the line has any.
 fn asked_in(line: &str) -> Option<&str> {
     match line {
         ">" => Some(""),
@@ -69,8 +69,8 @@ fn asked_in(line: &str) -> Option<&str> {
     }
 }
 
-/// The part that these words begin: their first says what it says. Its text stands in the file that is named after a
-/// colon, if one is.
+/// The part that these words begin. The first word says what kind of part it is. If a file is named after a colon, the
+/// part's text is in that file.
 fn part_of<'a, R: Files + AllocGlobal>(rt: &R, folder: &str, words: &'a str) -> Result<Part<'a>> {
     let (said, file) = match words.split_once(": ") {
         Some((said, file)) => (said, Some(file)),
@@ -85,7 +85,7 @@ fn part_of<'a, R: Files + AllocGlobal>(rt: &R, folder: &str, words: &'a str) -> 
     Ok(part)
 }
 
-/// A case: its title and its parts, of which the first stands below the title.
+/// A case: its title and its parts. The first part comes below the title.
 #[derive(Drop)]
 pub struct Case<'a> {
     pub title: &'a str,
@@ -98,7 +98,7 @@ impl<'a> Case<'a> {
         Ok(Case { title, parts })
     }
 
-    /// Takes a line below the title up.
+    /// Adds a line below the title.
     fn put<R: Files + AllocGlobal>(&mut self, rt: &R, folder: &str, line: &'a str) -> Result<()> {
         if let Some(words) = line.strip_prefix("-- ") {
             self.parts.push(part_of(rt, folder, words)?)?;
@@ -112,7 +112,7 @@ impl<'a> Case<'a> {
     }
 }
 
-/// Takes a line of a file up. In front of the first case stand notes.
+/// Adds a line of a file. The lines before the first case are notes.
 fn put_line<'a, R: Files + AllocGlobal>(
     rt: &R,
     folder: &str,
@@ -134,7 +134,7 @@ fn put_line<'a, R: Files + AllocGlobal>(
     }
 }
 
-/// The cases of a file's text, at least one. Files that they name lie in the folder.
+/// The cases in a file's text, at least one. The files that they name are in the folder.
 pub fn read_cases<'a, R: Files + AllocGlobal>(
     rt: &R,
     folder: &str,

@@ -1,4 +1,4 @@
-//! Where a text isn't the wanted one.
+//! Where a text differs from the expected one.
 use anyhow::Result;
 use std::alloc::Global;
 
@@ -6,7 +6,7 @@ fn is_newline(byte: &u8) -> bool {
     *byte == b'\n'
 }
 
-/// A line as it is told: one that isn't there is none.
+/// A line as it is printed; a missing line prints as none.
 fn shown(alloc: Global, line: Option<&[u8]>) -> Result<String> {
     match line {
         Some(bytes) => {
@@ -17,7 +17,7 @@ fn shown(alloc: Global, line: Option<&[u8]>) -> Result<String> {
     }
 }
 
-/// What is told of a line that differs.
+/// The message for a line that differs.
 fn difference(
     alloc: Global,
     n: usize,
@@ -30,7 +30,7 @@ fn difference(
     Ok(Some(format!(in alloc; "line {n} is {found}, wanted was {wanted}")?))
 }
 
-/// The first line in which a text isn't the wanted one, if there is one.
+/// The first line in which a text differs from the expected one, if there is one.
 pub fn first_difference(alloc: Global, wanted: &[u8], found: &[u8]) -> Result<Option<String>> {
     let mut lines = found.split(is_newline);
     let mut count = 0usize;
@@ -47,7 +47,7 @@ pub fn first_difference(alloc: Global, wanted: &[u8], found: &[u8]) -> Result<Op
     }
 }
 
-/// Whether a text begins and ends so, with anything between.
+/// Whether a text has this start and this end, with anything between.
 fn is_between(found: &[u8], front: &str, end: &str) -> bool {
     match found.strip_prefix(front.as_bytes()) {
         Some(rest) => rest.ends_with(end.as_bytes()),
@@ -55,7 +55,7 @@ fn is_between(found: &[u8], front: &str, end: &str) -> bool {
     }
 }
 
-/// What is wrong of a text, if something is, where `...` stands for anything.
+/// How a text differs from the expected one, if it does. `...` stands for anything.
 pub fn first_mismatch(alloc: Global, wanted: &[u8], found: &[u8]) -> Result<Option<String>> {
     match std::str::from_utf8(wanted)?.split_once("...") {
         Some((front, end)) if is_between(found, front, end) => Ok(None),
@@ -63,7 +63,7 @@ pub fn first_mismatch(alloc: Global, wanted: &[u8], found: &[u8]) -> Result<Opti
     }
 }
 
-/// What is told where a status isn't the wanted one.
+/// The message for a status that isn't the expected one.
 pub fn other_status(alloc: Global, wanted: u8, found: u8) -> Result<Option<String>> {
     if wanted == found {
         return Ok(None);

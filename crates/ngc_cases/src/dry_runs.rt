@@ -5,7 +5,7 @@ use anyhow::{Context, Result, bail, ensure};
 use ng_file::Hold;
 use std::rt::Files;
 
-/// What the parts of a case say of a dry run, each once at most.
+/// What the parts of a case say of a dry run, each at most once.
 #[derive(Clone, Copy, Default)]
 pub struct DryRun<'a> {
     program: Option<&'a [u8]>,
@@ -36,7 +36,7 @@ impl<'a> DryRun<'a> {
         }
     }
 
-    /// Takes a part up.
+    /// Adds a part.
     fn put(&mut self, part: &'a Part<'_>) -> Result<()> {
         let text = part.text.as_slice();
         ensure!(part.asked.is_empty(), "nobody asks a dry run");
@@ -54,7 +54,7 @@ impl<'a> DryRun<'a> {
         Ok(())
     }
 
-    /// The status that is wanted: 1 where the last line that is to be written refuses the program.
+    /// The expected status: 1 if the last line of the expected text refuses the program.
     fn status(&self, writes: &[u8]) -> u8 {
         match self.status_2 {
             Some(_) => 2,
@@ -62,7 +62,7 @@ impl<'a> DryRun<'a> {
         }
     }
 
-    /// The words that start it.
+    /// The words of the command line.
     fn words(&self) -> &'static str {
         match (self.settings, self.block_delete) {
             (None, None) => "ngc dry @program.ngc",
@@ -72,7 +72,7 @@ impl<'a> DryRun<'a> {
         }
     }
 
-    /// What is wrong of it, if something is.
+    /// What is wrong with the run, if anything is.
     pub fn wrong<R: Files + AllocGlobal>(&self, rt: &R, room: &Room) -> Result<Option<String>>
     where
         R::File: Hold,
@@ -87,7 +87,7 @@ impl<'a> DryRun<'a> {
     }
 }
 
-/// What is wrong of the dry run that a case asks for, if something is.
+/// What is wrong with the dry run of a case, if anything is.
 pub fn wrong_of<R: Files + AllocGlobal>(
     rt: &R,
     room: &Room,

@@ -3,7 +3,7 @@ use anyhow::{Result, bail};
 use std::fs;
 use std::rt::Files;
 
-/// What the cases of a file are.
+/// The kind of cases in a file.
 #[derive(Clone, Copy)]
 pub enum Kind {
     /// Programs for a dry run.
@@ -16,7 +16,7 @@ pub enum Kind {
     Words,
 }
 
-/// What the name of a file of cases says.
+/// The kind of cases in a file with this name.
 pub fn kind_of(name: &str) -> Option<Kind> {
     match name.rsplit_once('.') {
         Some((_, "dry")) => Some(Kind::Dry),
@@ -27,8 +27,8 @@ pub fn kind_of(name: &str) -> Option<Kind> {
     }
 }
 
-/// The names of the files of a folder that hold cases, in their order. Settings and folders may lie beside them; any
-/// other file is a mistake.
+/// The names of the files of a folder that hold cases, in order. Settings and folders may be there too; any other file
+/// is an error.
 pub fn case_files<R: Files + AllocGlobal + Clone + Drop>(
     rt: &R,
     folder: &str,

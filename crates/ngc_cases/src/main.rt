@@ -1,6 +1,6 @@
 //! Runs the cases of data/ as `ngc` does, and compares what is written, answered, handed out and stored with what each
-//! case says. docs/CASES.md has the format. A file's name says what its cases are: `.dry` programs for a dry run,
-//! `.refused` lines that are refused alone, `.run` sessions of an operator, `.words` command lines.
+//! case says. docs/CASES.md describes the format. A file's name says what its cases are: `.dry` programs for a dry run,
+//! `.refused` lines that are refused one by one, `.run` sessions of an operator, `.words` command lines.
 #![tactic(auto)]
 
 mod cases;
@@ -24,7 +24,7 @@ use std::rt::{Env, Files};
 use std::{env, fs};
 use tally::Tally;
 
-/// What is wrong of a case that is no row of refused lines, if something is.
+/// What is wrong with a case that isn't a row of refused lines, if anything is.
 fn wrong_of<R: Files + AllocGlobal>(
     rt: &R,
     room: &Room,
@@ -66,7 +66,7 @@ where
     room.clear(rt)
 }
 
-/// Runs the cases of a file, whose name says what they are.
+/// Runs the cases of a file. Its name says what kind they are.
 fn run_file<R: Files + AllocGlobal + Eprint>(rt: &R, room: &Room, name: &str) -> Result<Tally>
 where
     R::File: Hold,
@@ -82,7 +82,7 @@ where
     Ok(tally)
 }
 
-/// Runs the cases of each file, and prints how many are right. Whether all are.
+/// Runs the cases of each file, and prints how many are right. Returns whether all are.
 fn run_files<R: Files + AllocGlobal + Print + Eprint>(
     rt: &R,
     room: &Room,
@@ -100,7 +100,7 @@ where
     Ok(all_right)
 }
 
-/// The folder of the cases: the word that the program was started with, or else the one that it runs in.
+/// The folder of the cases: the word that the program was started with, or else the working directory.
 fn given_folder<R: Env + AllocGlobal>(rt: &R) -> Result<String> {
     match env::args(rt)?.nth(1) {
         Some(folder) => Ok(folder),

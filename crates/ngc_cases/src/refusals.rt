@@ -1,4 +1,4 @@
-//! Lines that are refused, each as a program of its own.
+//! Lines that are refused, each run as a program of its own.
 use crate::cases::Case;
 use crate::dry_runs::DryRun;
 use crate::room::Room;
@@ -7,7 +7,7 @@ use anyhow::{Context, Result, ensure};
 use ng_file::Hold;
 use std::rt::Files;
 
-/// What is wrong of a row, if something is: a line, a bar with a blank on each side, and the fault.
+/// What is wrong with a row, if anything is. A row is a line, a bar with a blank on each side, and the fault.
 fn wrong_of_row<R: Files + AllocGlobal>(rt: &R, room: &Room, row: &str) -> Result<Option<String>>
 where
     R::File: Hold,

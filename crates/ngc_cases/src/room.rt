@@ -1,4 +1,4 @@
-//! The files that a case is run with, and the program over them.
+//! The files that a case is run with, and calls of the program on them.
 use crate::compare::{first_mismatch, other_status};
 use anyhow::{Context, Result};
 use ng_console::ngc;
@@ -7,14 +7,14 @@ use std::alloc::Global;
 use std::rt::{Env, Files};
 use std::{env, fs};
 
-/// The folder of the cases, and that of the files of the case that is run, which is made anew for each.
+/// The folder of the cases, and the folder for the files of the case that is run, which is created anew for each case.
 #[derive(Drop)]
 pub struct Room {
     pub cases: String,
     own: String,
 }
 
-/// What is wanted of a call of the program.
+/// The expected result of a call of the program.
 #[derive(Clone, Copy)]
 pub struct Wanted<'a> {
     pub writes: &'a [u8],
@@ -22,19 +22,19 @@ pub struct Wanted<'a> {
 }
 
 impl Room {
-    /// A room in the system's folder for such files, with a number in its name.
+    /// A room in the system's temporary folder, with a number in its name.
     pub fn new<R: Env + AllocGlobal>(rt: &R, cases: String, number: u32) -> Result<Room> {
         let place = env::temp_dir(rt)?;
         let own = format!(in rt.alloc(); "{}/ngc_cases_{number}", place.display())?;
         Ok(Room { cases, own })
     }
 
-    /// Makes the folder of a case.
+    /// Creates the folder of a case.
     pub fn open<R: Files>(&self, rt: &R) -> Result<()> {
         Ok(fs::create_dir(rt, self.own.as_str())?)
     }
 
-    /// Removes what a case left, where there is something.
+    /// Removes what a case left, if there is anything.
     pub fn clear<R: Files + AllocGlobal>(&self, rt: &R) -> Result<()> {
         if fs::exists(rt, self.own.as_str())? {
             fs::remove_dir_all(rt, self.own.as_str())?;
@@ -42,25 +42,25 @@ impl Room {
         Ok(())
     }
 
-    /// Where a file of the case lies.
+    /// The path of a file of the case.
     pub fn path(&self, alloc: Global, name: &str) -> Result<String> {
         Ok(format!(in alloc; "{}/{name}", self.own.as_str())?)
     }
 
-    /// Makes a file of the case.
+    /// Creates a file of the case.
     pub fn put<R: Files + AllocGlobal>(&self, rt: &R, name: &str, bytes: &[u8]) -> Result<()> {
         let path = self.path(rt.alloc(), name)?;
         Ok(fs::write(rt, path.as_str(), bytes)?)
     }
 
-    /// What a file of the case holds.
+    /// The contents of a file of the case.
     pub fn held<R: Files + AllocGlobal>(&self, rt: &R, name: &str) -> Result<Vec<u8>> {
         let path = self.path(rt.alloc(), name)?;
         Ok(fs::read(rt, path.as_str()).context(format_args!("{name}"))?)
     }
 
-    /// What is wrong of the program's answer to a line of words and this input, if something is. In the words `@`
-    /// stands for the folder of the case.
+    /// What is wrong with the program's answer to these words and this input, if anything is. In the words `@` stands
+    /// for the folder of the case.
     pub fn wrong_of_call<R: Files + AllocGlobal>(
         &self,
         rt: &R,

@@ -1,4 +1,4 @@
-//! The bytes of a device, as rows of a case have them: a sector, a place in it, and bytes as digits.
+//! The bytes of a device, as the rows of a case list them: a sector, a place in it, and bytes as digits.
 use anyhow::{Context, Result, ensure};
 use std::alloc::Global;
 
@@ -15,7 +15,7 @@ fn byte_of(pair: &[u8]) -> Result<u8> {
     Ok(u8::from_str_radix(std::str::from_utf8(pair)?, 16)?)
 }
 
-/// Writes the bytes of a row. A device that ends before grows.
+/// Writes the bytes of a row. A device that is too short for them grows.
 fn put_row(device: &mut Vec<u8>, row: &str) -> Result<()> {
     let (sector, rest) = row.split_once(' ').context("no place")?;
     let (place, digits) = rest.split_once(' ').context("no bytes")?;
@@ -55,8 +55,8 @@ fn first_other_byte(alloc: Global, wanted: &[u8], found: &[u8]) -> Result<Option
     Ok(None)
 }
 
-/// Where a device isn't as these rows have it, with zeros elsewhere and no more sectors than are needed, if it is so
-/// anywhere.
+/// Where a device differs from what these rows list, with zeros elsewhere and no more sectors than needed, if it
+/// differs.
 pub fn first_difference(alloc: Global, rows: &[u8], device: &[u8]) -> Result<Option<String>> {
     let mut wanted = vec![in alloc; 0u8; LEAST_DEVICE]?;
     put_rows(&mut wanted, rows)?;

@@ -1,4 +1,4 @@
-//! What a case does and looks at, one step after the other: sessions of an operator, command lines, files.
+//! What a case does and checks, step by step: sessions of an operator, command lines, files.
 use crate::cases::{Case, Head, Part};
 use crate::compare::first_difference;
 use crate::room::{Room, Wanted};
@@ -9,12 +9,12 @@ use std::alloc::Global;
 use std::fs;
 use std::rt::Files;
 
-/// The words that make the device of a session fresh, and those that begin one.
+/// The command lines that make the device of a session fresh and that begin a session.
 const FORMAT: &str = "ngc format @mill.dev";
 
 const RUN: &str = "ngc run @mill.dev @mill.toml @out";
 
-/// A step, and what the parts below it say of it.
+/// A step, with what the parts below it say of it.
 #[derive(Clone, Copy)]
 struct Step<'a> {
     head: Head<'a>,
@@ -22,9 +22,9 @@ struct Step<'a> {
     text: &'a [u8],
     /// The exit status, if it isn't 0.
     status: Option<u8>,
-    /// What is handed out meanwhile, if something is.
+    /// What is handed out during the step, if anything is.
     handed: Option<&'a [u8]>,
-    /// The file that another program holds meanwhile, if one is.
+    /// The file that another program holds during the step, if there is one.
     held: Option<&'a str>,
 }
 
@@ -40,7 +40,7 @@ impl<'a> Step<'a> {
         }
     }
 
-    /// What is wanted of the program.
+    /// The expected result of the program.
     fn wanted(&self) -> Wanted<'a> {
         Wanted {
             writes: self.text,
@@ -48,7 +48,7 @@ impl<'a> Step<'a> {
         }
     }
 
-    /// Whether no part says more of it, and nobody asks.
+    /// Whether no part adds anything to it, and there is no input.
     fn is_plain(&self) -> bool {
         self.asked.is_empty()
             && self.status.is_none()
@@ -57,7 +57,7 @@ impl<'a> Step<'a> {
     }
 }
 
-/// Takes a part up, which is a step or says more of the last.
+/// Adds a part, which is a step or adds to the last step.
 fn put_part<'b>(steps: &mut Vec<Step<'b>>, part: &'b Part<'_>) -> Result<()> {
     let is_new = match (part.head, steps.last_mut()) {
         (Head::Says("status", number), Some(step)) if part.is_empty() => {
@@ -89,7 +89,7 @@ fn steps_of<'b>(alloc: Global, case: &'b Case<'_>) -> Result<Vec<Step<'b>>> {
     Ok(steps)
 }
 
-/// Holds a file, where a step names one.
+/// Holds a file, if a step names one.
 fn hold<R: Files + AllocGlobal>(rt: &R, room: &Room, name: Option<&str>) -> Result<Option<R::File>>
 where
     R::File: Hold,
@@ -103,7 +103,7 @@ where
     Ok(Some(file))
 }
 
-/// What is wrong of a command line's answer, if something is.
+/// What is wrong with a command line's answer, if anything is.
 fn wrong_of_call<R: Files + AllocGlobal>(
     rt: &R,
     room: &Room,
@@ -119,7 +119,7 @@ where
     Ok(wrong)
 }
 
-/// What is wrong of a session, if something is, where this was handed out before it.
+/// What is wrong with a session, if anything is, given what was handed out before it.
 fn wrong_of_session<R: Files + AllocGlobal>(
     rt: &R,
     room: &Room,
@@ -138,7 +138,7 @@ where
     first_difference(rt.alloc(), handed.as_slice(), out.as_slice())
 }
 
-/// Does what a step says of a file. What is wrong of it, if something is.
+/// Does what a step says of a file. Returns what is wrong with it, if anything is.
 fn wrong_of_file<R: Files + AllocGlobal>(
     rt: &R,
     room: &Room,
@@ -171,7 +171,7 @@ fn wrong_of_file<R: Files + AllocGlobal>(
     Ok(None)
 }
 
-/// Makes a step. What is wrong of it, if something is.
+/// Does a step. Returns what is wrong with it, if anything is.
 fn wrong_of_step<R: Files + AllocGlobal>(
     rt: &R,
     room: &Room,
@@ -194,7 +194,7 @@ where
     }
 }
 
-/// Makes the steps of a case. What is wrong of the first that is wrong, if one is.
+/// Does the steps of a case. Returns what is wrong with the first step that is wrong, if one is.
 pub fn wrong_of<R: Files + AllocGlobal>(
     rt: &R,
     room: &Room,
@@ -213,8 +213,8 @@ where
     Ok(None)
 }
 
-/// Makes the files of a mill that an operator commands: its device, fresh, and its settings. What is wrong of that, if
-/// something is.
+/// Creates the files of a mill that an operator commands: its device, fresh, and its settings. Returns what is wrong
+/// with that, if anything is.
 pub fn wrong_of_mill<R: Files + AllocGlobal>(rt: &R, room: &Room) -> Result<Option<String>>
 where
     R::File: Hold,

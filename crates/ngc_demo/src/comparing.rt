@@ -1,4 +1,4 @@
-//! Both runs compared: what they handed out, and what stands at their ends.
+//! Comparing both runs: what they handed out, and the states at their ends.
 use crate::counts::{counts_of, last_switch, led_to};
 use crate::cut::Cut;
 use crate::job::{line_at, pulses_between};
@@ -13,14 +13,14 @@ use ng_num::Point;
 use ng_params::{PARAMETER_COUNT, difference_count};
 use std::alloc::Global;
 
-/// Tells whether something is the same in both runs. Whether it is.
+/// Prints whether something is the same in both runs, and returns that.
 fn tell<R: Print>(rt: &R, is_same: bool, what: &str) -> Result<bool> {
     let verdict = if is_same { "the same" } else { "NOT THE SAME" };
     println!(rt; "  {verdict}: {what}")?;
     Ok(is_same)
 }
 
-/// What a run without a cut handed out: that of the lines before a place, and the rest.
+/// What a run without a cut handed out, split into the items of the lines before a place and the rest.
 fn split_before(whole: &Run, place: u64) -> (&[Item], &[Item]) {
     let mut before = 0usize;
     for line in &whole.lines {
@@ -57,7 +57,7 @@ fn compare_items<R: Print>(
     Ok(before && after)
 }
 
-/// How the spindle turns.
+/// The name of a way in which the spindle turns.
 fn spindle_text(spindle: Spindle) -> &'static str {
     match spindle {
         Spindle::Stopped => "stopped",
@@ -66,14 +66,14 @@ fn spindle_text(spindle: Spindle) -> &'static str {
     }
 }
 
-/// How the spindle is switched.
+/// The outputs as text.
 fn outputs_text(alloc: Global, outputs: &Outputs) -> Result<String> {
     let turning = spindle_text(outputs.spindle);
     let speed = number_text(alloc, outputs.speed)?;
     Ok(format!(in alloc; "spindle {turning}, speed {speed}")?)
 }
 
-/// Compares the switch with which the way back begins with the last one before the loss.
+/// Compares the switch at the start of the way back with the last one before the loss of power.
 fn compare_outputs<R: Print>(rt: &R, alloc: Global, cut: &Cut, resumed: &Resumed) -> Result<bool> {
     let wanted = last_switch(cut.items.as_slice()).context("nothing was switched on")?;
     let spindle = outputs_text(alloc, &wanted)?;
@@ -85,8 +85,8 @@ fn compare_outputs<R: Print>(rt: &R, alloc: Global, cut: &Cut, resumed: &Resumed
     tell(rt, is_first, what.as_str())
 }
 
-/// Compares how many pulses there were with those of the first run, those of the segment that come again, and the way
-/// back.
+/// Compares the number of pulses with that of the first run, plus the pulses of the segment that are repeated and those
+/// of the way back.
 fn compare_counts<R: Print>(
     rt: &R,
     alloc: Global,
@@ -109,13 +109,13 @@ fn compare_counts<R: Print>(
     tell(rt, wanted == found, what.as_str())
 }
 
-/// Whether the pulses of a run lead from a point to where its status says that the machine stands.
+/// Whether the pulses of a run lead from a point to the machine's position in its status.
 fn leads_to_its_end(from: Point, run: &Run) -> Result<bool> {
     let point = granted(led_to(from, run.items.as_slice()))?;
     Ok(run.status.point_known && run.status.point == point)
 }
 
-/// Compares where the machine stands, by what was handed out and by the status.
+/// Compares the machine's position, both from what was handed out and from the status.
 fn compare_points<R: Print>(rt: &R, alloc: Global, whole: &Run, resumed: &Resumed) -> Result<bool> {
     let is_led = leads_to_its_end(Point::zero(), whole)?;
     let is_led_back = leads_to_its_end(resumed.stands, &resumed.run)?;
@@ -135,7 +135,7 @@ fn without_entries(status: &Status) -> Status {
     }
 }
 
-/// Compares the statuses. The reference and the way back are two entries more.
+/// Compares the statuses. The reference and the way back add two entries.
 fn compare_statuses<R: Print>(
     rt: &R,
     alloc: Global,
@@ -155,7 +155,7 @@ fn compare_statuses<R: Print>(
     )
 }
 
-/// Compares what the devices hold: the parameters, and all else that the language keeps.
+/// Compares what the devices hold: the parameters, and everything else that the language keeps.
 fn compare_states<R: Print>(rt: &R, alloc: Global, whole: &Run, resumed: &Resumed) -> Result<bool> {
     let first = &whole.stored.state;
     let state = &resumed.run.stored.state;
@@ -174,7 +174,7 @@ fn compare_states<R: Print>(rt: &R, alloc: Global, whole: &Run, resumed: &Resume
     Ok(modes && params)
 }
 
-/// Compares both runs, and tells each verdict. Whether all is the same.
+/// Compares both runs, and prints each verdict. Returns whether everything is the same.
 pub fn compare<R: Print>(
     rt: &R,
     alloc: Global,

@@ -1,4 +1,4 @@
-//! What was handed out, counted, and where it leads.
+//! What was handed out: its counts, and the point to which it leads.
 use crate::job::moved_by;
 use ng_canon::{AxisStep, Item, Outputs};
 use ng_num::{Fault, Point};
@@ -24,7 +24,7 @@ pub fn counts_of(items: &[Item]) -> Counts {
     counts
 }
 
-/// Switches as they are told.
+/// A number of switches as text.
 fn switches_text(alloc: Global, switches: usize) -> Result<String, AllocError> {
     match switches {
         1 => String::from_str(alloc, "1 switch"),
@@ -33,7 +33,7 @@ fn switches_text(alloc: Global, switches: usize) -> Result<String, AllocError> {
 }
 
 impl Counts {
-    /// As they are told.
+    /// The counts as text.
     pub fn text(&self, alloc: Global) -> Result<String, AllocError> {
         let pulses = self.pulses;
         let switches = switches_text(alloc, self.switches)?;
@@ -57,7 +57,7 @@ pub fn last_switch(items: &[Item]) -> Option<Outputs> {
     last
 }
 
-/// The steps of an axis after one more.
+/// The steps of an axis with one more.
 fn with_step(steps: i64, step: AxisStep) -> i64 {
     match step {
         AxisStep::Backward => steps.saturating_sub(1),

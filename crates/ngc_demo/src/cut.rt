@@ -11,7 +11,7 @@ use ng_canon::Item;
 use ng_num::Point;
 use std::alloc::Global;
 
-/// How many lines are done before the cut.
+/// How many lines are finished before the cut.
 const LINES_BEFORE: usize = 6;
 
 /// How many items of the next line are handed out before the cut.
@@ -21,13 +21,13 @@ const ITEMS_BEFORE: usize = 600;
 #[derive(Drop)]
 pub struct Cut {
     pub device: Device,
-    /// All that was handed out before.
+    /// Everything that was handed out before.
     pub items: Vec<Item>,
-    /// Where that led: there the machine stands.
+    /// The point to which that led, which is the machine's position.
     pub point: Point,
 }
 
-/// Tells how far the line under way came; the run without a cut says how far it goes.
+/// Prints how much of the line under way was handed out, and how much the run without a cut hands out for it.
 fn tell_line<R: Print>(rt: &R, whole: &Run) -> Result<()> {
     let line = whole.lines.get(LINES_BEFORE).context("no line is left")?;
     let number = LINES_BEFORE + 1;
@@ -54,7 +54,7 @@ fn device_at_cut(alloc: Global) -> Result<Device> {
     Ok(device)
 }
 
-/// Runs the program on a new machine up to the cut, and tells how far it came.
+/// Runs the program on a new machine up to the cut, and prints what was handed out.
 pub fn show_cut<R: Print>(rt: &R, alloc: Global, whole: &Run) -> Result<Cut> {
     println!(rt; "\nSecond run, with a loss of power")?;
     let device = device_at_cut(alloc)?;

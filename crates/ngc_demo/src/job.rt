@@ -2,7 +2,7 @@
 use anyhow::{Context, Result};
 use ng_num::{Fault, Len, Point};
 
-/// A pocket of 24 by 12 mm, 2 mm deep: an end mill of 8 mm goes once round. Parameter 1 is the depth, and parameter 2
+/// A pocket of 24 by 12 mm, 2 mm deep: an end mill of 8 mm goes around once. Parameter 1 is the depth, and parameter 2
 /// counts the sides.
 pub const PROGRAM: &str = "\
 (POCKET 24 BY 12 MM, END MILL 8 MM)
@@ -20,7 +20,7 @@ M2
 /// How far an axis moves by one pulse.
 const STEP_NM: i64 = 10_000;
 
-/// The settings of the machine, in which a step is `STEP_NM`.
+/// The settings of the machine, with a step of `STEP_NM`.
 pub const SETTINGS: &str = "\
 step_nm = [10000, 10000, 10000]
 low_nm = [0, 0, -50000000]
@@ -51,12 +51,12 @@ pub fn line_at(place: u64) -> Result<Line> {
     None.context("no line of the program begins there")
 }
 
-/// The length of so many steps.
+/// The length of this many steps.
 fn length_of(steps: i64) -> Result<Len, Fault> {
     Len::of_nm(i128::from(steps) * i128::from(STEP_NM))
 }
 
-/// The point to which so many steps of each axis lead.
+/// The point to which this many steps of each axis lead.
 pub fn moved_by(from: Point, steps: [i64; 3]) -> Result<Point, Fault> {
     let [x, y, z] = steps;
     Ok(Point {
@@ -66,12 +66,12 @@ pub fn moved_by(from: Point, steps: [i64; 3]) -> Result<Point, Fault> {
     })
 }
 
-/// How many steps an axis makes from one coordinate to another, both of them a whole number of steps.
+/// How many steps an axis makes from one coordinate to another; both are a whole number of steps.
 fn steps_between(from: Len, to: Len) -> i64 {
     (to.nm() - from.nm()) / STEP_NM
 }
 
-/// How many pulses a straight line takes: the steps of the axis that makes the most of them.
+/// How many pulses a straight line takes: the steps of the axis that makes the most.
 pub fn pulses_between(from: Point, to: Point) -> u64 {
     let x = steps_between(from.x, to.x).unsigned_abs();
     let y = steps_between(from.y, to.y).unsigned_abs();

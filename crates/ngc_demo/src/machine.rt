@@ -10,7 +10,7 @@ use ng_rig::MemoryRig;
 use ng_settings::{Settings, settings};
 use std::alloc::Global;
 
-/// A device in memory, which can be stopped as a loss of power stops it.
+/// A device in memory, which can be stopped as by a loss of power.
 pub type Device = MemoryRig<Global>;
 
 /// A controller over such a device.
@@ -19,7 +19,7 @@ pub type Machine = Controller<Device, Global>;
 /// How many sectors a device has.
 const SECTORS: usize = 1_710;
 
-/// What was answered, or a fault as this program's error.
+/// The result, with a fault as this program's error.
 pub fn granted<T: Drop>(answer: Result<T, Fault>) -> Result<T> {
     match answer {
         Ok(value) => Ok(value),
@@ -47,12 +47,12 @@ pub fn powered(alloc: Global, device: Device) -> Result<Machine> {
     }
 }
 
-/// Answers an event.
+/// Gives an event and returns the reply.
 pub fn ask(machine: &mut Machine, event: Event<Global>) -> Reply {
     machine.on(event)
 }
 
-/// Answers an event that isn't to be refused.
+/// Gives an event that isn't to be refused, and returns the reply.
 pub fn give(machine: &mut Machine, event: Event<Global>) -> Result<Reply> {
     match ask(machine, event) {
         Reply::Refused(fault) => bail!("refused: {fault:?}"),
@@ -76,7 +76,7 @@ pub fn start(machine: &mut Machine, alloc: Global) -> Result<()> {
     Ok(())
 }
 
-/// The device of a machine, which it doesn't call any more.
+/// The device of a machine, which doesn't use it any more.
 pub fn device_of(machine: Machine) -> Device {
     machine.into_rig()
 }
@@ -86,13 +86,13 @@ pub fn handed_out(device: &Device) -> Result<Vec<Item>> {
     Ok(device.handed(usize::MAX)?)
 }
 
-/// The device as a loss of power after its last call leaves it: of what wasn't synced, nothing is kept. Of a device
-/// without calls it is a copy.
+/// The device as a loss of power after its last call leaves it, with nothing kept of what wasn't synced. If there were
+/// no calls, it is a copy.
 pub fn left_of(device: &Device) -> Result<Device> {
     Ok(device.stopped(usize::MAX, &[])?)
 }
 
-/// What is stored on a device, found as power on finds it.
+/// What is stored on a device, as power on reads it.
 pub fn stored_on(alloc: Global, device: Device) -> Result<Stored<Global>> {
     let Settings { geometry: _, tools } = machine_settings(alloc)?;
     match recover(alloc, device, &tools) {

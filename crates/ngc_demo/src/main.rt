@@ -1,11 +1,11 @@
-//! A loss of power in the midst of a pocket, and how the program goes on after it.
+//! A loss of power in the middle of a pocket, and how the program continues after it.
 //!
 //! The same program runs twice, each time on a new machine over a device in memory. The first run goes to the program's
-//! end. In the second one power is lost while a line's segment is handed out. Another controller powers on over what
-//! that left of the device, is told where the machine stands, resumes, and runs to the end. What the two runs handed
-//! out and what stands at their ends is compared.
+//! end. In the second run power is lost while a line's segment is handed out. Another controller powers on over what is
+//! left on the device, is told the machine's position, resumes, and runs to the end. Then the program compares what the
+//! two runs handed out, and their states at the end.
 //!
-//! Each step is told as it is done, with the answers that `ngc run` gives. The status is 1 where something isn't the
+//! Each step is printed as it is done, with the answers that `ngc run` gives. The status is 1 if something isn't the
 //! same.
 #![tactic(auto)]
 
@@ -42,7 +42,7 @@ fn run_whole(alloc: Global) -> Result<Run> {
     Run::of(alloc, end?, device)
 }
 
-/// Runs the program without a loss of power, and tells of each line.
+/// Runs the program without a loss of power, and prints each line.
 fn show_whole<R: Print>(rt: &R, alloc: Global) -> Result<Run> {
     println!(rt; "First run, without a loss of power")?;
     let run = run_whole(alloc)?;
@@ -50,7 +50,7 @@ fn show_whole<R: Print>(rt: &R, alloc: Global) -> Result<Run> {
     Ok(run)
 }
 
-/// Tells the whole story. Whether both runs came to the same.
+/// Runs and prints everything. Returns whether both runs had the same outcome.
 fn show<R: Print>(rt: &R, alloc: Global) -> Result<bool> {
     println!(rt;
         "A pocket of 24 by 12 mm is milled twice, the second time with a loss of power. One step is 0.01 mm.\n"

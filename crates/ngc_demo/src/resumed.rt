@@ -1,4 +1,4 @@
-//! The run that goes on after power came back.
+//! The run that continues after power came back.
 use crate::cut::Cut;
 use crate::job::{line_at, pulses_between};
 use crate::machine::{
@@ -21,7 +21,7 @@ const LIFT_MM: i64 = 15;
 pub struct Resumed {
     /// The status right after power on.
     pub found: Status,
-    /// Where the operator said that the machine stands.
+    /// The machine's position, as the operator entered it.
     pub stands: Point,
     /// How many of the items are those of the way back.
     pub way_back: usize,
@@ -36,7 +36,7 @@ impl Resumed {
     }
 }
 
-/// Tells which block the device shows as half-done.
+/// Prints which block the device shows as half-done.
 fn tell_half<R: Print>(rt: &R, alloc: Global, device: Device, found: &Status) -> Result<()> {
     let half = stored_on(alloc, device)?.half;
     let half = half.context("no block is half-done")?;
@@ -49,7 +49,7 @@ fn tell_half<R: Print>(rt: &R, alloc: Global, device: Device, found: &Status) ->
     Ok(())
 }
 
-/// Lifts the tool, by hand, and tells the controller where the machine stands.
+/// Lifts the tool, by hand, and tells the controller the machine's position.
 fn refer<R: Print>(rt: &R, alloc: Global, machine: &mut Machine, cut: &Cut) -> Result<Point> {
     let lift = granted(Len::of_nm(i128::from(LIFT_MM) * 1_000_000))?;
     let stands = Point {
@@ -64,7 +64,7 @@ fn refer<R: Print>(rt: &R, alloc: Global, machine: &mut Machine, cut: &Cut) -> R
     Ok(stands)
 }
 
-/// Tells what a resume is to do: how the machine goes back to where the segment begins.
+/// Prints what a resume will do: how the machine goes back to the start of the segment.
 fn tell_way<R: Print>(rt: &R, from: Point, found: &Status) -> Result<()> {
     let pulses = pulses_between(from, found.point);
     let number = line_at(found.place)?.number;
@@ -74,14 +74,14 @@ fn tell_way<R: Print>(rt: &R, from: Point, found: &Status) -> Result<()> {
     Ok(())
 }
 
-/// Takes the half-done block up: how many items the way back handed out.
+/// Resumes the half-done block. Returns how many items the way back handed out.
 fn resume<R: Print>(rt: &R, alloc: Global, machine: &mut Machine) -> Result<usize> {
     let reply = give(machine, Event::Resume)?;
     tell_answer(rt, alloc, "resume", &reply)?;
     finish_entry(machine)?.context("nothing goes on")
 }
 
-/// What was done after power came back, but for what the device tells of it.
+/// What was done after power came back, except what the device says of it.
 #[derive(Drop)]
 struct GoneOn {
     found: Status,
@@ -90,7 +90,7 @@ struct GoneOn {
     end: End,
 }
 
-/// Goes on with what the cut left, up to the program's end.
+/// Continues from what the cut left, up to the program's end.
 fn go_on<R: Print>(rt: &R, alloc: Global, machine: &mut Machine, cut: &Cut) -> Result<GoneOn> {
     let found = status_of(machine)?;
     tell_status(rt, alloc, &found)?;
@@ -107,7 +107,7 @@ fn go_on<R: Print>(rt: &R, alloc: Global, machine: &mut Machine, cut: &Cut) -> R
     })
 }
 
-/// Powers on over what the cut left, and tells how the program goes on.
+/// Powers on over what the cut left, and prints how the program continues.
 pub fn show_resume<R: Print>(rt: &R, alloc: Global, cut: &Cut) -> Result<Resumed> {
     println!(rt; "\nPower comes back")?;
     let mut machine = powered(alloc, left_of(&cut.device)?)?;

@@ -8,7 +8,7 @@ use ng_core::Status;
 use ng_layout::Stored;
 use std::alloc::Global;
 
-/// What a machine came to that ran its program to the end.
+/// The state of a machine that ran its program to the end.
 #[derive(Drop)]
 pub struct End {
     pub lines: Vec<DoneLine>,
@@ -26,9 +26,9 @@ pub fn finish(machine: &mut Machine, alloc: Global) -> Result<End> {
 /// What a machine did from its power on to the program's end.
 #[derive(Drop)]
 pub struct Run {
-    /// The lines that it did.
+    /// The lines that it finished.
     pub lines: Vec<DoneLine>,
-    /// All that was handed out.
+    /// Everything that was handed out.
     pub items: Vec<Item>,
     pub status: Status,
     /// What the device holds at the end.
@@ -36,7 +36,7 @@ pub struct Run {
 }
 
 impl Run {
-    /// The run that came to this end, over this device.
+    /// The run that ended so, over this device.
     pub fn of(alloc: Global, end: End, device: Device) -> Result<Run> {
         let End { lines, status } = end;
         Ok(Run {
@@ -47,7 +47,7 @@ impl Run {
         })
     }
 
-    /// Tells of its lines, and of its end. The items are those that its lines handed out.
+    /// Prints its lines and its end. The items are those that its lines handed out.
     pub fn tell<R: Print>(&self, rt: &R, alloc: Global, items: &[Item]) -> Result<()> {
         tell_lines(rt, alloc, self.lines.as_slice(), items)?;
         tell_items(rt, alloc, "all", self.items.as_slice())?;

@@ -1,4 +1,4 @@
-//! What is told of a run.
+//! Printing a run.
 use crate::counts::counts_of;
 use crate::job::{Line, line_at};
 use crate::ticking::DoneLine;
@@ -26,7 +26,7 @@ pub fn point_text(alloc: Global, point: Point) -> Result<String> {
     text_of(alloc, bytes.as_slice())
 }
 
-/// Tells what an operator commanded, and how `ngc run` answers it.
+/// Prints an operator's command, and the answer of `ngc run`.
 pub fn tell_answer<R: Print>(rt: &R, alloc: Global, command: &str, reply: &Reply) -> Result<()> {
     let mut bytes = Vec::new(alloc);
     push_reply(&mut bytes, reply)?;
@@ -35,7 +35,7 @@ pub fn tell_answer<R: Print>(rt: &R, alloc: Global, command: &str, reply: &Reply
     Ok(())
 }
 
-/// Tells a status.
+/// Prints a status.
 pub fn tell_status<R: Print>(rt: &R, alloc: Global, status: &Status) -> Result<()> {
     let mut bytes = Vec::new(alloc);
     push_reply(&mut bytes, &Reply::Status(*status))?;
@@ -44,14 +44,14 @@ pub fn tell_status<R: Print>(rt: &R, alloc: Global, status: &Status) -> Result<(
     Ok(())
 }
 
-/// Tells what was handed out under a name.
+/// Prints what was handed out under a name.
 pub fn tell_items<R: Print>(rt: &R, alloc: Global, name: &str, items: &[Item]) -> Result<()> {
     let counts = counts_of(items).text(alloc)?;
     println!(rt; "  {name:<9}{counts}")?;
     Ok(())
 }
 
-/// Tells what a line of the program handed out.
+/// Prints what a line of the program handed out.
 fn tell_line<R: Print>(rt: &R, alloc: Global, line: Line, items: &[Item]) -> Result<()> {
     let counts = counts_of(items).text(alloc)?;
     let Line { number, text } = line;
@@ -59,7 +59,7 @@ fn tell_line<R: Print>(rt: &R, alloc: Global, line: Line, items: &[Item]) -> Res
     Ok(())
 }
 
-/// Tells what each of these lines handed out.
+/// Prints what each of these lines handed out.
 pub fn tell_lines<R: Print>(
     rt: &R,
     alloc: Global,
@@ -75,7 +75,7 @@ pub fn tell_lines<R: Print>(
     Ok(())
 }
 
-/// A number, with its six decimals.
+/// A number with six decimals.
 pub fn number_text(alloc: Global, number: Num) -> Result<String> {
     let mut bytes = Vec::new(alloc);
     print_number(&mut bytes, number, *b"  ")?;

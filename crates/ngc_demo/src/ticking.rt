@@ -1,5 +1,5 @@
-//! Ticks, which do all the work: a tick begins a line, opens a segment, hands out an item, or makes an entry of what is
-//! done.
+//! Ticks, which do all the work: a tick begins a line, opens a segment, hands out an item, or commits an entry of what
+//! is done.
 use crate::machine::{Machine, give, status_of};
 use anyhow::{Result, bail};
 use ng_core::{Event, Reply};
@@ -11,7 +11,7 @@ const MOST_TICKS: u32 = 10_000;
 /// More lines than the program has.
 const MOST_LINES: u32 = 100;
 
-/// A line of the program that is done.
+/// A finished line of the program.
 #[derive(Clone, Copy)]
 pub struct DoneLine {
     /// The byte of the program at which it begins.
@@ -20,7 +20,8 @@ pub struct DoneLine {
     pub items: usize,
 }
 
-/// Ticks until there is one entry more: how many items were handed out for it. None where nothing was left to do.
+/// Ticks until there is one more entry. Returns how many items were handed out for it. `None` if nothing was left to
+/// do.
 pub fn finish_entry(machine: &mut Machine) -> Result<Option<usize>> {
     let mut items = 0usize;
     for _tick in 0..MOST_TICKS {
@@ -34,7 +35,7 @@ pub fn finish_entry(machine: &mut Machine) -> Result<Option<usize>> {
     bail!("a line doesn't end")
 }
 
-/// Ticks until the program's end: the lines that were done.
+/// Ticks until the program's end. Returns the lines that were finished.
 pub fn finish_program(machine: &mut Machine, alloc: Global) -> Result<Vec<DoneLine>> {
     let mut lines = Vec::new(alloc);
     for _line in 0..MOST_LINES {
@@ -47,7 +48,7 @@ pub fn finish_program(machine: &mut Machine, alloc: Global) -> Result<Vec<DoneLi
     bail!("the program doesn't end")
 }
 
-/// Ticks until so many lines are done.
+/// Ticks until this many lines are finished.
 pub fn finish_lines(machine: &mut Machine, lines: usize) -> Result<()> {
     for _line in 0..lines {
         if finish_entry(machine)?.is_none() {
@@ -57,7 +58,7 @@ pub fn finish_lines(machine: &mut Machine, lines: usize) -> Result<()> {
     Ok(())
 }
 
-/// Ticks until so many items are handed out.
+/// Ticks until this many items are handed out.
 pub fn hand_out(machine: &mut Machine, items: usize) -> Result<()> {
     let mut left = items;
     for _tick in 0..MOST_TICKS {

@@ -9,10 +9,10 @@ use std::alloc::Global;
 use std::sync::Wait;
 use std::thread;
 
-/// How often a caller asks or ticks at most: fewer ticks than the program has pulses.
+/// How often a caller asks or ticks at most. It is fewer than the program's pulses.
 const MOST_CALLS: u32 = 400_000;
 
-/// Ticks until the machine is held. M1 where there isn't enough memory.
+/// Ticks until the machine is held. M1 if there is no memory.
 pub fn tick<R: Rig, O: Origin<R>, W: Wait>(
     rt: &W,
     desk: &Desk<R, Global, O>,
@@ -30,7 +30,7 @@ pub fn tick<R: Rig, O: Origin<R>, W: Wait>(
     Ok(())
 }
 
-/// Loads a program, starts it, and holds it once a block is half-done. M1 where there isn't enough memory.
+/// Loads a program, starts it, and holds it once a block is half-done. M1 if there is no memory.
 pub fn operate<R: Rig, O: Origin<R>, W: Wait>(
     rt: &W,
     desk: &Desk<R, Global, O>,

@@ -1,12 +1,12 @@
 //! A desk at work: how callers in threads share one controller.
 //!
-//! A machine stands over a device in memory, and two callers have a seat each at its desk. In one thread the ticker
+//! There is a machine over a device in memory, and two callers have a seat each at its desk. In one thread the ticker
 //! moves the machine. In another the operator loads a program, starts it, asks for the status until a block is
-//! half-done, and holds it. Then the desk is closed, and the history of all that was given is run once more, over a
-//! device like the first.
+//! half-done, and holds it. Then the desk is closed, and the history of everything that was given is run once more,
+//! over a device like the first.
 //!
-//! What is printed is the same however the two threads take turns: of the history what was commanded, and what a tick
-//! is answered after it.
+//! The output is the same however the two threads take turns: the commands in the history, and the reply to a tick
+//! after it.
 #![tactic(auto)]
 
 ghost use Rattle.std.specs.Prelude.{◌≡◌, IfOk, false};
@@ -41,7 +41,7 @@ fn machine(alloc: Global) -> Result<Controller<MemoryRig<Global>, Global>, Fault
     }
 }
 
-/// The history of a shift over a new machine, and what a tick is answered after it.
+/// The history of a shift over a new machine, and the reply to a tick after it.
 fn history<W: Threads + Wait + Sync>(
     rt: &W,
     alloc: Global,
@@ -53,7 +53,7 @@ fn history<W: Threads + Wait + Sync>(
     Ok((history?, last))
 }
 
-/// Whether another new machine that is given the same events, in one thread, answers them alike.
+/// Whether another new machine that is given the same events, in one thread, gives the same replies.
 fn is_answered_alike(alloc: Global, history: Vec<Call<Global>>) -> Result<bool, Fault> {
     let mut events = Vec::new(alloc);
     let mut replies = Vec::new(alloc);
@@ -72,7 +72,7 @@ fn is_answered_alike(alloc: Global, history: Vec<Call<Global>>) -> Result<bool, 
     Ok(answers?.as_slice() == replies.as_slice())
 }
 
-/// What a command is called. Statuses and ticks aren't told of.
+/// The name of a command. `None` for statuses and ticks, which aren't printed.
 fn told(call: &Call<Global>) -> Option<&'static str> {
     match &call.event {
         Event::Load(_) => Some("load"),
@@ -82,7 +82,7 @@ fn told(call: &Call<Global>) -> Option<&'static str> {
     }
 }
 
-/// Prints what was commanded, and how it was answered.
+/// Prints the commands and their replies.
 fn print_commands<W: Print>(rt: &W, history: &[Call<Global>]) -> io::Result<()> {
     for call in history {
         if let Some(name) = told(call) {

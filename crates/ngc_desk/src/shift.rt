@@ -13,8 +13,8 @@ use std::sync::ledger::Blank;
 use std::thread;
 use std::thread::Threads;
 
-/// The ticker at the first seat and the operator at the second, each in a thread of its own. One that finds no memory
-/// for a call goes home.
+/// The ticker at the first seat and the operator at the second, each in a thread of its own. A caller stops if there is
+/// no memory for a call.
 fn work<R: Rig + Drop + Send, O: Origin<R> + Send + Sync, W: Threads + Wait + Sync>(
     rt: &W,
     desk: &Desk<R, Global, O>,
@@ -41,10 +41,10 @@ fn work<R: Rig + Drop + Send, O: Origin<R> + Send + Sync, W: Threads + Wait + Sy
     );
 }
 
-/// A shift at a desk with two seats: the controller, and the history of all calls. K6 where a caller's list disagrees
-/// with the history, M1 where there is no memory for the seats.
+/// A shift at a desk with two seats. Returns the controller, and the history of all calls. K6 if a caller's list
+/// disagrees with the history, M1 if there is no memory for the seats.
 ///
-/// The type `O` ties the desk to the controller that it is made of; `shift` picks it.
+/// The type `O` ties the desk to the controller that it is made of; `shift` chooses it.
 fn shift_at<R: Rig + Drop + Send, O: Origin<R> + Send + Sync, W: Threads + Wait + Sync>(
     rt: &W,
     alloc: Global,
@@ -69,7 +69,7 @@ fn shift_at<R: Rig + Drop + Send, O: Origin<R> + Send + Sync, W: Threads + Wait 
     }
 }
 
-/// The same for any controller that isn't broken.
+/// A shift over any controller that isn't broken. Returns what `shift_at` returns.
 pub fn shift<R: Rig + Drop + Send, W: Threads + Wait + Sync>(
     rt: &W,
     alloc: Global,

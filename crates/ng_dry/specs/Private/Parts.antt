@@ -1,4 +1,4 @@
--- What the parts of a dry run do, each for every continuation of the program: for private functions and proofs alone.
+-- What the parts of a dry run do, each for every continuation of the program; only for private functions and proofs.
 use Rattle.std.specs.Prelude.{ℕ, ◌+◌, ◌≡◌, List, [], ◌∷◌, ◌++◌, Option, None, Some, Result, Ok, Err, take}
 use Rattle.std.specs.Str.Lines.{lines}
 use Rattle.std.specs.Io.KnownBytes.{Appends}
@@ -25,27 +25,27 @@ pub record DryRunModel : Type 0 where
 abbrev pub begun : TermsModel → DryRunModel
 begun terms = record { terms = terms; first = Blank; setup = fresh; number = 1; text = [] }
 
--- the fold over the lines that are left, by the kind of the first line before them that isn't blank
+-- the fold over the lines that are left, given the kind of the first line before them that isn't blank
 abbrev pub outcome_by : TermsModel → LineKind → StateModel → ℕ → List (List ℕ) → Output
 outcome_by terms first setup number [] = refused number (missing_end first)
 outcome_by terms first setup number (l ∷ ls) =
     after_line number (executed_after terms first setup l) (λ after. outcome_by terms (kind_before first (kind_of l)) after (number + 1) ls)
 
--- what a run has still to write where these lines follow
+-- what a run still has to write if these lines follow
 abbrev pub due : DryRunModel → List (List ℕ) → Output
 due p ls = onto p.text (outcome_by p.terms p.first p.setup p.number ls)
 
--- the same of a run that holds the beginning of a line, where these bytes follow
+-- what a run that holds the beginning of a line still has to write if these bytes follow
 abbrev pub rest_of : DryRunModel → List ℕ → List ℕ → Output
 rest_of p line more = due p (lines (line ++ more))
 
--- a part wrote its text, and g gives the rest
+-- a part wrote its text, and g is the rest
 pub record Goes {X : Type 0} (old new : Option (List ℕ)) (f g : X → Output) : Type 0 where
   pub text : List ℕ
   pub appends : Appends old new text
   pub rest : (more : X) → f more ≡ onto text (g more)
 
--- a part wrote all, and the run has ended
+-- a part wrote everything, and the run has ended
 pub record EndsRun {X : Type 0} (old new : Option (List ℕ)) (f : X → Output) (end : Ended) : Type 0 where
   pub text : List ℕ
   pub appends : Appends old new text
@@ -57,7 +57,7 @@ pub record Breaks {X : Type 0} (old new : Option (List ℕ)) (f : X → Output) 
   pub appends : Appends old new text
   pub rest : (more : X) → (after : List ℕ) × ((f more).text ≡ text ++ after)
 
--- what a step from f to g wrote: it goes on, it has ended, or it broke off
+-- what a step from f to g wrote: the run continues, has ended, or was aborted
 abbrev pub LineStepSpec : {X : Type 0} → Option (List ℕ) → Option (List ℕ) → (X → Output) → (X → Output) → Result (Option Ended) DryFault → Type 0
 LineStepSpec old new f g (Ok None) = Goes old new f g
 LineStepSpec old new f g (Ok (Some end)) = EndsRun old new f end

@@ -1,11 +1,11 @@
-//! The end of the text is final: a reader that gave no byte isn't read again.
+//! The end of the text is final: a reader that returned no byte isn't called again.
 use crate::devices::{formatted, talk};
 use ng_num::Fault;
 use std::alloc::Global;
 use std::io::{self, ErrorKind, Read};
 use std::test::Fail;
 
-/// A reader that gives what it has, then no byte, and fails where it is read after that.
+/// A reader that returns what it has, then no byte, and fails if it is called after that.
 #[derive(Drop)]
 struct Once<'a> {
     bytes: &'a [u8],
@@ -25,8 +25,8 @@ impl Read for Once<'_> {
     }
 }
 
-/// Texts, and what they are answered: whole, with a last line that lacks its newline, and with a program that the end
-/// cuts off.
+/// Texts, and the answers to them: whole, with a last line without a newline, and with a program that is cut off by the
+/// end.
 const TEXTS: &[(&str, &str)] = &[
     ("", ""),
     ("hold\n", "idle\n"),
@@ -36,7 +36,7 @@ const TEXTS: &[(&str, &str)] = &[
     ("load 5", "refused U1 BadCommand\n"),
 ];
 
-/// The status of a console over such a reader and a fresh device, and whether it answers this.
+/// The status of a console over such a reader and a fresh device, and whether these are its answers.
 fn answered(alloc: Global, lines: &str, wanted: &str) -> Result<(u8, bool), Fault> {
     let mut reader = Once {
         bytes: lines.as_bytes(),

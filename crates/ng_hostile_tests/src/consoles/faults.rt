@@ -8,7 +8,7 @@ use std::io;
 use std::io::{ErrorKind, Read, Write};
 use std::test::Fail;
 
-/// What a console answers to these lines over a device: its status, what it writes, and the device then.
+/// What a console does with these lines over a device: its status, what it writes, and the device then.
 fn answered<R: Rig>(alloc: Global, lines: &str, rig: R) -> (u8, Vec<u8>, R) {
     let mut reader = lines.as_bytes();
     let mut text = Vec::new(alloc);
@@ -16,7 +16,7 @@ fn answered<R: Rig>(alloc: Global, lines: &str, rig: R) -> (u8, Vec<u8>, R) {
     (status, text, rig)
 }
 
-/// What a console answers that has no memory for power on: its status, and what it writes.
+/// What a console without memory for power on does: its status, and what it writes.
 fn answered_without_memory(alloc: Global) -> Result<(u8, Vec<u8>), Fault> {
     let heap = LocalHeap::new(alloc, 1_000)?;
     let mut reader = "status\n".as_bytes();
@@ -25,7 +25,7 @@ fn answered_without_memory(alloc: Global) -> Result<(u8, Vec<u8>), Fault> {
     Ok((status, text))
 }
 
-/// A device that isn't formatted, one that fails, and no memory: power on is refused, and that is told.
+/// A device that isn't formatted, one that fails, and no memory: power on is refused, and that is reported.
 #[test]
 fn power_on_is_refused(rt: HostRuntime) -> Result<(), Fail> {
     let bare = MemoryRig::new(rt.alloc(), 1_710)?;
@@ -47,8 +47,7 @@ fn power_on_is_refused(rt: HostRuntime) -> Result<(), Fail> {
 /// One move by hand, over a device that fails one call.
 const MOVE: &str = "mdi G0 X0.005\ntick 1\ntick 7\nstatus\n";
 
-/// What is written of it: power on is refused; the segment isn't opened; an item or the entry isn't given; all goes
-/// well.
+/// What is written then: power on is refused; the segment isn't opened; an item or the entry fails; all goes well.
 const FAILING: &[&str] = &[
     "refused J1 DeviceFailed\n",
     "begun\nrefused J1 DeviceFailed\nticks 1\nrefused K5 Broken\nticks 1\nstatus entries 0 place 0 at 0.000000 0.000000 0.000000 known half none broken\n",
@@ -61,7 +60,7 @@ const FAILING: &[&str] = &[
     "begun\nticks 1\ndone 1\nidle\nticks 7\nstatus entries 1 place 0 at 0.005000 0.000000 0.000000 known half none idle\n",
 ];
 
-/// Which of these texts a text is; their number where it is none.
+/// The place of a text among these texts; their number if it isn't there.
 fn place_of(wanted: &[&str], text: &[u8]) -> usize {
     for (place, one) in wanted.iter().enumerate() {
         if one.as_bytes() == text {
@@ -71,17 +70,18 @@ fn place_of(wanted: &[&str], text: &[u8]) -> usize {
     wanted.len()
 }
 
-/// That move over a device that fails after so many calls: the place of what is written, the status, and the failures.
+/// That move over a device that fails after this many calls: the place of what is written, the status, and the
+/// failures.
 fn moved_over_failing(alloc: Global, calls: u64) -> Result<(usize, u8, u64), Fault> {
     let rig = FailRig::new(formatted(alloc)?, calls);
     let (status, text, rig) = answered(alloc, MOVE, rig);
     Ok((place_of(FAILING, text.as_slice()), status, rig.failures()))
 }
 
-/// Each call of the device fails in turn: the answers are those above, in that order, and the status is 0 where none
+/// Each call of the device fails in turn. The answers are those above, in that order, and the status is 0 if no call
 /// failed.
 #[test]
-fn goes_on_over_a_device_that_failed(rt: HostRuntime) -> Result<(), Fail> {
+fn continues_over_a_device_that_failed(rt: HostRuntime) -> Result<(), Fail> {
     let whole = FAILING.len().saturating_sub(1);
     let mut last = 0;
     for calls in 0..400 {
@@ -98,7 +98,7 @@ fn goes_on_over_a_device_that_failed(rt: HostRuntime) -> Result<(), Fail> {
     Ok(())
 }
 
-/// A reader that gives a byte at a read, and fails after some reads.
+/// A reader that returns a byte at a read, and fails after some reads.
 #[derive(Drop)]
 struct Drip<'a> {
     bytes: &'a [u8],
@@ -118,7 +118,7 @@ impl Read for Drip<'_> {
     }
 }
 
-/// A writer that takes so many bytes, and then fails or takes none.
+/// A writer that accepts this many bytes, and then fails or accepts none.
 #[derive(Drop)]
 struct Full {
     taken: Vec<u8>,
@@ -148,10 +148,10 @@ impl Write for Full {
     }
 }
 
-/// Lines for a reader that fails, the last without its newline.
+/// Lines for a reader that fails, the last one without a newline.
 const DRIPPING: &str = "status\nmdi G0 X0.001\ntick 9\nquit";
 
-/// What is written of them where so many reads succeed.
+/// What is written for them if this many reads succeed.
 fn text_after(reads: usize) -> &'static str {
     if reads < 7 {
         ""
@@ -164,8 +164,8 @@ fn text_after(reads: usize) -> &'static str {
     }
 }
 
-/// A console whose reader fails after so many reads: its status, and whether what was asked before is answered.
-fn dripped(alloc: Global, reads: usize) -> Result<(u8, bool), Fault> {
+/// A console whose reader fails after this many reads: its status, and whether what was asked before is answered.
+fn read_in_part(alloc: Global, reads: usize) -> Result<(u8, bool), Fault> {
     let mut reader = Drip {
         bytes: DRIPPING.as_bytes(),
         reads_left: reads,
@@ -176,22 +176,26 @@ fn dripped(alloc: Global, reads: usize) -> Result<(u8, bool), Fault> {
     Ok((status, text.as_slice() == text_after(reads).as_bytes()))
 }
 
-/// The reader fails in mid-stream: what was asked before is answered whole, and the status is 2.
+/// The reader fails in the middle: what was asked before is answered in full, and the status is 2.
 #[test]
-fn ends_where_the_reader_fails(rt: HostRuntime) -> Result<(), Fail> {
+fn ends_when_the_reader_fails(rt: HostRuntime) -> Result<(), Fail> {
     for reads in 0..60 {
-        let (status, is_told) = dripped(rt.alloc(), reads)?;
-        // the end after the last line, which lacks its newline, is read too
+        let (status, is_told) = read_in_part(rt.alloc(), reads)?;
+        // the end after the last line, which has no newline, is read too
         assert_eq!(rt; (status == 2, is_told), (reads < 33, true), "{reads}");
     }
     Ok(())
 }
 
-/// What is written of a move by hand, where there is room.
+/// What is written for a move by hand, if there is room.
 const MOVED: &str = "begun\ndone 1\nidle\nticks 5\n";
 
-/// What is asked over a writer with so much room: the status, what is written, and the device.
-fn told_in_room(alloc: Global, lines: &str, room: usize) -> Result<(u8, Vec<u8>, Device), Fault> {
+/// What a console does with these lines over a writer with this much room: the status, what is written, and the device.
+fn written_in_room(
+    alloc: Global,
+    lines: &str,
+    room: usize,
+) -> Result<(u8, Vec<u8>, Device), Fault> {
     let mut reader = lines.as_bytes();
     let mut writer = Full {
         taken: Vec::new(alloc),
@@ -208,10 +212,10 @@ fn told_in_room(alloc: Global, lines: &str, room: usize) -> Result<(u8, Vec<u8>,
     Ok((status, taken, rig))
 }
 
-/// That move over a writer with so much room: the status, whether a beginning is written, its length, and the items
+/// That move over a writer with this much room: the status, whether a beginning is written, its length, and the items
 /// handed out.
 fn moved_in_room(alloc: Global, room: usize) -> Result<(u8, bool, usize, usize), Fault> {
-    let (status, text, rig) = told_in_room(alloc, "mdi G0 X0.002\ntick 9\nquit\n", room)?;
+    let (status, text, rig) = written_in_room(alloc, "mdi G0 X0.002\ntick 9\nquit\n", room)?;
     let items = rig.handed(rig.calls())?;
     Ok((
         status,
@@ -221,9 +225,9 @@ fn moved_in_room(alloc: Global, room: usize) -> Result<(u8, bool, usize, usize),
     ))
 }
 
-/// The writer fails in mid-stream: a beginning is written, nothing more is asked of the device, and the status is 2.
+/// The writer fails in the middle: a beginning is written, the device isn't called any more, and the status is 2.
 #[test]
-fn ends_where_the_writer_fails(rt: HostRuntime) -> Result<(), Fail> {
+fn ends_when_the_writer_fails(rt: HostRuntime) -> Result<(), Fail> {
     for room in 0..30 {
         let (status, is_beginning, length, items) = moved_in_room(rt.alloc(), room)?;
         let handed = if room < 6 { 0 } else { 2 };
@@ -239,19 +243,19 @@ fn ends_where_the_writer_fails(rt: HostRuntime) -> Result<(), Fail> {
 /// A program of two moves, of one pulse and of two, is stored and run.
 const TWO_MOVES: &str = "load 23\nG0 X0.001\nG0 X0.003\nM2\nstart\ntick 100\n";
 
-/// What is written of that up to the line of the second move: 13 bytes of `load` and `start`, and 7 after each move.
+/// What is written for that up to the line of the second move: 13 bytes for `load` and `start`, and 7 after each move.
 const BOTH_DONE: &str = "done 1\ngoing\ndone 2\ndone 3\n";
 
-/// What the status tells once power is on again, after the first move and after the second.
+/// What the status says once power is on again, after the first move and after the second.
 const BEHIND_MOVES: &[&str] = &[
     "status entries 2 place 10 at 0.001000 0.000000 0.000000 known half none idle\n",
     "status entries 3 place 20 at 0.003000 0.000000 0.000000 known half none idle\n",
 ];
 
-/// That over a writer with so much room: the status, whether a beginning is written, its length, the items handed out,
-/// and the place of what the status tells once power is on again.
+/// The same over a writer with this much room: the status, whether a beginning is written, its length, the items handed
+/// out, and the place of what the status says once power is on again.
 fn two_moves_in_room(alloc: Global, room: usize) -> Result<(u8, bool, usize, usize, usize), Fault> {
-    let (status, text, rig) = told_in_room(alloc, TWO_MOVES, room)?;
+    let (status, text, rig) = written_in_room(alloc, TWO_MOVES, room)?;
     let items = rig.handed(rig.calls())?;
     let (_, shown, _) = answered(alloc, "status\n", rig);
     Ok((
@@ -263,8 +267,8 @@ fn two_moves_in_room(alloc: Global, room: usize) -> Result<(u8, bool, usize, usi
     ))
 }
 
-/// The writer fails in the line of a move that is done: no tick is made after it, so the machine stands after that
-/// move.
+/// The writer fails in the line of a finished move: no tick is made after it, so the machine stays where that move
+/// ends.
 #[test]
 fn makes_no_tick_after_a_line_that_is_not_written(rt: HostRuntime) -> Result<(), Fail> {
     for room in 13..27 {

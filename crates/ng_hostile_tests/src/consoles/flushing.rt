@@ -1,4 +1,4 @@
-//! An answer is written through before the next command is read: an operator waits for it.
+//! An answer is flushed before the next command is read, since an operator waits for it.
 use crate::devices::{formatted, talk};
 use ng_num::Fault;
 use std::alloc::Global;
@@ -6,7 +6,7 @@ use std::cell::Cell;
 use std::io::{self, Read, Write};
 use std::test::Fail;
 
-/// A reader that gives a line at a read, and counts the reads before which something that was written wasn't flushed.
+/// A reader that returns a line at a read, and counts the reads at which something written wasn't flushed yet.
 #[derive(Drop)]
 struct Patient<'a> {
     lines: &'a [u8],
@@ -31,7 +31,7 @@ impl Read for Patient<'_> {
     }
 }
 
-/// A writer that counts the bytes that wait for a flush, and the flushes for which some did.
+/// A writer that counts the bytes that wait for a flush, and the flushes at which some did.
 #[derive(Drop)]
 struct Counting<'a> {
     unflushed: &'a Cell<usize>,
@@ -53,7 +53,7 @@ impl Write for Counting<'_> {
     }
 }
 
-/// Commands that are answered in eight lines.
+/// Commands with eight lines of answers.
 const COMMANDS: &[u8] = b"status\nmdi G0 X0.001\nhold\ntick 1\ncontinue\ntick 9\nfly\nquit\n";
 
 /// The status of a console over a fresh device; how many reads came too early, how many bytes were never flushed, and

@@ -22,9 +22,9 @@ const POWER_ON: usize = 92;
 /// How many it makes over a device of format 1.
 const MIGRATION: usize = 181;
 
-/// What is astray after a device failed.
+/// What is wrong after a device failed.
 #[derive(Clone, Copy, Debug, PartialEq, Eq)]
-pub enum Astray {
+pub enum Mismatch {
     /// The number of failures, or which event met the failure.
     Failures,
     /// A reply after it, or the status.
@@ -35,9 +35,9 @@ pub enum Astray {
     Standing,
 }
 
-/// A session over a device that failed a call: which event met the failure, from 1 on, 0 where it was power on, none
-/// where all went well; whether each event after it was refused and the status showed what stood before it; the
-/// failures; and the device.
+/// A session over a device that failed a call: which event met the failure, from 1 on, 0 for power on, none if all went
+/// well; whether each event after it was refused and the status showed the state before it; the failures; and the
+/// device.
 #[derive(Drop)]
 struct Played {
     met: Option<usize>,
@@ -46,8 +46,8 @@ struct Played {
     rig: Device,
 }
 
-/// Gives events until one meets a failure of the device: the number of that event, from 1 on, and what the status
-/// showed before it.
+/// Gives events until one meets a failure of the device. Returns the number of that event, from 1 on, and the status
+/// before it.
 fn met<R: Rig>(
     alloc: Global,
     controller: &mut Controller<R, Global>,
@@ -69,8 +69,8 @@ fn met<R: Rig>(
     Ok(None)
 }
 
-/// Whether each kind of event is refused since the device failed, and the status shows what it showed before, and that
-/// it did.
+/// Whether each kind of event is refused since the device failed, and whether the status shows what it showed before,
+/// and the failure.
 fn is_broken<R: Rig>(
     alloc: Global,
     controller: &mut Controller<R, Global>,
@@ -89,8 +89,8 @@ fn is_broken<R: Rig>(
     Ok(shown(controller) == Some(broken))
 }
 
-/// Gives events until one meets a failure, and each kind of event after that: which one met it, and whether all was
-/// refused then.
+/// Gives events until one meets a failure, and each kind of event after that. Returns which one met it, and whether all
+/// were refused then.
 fn meet<R: Rig>(
     alloc: Global,
     controller: &mut Controller<R, Global>,
@@ -103,7 +103,7 @@ fn meet<R: Rig>(
     }
 }
 
-/// Power on and these events over a device that fails the call after so many.
+/// Power on and these events over a device that fails the call after this many.
 fn play(
     alloc: Global,
     rig: Device,
@@ -133,7 +133,7 @@ fn play(
     }
 }
 
-/// What may stand once an event met a failure: what stood before it, or what stands after it.
+/// The states that are allowed once an event met a failure: the one before it and the one after it.
 #[derive(Drop)]
 struct Choice<'a> {
     rows: &'a [Row],
@@ -147,7 +147,7 @@ struct Choice<'a> {
 }
 
 impl<'a> Choice<'a> {
-    /// Of power on over a device that stands for this; both are the same.
+    /// For power on over a device that stands for this; both are the same.
     fn at_power_on(rows: &'a [Row], before: Standing) -> Result<Choice<'a>, AllocError> {
         let after = before.copy()?;
         Ok(Choice {
@@ -160,7 +160,7 @@ impl<'a> Choice<'a> {
         })
     }
 
-    /// Of power on over a device of format 1 that stands for this: until that is over, its settings' tools aren't
+    /// For power on over a device of format 1 that stands for this: until that is over, its settings' tools aren't
     /// stored.
     fn at_migration(rows: &'a [Row], before: Standing) -> Result<Choice<'a>, AllocError> {
         let mut choice = Choice::at_power_on(rows, before)?;
@@ -169,7 +169,7 @@ impl<'a> Choice<'a> {
         Ok(choice)
     }
 
-    /// Goes to the next event.
+    /// Goes on to the next event.
     fn go_on(&mut self) -> Result<(), Fault> {
         match self.event.checked_sub(1).and_then(|n| self.rows.get(n)) {
             Some((_, does, _)) => self.before.take(*does)?,
@@ -183,7 +183,7 @@ impl<'a> Choice<'a> {
         Ok(())
     }
 
-    /// Goes to a later event.
+    /// Goes on to a later event.
     fn go_to(&mut self, event: usize) -> Result<(), Fault> {
         for _ in self.event..event {
             self.go_on()?;
@@ -191,14 +191,14 @@ impl<'a> Choice<'a> {
         Ok(())
     }
 
-    /// Whether a session ended in this event, by the calls that it made: all before it, and less than all of its own,
-    /// or none where it only reads.
+    /// Whether a session ended in this event, judging by the calls that it made: all before the event, and fewer than
+    /// all of its own, or none if the event only reads.
     fn has_calls(&self, made: usize) -> bool {
         made >= self.calls && made.saturating_sub(self.calls) < self.own.max(1)
     }
 
-    /// Whether a device that is powered on stands for one of the two; for what stood before where nothing is kept that
-    /// wasn't synced, since an event that stores something ends with its sync.
+    /// Whether a device that is powered on stands for one of the two. If nothing is kept that wasn't synced, only for
+    /// the state before, since an event that stores something ends with its sync.
     fn is_standing(&self, alloc: Global, rig: Device) -> Result<bool, Fault> {
         let cut = found_on(alloc, cut(&rig)?)?;
         let found = found_on(alloc, rig)?;
@@ -208,8 +208,8 @@ impl<'a> Choice<'a> {
         )
     }
 
-    /// What is astray after a session that ended in this event.
-    fn astray(&self, alloc: Global, played: Played) -> Result<Option<Astray>, Fault> {
+    /// What is wrong after a session that ended in this event.
+    fn mismatch(&self, alloc: Global, played: Played) -> Result<Option<Mismatch>, Fault> {
         let Played {
             met: _,
             is_refused,
@@ -217,29 +217,29 @@ impl<'a> Choice<'a> {
             rig,
         } = played;
         if failures != 1 || !self.has_calls(rig.calls()) {
-            return Ok(Some(Astray::Failures));
+            return Ok(Some(Mismatch::Failures));
         }
         if !is_refused {
-            return Ok(Some(Astray::Later));
+            return Ok(Some(Mismatch::Later));
         }
         if rig.handed(usize::MAX)?.as_slice() != self.before.items() {
-            return Ok(Some(Astray::Items));
+            return Ok(Some(Mismatch::Items));
         }
         if !self.is_standing(alloc, rig)? {
-            return Ok(Some(Astray::Standing));
+            return Ok(Some(Mismatch::Standing));
         }
         Ok(None)
     }
 }
 
-/// The numbers of calls after which one fails, each in turn.
+/// The calls that fail in turn, by how many come before.
 #[derive(Clone, Copy)]
 struct Sweep {
     first: u64,
     last: u64,
 }
 
-/// Each call from so many on.
+/// Each call from this one on.
 fn each_from(first: u64) -> Sweep {
     Sweep {
         first,
@@ -247,11 +247,11 @@ fn each_from(first: u64) -> Sweep {
     }
 }
 
-/// What came of a sweep: how many calls a session makes that met no failure, none where each met one; or the first
-/// failure after which something is astray.
-type Swept = Result<Option<usize>, (u64, Astray)>;
+/// The result of a sweep: how many calls a session makes that met no failure, none if each met one; or the first
+/// failure after which something is wrong.
+type Swept = Result<Option<usize>, (u64, Mismatch)>;
 
-/// What comes of a sweep over this device.
+/// The result of a sweep over this device.
 fn swept(
     alloc: Global,
     rig: &Device,
@@ -266,8 +266,8 @@ fn swept(
             return Ok(Ok(Some(played.rig.calls())));
         };
         choice.go_to(event)?;
-        if let Some(astray) = choice.astray(alloc, played)? {
-            return Ok(Err((calls, astray)));
+        if let Some(mismatch) = choice.mismatch(alloc, played)? {
+            return Ok(Err((calls, mismatch)));
         }
         calls = calls.saturating_add(1);
         if calls > sweep.last {
@@ -277,19 +277,19 @@ fn swept(
     Err(Fault::Broken)
 }
 
-/// What comes of one over a new device.
+/// The result of a sweep over a new device.
 fn swept_of(alloc: Global, rows: &[Row], sweep: Sweep) -> Result<Swept, Fault> {
     swept_on(alloc, 1_710, rows, sweep)
 }
 
-/// What comes of one over a new device of so many sectors.
+/// The result of a sweep over a new device with this many sectors.
 fn swept_on(alloc: Global, sectors: usize, rows: &[Row], sweep: Sweep) -> Result<Swept, Fault> {
     let mut choice = Choice::at_power_on(rows, Standing::fresh_on(alloc, sectors)?)?;
     swept(alloc, &formatted_of(alloc, sectors)?, &mut choice, sweep)
 }
 
-/// How many calls power on over a new device makes: besides its writes and syncs, it reads two headers, a snapshot's 86
-/// sectors, two of tools and the log's first.
+/// How many calls power on over a new device makes: in addition to its writes and syncs, it reads two headers, a
+/// snapshot's 86 sectors, two of tools and the log's first.
 const POWERED_ON: u64 = 91 + POWER_ON as u64;
 
 /// Sessions over a new device, the first call that fails, and how many writes, syncs and hand-outs each makes.
@@ -330,7 +330,7 @@ pub fn half_done(alloc: Global, rows: &[Row]) -> Result<(Device, Standing), Faul
     Ok((cut(&played.rig)?, standing))
 }
 
-/// What comes of a sweep over a device on which these events opened a line, and then power was cut.
+/// The result of a sweep over a device on which these events opened a line, and then power was cut.
 fn swept_after_a_cut(
     alloc: Global,
     opened: &[Row],
@@ -343,7 +343,7 @@ fn swept_after_a_cut(
 }
 
 /// What opened a line, a session after the cut, the first call that fails, and how many writes, syncs and hand-outs the
-/// session makes. Power on makes one read more, since the log has a record.
+/// session makes. Power on makes one more read, since the log has a record.
 const SESSIONS_AFTER_A_CUT: &[(&[Row], &[Row], u64, usize)] = &[
     (BEFORE_A_CUT, AFTER_A_CUT, 0, 108),
     (BEFORE_A_CUT, GIVEN_UP, POWERED_ON + 1, 96),
@@ -366,7 +366,7 @@ fn each_call_after_a_cut(rt: HostRuntime) -> Result<(), Fail> {
     Ok(())
 }
 
-/// What comes of one over a device of format 1 whose log is full and whose half-done line goes on.
+/// The result of a sweep over a device of format 1 whose log is full and whose half-done line is resumed.
 fn swept_in_migration(alloc: Global) -> Result<Swept, Fault> {
     let (rig, before) = of_format_1(alloc, FILLING)?;
     let mut choice = Choice::at_migration(AFTER_A_MIGRATION, before)?;
@@ -379,8 +379,8 @@ fn each_call_of_a_migration(rt: HostRuntime) -> Result<(), Fail> {
     Ok(())
 }
 
-/// How many calls come before this of the moves that fill the log: those of power on, two of the entry before them, and
-/// five of each.
+/// How many calls come before this one of the moves that fill the log: those of power on, two of the entry before them,
+/// and five of each.
 fn calls_before_move(number: u64) -> u64 {
     let moves = number.saturating_sub(1);
     POWERED_ON
@@ -388,7 +388,7 @@ fn calls_before_move(number: u64) -> u64 {
         .saturating_add(moves.saturating_mul(5))
 }
 
-/// What comes of a sweep from this of the moves that fill the log up to another, or to the session's end.
+/// The result of a sweep from this one of the moves that fill the log up to another, or to the session's end.
 fn swept_from_move(alloc: Global, first: u64, next: Option<u64>) -> Result<Swept, Fault> {
     let rows = filling_the_log(alloc)?;
     let first = if first == 1 {
@@ -421,21 +421,22 @@ fn each_call_of_moves_363_to_443(rt: HostRuntime) -> Result<(), Fail> {
     Ok(())
 }
 
-/// Before the entry of the last move, the 510th, what stands is written anew.
+/// Before the entry of the last move, the 510th, the state is written anew.
 #[test]
 fn each_call_from_move_444_on(rt: HostRuntime) -> Result<(), Fail> {
     assert_eq!(rt; swept_from_move(rt.alloc(), 444, None), Ok(Ok(Some(2_735))));
     Ok(())
 }
 
-/// What is found once an event met a failure: the items that were handed out before it; and once power is on anew, the
-/// entries, the place, whether it is known where the machine stands, and the half-done block.
+/// What is found once an event met a failure: the items that were handed out before it; and once power is on again, the
+/// entries, the place, whether the machine's position is known, and the half-done block.
 type Shown = (usize, u64, u64, bool, Option<HalfShown>);
 
 /// Events, after how many calls one fails, the number of the event that meets it, and what is found then. Power on
-/// makes 183 calls. An item isn't handed out: the first of a line, which two calls open. A line isn't read: a load
-/// makes 93 calls, and the first tick after it reads three lines, of which the second or the third fails; five calls
-/// later the tick that begins the second line reads the fourth and the fifth, of which either fails.
+/// makes 183 calls. In the first row an item isn't handed out: the first of a line, which two calls open. In the others
+/// a line isn't read: a load makes 93 calls, and the first tick after it reads three lines, of which the second or the
+/// third fails; five calls later the tick that begins the second line reads the fourth and the fifth, of which either
+/// fails.
 const MET: &[(&[Row], u64, usize, Shown)] = &[
     (
         BEFORE_A_CUT,
@@ -458,7 +459,7 @@ const MET: &[(&[Row], u64, usize, Shown)] = &[
     (READ_AHEAD, 285, 7, (1, 2, 10, true, None)),
 ];
 
-/// The number of the event that meets a failure after so many calls, and what is found then.
+/// The number of the event that meets a failure after this many calls, and what is found then.
 fn shown_where_met(
     alloc: Global,
     rows: &[Row],

@@ -1,4 +1,4 @@
-//! A load that finds no memory.
+//! A load without memory for it.
 use crate::devices::{formatted_of, give, rig_of, shown, started};
 use crate::failures::counting::Counting;
 use crate::rows::{Order, event_of};
@@ -9,13 +9,13 @@ use std::alloc::{AllocError, Global};
 use std::cell::Cell;
 use std::test::Fail;
 
-/// The bytes of a heap: power on finds its memory there.
+/// The bytes of a heap: enough for power on.
 const HEAP: usize = 400_000;
 
 /// A controller over a heap, and a device that counts its calls.
 type Machine<'c, 'h> = Controller<Counting<'c>, &'h LocalHeap>;
 
-/// Blocks that take all of a heap, but less than a thousand bytes that follow one another.
+/// Blocks that use a whole heap, except less than a thousand consecutive bytes.
 fn blocks(alloc: Global, heap: &LocalHeap) -> Result<Vec<Vec<u8, &LocalHeap>>, AllocError> {
     let mut blocks = Vec::new(alloc);
     for _ in 0..HEAP {
@@ -27,7 +27,7 @@ fn blocks(alloc: Global, heap: &LocalHeap) -> Result<Vec<Vec<u8, &LocalHeap>>, A
     Ok(blocks)
 }
 
-/// What a load is answered once the heap is full, and again once it isn't; whether the first shows nowhere; and the
+/// The replies to a load while the heap is full, and again when it isn't; whether the first has no effect; and the
 /// calls after both.
 fn answers<'h>(
     alloc: Global,
@@ -46,7 +46,7 @@ fn answers<'h>(
     Ok(([refused, done], is_same, calls.get()))
 }
 
-/// That over a new device of so many sectors.
+/// The same over a new device with this many sectors.
 fn answered(alloc: Global, sectors: usize) -> Result<([Reply; 2], bool, [u64; 2]), Fault> {
     let calls = Cell::new([0, 0]);
     let heap = LocalHeap::new(alloc, HEAP)?;
@@ -57,8 +57,8 @@ fn answered(alloc: Global, sectors: usize) -> Result<([Reply; 2], bool, [u64; 2]
     answers
 }
 
-/// What has to be answered. Power on makes 91 reads and 92 other calls, the load that is refused none, and the same load
-/// once more 93.
+/// The expected result. Power on makes 91 reads and 92 other calls, the load that is refused none, and the same load
+/// again 93.
 fn wanted() -> ([Reply; 2], bool, [u64; 2]) {
     let replies = [Reply::Refused(Fault::OutOfMemory), Reply::Done(1)];
     (replies, true, [91, 185])

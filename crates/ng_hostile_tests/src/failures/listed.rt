@@ -1,4 +1,4 @@
-//! A list of events that finds no memory for its replies.
+//! A list of events without memory for its replies.
 use crate::devices::{Device, formatted, give_all, rig_of, shown, started};
 use linked_list_allocator::LocalHeap;
 use ng_core::{Controller, Event};
@@ -6,10 +6,10 @@ use ng_num::Fault;
 use std::alloc::Global;
 use std::test::Fail;
 
-/// The bytes of a heap: power on finds its memory there, and a list of many replies doesn't.
+/// The bytes of a heap: enough for power on, but not for a list of many replies.
 const HEAP: usize = 400_000;
 
-/// So many holds of the feed.
+/// This many feed holds.
 fn holds<'h>(alloc: Global, count: usize) -> Result<Vec<Event<&'h LocalHeap>>, Fault> {
     let mut events = Vec::with_capacity(alloc, count)?;
     for _ in 0..count {
@@ -18,7 +18,7 @@ fn holds<'h>(alloc: Global, count: usize) -> Result<Vec<Event<&'h LocalHeap>>, F
     Ok(events)
 }
 
-/// What lists of so many holds are answered, one after the other, and whether each shows nowhere.
+/// The results for lists of this many holds, one after the other, and whether each has no effect.
 fn answers<'h>(
     alloc: Global,
     controller: &mut Controller<Device, &'h LocalHeap>,
@@ -36,7 +36,7 @@ fn answers<'h>(
     ))
 }
 
-/// That over a heap, and how many calls but reads the device took.
+/// The same over a heap, and how many calls other than reads the device got.
 fn answered(alloc: Global, counts: [usize; 2]) -> Result<([Option<Fault>; 2], bool, usize), Fault> {
     let heap = LocalHeap::new(alloc, HEAP)?;
     let mut controller = started(&heap, formatted(alloc)?)?;

@@ -1,9 +1,9 @@
-//! Which events read lines of the program, and how many. A tick that begins a line reads two more at most, so that up
+//! Which events read lines of the program, and how many. A tick that begins a line reads at most two more, so that up
 //! to 16 wait.
 use crate::devices::{Device, formatted, give, rig_of, started};
 use crate::failures::counting::Counting;
 use crate::failures::failing::half_done;
-use crate::rows::{Does, Order, Row, begins_a_line, entries_after, event_of, goes_on, reply_to};
+use crate::rows::{Does, Order, Row, begins_a_line, entries_after, event_of, reply_to, resumes};
 use crate::scripts::{
     AFTER_A_CUT_OF_A_PROGRAM, BEFORE_A_CUT_OF_A_PROGRAM, READ_AHEAD, STORED_AND_RUN, many_lines,
 };
@@ -16,12 +16,12 @@ use std::test::Fail;
 /// A controller over a device that counts its calls.
 type Machine<'a> = Controller<Counting<'a>, Global>;
 
-/// Whether an event may read the program: a tick that begins a line, and a half-done line that goes on.
+/// Whether an event may read the program: a tick that begins a line, or a half-done line that is resumed.
 fn may_read(order: Order, does: Does) -> bool {
-    begins_a_line(order, does) || goes_on(order, does)
+    begins_a_line(order, does) || resumes(order, does)
 }
 
-/// How many reads an event makes that is answered as it should be.
+/// How many reads an event makes, if its reply is as it should be.
 fn reads_of(
     alloc: Global,
     controller: &mut Machine<'_>,
@@ -37,7 +37,7 @@ fn reads_of(
     Ok(calls.get()[0].saturating_sub(before))
 }
 
-/// How many reads each event makes that may read the program, where all others make none.
+/// How many reads each event makes that may read the program, if all others make none.
 fn reads(
     alloc: Global,
     controller: &mut Machine<'_>,
@@ -60,7 +60,7 @@ fn reads(
     Ok(reads)
 }
 
-/// That over this device, on which so many entries stand.
+/// The same over this device, which has this many entries.
 fn reads_over(alloc: Global, rig: Device, rows: &[Row], entries: u64) -> Result<Vec<u64>, Fault> {
     let calls = Cell::new([0, 0]);
     let mut controller = started(alloc, Counting::new(rig, &calls))?;
@@ -69,7 +69,7 @@ fn reads_over(alloc: Global, rig: Device, rows: &[Row], entries: u64) -> Result<
     reads
 }
 
-/// That over a new device.
+/// The same over a new device.
 fn reads_of_all(alloc: Global, rows: &[Row]) -> Result<Vec<u64>, Fault> {
     reads_over(alloc, formatted(alloc)?, rows, 0)
 }
@@ -89,7 +89,7 @@ fn lines_are_read_before_they_are_begun(rt: HostRuntime) -> Result<(), Fail> {
 }
 
 /// The reads of the ticks that begin 34 lines: the first reads three, the next 14 two each, until 16 lines wait; then
-/// each reads one, for the one that it takes, up to the program's end.
+/// each reads one, to replace the one that it begins, up to the program's end.
 const OF_MANY_LINES: &[u64] = &[
     3, 2, 2, 2, 2, 2, 2, 2, 2, 2, 2, 2, 2, 2, 2, 1, 1, 1, 0, 0, 0, 0, 0, 0, 0, 0, 0, 0, 0, 0, 0, 0,
     0, 0,
@@ -114,8 +114,8 @@ fn reads_after_a_cut(alloc: Global) -> Result<Vec<u64>, Fault> {
     reads_over(alloc, rig, AFTER_A_CUT_OF_A_PROGRAM, standing.entries())
 }
 
-/// A half-done line that goes on is read, for where the next one begins. That one is read as it is begun, after what
-/// comes before it.
+/// A half-done line that is resumed is read, to find where the next one begins. That one is read when it begins, after
+/// what comes before it.
 #[test]
 fn a_half_done_line_and_the_one_after_it_are_read(rt: HostRuntime) -> Result<(), Fail> {
     let Ok(reads) = reads_after_a_cut(rt.alloc()) else {

@@ -9,7 +9,7 @@ use std::cell::Cell;
 use std::test::Fail;
 
 /// A device's sectors and the bytes of a program; how many writes and syncs its load makes: a write for each 512 bytes,
-/// and 92 calls more. None where it is refused, since the device has no room for it.
+/// and 92 more calls. None if it is refused because the device has no room for it.
 const PROGRAMS: &[(usize, usize, Option<u64>)] = &[
     (1_710, 131_072, Some(348)),
     (1_710, 131_073, None),
@@ -21,15 +21,15 @@ const PROGRAMS: &[(usize, usize, Option<u64>)] = &[
     (5_806, 1_048_577, None),
 ];
 
-/// A load of so many bytes, all of them line ends.
+/// A load of this many bytes, all of them line ends.
 fn load_of(alloc: Global, length: usize) -> Result<Event<Global>, AllocError> {
     let mut text = Vec::new(alloc);
     text.resize(length, b'\n')?;
     Ok(Event::Load(Text::of(text)))
 }
 
-/// What a load is answered, and whether it shows nowhere; the calls after it; what the load of `M2` after it is
-/// answered, and the calls after that.
+/// The reply to a load, and whether it has no effect; the calls after it; the reply to a load of `M2` after it, and the
+/// calls after that.
 type Answered = (Reply, bool, [u64; 2], Reply, [u64; 2]);
 
 fn answers(
@@ -46,7 +46,7 @@ fn answers(
     Ok((first, is_same, made, second, calls.get()))
 }
 
-/// That over a new device of so many sectors.
+/// The same over a new device with this many sectors.
 fn answered(alloc: Global, sectors: usize, length: usize) -> Result<Answered, Fault> {
     let calls = Cell::new([0, 0]);
     let rig = Counting::new(formatted_of(alloc, sectors)?, &calls);
@@ -56,8 +56,8 @@ fn answered(alloc: Global, sectors: usize, length: usize) -> Result<Answered, Fa
     answers
 }
 
-/// What has to be answered where the load makes so many calls, or is refused. Power on makes 91 reads and 92 other
-/// calls, and a load of one sector 93.
+/// The expected result if the load makes this many calls, or is refused. Power on makes 91 reads and 92 other calls,
+/// and a load of one sector 93.
 fn wanted(calls: Option<u64>) -> Answered {
     let made = 92u64.saturating_add(calls.unwrap_or(0));
     let (first, second) = match calls {

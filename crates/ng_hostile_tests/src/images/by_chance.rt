@@ -1,9 +1,8 @@
-//! Images that were changed by chance: bytes, numbers and whole sectors, swapped, doubled, lost, or as they were long
-//! before.
+//! Images with random changes: bytes, numbers and whole sectors, swapped, copied, lost, or as they were long before.
 use crate::devices::{Device, LARGE, copy_of};
 use crate::images::chance::Chance;
 use crate::images::generations::generations;
-use crate::images::powered::{Astray, Outcome, outcome_of};
+use crate::images::powered::{Mismatch, Outcome, outcome_of};
 use crate::sectors::{GREATEST, number_at, put, sector_of, store, sync};
 use ng_num::Fault;
 use std::alloc::Global;
@@ -16,7 +15,7 @@ const SECTORS: &[usize] = &[
     692, 693, 694, 695, 696, 697, 698, 699, 700, 1_705, 1_706, 1_707, 1_708, 1_709,
 ];
 
-/// Epochs that a header or a part is given.
+/// Epochs that are written to a header or a part.
 const EPOCHS: &[u64] = &[
     u64::MAX,
     0,
@@ -47,7 +46,7 @@ fn any_sector(chance: &mut Chance) -> usize {
     SECTORS.get(place).copied().unwrap_or(0)
 }
 
-/// Makes up to eight bytes that follow one another, anywhere, any bytes.
+/// Changes up to eight consecutive bytes, anywhere, to any bytes.
 fn spoil(chance: &mut Chance, sector: &mut [u8; 512]) {
     let at = chance.below(512);
     let end = at.saturating_add(chance.below(8));
@@ -58,7 +57,7 @@ fn spoil(chance: &mut Chance, sector: &mut [u8; 512]) {
     }
 }
 
-/// Makes a byte of what fields name a small number, or one more or less than it was.
+/// Changes a byte of what fields name to a small number, or to one more or less than it was.
 fn nudge(chance: &mut Chance, sector: &mut [u8; 512]) {
     let at = chance.below(240);
     if let Some(byte) = sector.get_mut(at) {
@@ -70,7 +69,7 @@ fn nudge(chance: &mut Chance, sector: &mut [u8; 512]) {
     }
 }
 
-/// Makes the epoch of a header another, or its format, or a byte of one of its fields.
+/// Changes the epoch of a header, or its format, or a byte of one of its fields.
 fn change_header(chance: &mut Chance, header: &mut [u8; 512]) {
     let place = chance.below(EPOCHS.len());
     let at = chance.below(40);
@@ -81,20 +80,20 @@ fn change_header(chance: &mut Chance, header: &mut [u8; 512]) {
     }
 }
 
-/// Makes each byte any byte.
+/// Changes each byte to any byte.
 fn scatter(chance: &mut Chance, sector: &mut [u8; 512]) {
     for byte in sector {
         *byte = chance.byte();
     }
 }
 
-/// Makes the epoch of a part another.
+/// Changes the epoch of a part.
 fn date(chance: &mut Chance, sector: &mut [u8; 512]) {
     let place = chance.below(EPOCHS.len());
     put(sector, 0, 8, EPOCHS.get(place).copied().unwrap_or(0));
 }
 
-/// Numbers that stand before and after a state field, in a part of the log or a snapshot: their bytes and widths.
+/// Numbers before and after a state field, in a part of the log or a snapshot: their bytes and widths.
 const NUMBERS: &[(usize, usize)] = &[
     (0, 8),
     (8, 8),
@@ -106,7 +105,7 @@ const NUMBERS: &[(usize, usize)] = &[
     (496, 8),
 ];
 
-/// Makes one of them a small one, or one more.
+/// Changes one of them to a small one, or to one more.
 fn renumber(chance: &mut Chance, sector: &mut [u8; 512]) {
     let place = chance.below(NUMBERS.len());
     let (at, width) = NUMBERS.get(place).copied().unwrap_or((0, 8));
@@ -131,8 +130,8 @@ fn change_sector(chance: &mut Chance, sector: &mut [u8; 512]) {
     }
 }
 
-/// Makes a change of an image: two sectors change places, or one is as it was on an older one there or elsewhere, or is
-/// a double of another, or a header or any sector is changed alone.
+/// Makes one change of an image: two sectors are swapped, or one becomes what an older image has there or elsewhere, or
+/// a copy of another, or only a header or some sector is changed.
 fn change(chance: &mut Chance, rig: &mut Device, older: &mut Device) -> Result<(), Fault> {
     let here = any_sector(chance);
     let there = any_sector(chance);
@@ -159,7 +158,7 @@ fn change(chance: &mut Chance, rig: &mut Device, older: &mut Device) -> Result<(
     }
 }
 
-/// An image that stood at some time, with some changes; what an older one had may come back.
+/// An image from some time, with some changes, which may bring back what an older image had.
 fn changed(chance: &mut Chance, all: &mut Vec<Device>) -> Result<Device, Fault> {
     let place = chance.below(all.len());
     let before = chance.below(all.len());
@@ -176,7 +175,7 @@ fn changed(chance: &mut Chance, all: &mut Vec<Device>) -> Result<Device, Fault> 
     Ok(rig)
 }
 
-/// How often each came.
+/// How often each outcome came.
 #[derive(Clone, Copy, Debug, PartialEq, Eq)]
 struct Tally {
     recovered: u64,
@@ -187,8 +186,8 @@ struct Tally {
 }
 
 impl Tally {
-    /// Counts an outcome; what isn't as it has to be, if something is.
-    fn count(&mut self, outcome: Outcome) -> Option<Astray> {
+    /// Counts an outcome. Returns what isn't as it has to be, if anything.
+    fn count(&mut self, outcome: Outcome) -> Option<Mismatch> {
         let counted = match outcome {
             Outcome::Recovered => &mut self.recovered,
             Outcome::Migrated => &mut self.migrated,
@@ -196,13 +195,13 @@ impl Tally {
             Outcome::Damaged => &mut self.damaged,
             Outcome::CountersUsed => &mut self.counters_used,
             Outcome::Ahead => return None,
-            Outcome::Astray(astray) => return Some(astray),
+            Outcome::Mismatch(mismatch) => return Some(mismatch),
         };
         *counted = counted.saturating_add(1);
         None
     }
 
-    /// Whether none of them is rare, of this part of a quarter of ten thousand images.
+    /// Whether none of them is rare, in this part of a quarter of ten thousand images.
     fn has_each(&self, part: u64) -> bool {
         self.recovered.saturating_mul(part) >= 500
             && self.migrated.saturating_mul(part) >= 100
@@ -215,18 +214,18 @@ impl Tally {
 /// A quarter of ten thousand images.
 const IMAGES: u64 = 2_500;
 
-/// The first of so many images that went astray, and how; and how often each answer came.
-fn outcomes(alloc: Global, seed: u64) -> Result<(Option<(u64, Astray)>, Tally), Fault> {
+/// The first of this many images for which something is wrong, and what; and how often each outcome came.
+fn outcomes(alloc: Global, seed: u64) -> Result<(Option<(u64, Mismatch)>, Tally), Fault> {
     outcomes_of(alloc, seed, 1_710, IMAGES)
 }
 
-/// The same of so many images of devices of so many sectors.
+/// The same for this many images of devices with this many sectors.
 fn outcomes_of(
     alloc: Global,
     seed: u64,
     sectors: usize,
     images: u64,
-) -> Result<(Option<(u64, Astray)>, Tally), Fault> {
+) -> Result<(Option<(u64, Mismatch)>, Tally), Fault> {
     let mut chance = Chance::new(seed);
     let mut all = generations(alloc, sectors)?;
     let mut tally = Tally {
@@ -238,8 +237,8 @@ fn outcomes_of(
     };
     for image in 0..images {
         let rig = changed(&mut chance, &mut all)?;
-        if let Some(astray) = tally.count(outcome_of(alloc, rig)?) {
-            return Ok((Some((image, astray)), tally));
+        if let Some(mismatch) = tally.count(outcome_of(alloc, rig)?) {
+            return Ok((Some((image, mismatch)), tally));
         }
     }
     Ok((None, tally))
@@ -247,42 +246,42 @@ fn outcomes_of(
 
 #[test]
 fn images_of_the_first_seed(rt: HostRuntime) -> Result<(), Fail> {
-    let (astray, tally) = outcomes(rt.alloc(), 0x9e37_79b9_7f4a_7c15)?;
-    assert_eq!(rt; astray, None);
+    let (mismatch, tally) = outcomes(rt.alloc(), 0x9e37_79b9_7f4a_7c15)?;
+    assert_eq!(rt; mismatch, None);
     assert!(rt; tally.has_each(1), "{tally:?}");
     Ok(())
 }
 
 #[test]
 fn images_of_the_second_seed(rt: HostRuntime) -> Result<(), Fail> {
-    let (astray, tally) = outcomes(rt.alloc(), 0xd1b5_4a32_d192_ed03)?;
-    assert_eq!(rt; astray, None);
+    let (mismatch, tally) = outcomes(rt.alloc(), 0xd1b5_4a32_d192_ed03)?;
+    assert_eq!(rt; mismatch, None);
     assert!(rt; tally.has_each(1), "{tally:?}");
     Ok(())
 }
 
 #[test]
 fn images_of_the_third_seed(rt: HostRuntime) -> Result<(), Fail> {
-    let (astray, tally) = outcomes(rt.alloc(), 0x2545_f491_4f6c_dd1d)?;
-    assert_eq!(rt; astray, None);
+    let (mismatch, tally) = outcomes(rt.alloc(), 0x2545_f491_4f6c_dd1d)?;
+    assert_eq!(rt; mismatch, None);
     assert!(rt; tally.has_each(1), "{tally:?}");
     Ok(())
 }
 
 #[test]
 fn images_of_the_fourth_seed(rt: HostRuntime) -> Result<(), Fail> {
-    let (astray, tally) = outcomes(rt.alloc(), 0x0123_4567_89ab_cdef)?;
-    assert_eq!(rt; astray, None);
+    let (mismatch, tally) = outcomes(rt.alloc(), 0x0123_4567_89ab_cdef)?;
+    assert_eq!(rt; mismatch, None);
     assert!(rt; tally.has_each(1), "{tally:?}");
     Ok(())
 }
 
-/// A tenth of that on large devices, whose programs are in areas 2 and 3.
+/// A tenth of that for large devices, whose programs are in areas 2 and 3.
 #[test]
 fn images_of_large_devices(rt: HostRuntime) -> Result<(), Fail> {
     let seed = 0x5851_f42d_4c95_7f2d;
-    let (astray, tally) = outcomes_of(rt.alloc(), seed, LARGE, IMAGES / 10)?;
-    assert_eq!(rt; astray, None);
+    let (mismatch, tally) = outcomes_of(rt.alloc(), seed, LARGE, IMAGES / 10)?;
+    assert_eq!(rt; mismatch, None);
     assert!(rt; tally.has_each(10), "{tally:?}");
     Ok(())
 }

@@ -1,13 +1,13 @@
-//! Numbers that look as if by chance: from one seed always the same.
+//! Pseudo-random numbers, always the same for the same seed.
 
-/// A row of such numbers (Marsaglia's shift register).
+/// A sequence of such numbers (Marsaglia's xorshift).
 #[derive(Drop)]
 pub struct Chance {
     last: u64,
 }
 
 impl Chance {
-    /// The row of this seed, which isn't 0.
+    /// The sequence for this seed, which isn't 0.
     pub fn new(seed: u64) -> Chance {
         Chance { last: seed }
     }

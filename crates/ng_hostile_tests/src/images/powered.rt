@@ -1,5 +1,5 @@
-//! What a changed image stands for, by its headers alone, and whether power on answers so; what was found then is found
-//! again.
+//! What a changed image stands for, judging by its headers alone, and whether power on agrees; and that what was found
+//! is found again.
 use crate::devices::{Device, LARGE, powered, recovered, rig_of, shown};
 use crate::sectors::{GREATEST, number_at, put, sector_of};
 use crate::standing::is_same_table;
@@ -19,24 +19,24 @@ pub enum Outcome {
     NotFormatted,
     Damaged,
     CountersUsed,
-    /// Recovered, though the log begins with a part of an epoch to come, which no device has that this controller
-    /// formatted. Once that epoch is in force the part counts, so what is found again may be another state.
+    /// Recovered, although the log begins with a part of an epoch to come. No device that this controller formatted has
+    /// one. Once that epoch is in force the part counts, so what is found again may be another state.
     Ahead,
-    Astray(Astray),
+    Mismatch(Mismatch),
 }
 
 /// What isn't as it has to be.
 #[derive(Clone, Copy, Debug, PartialEq, Eq)]
-pub enum Astray {
+pub enum Mismatch {
     /// The number of calls.
     Calls,
     /// The epoch of the header in force.
     Epoch,
-    /// The name by which an image is refused.
+    /// The fault with which an image is refused.
     Name,
-    /// The name by which it is refused again.
+    /// The fault with which it is refused again.
     Again,
-    /// The tools that an image of format 1 is given.
+    /// The tools of an image of format 1 after power on.
     Tools,
     /// The state that is found again.
     State,
@@ -46,7 +46,7 @@ pub enum Astray {
     Status,
 }
 
-/// Whether a header's program area and length are within their limits, on a device of so many sectors.
+/// Whether a header's program area and length are within their limits, on a device with this many sectors.
 fn names_a_program(sector: &[u8; 512], sectors: usize) -> bool {
     let length = number_at(sector, 32, 8);
     match number_at(sector, 24, 8) {
@@ -56,7 +56,7 @@ fn names_a_program(sector: &[u8; 512], sectors: usize) -> bool {
     }
 }
 
-/// The epoch and the format of a header, if it is valid in this sector of a device of so many.
+/// The epoch and the format of a header, if it is valid in this sector of a device with this many sectors.
 fn epoch_and_format(sector: &[u8; 512], place: u64, sectors: usize) -> Option<(u64, u64)> {
     let format = number_at(sector, 8, 4);
     let epoch = number_at(sector, 16, 8);
@@ -74,7 +74,7 @@ fn epoch_and_format(sector: &[u8; 512], place: u64, sectors: usize) -> Option<(u
     }
 }
 
-/// The greatest epoch of a valid header, and the format of that one; epoch 0 where none is valid.
+/// The greatest epoch of a valid header, and the format of that header; epoch 0 if none is valid.
 fn in_force(rig: &mut Device) -> (u64, u64) {
     let sectors = rig.size();
     let even = epoch_and_format(&sector_of(rig, 0), 0, sectors).unwrap_or((0, 0));
@@ -82,7 +82,7 @@ fn in_force(rig: &mut Device) -> (u64, u64) {
     if even.0 > odd.0 { even } else { odd }
 }
 
-/// How many epochs a power on takes over this format.
+/// How many epochs a power on uses over this format.
 fn epochs(format: u64) -> u64 {
     if format == 1 { 2 } else { 1 }
 }
@@ -92,7 +92,7 @@ fn calls(format: u64) -> usize {
     if format == 1 { 181 } else { 92 }
 }
 
-/// The header of this epoch, as another epoch would have it.
+/// The header of this epoch, as it would be for another epoch.
 fn header_as_of(rig: &mut Device, epoch: u64, other: u64) -> [u8; 512] {
     let mut header = sector_of(rig, if epoch % 2 == 0 { 0 } else { 1 });
     put(&mut header, 16, 8, other);
@@ -129,7 +129,7 @@ fn is_same(one: &Stored<Global>, other: &Stored<Global>) -> Result<bool, AllocEr
     )
 }
 
-/// What the status shows of a state.
+/// The status for a state.
 fn status_of(stored: &Stored<Global>) -> Status {
     let machine = &stored.state.machine;
     let (point, point_known, half) = match &stored.half {
@@ -166,18 +166,18 @@ fn is_shown(alloc: Global, rig: Device, epoch: u64, stored: &Stored<Global>) -> 
     }
 }
 
-/// What isn't so of a device that was powered on, and so is of format 2 under this epoch: it gives this state again,
-/// under the next epoch and with the same program.
-fn stands_not(
+/// What is wrong with a device that was powered on, which has to be of format 2 under this epoch: it has to stand for
+/// this state again, under the next epoch and with the same program.
+fn recovered_mismatch(
     alloc: Global,
     rig: Device,
     epoch: u64,
     stored: &Stored<Global>,
-) -> Result<Option<Astray>, AllocError> {
+) -> Result<Option<Mismatch>, AllocError> {
     let mut rig = rig;
     let next = epoch.saturating_add(1);
     if in_force(&mut rig) != (epoch, 2) {
-        return Ok(Some(Astray::Epoch));
+        return Ok(Some(Mismatch::Epoch));
     }
     let wanted = header_as_of(&mut rig, epoch, next);
     let (again, mut rig) = match recovered(alloc, rig) {
@@ -185,45 +185,45 @@ fn stands_not(
         Err((fault, _)) => return Ok(not_used_up(fault, epoch)),
     };
     if header_as_of(&mut rig, next, next) != wanted {
-        return Ok(Some(Astray::Header));
+        return Ok(Some(Mismatch::Header));
     }
     if !is_same(stored, &again)? {
-        return Ok(Some(Astray::State));
+        return Ok(Some(Mismatch::State));
     }
     Ok(if is_shown(alloc, rig, next, &again) {
         None
     } else {
-        Some(Astray::Status)
+        Some(Mismatch::Status)
     })
 }
 
-/// What isn't so of a refusal that may come under the last epoch alone, since that is used up.
-fn not_used_up(fault: Fault, epoch: u64) -> Option<Astray> {
+/// What is wrong with a refusal that is allowed only under the last epoch, since the epochs are used up.
+fn not_used_up(fault: Fault, epoch: u64) -> Option<Mismatch> {
     if fault == Fault::CountersUsed && epoch == GREATEST {
         None
     } else {
-        Some(Astray::Again)
+        Some(Mismatch::Again)
     }
 }
 
-/// What a refusal comes to where the header in force has this epoch, 0 for none, and this format.
+/// The outcome for a refusal if the header in force has this epoch, 0 for none, and this format.
 fn refusal(fault: Fault, epoch: u64, format: u64) -> Outcome {
     let is_used_up = epoch.saturating_add(epochs(format)) > GREATEST;
     match fault {
         Fault::NotFormatted if epoch == 0 => Outcome::NotFormatted,
         Fault::Damaged if epoch != 0 => Outcome::Damaged,
         Fault::CountersUsed if is_used_up => Outcome::CountersUsed,
-        _ => Outcome::Astray(Astray::Name),
+        _ => Outcome::Mismatch(Mismatch::Name),
     }
 }
 
-/// Whether an image of this format, of which this is recovered, was given the tools that it should be: of format 1
-/// those of the settings.
+/// Whether an image of this format, from which this was recovered, has the right tools: in format 1 those of the
+/// settings.
 fn has_tools(format: u64, stored: &Stored<Global>) -> bool {
     format != 1 || is_same_table(&stored.tools, &Settings::standard().tools)
 }
 
-/// What is recovered from an image of this format, which is under this epoch then.
+/// The outcome of recovering an image of this format, which is under this epoch then.
 fn recovery(
     alloc: Global,
     rig: Device,
@@ -231,27 +231,27 @@ fn recovery(
     stored: &Stored<Global>,
 ) -> Result<Outcome, AllocError> {
     if !has_tools(format, stored) {
-        return Ok(Outcome::Astray(Astray::Tools));
+        return Ok(Outcome::Mismatch(Mismatch::Tools));
     }
-    Ok(match stands_not(alloc, rig, epoch, stored)? {
+    Ok(match recovered_mismatch(alloc, rig, epoch, stored)? {
         None if format == 1 => Outcome::Migrated,
         None => Outcome::Recovered,
-        Some(astray) => Outcome::Astray(astray),
+        Some(mismatch) => Outcome::Mismatch(mismatch),
     })
 }
 
-/// What comes of an image that is recovered, whose log begins with a part of an epoch to come or not.
+/// The outcome for an image that is recovered, whose log may begin with a part of an epoch to come.
 fn unless_ahead(outcome: Outcome, is_ahead: bool) -> Outcome {
     match outcome {
-        Outcome::Astray(Astray::Again | Astray::State | Astray::Status) if is_ahead => {
+        Outcome::Mismatch(Mismatch::Again | Mismatch::State | Mismatch::Status) if is_ahead => {
             Outcome::Ahead
         }
         _ => outcome,
     }
 }
 
-/// What power on makes of an image. It makes one call where it refuses it, and refuses it again; and where it recovers
-/// it 92, of format 1 181.
+/// What power on does with an image. It makes one call if it refuses the image, and refuses it again; if it recovers
+/// the image it makes 92 calls, over format 1 181.
 pub fn outcome_of(alloc: Global, rig: Device) -> Result<Outcome, AllocError> {
     let mut rig = rig;
     let (epoch, format) = in_force(&mut rig);
@@ -260,7 +260,7 @@ pub fn outcome_of(alloc: Global, rig: Device) -> Result<Outcome, AllocError> {
     match recovered(alloc, rig) {
         Ok((stored, rig)) => {
             if rig.calls() != before.saturating_add(calls(format)) {
-                return Ok(Outcome::Astray(Astray::Calls));
+                return Ok(Outcome::Mismatch(Mismatch::Calls));
             }
             let after = (epoch.saturating_add(epochs(format)), format);
             let outcome = recovery(alloc, rig, after, &stored)?;
@@ -268,17 +268,17 @@ pub fn outcome_of(alloc: Global, rig: Device) -> Result<Outcome, AllocError> {
         }
         Err((fault, rig)) => {
             if rig.calls() != before.saturating_add(1) {
-                return Ok(Outcome::Astray(Astray::Calls));
+                return Ok(Outcome::Mismatch(Mismatch::Calls));
             }
             Ok(refused_again(alloc, rig, fault, (epoch, format)))
         }
     }
 }
 
-/// What the refusal of a device comes to, which is refused again by the same name.
+/// The outcome for a device that was refused; it has to be refused again with the same fault.
 fn refused_again(alloc: Global, rig: Device, fault: Fault, (epoch, format): (u64, u64)) -> Outcome {
     match recovered(alloc, rig) {
         Err((again, _)) if again == fault => refusal(fault, epoch, format),
-        _ => Outcome::Astray(Astray::Again),
+        _ => Outcome::Mismatch(Mismatch::Again),
     }
 }

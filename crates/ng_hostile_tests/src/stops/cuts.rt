@@ -13,12 +13,12 @@ pub const POWER_ON: usize = 92;
 /// How many it makes over a device of format 1.
 pub const MIGRATION: usize = 181;
 
-/// What a stop may leave.
+/// The states that a stop may leave.
 #[derive(Drop)]
 pub struct Choice {
-    /// What stood before the event under way.
+    /// The state before the event under way.
     before: Standing,
-    /// What stands after it.
+    /// The state after it.
     after: Standing,
 }
 
@@ -51,12 +51,12 @@ impl Choice {
         Ok(())
     }
 
-    /// What stands after the event.
+    /// The state after the event.
     pub fn after(&self) -> &Standing {
         &self.after
     }
 
-    /// The one that was found; once the event is over it can be the latter alone.
+    /// Which of the two was found; once the event is over only the latter is allowed.
     pub fn found(&self, found: &Found, is_over: bool) -> Result<Option<&Standing>, AllocError> {
         if self.after.is_found(found)? {
             return Ok(Some(&self.after));
@@ -73,13 +73,13 @@ impl Choice {
 pub enum Depth {
     /// A stop with all unsynced sectors lost, and one with all kept.
     Whole,
-    /// Besides, one with each alone kept, and one with each alone lost.
+    /// In addition, for each unsynced sector, a stop that keeps only that one, and a stop that loses only that one.
     Alone,
-    /// Besides, stops of the power on after them.
+    /// In addition, stops of the power on after these.
     Deep,
 }
 
-/// The stops that are tried, by the calls that they come after.
+/// The stops that are tried, by how many calls come before.
 #[derive(Clone, Copy, Drop)]
 pub struct Cuts {
     pub first: usize,
@@ -98,9 +98,9 @@ impl Cuts {
     }
 }
 
-/// The stop after which something else stands: after how many calls, and what it keeps; and the same of a stop in the
-/// power on after that, if it is that one.
-pub type Astray = Option<(usize, Kept, Option<usize>)>;
+/// The stop after which the device stands for something else: after how many calls, and what it keeps; and, if it is a
+/// stop in the power on after that, how many calls come before that one.
+pub type Mismatch = Option<(usize, Kept, Option<usize>)>;
 
 /// A device with its calls, and the stops that are tried.
 #[derive(Drop)]
@@ -111,45 +111,54 @@ pub struct Played {
 }
 
 impl Played {
-    /// The first stop after so many calls, with which an event is over or not, that leaves something else: with all
-    /// unsynced sectors lost, with all kept, with each alone kept, with each alone lost.
+    /// The first stop after this many calls, with which an event is over or not, that leaves something else. The stops
+    /// are one with all unsynced sectors lost, one with all kept, and for each sector one that keeps only that one and
+    /// one that loses only that one.
     ///
-    /// Power on is stopped too where the image is new. Where all are lost, it is that of an earlier stop with all kept;
-    /// where all are kept and the last call is no write, it is that of the stop before that call.
-    fn first_astray_after(
+    /// Power on is stopped too if the image is new. It isn't new if all are lost, since an earlier stop with all kept
+    /// leaves the same; nor if all are kept and the last call isn't a write, since the stop before that call leaves the
+    /// same.
+    fn first_mismatch_after(
         &self,
         alloc: Global,
         calls: usize,
         choice: &Choice,
         is_over: bool,
-    ) -> Result<Astray, Fault> {
+    ) -> Result<Mismatch, Fault> {
         let is_new = self.notes.ends_in_write(calls);
         let is_deep = self.cuts.depth == Depth::Deep;
         let is_first = is_deep && calls == self.cuts.first;
-        let astray = self.astray(alloc, calls, Kept::None, choice, is_over, is_first)?;
-        if astray.is_some() {
-            return Ok(astray);
+        let mismatch = self.mismatch(alloc, calls, Kept::None, choice, is_over, is_first)?;
+        if mismatch.is_some() {
+            return Ok(mismatch);
         }
-        let astray = self.astray(alloc, calls, Kept::All, choice, is_over, is_deep && is_new)?;
-        if astray.is_some() || !is_new || self.cuts.depth == Depth::Whole {
-            return Ok(astray);
+        let mismatch = self.mismatch(alloc, calls, Kept::All, choice, is_over, is_deep && is_new)?;
+        if mismatch.is_some() || !is_new || self.cuts.depth == Depth::Whole {
+            return Ok(mismatch);
         }
-        self.first_astray_alone(alloc, calls, choice, is_over)
+        self.first_mismatch_alone(alloc, calls, choice, is_over)
     }
 
-    /// The first stop after so many calls that keeps one unsynced sector alone, or loses it alone, and leaves something
-    /// else.
-    fn first_astray_alone(
+    /// The first stop after this many calls that keeps only one unsynced sector, or loses only one, and leaves
+    /// something else.
+    fn first_mismatch_alone(
         &self,
         alloc: Global,
         calls: usize,
         choice: &Choice,
         is_over: bool,
-    ) -> Result<Astray, Fault> {
+    ) -> Result<Mismatch, Fault> {
         for call in self.notes.synced(calls)..calls {
             if let Some(sector) = self.notes.sector(call) {
-                let only = self.astray(alloc, calls, Kept::Only(sector), choice, is_over, false)?;
-                let but = self.astray(alloc, calls, Kept::AllBut(sector), choice, is_over, false)?;
+                let only = self.mismatch(alloc, calls, Kept::Only(sector), choice, is_over, false)?;
+                let but = self.mismatch(
+                    alloc,
+                    calls,
+                    Kept::AllBut(sector),
+                    choice,
+                    is_over,
+                    false,
+                )?;
                 if only.is_some() || but.is_some() {
                     return Ok(only.or(but));
                 }
@@ -158,9 +167,9 @@ impl Played {
         Ok(None)
     }
 
-    /// This stop, if it leaves something else; if not, and power on is to be stopped too, the first stop there that
+    /// This stop, if it leaves something else. If not, and if power on is to be stopped too, the first stop there that
     /// leaves something else.
-    fn astray(
+    fn mismatch(
         &self,
         alloc: Global,
         calls: usize,
@@ -168,7 +177,7 @@ impl Played {
         choice: &Choice,
         is_over: bool,
         is_deep: bool,
-    ) -> Result<Astray, Fault> {
+    ) -> Result<Mismatch, Fault> {
         let (found, notes, rig) = found(alloc, stopped(&self.rig, calls, kept)?)?;
         let Some(wanted) = choice.found(&found, is_over)? else {
             return Ok(Some((calls, kept, None)));
@@ -176,17 +185,16 @@ impl Played {
         if !is_deep {
             return Ok(None);
         }
-        let astray = first_astray_in_power_on(alloc, &rig, &notes, wanted)?;
-        Ok(astray.map(|stop| (calls, kept, Some(stop))))
+        let mismatch = first_mismatch_in_power_on(alloc, &rig, &notes, wanted)?;
+        Ok(mismatch.map(|stop| (calls, kept, Some(stop))))
     }
 }
 
-/// The first stop in power on, which made these calls of this device, that leaves something else: after so many calls,
-/// with all kept.
+/// The first stop in power on, which made these calls of this device, that leaves something else: after this many
+/// calls, with all kept.
 ///
-/// A new image comes with each write alone: where all unsynced sectors are lost, it is that of an earlier stop with all
-/// kept.
-fn first_astray_in_power_on(
+/// Only writes make a new image: if all unsynced sectors are lost, an earlier stop with all kept leaves the same.
+fn first_mismatch_in_power_on(
     alloc: Global,
     rig: &Device,
     notes: &Notes,
@@ -202,86 +210,86 @@ fn first_astray_in_power_on(
     Ok(None)
 }
 
-/// The first stop that leaves something else, of those that are tried after `first` to `over` calls, with the last of
-/// which the event is over.
-pub fn first_astray_between(
+/// The first stop that leaves something else, out of those that are tried after `first` to `over` calls. The event is
+/// over with the last of these calls.
+pub fn first_mismatch_between(
     alloc: Global,
     played: &Played,
     first: usize,
     over: usize,
     choice: &Choice,
-) -> Result<Astray, Fault> {
+) -> Result<Mismatch, Fault> {
     for calls in first.max(played.cuts.first)..=over.min(played.cuts.last) {
-        let astray = played.first_astray_after(alloc, calls, choice, calls == over)?;
-        if astray.is_some() {
-            return Ok(astray);
+        let mismatch = played.first_mismatch_after(alloc, calls, choice, calls == over)?;
+        if mismatch.is_some() {
+            return Ok(mismatch);
         }
     }
     Ok(None)
 }
 
-/// The first stop that leaves something else, where power on and these events come over a device that stands for what
-/// is wanted.
-pub fn first_astray(
+/// The first stop that leaves something else during power on and these events, over a device that stands for what is
+/// expected.
+pub fn first_mismatch(
     alloc: Global,
     rig: Device,
     wanted: Standing,
     rows: &[Row],
     cuts: Cuts,
-) -> Result<Astray, Fault> {
+) -> Result<Mismatch, Fault> {
     let power = PowerOn {
         choice: Choice::one(wanted)?,
         calls: POWER_ON,
     };
-    first_astray_from(alloc, rig, power, rows, cuts)
+    first_mismatch_from(alloc, rig, power, rows, cuts)
 }
 
 /// The same over a device of format 1.
-pub fn first_astray_in_migration(
+pub fn first_mismatch_in_migration(
     alloc: Global,
     rig: Device,
     wanted: Standing,
     rows: &[Row],
     cuts: Cuts,
-) -> Result<Astray, Fault> {
+) -> Result<Mismatch, Fault> {
     let power = PowerOn {
         choice: Choice::in_migration(wanted)?,
         calls: MIGRATION,
     };
-    first_astray_from(alloc, rig, power, rows, cuts)
+    first_mismatch_from(alloc, rig, power, rows, cuts)
 }
 
-/// A power on: what a stop in it may leave, and how many calls it makes.
+/// A power on: which states a stop in it may leave, and how many calls it makes.
 #[derive(Drop)]
 struct PowerOn {
     choice: Choice,
     calls: usize,
 }
 
-/// The first stop that leaves something else, where this power on and these events come over a device.
-fn first_astray_from(
+/// The first stop that leaves something else during this power on and these events, over a device.
+fn first_mismatch_from(
     alloc: Global,
     rig: Device,
     power: PowerOn,
     rows: &[Row],
     cuts: Cuts,
-) -> Result<Astray, Fault> {
+) -> Result<Mismatch, Fault> {
     let PowerOn { choice, calls } = power;
     let mut choice = choice;
     let (rig, notes) = played(alloc, rig, rows, choice.after().entries())?;
     let played = Played { rig, notes, cuts };
     let mut over = calls;
-    let mut astray = first_astray_between(alloc, &played, 0, over, &choice)?;
+    let mut mismatch = first_mismatch_between(alloc, &played, 0, over, &choice)?;
     for (_, does, calls) in rows {
         let begin = over.saturating_add(1);
         over = over.saturating_add(*calls);
         choice.take(*does)?;
-        if astray.is_none() {
-            astray = first_astray_between(alloc, &played, begin, over, &choice)?;
+        if mismatch.is_none() {
+            mismatch = first_mismatch_between(alloc, &played, begin, over, &choice)?;
         }
     }
     if over == played.rig.calls() {
-        Ok(astray)
+        Ok(mismatch)
     } else {
         // an event made other calls than its row says
         Err(Fault::Broken)

@@ -10,7 +10,7 @@ use ng_rig::{FuseRig, Rig};
 use std::alloc::Global;
 use std::test::Fail;
 
-/// Counts, and waits.
+/// Counts, and dwells.
 const LINE: &str = "#1=[#1+1] G4 P0";
 
 /// A line of the operator. Its entry changes a parameter, which takes two parts.
@@ -21,7 +21,7 @@ const WORKS: &[Row] = &[
     (Order::Tick, Does::Executes(LINE, 0), 3),
 ];
 
-/// That line goes on where it was cut. The approach is its switch alone.
+/// That line is resumed where it was cut. The approach is only its switch.
 const GOES_ON: &[Row] = &[
     (Order::Reference(0), Does::Stands(0), 2),
     (Order::Resume, Does::Goes, 0),
@@ -33,7 +33,7 @@ const GOES_ON: &[Row] = &[
     (Order::Tick, Does::Executes(LINE, 0), 3),
 ];
 
-/// Gives these events until the device fails: whether it did.
+/// Gives these events until the device fails. Returns whether it did.
 fn fails<R: Rig>(
     alloc: Global,
     controller: &mut Controller<R, Global>,
@@ -54,7 +54,7 @@ fn fails<R: Rig>(
     Ok(false)
 }
 
-/// Works until the device fails: first what is half-done goes on.
+/// Works until the device fails. First it resumes what is half-done.
 fn work<R: Rig>(
     alloc: Global,
     controller: &mut Controller<R, Global>,
@@ -71,7 +71,7 @@ fn work<R: Rig>(
     Err(Fault::Broken)
 }
 
-/// The device after power was cut so many calls after it came, and what may stand.
+/// The device after power was cut this many calls after it came on, and which states are allowed.
 fn cut_after(
     alloc: Global,
     rig: Device,
@@ -113,9 +113,9 @@ fn cycle(
     Ok((stopped(&rig, usize::MAX, kept)?, wanted))
 }
 
-/// The first of 64 power cycles, each cut a call later than the one before, that leaves something else; and the entries
-/// then.
-fn first_astray(alloc: Global, first: u64) -> Result<(Option<u64>, u64), Fault> {
+/// The first of 64 power cycles, each cut one call later than the one before, that leaves something else; and the
+/// entries then.
+fn first_mismatch(alloc: Global, first: u64) -> Result<(Option<u64>, u64), Fault> {
     let mut rig = formatted(alloc)?;
     let mut wanted = Standing::fresh(alloc)?;
     for calls in first..first.saturating_add(64) {
@@ -130,14 +130,14 @@ fn first_astray(alloc: Global, first: u64) -> Result<(Option<u64>, u64), Fault> 
     Ok((None, wanted.entries()))
 }
 
-/// The first cycles end within power on, which makes 91 reads of a log that is empty, 89 writes and 3 syncs, and the
-/// last ones in work.
+/// The first cycles end within power on, which makes 91 reads over an empty log, 89 writes and 3 syncs; the last ones
+/// end in work.
 #[test]
 fn power_comes_and_goes(rt: HostRuntime) -> Result<(), Fail> {
-    let Ok((astray, entries)) = first_astray(rt.alloc(), 154) else {
+    let Ok((mismatch, entries)) = first_mismatch(rt.alloc(), 154) else {
         panic!(rt; "an event is answered otherwise")
     };
-    assert_eq!(rt; astray, None);
+    assert_eq!(rt; mismatch, None);
     assert!(rt; entries >= 20, "{entries}");
     Ok(())
 }

@@ -8,7 +8,7 @@ use ng_num::Fault;
 use ng_rig::Rig;
 use std::alloc::{AllocError, Global};
 
-/// Which of the sectors that are written and not synced a stop keeps.
+/// Which of the sectors that are written but not synced a stop keeps.
 #[derive(Clone, Copy, Debug, PartialEq, Eq)]
 pub enum Kept {
     None,
@@ -32,13 +32,13 @@ fn writes_kept(kept: Kept) -> [usize; LARGE] {
     writes
 }
 
-/// The device as a cut of power after so many of its calls leaves it.
+/// The device as a cut of power after this many of its calls leaves it.
 pub fn stopped(rig: &Device, calls: usize, kept: Kept) -> Result<Device, AllocError> {
     rig.stopped(calls, &writes_kept(kept))
 }
 
-/// What is found on a device that is powered on with settings that have no tools, the calls of that, and the device
-/// then, which was read again after those calls.
+/// What is found on a device that is powered on with settings that have no tools, the calls for that, and the device,
+/// which was read again after those calls.
 pub fn found(alloc: Global, rig: Device) -> Result<(Found, Notes, Device), Fault> {
     let mut controller = started_bare(alloc, Recorder::new(alloc, rig))?;
     let status = shown(&mut controller);
@@ -58,8 +58,8 @@ pub fn stands_for(alloc: Global, rig: Device, wanted: &Standing) -> Result<bool,
     Ok(wanted.is_found(&found)?)
 }
 
-/// The first of these events, after so many entries, with another reply.
-pub fn first_astray<R: Rig>(
+/// The first of these events, after this many entries, with another reply.
+pub fn first_mismatch<R: Rig>(
     alloc: Global,
     controller: &mut Controller<R, Global>,
     rows: &[Row],
@@ -84,15 +84,15 @@ pub fn played(
     entries: u64,
 ) -> Result<(Device, Notes), Fault> {
     let mut controller = started(alloc, Recorder::new(alloc, rig))?;
-    let astray = first_astray(alloc, &mut controller, rows, entries);
+    let mismatch = first_mismatch(alloc, &mut controller, rows, entries);
     let (rig, notes) = rig_of(controller).into_parts();
-    match astray? {
+    match mismatch? {
         None => Ok((rig, notes)),
         Some(_) => Err(Fault::Broken),
     }
 }
 
-/// The device that a session over it leaves, whose last call is a sync or a hand-out, and what it stands for.
+/// The device that a session over it leaves if its last call is a sync or a hand-out, and what it stands for.
 pub fn left_by(
     alloc: Global,
     rig: Device,

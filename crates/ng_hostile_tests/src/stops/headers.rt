@@ -2,8 +2,8 @@
 use crate::devices::{Device, formatted, give, powered, rig_of, started};
 use crate::rows::{Does, Order, Row, event_of};
 use crate::standing::Standing;
-use crate::stops::cuts::{Astray, Choice, Cuts, Depth, POWER_ON, Played, first_astray_between};
-use crate::stops::devices::{first_astray, left_by, played};
+use crate::stops::cuts::{Choice, Cuts, Depth, Mismatch, POWER_ON, Played, first_mismatch_between};
+use crate::stops::devices::{first_mismatch, left_by, played};
 use crate::stops::recorder::{Notes, Recorder};
 use ng_core::Reply;
 use ng_num::Fault;
@@ -24,7 +24,7 @@ fn loaded(alloc: Global) -> Result<(Device, Standing), Fault> {
     left_by(alloc, formatted(alloc)?, Standing::fresh(alloc)?, BEFORE)
 }
 
-/// How many calls, reads too, come before the last call of power on and these events.
+/// How many calls, reads included, come before the last call of power on and these events.
 fn calls_before_the_last(alloc: Global, rows: &[Row]) -> Result<u64, Fault> {
     let (rig, wanted) = loaded(alloc)?;
     let (rig, notes) = played(alloc, rig, rows, wanted.entries())?;
@@ -35,7 +35,7 @@ fn calls_before_the_last(alloc: Global, rows: &[Row]) -> Result<u64, Fault> {
     )
 }
 
-/// A device of which the last sync of power on fails, its header's.
+/// A device on which the last sync of power on fails, which is that of its header.
 fn failed_in_power_on(alloc: Global) -> Result<Recorder<Device>, Fault> {
     let (rig, _) = loaded(alloc)?;
     let calls = calls_before_the_last(alloc, &[])?;
@@ -50,7 +50,7 @@ fn failed_in_power_on(alloc: Global) -> Result<Recorder<Device>, Fault> {
     }
 }
 
-/// A device of which the last sync of a load fails, its header's.
+/// A device on which the last sync of a load fails, which is that of its header.
 fn failed_in_load(alloc: Global) -> Result<Recorder<Device>, Fault> {
     let (rig, _) = loaded(alloc)?;
     let calls = calls_before_the_last(alloc, LOADS)?;
@@ -64,7 +64,7 @@ fn failed_in_load(alloc: Global) -> Result<Recorder<Device>, Fault> {
     }
 }
 
-/// The device is powered on again, with no cut before it.
+/// The device is powered on again, without a cut before that.
 fn powered_again(alloc: Global, rig: Recorder<Device>) -> Result<Played, Fault> {
     let controller = started(alloc, rig)?;
     let (rig, notes) = rig_of(controller).into_parts();
@@ -77,45 +77,45 @@ fn powered_again(alloc: Global, rig: Recorder<Device>) -> Result<Played, Fault> 
 }
 
 /// The first stop in that power on that leaves something else. Once its first sync is over, what was written before it
-/// stands.
-fn first_astray_again(
+/// is durable.
+fn first_mismatch_again(
     alloc: Global,
     rig: Recorder<Device>,
     choice: &mut Choice,
-) -> Result<Astray, Fault> {
+) -> Result<Mismatch, Fault> {
     let played = powered_again(alloc, rig)?;
     let synced = played.cuts.first.saturating_add(1);
-    let astray = first_astray_between(alloc, &played, 0, synced, choice)?;
-    if astray.is_some() {
-        return Ok(astray);
+    let mismatch = first_mismatch_between(alloc, &played, 0, synced, choice)?;
+    if mismatch.is_some() {
+        return Ok(mismatch);
     }
     choice.end()?;
-    first_astray_between(alloc, &played, synced, played.cuts.last, choice)
+    first_mismatch_between(alloc, &played, synced, played.cuts.last, choice)
 }
 
-/// That after a load.
-fn first_astray_after_load(alloc: Global) -> Result<Astray, Fault> {
+/// The same after a load.
+fn first_mismatch_after_load(alloc: Global) -> Result<Mismatch, Fault> {
     let (_, wanted) = loaded(alloc)?;
     let mut choice = Choice::one(wanted)?;
     choice.take(Does::Loads(NEW))?;
-    first_astray_again(alloc, failed_in_load(alloc)?, &mut choice)
+    first_mismatch_again(alloc, failed_in_load(alloc)?, &mut choice)
 }
 
-/// That after power on.
-fn first_astray_after_power_on(alloc: Global) -> Result<Astray, Fault> {
+/// The same after power on.
+fn first_mismatch_after_power_on(alloc: Global) -> Result<Mismatch, Fault> {
     let (_, wanted) = loaded(alloc)?;
     let mut choice = Choice::one(wanted)?;
-    first_astray_again(alloc, failed_in_power_on(alloc)?, &mut choice)
+    first_mismatch_again(alloc, failed_in_power_on(alloc)?, &mut choice)
 }
 
 #[test]
 fn a_header_of_a_load_whose_sync_failed(rt: HostRuntime) -> Result<(), Fail> {
-    assert_eq!(rt; first_astray_after_load(rt.alloc()), Ok(None));
+    assert_eq!(rt; first_mismatch_after_load(rt.alloc()), Ok(None));
     Ok(())
 }
 
 #[test]
 fn a_header_of_power_on_whose_sync_failed(rt: HostRuntime) -> Result<(), Fail> {
-    assert_eq!(rt; first_astray_after_power_on(rt.alloc()), Ok(None));
+    assert_eq!(rt; first_mismatch_after_power_on(rt.alloc()), Ok(None));
     Ok(())
 }

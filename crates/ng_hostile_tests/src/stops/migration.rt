@@ -1,17 +1,17 @@
-//! Power on over a device of format 1 makes it one of format 2.
+//! Power on over a device of format 1 converts it to format 2.
 //!
 //! The settings of the power on after a stop have no tools. So a stop leaves the device without tools until the header
 //! of format 2 is stored, and from then on with those of the settings under which it was written.
 use crate::old::of_format_1;
 use crate::scripts::AFTER_A_MIGRATION;
-use crate::stops::cuts::{Astray, Cuts, first_astray_in_migration};
+use crate::stops::cuts::{Cuts, Mismatch, first_mismatch_in_migration};
 use crate::stops::devices::{Kept, played, stopped};
 use ng_num::Fault;
 use std::alloc::Global;
 use std::test::Fail;
 
-/// What the first power on over a device of format 1 makes, and the one after it: writes, syncs, hand-outs and calls
-/// that weren't noted.
+/// How many calls the first power on over a device of format 1 makes, and the one after it: writes, syncs, hand-outs
+/// and calls that weren't recorded.
 fn counts(alloc: Global) -> Result<[[usize; 4]; 2], Fault> {
     let (rig, wanted) = of_format_1(alloc, 0)?;
     let (rig, first) = played(alloc, rig, &[], wanted.entries())?;
@@ -26,28 +26,28 @@ fn calls_of_a_migration_and_of_the_next_power_on(rt: HostRuntime) -> Result<(), 
     Ok(())
 }
 
-/// The first of these stops, in a migration or as a half-done line goes on after it, that leaves something else.
-fn first_astray_of(alloc: Global, first: usize, last: usize) -> Result<Astray, Fault> {
+/// The first of these stops that leaves something else, in a migration or while a half-done line is resumed after it.
+fn first_mismatch_of(alloc: Global, first: usize, last: usize) -> Result<Mismatch, Fault> {
     let (rig, wanted) = of_format_1(alloc, 0)?;
     let cuts = Cuts::deep(first, last);
-    first_astray_in_migration(alloc, rig, wanted, AFTER_A_MIGRATION, cuts)
+    first_mismatch_in_migration(alloc, rig, wanted, AFTER_A_MIGRATION, cuts)
 }
 
 #[test]
 fn a_stop_in_the_first_half_of_the_checkpoint_of_format_1(rt: HostRuntime) -> Result<(), Fail> {
-    assert_eq!(rt; first_astray_of(rt.alloc(), 0, 45), Ok(None));
+    assert_eq!(rt; first_mismatch_of(rt.alloc(), 0, 45), Ok(None));
     Ok(())
 }
 
 #[test]
 fn a_stop_in_the_second_half_of_the_checkpoint_of_format_1(rt: HostRuntime) -> Result<(), Fail> {
-    assert_eq!(rt; first_astray_of(rt.alloc(), 46, 90), Ok(None));
+    assert_eq!(rt; first_mismatch_of(rt.alloc(), 46, 90), Ok(None));
     Ok(())
 }
 
 #[test]
 fn a_stop_in_the_first_half_of_the_checkpoint_of_format_2(rt: HostRuntime) -> Result<(), Fail> {
-    assert_eq!(rt; first_astray_of(rt.alloc(), 91, 136), Ok(None));
+    assert_eq!(rt; first_mismatch_of(rt.alloc(), 91, 136), Ok(None));
     Ok(())
 }
 
@@ -55,6 +55,6 @@ fn a_stop_in_the_first_half_of_the_checkpoint_of_format_2(rt: HostRuntime) -> Re
 fn a_stop_in_the_second_half_of_the_checkpoint_of_format_2_and_after_it(
     rt: HostRuntime,
 ) -> Result<(), Fail> {
-    assert_eq!(rt; first_astray_of(rt.alloc(), 137, usize::MAX), Ok(None));
+    assert_eq!(rt; first_mismatch_of(rt.alloc(), 137, usize::MAX), Ok(None));
     Ok(())
 }

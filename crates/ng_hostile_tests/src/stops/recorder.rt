@@ -2,10 +2,10 @@ use ng_canon::Item;
 use ng_rig::{Failed, Rig};
 use std::alloc::Global;
 
-/// A call of a device but a read.
+/// A call of a device other than a read.
 #[derive(Clone, Copy, Debug, PartialEq, Eq, Drop)]
 pub enum Note {
-    /// Of this sector.
+    /// The sector that is written.
     Write(usize),
     Sync,
     HandOut,
@@ -17,7 +17,7 @@ pub struct Notes {
     /// All but the reads, in order.
     calls: Vec<Note>,
     reads: u64,
-    /// How many calls found no room here.
+    /// How many calls couldn't be recorded.
     lost: u64,
 }
 
@@ -36,7 +36,7 @@ impl Notes {
         }
     }
 
-    /// How many writes, syncs and hand-outs were noted.
+    /// How many writes, syncs and hand-outs were recorded.
     pub fn count(&self) -> usize {
         self.calls.len()
     }
@@ -46,7 +46,7 @@ impl Notes {
         self.reads
     }
 
-    /// How many writes, syncs and hand-outs there were, and how many calls weren't noted.
+    /// How many writes, syncs and hand-outs there were, and how many calls weren't recorded.
     pub fn counts(&self) -> [usize; 4] {
         let mut writes = 0usize;
         let mut syncs = 0usize;
@@ -65,7 +65,7 @@ impl Notes {
         [writes, syncs, hand_outs, self.lost as usize]
     }
 
-    /// The sector that a call writes, after so many others.
+    /// The sector that the call after this many others writes.
     pub fn sector(&self, calls: usize) -> Option<usize> {
         match self.calls.get(calls) {
             Some(Note::Write(sector)) => Some(*sector),
@@ -73,7 +73,7 @@ impl Notes {
         }
     }
 
-    /// Whether the last of so many calls is a write.
+    /// Whether the last of this many calls is a write.
     pub fn ends_in_write(&self, calls: usize) -> bool {
         match calls.checked_sub(1) {
             Some(before) => self.sector(before).is_some(),
@@ -81,7 +81,7 @@ impl Notes {
         }
     }
 
-    /// How many of the first calls there are up to the last sync among them, which counts too.
+    /// How many of the first calls there are up to and including the last sync among them.
     pub fn synced(&self, calls: usize) -> usize {
         let mut synced = 0;
         for (n, call) in self.calls.iter().enumerate() {
@@ -93,7 +93,7 @@ impl Notes {
     }
 }
 
-/// A device that passes each call on to another, and notes it.
+/// A device that passes each call on to another device, and records it.
 #[derive(Drop)]
 pub struct Recorder<R> {
     rig: R,

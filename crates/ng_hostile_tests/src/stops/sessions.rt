@@ -2,13 +2,13 @@
 use crate::devices::formatted;
 use crate::scripts::STORED_AND_RUN;
 use crate::standing::Standing;
-use crate::stops::cuts::{Astray, Cuts, first_astray};
+use crate::stops::cuts::{Cuts, Mismatch, first_mismatch};
 use crate::stops::devices::played;
 use ng_num::Fault;
 use std::alloc::Global;
 use std::test::Fail;
 
-/// How many writes, syncs and hand-outs are made, power on included.
+/// How many writes, syncs and hand-outs there are, including power on.
 #[test]
 fn calls_of_a_session(rt: HostRuntime) -> Result<(), Fail> {
     let Ok(rig) = formatted(rt.alloc()) else {
@@ -22,8 +22,8 @@ fn calls_of_a_session(rt: HostRuntime) -> Result<(), Fail> {
 }
 
 /// The first of these stops that leaves something else.
-fn first_astray_of(alloc: Global, first: usize, last: usize) -> Result<Astray, Fault> {
-    first_astray(
+fn first_mismatch_of(alloc: Global, first: usize, last: usize) -> Result<Mismatch, Fault> {
+    first_mismatch(
         alloc,
         formatted(alloc)?,
         Standing::fresh(alloc)?,
@@ -34,18 +34,18 @@ fn first_astray_of(alloc: Global, first: usize, last: usize) -> Result<Astray, F
 
 #[test]
 fn a_stop_at_each_call_of_power_on(rt: HostRuntime) -> Result<(), Fail> {
-    assert_eq!(rt; first_astray_of(rt.alloc(), 0, 92), Ok(None));
+    assert_eq!(rt; first_mismatch_of(rt.alloc(), 0, 92), Ok(None));
     Ok(())
 }
 
 #[test]
 fn a_stop_at_each_call_of_a_load(rt: HostRuntime) -> Result<(), Fail> {
-    assert_eq!(rt; first_astray_of(rt.alloc(), 92, 185), Ok(None));
+    assert_eq!(rt; first_mismatch_of(rt.alloc(), 92, 185), Ok(None));
     Ok(())
 }
 
 #[test]
 fn a_stop_at_each_call_of_a_program(rt: HostRuntime) -> Result<(), Fail> {
-    assert_eq!(rt; first_astray_of(rt.alloc(), 185, 196), Ok(None));
+    assert_eq!(rt; first_mismatch_of(rt.alloc(), 185, 196), Ok(None));
     Ok(())
 }

@@ -1,11 +1,11 @@
--- The places at which parts of a state field begin.
+-- The positions at which parts of a state field begin.
 use Rattle.std.specs.Prelude.{ℕ}
 
 -- the words that a cycle keeps
 abbrev pub kept_first : ℕ
 kept_first = 112
 
--- what stands in one byte each
+-- the values that take one byte each
 abbrev pub codes_first : ℕ
 codes_first = 144
 

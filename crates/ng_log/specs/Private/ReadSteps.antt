@@ -1,4 +1,4 @@
--- What is read of a log, step by step.
+-- What is read from a log, step by step.
 use Rattle.std.specs.Prelude.{◌≡◌, ◌<◌, ◌≤◌, ◌+◌, ◌==◌, ◌&&◌, nat_le, ℕ, Bool, true, false, List, ℤ, Some, None, MatchBool}
 use Rattle.ng_params.specs.Changes.{with_changes}
 use Rattle.ng_params.specs.declared.change.Change.{Change}
@@ -22,17 +22,17 @@ from_log image m = image (log_first + m)
 abbrev pub begins : PartHeader → Header → LogEnd → Bool
 begins first header end = (first.epoch == header.epoch) && (first.number == end.number) && (first.part == 0) && (first.parts == parts_for first.changes) && nat_le (end.sector + first.parts) (log_size_of header)
 
--- all parts of a record after its first one stand, or one of its parts doesn't
+-- all later parts of a record are there, or one of the parts isn't
 abbrev pub LaterPartsStand : ℕ → PartHeader → Image → Bool → Type 0
 LaterPartsStand at first image whole = MatchBool whole ((j : ℕ) → 0 < j → j < first.parts → is_part (record first { part = j }) (from_log image (at + j)) ≡ true) (parts_stand (from_log image) at first first.parts ≡ false)
 
--- the first changes of a record are made in a table
+-- the first changes of a record are applied to a table
 pub record MakesAll (log : Image) (at n : ℕ) (old new : List ℤ) : Type 0 where
   pub changes : List Change
   pub there : changes_of log at n ≡ Some changes
   pub is : new ≡ with_changes old changes
 
--- they are, or one of them is out of its range
+-- they are applied, or one of them is out of range
 abbrev pub MakesAllOrDamaged : ℕ → ℕ → List ℤ → List ℤ → Image → Bool → Type 0
 MakesAllOrDamaged at n old new image whole = MatchBool whole (MakesAll (from_log image) at n old new) (changes_of (from_log image) at n ≡ None)
 
@@ -42,17 +42,17 @@ FindsRecord format length at changes old new image whole =
     let found = with_record format length (from_log image) at changes (replay_state_in old) in
     MatchBool whole ((found ≡ Some (replay_state_in new)) × (new.length ≡ length)) (found ≡ None)
 
--- that holds where the record's first sector is this one
+-- that holds if the record's first sector is this one
 abbrev pub TakesRecord : Format → ℕ → List ℕ → ℕ → ℕ → StoredModel → StoredModel → Image → Bool → Type 0
 TakesRecord format length first at changes old new image whole = first ≡ from_log image at → FindsRecord format length at changes old new image whole
 
--- it leads from what is stored to a place where what is found is damaged
+-- it leads from what is stored to a position where what is found is damaged
 pub record IsDamaged (format : Format) (length : ℕ) (log : Image) (epoch : ℕ) (p : LogPosition) : Type 0 where
   pub place : LogPosition
   pub step : next format length log epoch p ≡ Some place
   pub damaged : place.found ≡ None
 
--- No complete record begins here; one does that is damaged; or what is stored now is what is found with it.
+-- No complete record begins here; or one does and it is damaged; or the new stored state is what is found with it.
 abbrev pub IsNextOf : Header → LogEnd → StoredModel → StoredModel → Image → Next → Type 0
 IsNextOf header end old new image Last = (next header.format header.length (log_of header image) header.epoch (position_of end old) ≡ None) × (new ≡ old)
 IsNextOf header end old new image Damaged = IsDamaged header.format header.length (log_of header image) header.epoch (position_of end old)
@@ -64,7 +64,7 @@ pub record IsFurther (header : Header) (from to : LogEnd) : Type 0 where
   pub room : to.sector ≤ log_size_of header
   pub number : to.number ≤ to.sector
 
--- a record after which the log goes on is within it, and further on
+-- a record after which the log continues is within it, and further on
 abbrev pub IsOn : Header → LogEnd → Next → Type 0
 IsOn header from (After to) = IsFurther header from to
 IsOn header from _ = Unit {0}

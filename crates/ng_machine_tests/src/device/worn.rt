@@ -4,7 +4,7 @@ ghost use Rattle.std.specs.Prelude.{[]};
 use ng_canon::Item;
 use ng_rig::{Failed, Rig};
 
-/// A device of one sector on which each call fails, and that promises nothing of what it holds.
+/// A device with one sector on which each call fails, and that guarantees nothing about its content.
 #[derive(Drop)]
 pub struct Worn {
     failures: u64,

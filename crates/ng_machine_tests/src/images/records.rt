@@ -1,4 +1,4 @@
-//! The state field of a record: each number of it at its limits and past them, as in a snapshot.
+//! The state field of a record: each of its numbers at its limits and past them, as in a snapshot.
 use crate::images::{
     Answer, Base, CASES, Case, FRESH, header_and_area, powered, put, sector_of, sector_with,
     state_of, store, wanted, written,
@@ -8,9 +8,9 @@ use ng_rig::{MemoryRig, Rig};
 use std::alloc::{AllocError, Allocator};
 use std::test::Fail;
 
-/// Makes a device of epoch 1 of this kind with a fresh state in the snapshot, and one record of one part with this
+/// Writes a device of this kind under epoch 1, with a fresh state in the snapshot and one record of one part with this
 /// state.
-fn lay<R: Rig>(rig: &mut R, base: Base, state: &[u8; 512]) -> bool {
+fn write_device<R: Rig>(rig: &mut R, base: Base, state: &[u8; 512]) -> bool {
     let mut part = part_with((1, 0, 0, 1, 0), &[]);
     part[32..488].copy_from_slice(&state[..456]);
     let (header, _) = header_and_area(base);
@@ -20,8 +20,8 @@ fn lay<R: Rig>(rig: &mut R, base: Base, state: &[u8; 512]) -> bool {
         && rig.sync().is_ok()
 }
 
-/// Whether power on makes of a record with a number changed what a row says: its answer, its calls, and the whole state
-/// that it writes, unless other numbers of that don't last.
+/// Whether power on does with a changed record what a row says: its result, its calls, and the whole state that it
+/// writes, unless other numbers of the state aren't kept.
 fn answers<A: Allocator + Copy + Drop>(
     alloc: A,
     case: &Case,
@@ -30,7 +30,7 @@ fn answers<A: Allocator + Copy + Drop>(
     let mut state = state_of(case.1);
     put(&mut state, case.3, case.4, number);
     let mut rig = MemoryRig::new(alloc, 1_710)?;
-    let is_laid = lay(&mut rig, case.1, &state);
+    let is_laid = write_device(&mut rig, case.1, &state);
     let before = rig.calls();
     let (fault, mut rig) = powered(alloc, rig);
     let (refusal, again, calls) = wanted(case, number);
@@ -45,8 +45,8 @@ fn answers<A: Allocator + Copy + Drop>(
     Ok(is_laid && fault == refusal && is_called && (fault.is_some() || found == want))
 }
 
-/// The first of a row's numbers of which power on makes something else.
-fn first_unlike<A: Allocator + Copy + Drop>(
+/// The first number of a row with which power on does something else.
+fn first_mismatch<A: Allocator + Copy + Drop>(
     alloc: A,
     case: &Case,
 ) -> Result<Option<i64>, AllocError> {
@@ -58,7 +58,7 @@ fn first_unlike<A: Allocator + Copy + Drop>(
     Ok(None)
 }
 
-/// Whether a number has a place in a record too: one of a state, in the snapshot of epoch 1.
+/// Whether a number has a place in a record too: it is a number of a state, in the snapshot of epoch 1.
 fn is_in_record(sector: usize, byte: usize) -> bool {
     sector == 88 && byte < 456
 }
@@ -67,7 +67,7 @@ fn is_in_record(sector: usize, byte: usize) -> bool {
 fn each_field_of_a_record_at_its_limits_and_past_them(rt: HostRuntime) -> Result<(), Fail> {
     for case in CASES {
         if is_in_record(case.2, case.3) {
-            assert_eq!(rt; first_unlike(rt.alloc(), case)?, None, "{}", case.0);
+            assert_eq!(rt; first_mismatch(rt.alloc(), case)?, None, "{}", case.0);
         }
     }
     Ok(())

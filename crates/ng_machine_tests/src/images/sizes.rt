@@ -8,9 +8,9 @@ use ng_rig::{MemoryRig, Rig};
 use std::alloc::Global;
 use std::test::Fail;
 
-/// Writes what lies within a device's size of what it holds once it was formatted and powered on: 7 entries. Its epoch
-/// in force and the system that its state names are these.
-fn lay<R: Rig>(rig: &mut R, epoch: i64, system: i64) -> bool {
+/// Writes what a device holds after it was formatted and powered on, with 7 entries, as far as it is within the
+/// device's size. The epoch in force and the system in the state are these.
+fn write_device<R: Rig>(rig: &mut R, epoch: i64, system: i64) -> bool {
     let mut state = sector_with(&FRESH);
     put(&mut state, 0, 8, 7);
     put(&mut state, 150, 1, system);
@@ -42,8 +42,8 @@ fn found(alloc: Global, rig: MemoryRig<Global>) -> Found {
     (answer, rig.calls().wrapping_sub(before), rig.size())
 }
 
-/// The epoch in force and the system of what devices hold, with none where they hold zeros, and what power on makes of
-/// them and how many calls it makes where they have as many sectors as it takes. Below that, it makes none.
+/// The epoch in force and the system of a device, `None` for a device of zeros; what power on does with it and how many
+/// calls it makes if the device has enough sectors. With fewer sectors it makes none.
 type Row = (Option<(i64, i64)>, Result<u64, Fault>, usize);
 
 const ROWS: &[Row] = &[
@@ -53,13 +53,13 @@ const ROWS: &[Row] = &[
     (Some((1_000_000_000_000, 1)), Err(Fault::CountersUsed), 1),
 ];
 
-/// The first size up to 1,711 sectors at which power on makes something else of a device.
-fn first_unlike(alloc: Global, row: &Row) -> Result<Option<usize>, Fail> {
+/// The first size up to 1,711 sectors at which power on does something else.
+fn first_mismatch(alloc: Global, row: &Row) -> Result<Option<usize>, Fail> {
     for sectors in 0..1_712 {
         let mut rig = MemoryRig::new(alloc, sectors)?;
         let is_laid = row
             .0
-            .is_none_or(|(epoch, system)| lay(&mut rig, epoch, system));
+            .is_none_or(|(epoch, system)| write_device(&mut rig, epoch, system));
         let wanted = if sectors < 1_710 {
             (Err(Fault::NotFormatted), 0, sectors)
         } else {
@@ -75,7 +75,7 @@ fn first_unlike(alloc: Global, row: &Row) -> Result<Option<usize>, Fail> {
 #[test]
 fn devices_of_each_size(rt: HostRuntime) -> Result<(), Fail> {
     for row in ROWS {
-        assert_eq!(rt; first_unlike(rt.alloc(), row)?, None, "{row:?}");
+        assert_eq!(rt; first_mismatch(rt.alloc(), row)?, None, "{row:?}");
     }
     Ok(())
 }

@@ -1,7 +1,8 @@
-//! Which program areas a device has by its size, how long a text may be there, and from where its lines are read.
+//! Which program areas a device has depending on its size, how long a text may be there, and from where its lines are
+//! read.
 use crate::images::{FRESH, put, sector_of, sector_with, store};
 use crate::journal::counting::Counting;
-use crate::journal::{header, header_of, lay_state};
+use crate::journal::{header, header_of, write_state};
 use crate::log::Mill;
 use ng_journal::{ProgramLine, recover};
 use ng_num::Fault;
@@ -10,8 +11,8 @@ use ng_rig::{MemoryRig, Rig};
 use std::alloc::Global;
 use std::test::Fail;
 
-/// A device's sectors, the format of a header of epoch 2, and the program area and the length that it names; whether it
-/// is valid there.
+/// A device's sectors, the format of a header of epoch 2, the program area and the length in it, and whether it is
+/// valid there.
 type Named = (usize, i64, i64, i64, bool);
 
 const HEADERS: &[Named] = &[
@@ -52,13 +53,13 @@ const HEADERS: &[Named] = &[
     (5_807, 2, 3, 1_048_576, true),
 ];
 
-/// A device with the header of a row, of epoch 2, whose state has 7 entries; and perhaps beside it with that of epoch 1
+/// A device with the header of a row, of epoch 2, whose state has 7 entries. If asked for, it also has that of epoch 1
 /// in the same format, with no program, whose state has 8.
 fn named(alloc: Global, row: &Named, is_beside: bool) -> Result<MemoryRig<Global>, Fail> {
     let (sectors, format, area, length, _) = *row;
     let mut rig = MemoryRig::new(alloc, sectors)?;
-    let is_laid = lay_state(&mut rig, 2, 7)
-        && lay_state(&mut rig, 88, 8)
+    let is_laid = write_state(&mut rig, 2, 7)
+        && write_state(&mut rig, 88, 8)
         && store(&mut rig, 0, &header_of(format, 2, area, length))
         && (!is_beside || store(&mut rig, 1, &header_of(format, 1, 0, 0)));
     if is_laid && rig.sync().is_ok() {
@@ -82,7 +83,7 @@ fn powered(alloc: Global, rig: MemoryRig<Global>) -> Powered {
     }
 }
 
-/// What power on makes of a valid header: the next epoch names the same program. Over format 1 that is epoch 3 in
+/// What power on does with a valid header: the next epoch names the same program. Over format 1 that is epoch 3 in
 /// format 1, and then epoch 4 in format 2.
 fn in_force(row: &Named) -> Powered {
     let (_, format, area, length, _) = *row;
@@ -96,8 +97,8 @@ fn in_force(row: &Named) -> Powered {
     ))
 }
 
-/// What it makes of the one of epoch 1 beside one that isn't valid: epoch 2 takes its place, and over format 1 epoch 3
-/// comes after it.
+/// What it does with a header of epoch 1 next to one that isn't valid: epoch 2 replaces the latter, and over format 1
+/// epoch 3 follows.
 fn beside(row: &Named) -> Powered {
     let odd = if row.1 == 1 {
         header(3, 0, 0)
@@ -124,7 +125,7 @@ fn a_header_names_an_area_that_the_device_has(rt: HostRuntime) -> Result<(), Fai
     Ok(())
 }
 
-/// A program area and the bytes of the program there, and the place in it at which the next line begins; the place that
+/// A program area, the bytes of the program there, and the place in it at which the next line begins; the place that
 /// power on finds, or why it refuses the device.
 type Place = (i64, i64, i64, Result<u64, Fault>);
 
@@ -168,9 +169,9 @@ fn a_place_within_a_large_program(rt: HostRuntime) -> Result<(), Fail> {
 
 const J5: Result<(), Fault> = Err(Fault::ProgramTooLong);
 
-/// A device's sectors, the program area in force, and the bytes of a program; what its load answers, how many writes
-/// and syncs it makes, and the area in force then. It writes a sector for each 512 bytes, and then 89; of a program for
-/// which the device has no room nothing.
+/// A device's sectors, the program area in force, and the bytes of a program; what its load returns, how many writes
+/// and syncs it makes, and the area in force then. It writes a sector for each 512 bytes, and then 89; if the device
+/// has no room for the program, nothing.
 type Loaded = (usize, i64, usize, Result<(), Fault>, [u64; 2], i64);
 
 const LOADS: &[Loaded] = &[
@@ -196,7 +197,7 @@ const LOADS: &[Loaded] = &[
     (5_807, 3, 1_048_577, J5, [0, 0], 3),
 ];
 
-/// Loads a program of so many bytes `x`, as entry 1: what is answered, whether the journal is broken then, and the
+/// Loads a program of this many bytes `x`, as entry 1. Returns the result, whether the journal is broken then, and the
 /// device.
 pub fn load<R: Rig + Drop>(
     alloc: Global,
@@ -227,7 +228,7 @@ pub fn first_of(area: i64) -> usize {
     }
 }
 
-/// What a sector of a program area has of so many bytes `x`, before which it has so many sectors.
+/// What a sector of a program area has of this many bytes `x`, after this many sectors.
 pub fn text_sector(before: usize, length: usize) -> [u8; 512] {
     let mut sector = [0; 512];
     let held = length.saturating_sub(before.saturating_mul(512)).min(512);
@@ -237,9 +238,9 @@ pub fn text_sector(before: usize, length: usize) -> [u8; 512] {
     sector
 }
 
-/// The first sector of all program areas that doesn't hold what it has of so many bytes in this area, or that isn't 0
+/// The first sector of all program areas that doesn't hold its part of this many bytes in this area, or that isn't 0
 /// elsewhere.
-fn first_unlike(rig: &mut MemoryRig<Global>, area: i64, length: usize) -> Option<usize> {
+fn first_mismatch(rig: &mut MemoryRig<Global>, area: i64, length: usize) -> Option<usize> {
     let first = first_of(area);
     for sector in 174..rig.size() {
         let wanted = if sector < first {
@@ -260,15 +261,15 @@ pub fn bytes_of(length: usize) -> i64 {
     i64::try_from(length).unwrap_or(0)
 }
 
-/// What a load answers, whether the journal is broken then, the reads, writes and syncs of power on and of it, whether
-/// the header of epoch 3 or without a load that of epoch 2 names the area and the length that it should, and the first
+/// What a load returns, whether the journal is broken then, and the reads, writes and syncs of power on and the load.
+/// Then whether the header, of epoch 3 or without a load of epoch 2, names the right area and length, and the first
 /// sector of a program area that isn't as it should be.
 type Found = (Result<(), Fault>, bool, [u64; 3], bool, Option<usize>);
 
 fn loaded(alloc: Global, row: &Loaded) -> Result<Found, Fail> {
     let (sectors, before, length, answer, _, area) = *row;
     let mut rig = MemoryRig::new(alloc, sectors)?;
-    if !lay_state(&mut rig, 88, 0) || !store(&mut rig, 1, &header(1, before, 0)) {
+    if !write_state(&mut rig, 88, 0) || !store(&mut rig, 1, &header(1, before, 0)) {
         return Err(Fail::from("a device isn't laid"));
     }
     let (done, is_broken, counting) = load(alloc, Counting::new(rig), length)?;
@@ -279,7 +280,7 @@ fn loaded(alloc: Global, row: &Loaded) -> Result<Found, Fail> {
         (1, header(1, before, 0), 0)
     };
     let is_named = sector_of(&mut rig, sector) == wanted;
-    let unlike = first_unlike(&mut rig, area, held);
+    let unlike = first_mismatch(&mut rig, area, held);
     Ok((done, is_broken, counts, is_named, unlike))
 }
 
@@ -295,7 +296,8 @@ fn a_program_for_which_the_device_has_room(rt: HostRuntime) -> Result<(), Fail> 
     Ok(())
 }
 
-/// The line of 15 bytes that begins at a byte of the text: `G4 P0 ` and this byte in brackets, in seven digits.
+/// The line of 15 bytes that begins at a byte of the text: `G4 P0 ` and the byte's number in parentheses, in seven
+/// digits.
 fn line(place: u64) -> [u8; 15] {
     let mut line = *b"G4 P0 (0000000)";
     let mut rest = place;
@@ -308,7 +310,7 @@ fn line(place: u64) -> [u8; 15] {
     line
 }
 
-/// A sector of the text, before which it has so many bytes: 32 lines, each with its newline.
+/// A sector of the text after this many bytes: 32 lines, each with its newline.
 pub fn lines(before: u64) -> [u8; 512] {
     let mut sector = [b'\n'; 512];
     for (k, part) in sector.chunks_mut(16).enumerate() {
@@ -320,8 +322,8 @@ pub fn lines(before: u64) -> [u8; 512] {
     sector
 }
 
-/// Writes that text to so many sectors from this one on.
-fn lay_lines<R: Rig>(rig: &mut R, first: usize, sectors: usize) -> bool {
+/// Writes that text to this many sectors from this one on.
+fn write_lines<R: Rig>(rig: &mut R, first: usize, sectors: usize) -> bool {
     let mut is_laid = true;
     let mut before = 0u64;
     for sector in first..first.saturating_add(sectors) {
@@ -332,7 +334,7 @@ fn lay_lines<R: Rig>(rig: &mut R, first: usize, sectors: usize) -> bool {
 }
 
 /// Writes another text to all program areas.
-fn lay_others<R: Rig>(rig: &mut R) -> bool {
+fn write_others<R: Rig>(rig: &mut R) -> bool {
     let mut is_laid = true;
     for sector in 174..rig.size() {
         let is_program = sector < 686 || sector >= 1_710;
@@ -341,13 +343,13 @@ fn lay_others<R: Rig>(rig: &mut R) -> bool {
     is_laid
 }
 
-/// A large device with a program of so many bytes of the text in this area, and with another text in all other areas;
+/// A large device with a program of this many bytes of the text in this area, and with another text in all other areas;
 /// under epoch 1.
 pub fn written(alloc: Global, area: i64, length: i64) -> Result<MemoryRig<Global>, Fail> {
     let mut rig = MemoryRig::new(alloc, 5_806)?;
     let sectors = if area < 2 { 256 } else { 2_048 };
-    if lay_others(&mut rig)
-        && lay_lines(&mut rig, first_of(area), sectors)
+    if write_others(&mut rig)
+        && write_lines(&mut rig, first_of(area), sectors)
         && store(&mut rig, 88, &sector_with(&FRESH))
         && store(&mut rig, 1, &header(1, area, length))
         && rig.sync().is_ok()
@@ -358,7 +360,7 @@ pub fn written(alloc: Global, area: i64, length: i64) -> Result<MemoryRig<Global
     }
 }
 
-/// A line as it is read: its bytes, and where the next one begins.
+/// A line as it is read: its bytes, and where the next line begins.
 type Read = Result<Option<(Vec<u8>, u64)>, Fault>;
 
 /// The line that begins at a byte of the program of a device.
@@ -383,7 +385,7 @@ fn read(alloc: Global, rig: MemoryRig<Global>, place: u64) -> Read {
     }
 }
 
-/// A program area, the bytes of the program, and a place; the line there, and where the next one begins.
+/// A program area, the bytes of the program, and a place; the line there, and where the next line begins.
 type Line = (i64, i64, u64, Option<(&'static str, u64)>);
 
 const LINES: &[Line] = &[
@@ -424,9 +426,9 @@ fn lines_of_a_large_program(rt: HostRuntime) -> Result<(), Fail> {
     Ok(())
 }
 
-/// The first of the lines with these numbers, 16 bytes each, that a journal reads otherwise, or after which it says
-/// that the next one begins elsewhere.
-fn first_unlike_line<R: Rig + Drop>(
+/// The first of the lines with these numbers, 16 bytes each, that a journal reads differently, or after which it
+/// returns another place for the next line.
+fn first_wrong_line<R: Rig + Drop>(
     mill: Mill<R>,
     first: u64,
     end: u64,
@@ -455,16 +457,17 @@ fn is_line(read: &Option<ProgramLine>, place: u64) -> bool {
     }
 }
 
-/// That in a program of 1,048,576 bytes in this area, from the last line on that a smaller area has room for.
-fn first_unlike_in(alloc: Global, area: i64) -> Result<Option<u64>, Fail> {
+/// The first such line in a program of 1,048,576 bytes in this area, starting with the last line for which a smaller
+/// area has room.
+fn first_wrong_line_in(alloc: Global, area: i64) -> Result<Option<u64>, Fail> {
     let mill = Mill::on(alloc, written(alloc, area, 1_048_576)?)?;
-    Ok(first_unlike_line(mill, 8_191, 65_536)?)
+    Ok(first_wrong_line(mill, 8_191, 65_536)?)
 }
 
 #[test]
 fn each_line_of_a_large_program(rt: HostRuntime) -> Result<(), Fail> {
     for area in [2, 3] {
-        assert_eq!(rt; first_unlike_in(rt.alloc(), area)?, None, "{area}");
+        assert_eq!(rt; first_wrong_line_in(rt.alloc(), area)?, None, "{area}");
     }
     Ok(())
 }

@@ -1,7 +1,7 @@
 use ng_canon::Item;
 use ng_rig::{Failed, Rig};
 
-/// A device that passes each call on to another, and counts reads, writes and syncs.
+/// A device that passes each call on to another device, and counts reads, writes and syncs.
 #[derive(Drop)]
 pub struct Counting<R> {
     rig: R,

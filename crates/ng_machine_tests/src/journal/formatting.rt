@@ -17,7 +17,7 @@ pub fn fill<R: Rig>(rig: &mut R, byte: u8) -> bool {
     is_filled
 }
 
-/// What format answers for a device of so many sectors, and how many calls it makes.
+/// What format returns for a device with this many sectors, and how many calls it makes.
 fn format_of<A: Allocator + Copy + Drop>(
     alloc: A,
     sectors: usize,
@@ -35,8 +35,8 @@ fn is_formatted(sector: usize) -> bool {
         || (1_708..1_710).contains(&sector)
 }
 
-/// The first of 1,711 sectors that isn't as wanted where format writes, or isn't as old elsewhere.
-fn first_unlike<R: Rig>(rig: &mut R, wanted: &mut R, old: u8) -> Option<usize> {
+/// The first of 1,711 sectors that isn't as expected if format writes it, or isn't as before if it doesn't.
+fn first_mismatch<R: Rig>(rig: &mut R, wanted: &mut R, old: u8) -> Option<usize> {
     for sector in 0..1_711 {
         let want = if is_formatted(sector) {
             sector_of(wanted, sector)
@@ -50,7 +50,7 @@ fn first_unlike<R: Rig>(rig: &mut R, wanted: &mut R, old: u8) -> Option<usize> {
     None
 }
 
-/// The byte that all sectors of an old device hold but for its headers.
+/// The byte in all sectors of an old device except its headers.
 const OLD: u8 = 85;
 
 /// A device of old bytes whose headers are of epochs 8 and 7, with no calls.
@@ -67,18 +67,18 @@ fn old_device(alloc: Global) -> Result<MemoryRig<Global>, Fail> {
     }
 }
 
-/// What format answers for an old device, its writes and syncs, and the first sector that is then unlike one made by
-/// hand.
+/// What format returns for an old device, its writes and syncs, and the first sector after it that differs from one
+/// made by hand.
 fn format_old(alloc: Global) -> Result<(Result<(), Fault>, u64, u64, Option<usize>), Fail> {
     let mut wanted = device(alloc, 1_711, true)?;
     let mut counting = Counting::new(old_device(alloc)?);
     let done = format(&mut counting);
     let ([_, writes, syncs], mut rig) = counting.counted();
-    let unlike = first_unlike(&mut rig, &mut wanted, OLD);
+    let unlike = first_mismatch(&mut rig, &mut wanted, OLD);
     Ok((done, writes, syncs, unlike))
 }
 
-/// An old device that is formatted: its writes and syncs, and each sector, as it is made by hand.
+/// An old device is formatted: its writes and syncs, and each sector, compared with one made by hand.
 #[test]
 fn format_leaves_a_fresh_controller(rt: HostRuntime) -> Result<(), Fail> {
     let short = [format_of(rt.alloc(), 0)?, format_of(rt.alloc(), 1_709)?];
@@ -87,25 +87,25 @@ fn format_leaves_a_fresh_controller(rt: HostRuntime) -> Result<(), Fail> {
     Ok(())
 }
 
-/// Which unsynced writes a stop keeps, by how many of each sector: none, all, that of the header of epoch 1 alone; and
-/// how many stops of a format leave that header then: the last, and the one before its sync where it is kept.
+/// Which unsynced writes a stop keeps, by how many of each sector: none, all, or only that of the header of epoch 1;
+/// and how many stops of a format leave that header: the last one, and also the one before its sync if it is kept.
 const KEPT: &[(&[usize], usize)] = &[(&[], 1), (&[1; 1_711], 2), (&[0, 1], 2)];
 
-/// The first sector of a device with the header of epoch 1 that is unlike one made by hand; none where the header isn't
-/// there.
-fn unlike_beside_header(
+/// The first sector of a device with the header of epoch 1 that differs from one made by hand. `None` also if the
+/// header isn't there.
+fn mismatch_with_header(
     rig: &mut MemoryRig<Global>,
     wanted: &mut MemoryRig<Global>,
 ) -> Option<Option<usize>> {
     if sector_of(rig, 1) == header(1, 0, 0) {
-        Some(first_unlike(rig, wanted, OLD))
+        Some(first_mismatch(rig, wanted, OLD))
     } else {
         None
     }
 }
 
-/// How many stops of a format leave the header of epoch 1, and the first of them that leaves anything else unlike what
-/// is made by hand, with the sector.
+/// How many stops of a format leave the header of epoch 1, and the first of them that leaves any other sector different
+/// from one made by hand, with the sector.
 fn stops_with_header(
     alloc: Global,
     keep: &[usize],
@@ -116,7 +116,7 @@ fn stops_with_header(
     let mut stops: usize = 0;
     for calls in 0..=rig.calls() {
         let mut stop = rig.stopped(calls, keep)?;
-        match unlike_beside_header(&mut stop, &mut wanted) {
+        match mismatch_with_header(&mut stop, &mut wanted) {
             Some(Some(sector)) => return Ok((stops, Some((calls, sector)))),
             Some(None) => stops = stops.saturating_add(1),
             None => {}
@@ -125,8 +125,8 @@ fn stops_with_header(
     Ok((stops, None))
 }
 
-/// A format that is stopped after any of its calls leaves the header of epoch 1 only where all else is as format leaves
-/// it.
+/// If a format is stopped after any of its calls, the header of epoch 1 is there only if everything else is as format
+/// leaves it.
 #[test]
 fn a_stopped_format_leaves_no_header_too_early(rt: HostRuntime) -> Result<(), Fail> {
     for (keep, stops) in KEPT {

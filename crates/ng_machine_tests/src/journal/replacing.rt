@@ -1,4 +1,4 @@
-//! A program takes the place of another on a large device: what stands after a cut in the midst of that, and after a
+//! A program replaces another on a large device: what the device stands for after a cut in the middle, and after a
 //! failure.
 use crate::images::sector_of;
 use crate::journal::areas::{bytes_of, first_of, lines, load, text_sector, written};
@@ -10,7 +10,7 @@ use ng_rig::{FuseRig, MemoryRig, Rig};
 use std::alloc::Global;
 use std::test::Fail;
 
-/// The area and the bytes of the program in force, and those of the one that takes its place.
+/// The area and the bytes of the program in force, and those of the program that replaces it.
 type Row = (i64, usize, i64, usize);
 
 const ROWS: &[Row] = &[
@@ -29,7 +29,7 @@ enum Stands {
     Neither,
 }
 
-/// Whether the text of lines is in so many sectors from this one on.
+/// Whether the text of lines is in this many sectors from this one on.
 fn has_lines<R: Rig>(rig: &mut R, first: usize, sectors: usize) -> bool {
     let mut before = 0u64;
     for sector in first..first.saturating_add(sectors) {
@@ -41,7 +41,7 @@ fn has_lines<R: Rig>(rig: &mut R, first: usize, sectors: usize) -> bool {
     true
 }
 
-/// Whether so many bytes `x` are there.
+/// Whether this many bytes `x` are there.
 fn has_text<R: Rig>(rig: &mut R, first: usize, length: usize) -> bool {
     for k in 0..length.div_ceil(512) {
         if sector_of(rig, first.saturating_add(k)) != text_sector(k, length) {
@@ -51,8 +51,8 @@ fn has_text<R: Rig>(rig: &mut R, first: usize, length: usize) -> bool {
     true
 }
 
-/// What a device stands for once it is powered on: under epoch 3 with no entry and the old program, or under epoch 4
-/// with one and the new one, of which each byte is there.
+/// What a device stands for once it is powered on: under epoch 3 no entry and the old program, or under epoch 4 one
+/// entry and the new program. Each byte of the program is checked.
 fn standing(alloc: Global, rig: MemoryRig<Global>, row: &Row) -> Result<Stands, Fault> {
     let (old_area, old_length, area, length) = *row;
     match recover(alloc, rig, &Tools::new()) {
@@ -76,8 +76,8 @@ fn standing(alloc: Global, rig: MemoryRig<Global>, row: &Row) -> Result<Stands, 
     }
 }
 
-/// The calls of a load of a program of so many sectors after which power is cut: none, some of the text, all of it, its
-/// sync, some and all of the snapshot and the tool area, their sync, the header, its sync.
+/// The calls of a load of a program with this many sectors after which power is cut: none, some of the text, all of it,
+/// its sync, some and all of the snapshot and the tool area, their sync, the header, its sync.
 fn calls(sectors: usize) -> [usize; 12] {
     [
         0,
@@ -95,7 +95,7 @@ fn calls(sectors: usize) -> [usize; 12] {
     ]
 }
 
-/// Of two sectors that follow one another, the even one first, which are kept of those that aren't synced.
+/// Of two consecutive sectors, the even one first: which of them a stop keeps if they aren't synced.
 type Kept = (bool, bool);
 
 const KEPT: [Kept; 4] = [(false, false), (true, true), (true, false), (false, true)];
@@ -110,9 +110,10 @@ fn writes_kept((is_even, is_odd): Kept) -> [usize; 5_806] {
     writes
 }
 
-/// The first choice of sectors by which a stop after so many calls of a device, 92 of them of power on, doesn't stand
-/// for what it should. The header of epoch 3, in sector 1, is the last call but the sync after it.
-fn first_astray_after(
+/// The first choice of sectors for which a stop after this many calls of a device, 92 of them by power on, doesn't
+/// stand for what it should. The header of epoch 3, in sector 1, is written by the last call but one; the last is its
+/// sync.
+fn first_mismatch_after(
     alloc: Global,
     rig: &MemoryRig<Global>,
     row: &Row,
@@ -130,8 +131,8 @@ fn first_astray_after(
     Ok(None)
 }
 
-/// The first of those stops of a load.
-fn first_astray(alloc: Global, row: &Row) -> Result<Option<(usize, Kept)>, Fail> {
+/// The first such stop of a load.
+fn first_mismatch(alloc: Global, row: &Row) -> Result<Option<(usize, Kept)>, Fail> {
     let (area, length, _, next) = *row;
     let rig = written(alloc, area, bytes_of(length))?.stopped(usize::MAX, &[])?;
     let (done, _, rig) = load(alloc, rig, next)?;
@@ -139,7 +140,7 @@ fn first_astray(alloc: Global, row: &Row) -> Result<Option<(usize, Kept)>, Fail>
         return Err(Fail::from("a program isn't loaded"));
     }
     for calls in calls(next.div_ceil(512)) {
-        if let Some(kept) = first_astray_after(alloc, &rig, row, calls)? {
+        if let Some(kept) = first_mismatch_after(alloc, &rig, row, calls)? {
             return Ok(Some((calls, kept)));
         }
     }
@@ -149,15 +150,15 @@ fn first_astray(alloc: Global, row: &Row) -> Result<Option<(usize, Kept)>, Fail>
 #[test]
 fn a_cut_leaves_the_old_program_or_the_new(rt: HostRuntime) -> Result<(), Fail> {
     for row in ROWS {
-        assert_eq!(rt; first_astray(rt.alloc(), row)?, None, "{row:?}");
+        assert_eq!(rt; first_mismatch(rt.alloc(), row)?, None, "{row:?}");
     }
     Ok(())
 }
 
-/// What a load answers, whether the journal is broken then, and what the device stands for.
+/// What a load returns, whether the journal is broken then, and what the device stands for.
 type Done = (Result<(), Fault>, bool, Stands);
 
-/// That where each call of the device fails after so many of the load. Power on makes 183.
+/// The same if each call of the device fails after this many of the load. Power on makes 183.
 fn failing(alloc: Global, row: &Row, calls: usize) -> Result<Done, Fail> {
     let (area, length, _, next) = *row;
     let fuse = FuseRig::new(
@@ -169,9 +170,9 @@ fn failing(alloc: Global, row: &Row, calls: usize) -> Result<Done, Fail> {
     Ok((done, is_broken, stands))
 }
 
-/// The first number of calls after which a failure does something else. The new program stands where the header is
+/// The first number of calls after which a failure does something else. The new program is in force if the header was
 /// written.
-fn first_unlike_failure(alloc: Global, row: &Row) -> Result<Option<(usize, Done)>, Fail> {
+fn first_wrong_failure(alloc: Global, row: &Row) -> Result<Option<(usize, Done)>, Fail> {
     let sectors = row.3.div_ceil(512);
     for calls in calls(sectors) {
         let wanted = match calls.saturating_sub(sectors) {
@@ -190,7 +191,7 @@ fn first_unlike_failure(alloc: Global, row: &Row) -> Result<Option<(usize, Done)
 #[test]
 fn a_failure_leaves_the_old_program_or_the_new(rt: HostRuntime) -> Result<(), Fail> {
     for row in ROWS {
-        assert_eq!(rt; first_unlike_failure(rt.alloc(), row)?, None, "{row:?}");
+        assert_eq!(rt; first_wrong_failure(rt.alloc(), row)?, None, "{row:?}");
     }
     Ok(())
 }

@@ -1,4 +1,4 @@
-//! Where the log has no room for a record: what stands is written first, under the next epoch.
+//! If the log has no room for a record, the state before it is written first, under the next epoch.
 use crate::images::{sector_of, store};
 use crate::journal::counting::Counting;
 use crate::journal::{formatted, header, open_half, set_slot};
@@ -9,11 +9,11 @@ use ng_rig::{MemoryRig, Rig};
 use std::alloc::Global;
 use std::test::Fail;
 
-/// What is stored or handed out last.
+/// What is stored or handed out at the end.
 #[derive(Clone, Copy, Debug, PartialEq, Eq)]
 enum Last {
     Nothing,
-    /// An entry that changes so many parameters.
+    /// An entry that changes this many parameters.
     Entry(i64),
     /// An entry that adds a slot to the tool table.
     Tool,
@@ -22,8 +22,8 @@ enum Last {
     HandOut,
 }
 
-/// A journal in whose log eight entries stand that change each parameter, 114 sectors each, so that 108 are left; and
-/// perhaps a ninth that changes so many. Before power on this odd epoch was in force.
+/// A journal whose log has eight entries that change each parameter, in 114 sectors each, so that 108 are left; and
+/// perhaps a ninth entry that changes this many. Before power on this odd epoch was in force.
 fn filled(
     alloc: Global,
     epoch: i64,
@@ -45,7 +45,7 @@ fn filled(
     Ok(mill)
 }
 
-/// Does the last: what is answered, whether the journal is broken then, and the device.
+/// Does the last operation. Returns the result, whether the journal is broken then, and the device.
 fn end<R: Rig + Drop>(mill: Mill<R>, last: Last) -> (Result<(), Fault>, bool, R) {
     let Mill {
         mut journal,
@@ -69,8 +69,8 @@ fn end<R: Rig + Drop>(mill: Mill<R>, last: Last) -> (Result<(), Fault>, bool, R)
     (done, journal.broken(), journal.into_rig())
 }
 
-/// What the last answers, whether the journal is broken then, how many reads, writes and syncs there are from power on,
-/// and the header of sector 1 then.
+/// What the last operation returns, whether the journal is broken then, how many reads, writes and syncs there are from
+/// power on, and the header of sector 1 then.
 type Ended = (Result<(), Fault>, bool, [u64; 3], [u8; 512]);
 
 fn ended(alloc: Global, epoch: i64, ninth: Option<i64>, last: Last) -> Result<Ended, Fail> {
@@ -81,11 +81,11 @@ fn ended(alloc: Global, epoch: i64, ninth: Option<i64>, last: Last) -> Result<En
 
 const USED_UP: Result<(), Fault> = Err(Fault::CountersUsed);
 
-/// The odd epoch before power on, the changes of a ninth entry, and what comes last: what that answers, how many writes
-/// and syncs it makes, and the odd epoch in sector 1 afterwards.
+/// The odd epoch before power on, the changes of a ninth entry, and the last operation; what that returns, how many
+/// writes and syncs it makes, and the odd epoch in sector 1 afterwards.
 ///
-/// 108 sectors are left for the ninth, which a record of 5,136 changes takes, and one of 5,088 but for one. A
-/// checkpoint makes 89 writes and 2 syncs, and takes an epoch: the last one goes up to 1,000,000,000,000.
+/// 108 sectors are left for the ninth entry. A record of 5,136 changes takes all of them, a record of 5,088 all but
+/// one. A checkpoint makes 89 writes and 2 syncs, and uses an epoch; the greatest epoch is 1,000,000,000,000.
 type Row = (i64, Option<i64>, Last, Result<(), Fault>, u64, u64, i64);
 
 const ROWS: &[Row] = &[
@@ -111,11 +111,11 @@ const ROWS: &[Row] = &[
     (LAST, Some(5_088), Last::Entry(1), USED_UP, 0, 0, LAST),
 ];
 
-/// The odd epoch before the last of all.
+/// The odd epoch before the greatest one.
 const LAST: i64 = 999_999_999_999;
 
 #[test]
-fn a_record_that_finds_no_room(rt: HostRuntime) -> Result<(), Fail> {
+fn a_record_without_room_in_the_log(rt: HostRuntime) -> Result<(), Fail> {
     for (epoch, ninth, last, answer, writes, syncs, odd) in ROWS {
         let (_, _, before, _) = ended(rt.alloc(), *epoch, *ninth, Last::Nothing)?;
         let wanted = [

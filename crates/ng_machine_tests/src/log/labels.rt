@@ -1,6 +1,6 @@
 //! The labels of a record's parts at their limits: epochs, and how many changes a record may have.
 use crate::images::{put, store};
-use crate::journal::{entries_found, header_of, lay_state};
+use crate::journal::{entries_found, header_of, write_state};
 use crate::log::reading::state_part;
 use crate::parts::{Label, part_with};
 use ng_journal::recover;
@@ -11,18 +11,18 @@ use ng_rig::{MemoryRig, Rig};
 use std::alloc::Global;
 use std::test::Fail;
 
-/// A part of record 0 of epoch 1 that has so many changes, and as many parts as these take.
+/// A part of record 0 of epoch 1 that has this many changes, and as many parts as these take.
 fn label(part: i64, changes: i64) -> Label {
     (1, 0, part, parts_of(changes).saturating_add(1), changes)
 }
 
-/// How many parts so many changes take after the first.
+/// How many parts this many changes take after the first.
 fn parts_of(changes: i64) -> i64 {
     changes.saturating_add(47).div_euclid(48)
 }
 
-/// Another part of that record. Change n of the record makes a parameter n + 1 millionths: the first to the last in
-/// turn, and again from the first.
+/// A later part of that record. Change n of the record sets a parameter to n + 1 millionths: the first to the last in
+/// order, and again from the first.
 fn changes_part(part: i64, changes: i64) -> [u8; 512] {
     let mut sector = part_with(label(part, changes), &[]);
     let first = part.saturating_sub(1).saturating_mul(48);
@@ -40,16 +40,16 @@ fn changes_part(part: i64, changes: i64) -> [u8; 512] {
     sector
 }
 
-/// A device of this format under this odd epoch with 3 entries in its snapshot, and in its log this first part. It has
-/// two sectors more than it takes.
-fn laid(
+/// A device of this format under this odd epoch with 3 entries in its snapshot, and this first part in its log. It has
+/// two sectors more than it needs.
+fn device_with_part(
     alloc: Global,
     format: i64,
     epoch: i64,
     first: &[u8; 512],
 ) -> Result<MemoryRig<Global>, Fail> {
     let mut rig = MemoryRig::new(alloc, 1_712)?;
-    if lay_state(&mut rig, 88, 3)
+    if write_state(&mut rig, 88, 3)
         && store(&mut rig, 1, &header_of(format, epoch, 0, 0))
         && store(&mut rig, 686, first)
         && rig.sync().is_ok()
@@ -60,10 +60,10 @@ fn laid(
     }
 }
 
-/// A device of this format under epoch 1 with one record of so many changes and 7 entries, as much of it as its counts
-/// can say. It may go on in the sectors after the log.
+/// A device of this format under epoch 1 with 7 entries and one record of this many changes, as far as its counts can
+/// express them. It may extend into the sectors after the log.
 fn with_changes(alloc: Global, format: i64, changes: i64) -> Result<MemoryRig<Global>, Fail> {
-    let mut rig = laid(alloc, format, 1, &state_part(label(0, changes), 7))?;
+    let mut rig = device_with_part(alloc, format, 1, &state_part(label(0, changes), 7))?;
     let mut is_laid = true;
     for (sector, part) in (687..1_712).zip(1..parts_of(changes).saturating_add(1)) {
         is_laid = is_laid && store(&mut rig, sector, &changes_part(part, changes));
@@ -75,7 +75,7 @@ fn with_changes(alloc: Global, format: i64, changes: i64) -> Result<MemoryRig<Gl
     }
 }
 
-/// What the last of so many changes makes a parameter.
+/// The last value that this many changes give a parameter.
 fn value_after(number: i64, changes: i64) -> i64 {
     let rounds = changes.saturating_sub(number).div_euclid(5_399);
     if number > changes {
@@ -85,8 +85,8 @@ fn value_after(number: i64, changes: i64) -> i64 {
     }
 }
 
-/// The first parameter that isn't what so many changes make it.
-fn first_unlike(params: &Params<Global>, changes: i64) -> Option<i64> {
+/// The first parameter without the value that this many changes give it.
+fn first_mismatch(params: &Params<Global>, changes: i64) -> Option<i64> {
     for number in 1..5_400 {
         match Index::of(number) {
             Some(index) if params.get(index).count() == value_after(number, changes) => {}
@@ -96,21 +96,21 @@ fn first_unlike(params: &Params<Global>, changes: i64) -> Option<i64> {
     None
 }
 
-/// The entries that power on finds on a device, or why it is refused, and the first parameter that isn't what so many
-/// changes make it.
+/// The entries that power on finds on a device, or why it is refused, and the first parameter without the value that
+/// this many changes give it.
 fn found(alloc: Global, rig: MemoryRig<Global>, changes: i64) -> (Result<u64, Fault>, Option<i64>) {
     match recover(alloc, rig, &Tools::new()) {
         Ok((journal, stored)) => {
             drop(journal.into_rig());
-            let unlike = first_unlike(&stored.state.params, changes);
+            let unlike = first_mismatch(&stored.state.params, changes);
             (Ok(stored.entries), unlike)
         }
         Err((fault, _)) => (Err(fault), None),
     }
 }
 
-/// The format, and how many changes a record has; the entries that power on finds, and how many changes stand. A log of
-/// 1,020 sectors has room for 48,912 in the parts after the first, and one of 1,024, in format 1, for 49,104.
+/// The format, and how many changes a record has; the entries that power on finds, and how many changes are applied. A
+/// log of 1,020 sectors has room for 48,912 in the parts after the first, and one of 1,024, in format 1, for 49,104.
 const CHANGES: &[(i64, i64, u64, i64)] = &[
     (2, 0, 7, 0),
     (2, 1, 7, 1),
@@ -144,7 +144,7 @@ fn a_record_has_as_many_changes_as_the_log_has_room_for(rt: HostRuntime) -> Resu
 /// The greatest odd epoch.
 const LAST: i64 = 999_999_999_999;
 
-/// The epoch in force, that of the record in the log, and the entries: 7 where the record counts, else 3.
+/// The epoch in force, the epoch of the record in the log, and the entries: 7 if the record counts, else 3.
 const EPOCHS: &[(i64, i64, u64)] = &[
     (1, -1, 3),
     (257, 1, 3),
@@ -155,11 +155,11 @@ const EPOCHS: &[(i64, i64, u64)] = &[
     (LAST, LAST + 1, 3),
 ];
 
-/// Power on finds them, and writes a header of the next epoch.
+/// Power on finds these entries, and writes a header of the next epoch.
 #[test]
 fn a_record_counts_under_its_own_epoch(rt: HostRuntime) -> Result<(), Fail> {
     for (epoch, of_record, entries) in EPOCHS {
-        let rig = laid(
+        let rig = device_with_part(
             rt.alloc(),
             2,
             *epoch,

@@ -1,6 +1,6 @@
-//! What power on makes of a log that another program wrote.
+//! What power on does with a log that another program wrote.
 use crate::images::{FRESH, put, sector_of, store};
-use crate::journal::{formatted, header_of, lay_state};
+use crate::journal::{formatted, header_of, write_state};
 use crate::parts::{Label, part_with};
 use ng_journal::recover;
 use ng_num::Fault;
@@ -10,14 +10,14 @@ use ng_rig::{MemoryRig, Rig};
 use std::alloc::Global;
 use std::test::Fail;
 
-/// A first part whose state is a fresh one with so many entries.
+/// A first part with a fresh state that has this many entries.
 pub fn state_part(label: Label, entries: i64) -> [u8; 512] {
     let mut sector = part_with(label, &FRESH);
     put(&mut sector, 32, 8, entries);
     sector
 }
 
-/// Another part, in which so many parameters from this one on are 1.
+/// A later part that sets this many parameters from this one on to 1.
 fn ones(label: Label, first: i64, count: i64) -> [u8; 512] {
     let mut sector = part_with(label, &[]);
     for (k, number) in (first..first.saturating_add(count)).enumerate() {
@@ -28,17 +28,17 @@ fn ones(label: Label, first: i64, count: i64) -> [u8; 512] {
     sector
 }
 
-/// Lays two records into the log of a formatted device: one of one part, with 7 entries, and one of three parts, with 8
-/// entries, in which parameters 1 to 49 are 1.
-fn lay_records<R: Rig>(rig: &mut R) -> bool {
+/// Writes two records to the log of a formatted device: one of one part, with 7 entries, and one of three parts, with 8
+/// entries, which sets parameters 1 to 49 to 1.
+fn write_records<R: Rig>(rig: &mut R) -> bool {
     store(rig, 686, &state_part((1, 0, 0, 1, 0), 7))
         && store(rig, 687, &state_part((1, 1, 0, 3, 49), 8))
         && store(rig, 688, &ones((1, 1, 1, 3, 49), 1, 48))
         && store(rig, 689, &ones((1, 1, 2, 3, 49), 49, 1))
 }
 
-/// The entries that power on finds and parameter 49, in millionths, or why it refuses the device; and how many calls it
-/// makes.
+/// The entries and parameter 49, in millionths, that power on finds, or why it refuses the device; and how many calls
+/// it makes.
 type Found = (Result<(u64, i64), Fault>, usize);
 
 fn found(alloc: Global, rig: MemoryRig<Global>) -> Found {
@@ -56,10 +56,10 @@ fn found(alloc: Global, rig: MemoryRig<Global>) -> Found {
 /// A number of a sector: the sector, its byte and its width, and the number.
 type Change = (usize, usize, usize, i64);
 
-/// What power on finds of those records with these numbers changed.
+/// What power on finds in those records with these numbers changed.
 fn changed(alloc: Global, changes: &[Change]) -> Result<Found, Fail> {
     let mut rig = formatted(alloc)?;
-    let mut is_laid = lay_records(&mut rig);
+    let mut is_laid = write_records(&mut rig);
     for (sector, at, width, number) in changes {
         let mut bytes = sector_of(&mut rig, *sector);
         put(&mut bytes, *at, *width, *number);
@@ -71,7 +71,7 @@ fn changed(alloc: Global, changes: &[Change]) -> Result<Found, Fail> {
     Ok(found(alloc, rig))
 }
 
-/// Both records stand; the first alone; none.
+/// Both records count; only the first; none.
 const BOTH: Found = (Ok((8, 1_000_000)), 92);
 
 const FIRST: Found = (Ok((7, 0)), 92);
@@ -87,7 +87,7 @@ const MOST: i64 = 9_999_999_999_999;
 /// Numbers that are changed, and what power on finds.
 const ROWS: &[(&[Change], Found)] = &[
     (&[], BOTH),
-    // no record: another epoch, number, part, or number of parts or changes
+    // not a record: another epoch, number, part, or number of parts or changes
     (&[(686, 0, 8, 0)], NONE),
     (&[(686, 0, 8, 2)], NONE),
     (&[(686, 0, 8, 257)], NONE),
@@ -116,7 +116,7 @@ const ROWS: &[(&[Change], Found)] = &[
     (&[(689, 16, 2, 1)], FIRST),
     (&[(689, 18, 2, 4)], FIRST),
     (&[(689, 20, 2, 48)], FIRST),
-    // a complete record with a field out of its range: a mode, the entries, a place, an index, a value
+    // a complete record with a field that is out of range: a mode, the entries, a place, an index, a value
     (&[(686, 182, 1, 10)], DAMAGED),
     (&[(686, 32, 8, 1_000_000_000_001)], DAMAGED),
     (&[(686, 40, 8, 1)], DAMAGED),
@@ -136,7 +136,7 @@ const ROWS: &[(&[Change], Found)] = &[
     (&[(686, 488, 2, 2)], DAMAGED),
     (&[(687, 488, 2, 2)], DAMAGED),
     (&[(687, 496, 8, -1)], DAMAGED),
-    // the same where the record isn't complete
+    // the same if the record isn't complete
     (&[(687, 182, 1, 0), (689, 0, 8, 0)], FIRST),
     (&[(688, 32, 2, 0), (689, 0, 8, 0)], FIRST),
     (&[(688, 34, 8, i64::MAX), (687, 8, 8, 2)], FIRST),
@@ -151,7 +151,7 @@ const ROWS: &[(&[Change], Found)] = &[
         &[(687, 32, 8, 1_000_000_000_000)],
         (Ok((1_000_000_000_000, 1_000_000)), 92),
     ),
-    // of two changes of a parameter the later one counts, also in the same part
+    // of two changes of a parameter the later one applies, also in the same part
     (&[(688, 502, 2, 49), (688, 504, 8, 3_000_000)], BOTH),
     (
         &[(688, 492, 2, 48), (688, 502, 2, 49), (689, 32, 2, 48)],
@@ -191,9 +191,9 @@ fn records_with_a_number_changed(rt: HostRuntime) -> Result<(), Fail> {
     Ok(())
 }
 
-/// Lays so many records of one part, each of which counts an entry more, and after them one of two parts, by which
-/// parameter 49 is 1.
-pub fn lay_to_the_end<R: Rig>(rig: &mut R, records: usize) -> bool {
+/// Writes this many records of one part, each with one entry more, and after them one record of two parts that sets
+/// parameter 49 to 1.
+pub fn write_to_the_end<R: Rig>(rig: &mut R, records: usize) -> bool {
     let mut is_laid = true;
     let mut number = 0;
     for sector in 686..records.saturating_add(686) {
@@ -213,9 +213,9 @@ pub fn lay_to_the_end<R: Rig>(rig: &mut R, records: usize) -> bool {
 /// What power on finds of them, on a device of this format under epoch 1.
 fn found_to_the_end(alloc: Global, format: i64, records: usize) -> Result<Found, Fail> {
     let mut rig = MemoryRig::new(alloc, 1_712)?;
-    if lay_state(&mut rig, 88, 0)
+    if write_state(&mut rig, 88, 0)
         && store(&mut rig, 1, &header_of(format, 1, 0, 0))
-        && lay_to_the_end(&mut rig, records)
+        && write_to_the_end(&mut rig, records)
         && rig.sync().is_ok()
     {
         Ok(found(alloc, rig))
@@ -224,8 +224,8 @@ fn found_to_the_end(alloc: Global, format: i64, records: usize) -> Result<Found,
     }
 }
 
-/// The format, and how many records of one part there are, and what power on finds with one of two parts after them:
-/// that counts where it ends within the log's last sector, 1705, or 1709 in format 1.
+/// The format, how many records of one part there are, and what power on finds if a record of two parts follows. That
+/// counts if it ends within the log's last sector, 1705, or 1709 in format 1.
 const ENDS: &[(i64, usize, Found)] = &[
     (2, 1_017, (Ok((1_017, 1_000_000)), 92)),
     (2, 1_018, (Ok((1_018, 1_000_000)), 92)),

@@ -1,4 +1,4 @@
-//! The slot that a record changes, and its length: each at its limits and past them.
+//! The slot that a record changes, and its length, each at its limits and past them.
 use crate::images::{FRESH, METRE, powered, put, sector_of, sector_with, store};
 use crate::journal::header;
 use crate::parts::part_with;
@@ -10,14 +10,14 @@ use std::test::Fail;
 /// What a record says of a tool table: a slot, 0 for none, and a length.
 type Change = (i64, i64);
 
-/// The first sector of a snapshot with so many slots.
+/// The first sector of a snapshot with this many slots.
 fn snapshot_sector(slots: i64) -> [u8; 512] {
     let mut sector = sector_with(&FRESH);
     put(&mut sector, 456, 2, slots);
     sector
 }
 
-/// Puts the length of a slot into the two sectors of a tool area; nothing where there is no such slot.
+/// Puts the length of a slot into the two sectors of a tool area; nothing if there is no such slot.
 fn put_length(area: &mut [[u8; 512]; 2], slot: i64, nm: i64) {
     match slot {
         1..=64 => put(&mut area[0], (slot as usize - 1) * 8, 8, nm),
@@ -26,7 +26,7 @@ fn put_length(area: &mut [[u8; 512]; 2], slot: i64, nm: i64) {
     }
 }
 
-/// A tool area with so many slots, of which slot n is n nm long.
+/// A tool area with this many slots; slot n is n nm long.
 fn lengths(slots: i64) -> [[u8; 512]; 2] {
     let mut area = [[0; 512]; 2];
     for slot in 1..slots.saturating_add(1) {
@@ -35,7 +35,7 @@ fn lengths(slots: i64) -> [[u8; 512]; 2] {
     area
 }
 
-/// The same where these slots have these lengths.
+/// The same, but these slots have these lengths.
 fn changed_lengths(slots: i64, changes: &[Change]) -> [[u8; 512]; 2] {
     let mut area = lengths(slots);
     for (slot, nm) in changes {
@@ -44,8 +44,8 @@ fn changed_lengths(slots: i64, changes: &[Change]) -> [[u8; 512]; 2] {
     area
 }
 
-/// A device of epoch 1 with so many slots, and a record of one part for each of these changes.
-fn laid(alloc: Global, slots: i64, changes: &[Change]) -> Result<MemoryRig<Global>, Fail> {
+/// A device of epoch 1 with this many slots, and a record of one part for each of these changes.
+fn device_with(alloc: Global, slots: i64, changes: &[Change]) -> Result<MemoryRig<Global>, Fail> {
     let mut rig = MemoryRig::new(alloc, 1_710)?;
     let [first, second] = lengths(slots);
     let mut is_laid = store(&mut rig, 1, &header(1, 0, 0))
@@ -69,8 +69,8 @@ fn laid(alloc: Global, slots: i64, changes: &[Change]) -> Result<MemoryRig<Globa
     }
 }
 
-/// How many slots a device has, and what its records change; how many slots there are then, or none where power on says
-/// that it is damaged.
+/// How many slots a device has, and what its records change; how many slots there are then, `None` if power on finds
+/// the device damaged.
 type Row = (i64, &'static [Change], Option<i64>);
 
 const ROWS: &[Row] = &[
@@ -109,13 +109,13 @@ const ROWS: &[Row] = &[
     (1, &[(2, METRE)], Some(2)),
     (1, &[(2, METRE + 1)], None),
     (1, &[(2, -1)], None),
-    // the length beside slot 0
+    // the length for slot 0
     (1, &[(0, METRE)], Some(1)),
     (1, &[(0, METRE + 1)], None),
     (1, &[(0, -1)], None),
     (1, &[(0, i64::MIN)], None),
     (1, &[(0, i64::MAX)], None),
-    // each by the table that stands before it
+    // each relative to the table before it
     (0, &[(1, 5), (2, 6), (0, 9), (3, 7)], Some(3)),
     (0, &[(2, 6), (1, 5)], None),
     (0, &[(1, 5), (3, 6)], None),
@@ -127,10 +127,10 @@ const ROWS: &[Row] = &[
     (1, &[(0, -1), (0, 0)], None),
 ];
 
-/// Whether power on makes of a device what its row says: it writes the whole table, or refuses the device before any
+/// Whether power on does with a device what its row says: it writes the whole table, or refuses the device before any
 /// write.
 fn is_as_wanted(alloc: Global, row: &Row) -> Result<bool, Fail> {
-    let rig = laid(alloc, row.0, row.1)?;
+    let rig = device_with(alloc, row.0, row.1)?;
     let before = rig.calls();
     let (fault, mut rig) = powered(alloc, rig);
     let calls = rig.calls().wrapping_sub(before);

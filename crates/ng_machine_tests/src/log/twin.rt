@@ -1,4 +1,4 @@
-//! The journal beside a plain one, which writes a whole snapshot for each entry and each opened segment: what both
+//! The journal compared with a plain one that writes a whole snapshot for each entry and each opened segment: what both
 //! devices stand for.
 ghost use Rattle.std.specs.Prelude.{◌≡◌, ◌≤◌, IsSome, IsNone, IfSome};
 ghost use Rattle.std.proofs.Props.{props};
@@ -17,21 +17,21 @@ use std::test::Fail;
 
 /// What is stored next.
 #[derive(Clone, Copy)]
-enum Deed {
-    /// An entry: so many parameters from this one on become this value, the machine stands at X, the next line begins
+enum Operation {
+    /// An entry: this many parameters from this one on are set to this value, the machine is at X, the next line begins
     /// at this byte, and no block is half-done.
     Entry(i64, i64, i64, i64, u64),
-    /// An entry: this slot is so many nanometres long.
+    /// An entry: this slot has this length in nanometres.
     Tool(u8, i64),
-    /// The segment of this number is open.
+    /// The segment with this number is open.
     Segment(u64),
     /// The approach to it is open.
     Approach(u64),
-    /// An entry: a block is half-done before the segment of this number, and the machine stands at X.
+    /// An entry: a block is half-done before the segment with this number, and the machine is at X.
     HalfDone(u64, i64),
-    /// An entry by which the program becomes this.
+    /// An entry: this is the program.
     Load(&'static [u8; 13]),
-    /// Power is on anew.
+    /// Power comes on again.
     PowerOn,
 }
 
@@ -42,7 +42,7 @@ fn point_at(x: i64) -> Point {
     point
 }
 
-/// A line of the operator's that is half-done before this segment, or within it where something is open.
+/// A line of the operator that is half-done before this segment, or within it if something is open.
 fn half_of(index: u64, at: Option<Point>, opened: Option<Opened>) -> Half
     requires { IsSome opened → IsNone at }
     ensures waits { IsStorableHalf result }
@@ -57,7 +57,7 @@ fn half_of(index: u64, at: Option<Point>, opened: Option<Opened>) -> Half
     }
 }
 
-/// Makes an entry of what is stored.
+/// Makes an entry in what is stored.
 fn enter(stored: &mut Stored<Global>, entry: (i64, i64, i64, i64, u64), half: Option<Half>)
     requires storable { IsStorable stored.old }
     requires waits { IfSome half IsStorableHalf }
@@ -105,8 +105,8 @@ fn renew(rig: &mut MemoryRig<Global>, header: Header, stored: &Stored<Global>) -
     is_written && rig.sync().is_ok() && store(rig, sector, &header.write()) && rig.sync().is_ok()
 }
 
-/// Where a load writes that comes while this area is in force, on a device of so many sectors: the area, and its first
-/// sector.
+/// The area, with its first sector, that a load writes to while this area is in force, on a device with this many
+/// sectors.
 fn next_area(sectors: usize, area: u64) -> (u64, usize) {
     let is_large = sectors >= 5_806;
     if is_large && area == 2 {
@@ -121,7 +121,7 @@ fn next_area(sectors: usize, area: u64) -> (u64, usize) {
 }
 
 impl Plain {
-    /// Over a device of so many sectors and of this format that is fresh.
+    /// A plain journal over a fresh device with this many sectors and of this format.
     fn on(alloc: Global, sectors: usize, format: Format) -> Result<Plain, Fail> {
         let mut rig = device(alloc, sectors, true)?;
         let is_laid = format == Format::Two
@@ -152,7 +152,7 @@ impl Plain {
         renew(&mut self.rig, self.header, &self.stored)
     }
 
-    /// Writes a text of one sector to the other program area, and then what is stored with it.
+    /// Writes a text of one sector to the other program area, and then what is stored with that program.
     fn load(&mut self, text: &[u8; 13]) -> bool {
         self.stored.place = 0;
         self.stored.length = 13;
@@ -162,27 +162,27 @@ impl Plain {
         store(&mut self.rig, first, &text_sector(text, 0)) && self.renew(area)
     }
 
-    fn make(&mut self, deed: Deed) -> bool {
-        match deed {
-            Deed::Entry(first, count, value, x, place) => {
+    fn make(&mut self, operation: Operation) -> bool {
+        match operation {
+            Operation::Entry(first, count, value, x, place) => {
                 enter(&mut self.stored, (first, count, value, x, place), None);
             }
-            Deed::Tool(slot, nm) => {
+            Operation::Tool(slot, nm) => {
                 self.stored.entries = self.stored.entries.saturating_add(1);
                 set_slot(&mut self.stored.tools, slot, nm);
             }
-            Deed::Segment(index) => {
+            Operation::Segment(index) => {
                 self.stored.half = Some(half_of(index, None, Some(Opened::Segment)));
             }
-            Deed::Approach(index) => {
+            Operation::Approach(index) => {
                 self.stored.half = Some(half_of(index, None, Some(Opened::Approach)));
             }
-            Deed::HalfDone(index, x) => {
+            Operation::HalfDone(index, x) => {
                 let half = half_of(index, Some(point_at(x)), None);
                 enter(&mut self.stored, (1, 0, 0, x, 0), Some(half));
             }
-            Deed::Load(text) => return self.load(text),
-            Deed::PowerOn => self.stored.close(),
+            Operation::Load(text) => return self.load(text),
+            Operation::PowerOn => self.stored.close(),
         }
         self.renew(self.header.area)
     }
@@ -228,23 +228,23 @@ impl Mill<MemoryRig<Global>> {
         }
     }
 
-    fn make(self, alloc: Global, deed: Deed) -> Result<Self, Fault> {
+    fn make(self, alloc: Global, operation: Operation) -> Result<Self, Fault> {
         let mut mill = self;
-        match deed {
-            Deed::Entry(first, count, value, x, place) => {
+        match operation {
+            Operation::Entry(first, count, value, x, place) => {
                 enter(&mut mill.stored, (first, count, value, x, place), None);
                 mill.store()
             }
-            Deed::Tool(slot, nm) => mill.set_tool(slot, nm),
-            Deed::Segment(index) => mill.open(half_of(index, None, Some(Opened::Segment))),
-            Deed::Approach(index) => mill.open(half_of(index, None, Some(Opened::Approach))),
-            Deed::HalfDone(index, x) => {
+            Operation::Tool(slot, nm) => mill.set_tool(slot, nm),
+            Operation::Segment(index) => mill.open(half_of(index, None, Some(Opened::Segment))),
+            Operation::Approach(index) => mill.open(half_of(index, None, Some(Opened::Approach))),
+            Operation::HalfDone(index, x) => {
                 let half = half_of(index, Some(point_at(x)), None);
                 enter(&mut mill.stored, (1, 0, 0, x, 0), Some(half));
                 mill.store()
             }
-            Deed::Load(text) => mill.load(text),
-            Deed::PowerOn => Mill::on(alloc, mill.off()),
+            Operation::Load(text) => mill.load(text),
+            Operation::PowerOn => Mill::on(alloc, mill.off()),
         }
     }
 }
@@ -253,69 +253,73 @@ const TURN: &[u8; 13] = b"M3\nG1 X1\nM2\n\n";
 
 const MOVE: &[u8; 13] = b"G0 X0.002\nM2\n";
 
-/// The script. Records of 1, 2, 3, 8 and 114 parts; ten of the last kind, of which the log has room for eight.
-const DEEDS: &[Deed] = &[
-    Deed::Entry(1, 0, 0, 1_000, 0),
-    Deed::Entry(1, 1, 5_000_000, 0, 0),
-    Deed::Tool(1, 50_000_000),
-    Deed::Tool(2, 0),
-    Deed::Segment(0),
-    Deed::Entry(1, 49, 1_000_000, -7, 0),
-    Deed::Entry(1, 49, 1_000_000, -7, 0),
-    Deed::Load(TURN),
-    Deed::Tool(2, 1_000_000_000),
-    Deed::Segment(0),
-    Deed::Entry(5_220, 1, 2_000_000, 8, 3),
-    Deed::Segment(0),
-    Deed::PowerOn,
-    Deed::HalfDone(0, 3),
-    Deed::Approach(0),
-    Deed::Segment(0),
-    Deed::Entry(100, 300, -1, 9_999_999_999_999, 12),
-    Deed::Entry(1, 5_399, 2, 0, 13),
-    Deed::Entry(1, 5_399, 3, 0, 13),
-    Deed::Load(MOVE),
-    Deed::Entry(1, 5_399, 4, 0, 10),
-    Deed::Entry(1, 5_399, 5, 0, 10),
-    Deed::Entry(1, 5_399, 6, 0, 10),
-    Deed::Entry(1, 5_399, 7, 0, 10),
-    Deed::Entry(1, 5_399, 8, 0, 10),
-    Deed::Entry(1, 5_399, 9, 0, 10),
-    Deed::Entry(1, 5_399, 10, 0, 10),
-    Deed::Entry(1, 5_399, 11, 0, 10),
-    Deed::Tool(1, 7),
-    Deed::Tool(1, 7),
-    Deed::Tool(3, 9),
-    Deed::Segment(7),
-    Deed::Entry(1, 5_399, 12, 0, 10),
-    Deed::Entry(1, 48, 13, 1, 0),
-    Deed::Segment(1),
-    Deed::PowerOn,
-    Deed::Entry(2, 1, 14, 2, 0),
-    Deed::Load(TURN),
+/// The operations. There are records of 1, 2, 3, 8 and 114 parts; the log has room for eight of the ten with 114.
+const OPERATIONS: &[Operation] = &[
+    Operation::Entry(1, 0, 0, 1_000, 0),
+    Operation::Entry(1, 1, 5_000_000, 0, 0),
+    Operation::Tool(1, 50_000_000),
+    Operation::Tool(2, 0),
+    Operation::Segment(0),
+    Operation::Entry(1, 49, 1_000_000, -7, 0),
+    Operation::Entry(1, 49, 1_000_000, -7, 0),
+    Operation::Load(TURN),
+    Operation::Tool(2, 1_000_000_000),
+    Operation::Segment(0),
+    Operation::Entry(5_220, 1, 2_000_000, 8, 3),
+    Operation::Segment(0),
+    Operation::PowerOn,
+    Operation::HalfDone(0, 3),
+    Operation::Approach(0),
+    Operation::Segment(0),
+    Operation::Entry(100, 300, -1, 9_999_999_999_999, 12),
+    Operation::Entry(1, 5_399, 2, 0, 13),
+    Operation::Entry(1, 5_399, 3, 0, 13),
+    Operation::Load(MOVE),
+    Operation::Entry(1, 5_399, 4, 0, 10),
+    Operation::Entry(1, 5_399, 5, 0, 10),
+    Operation::Entry(1, 5_399, 6, 0, 10),
+    Operation::Entry(1, 5_399, 7, 0, 10),
+    Operation::Entry(1, 5_399, 8, 0, 10),
+    Operation::Entry(1, 5_399, 9, 0, 10),
+    Operation::Entry(1, 5_399, 10, 0, 10),
+    Operation::Entry(1, 5_399, 11, 0, 10),
+    Operation::Tool(1, 7),
+    Operation::Tool(1, 7),
+    Operation::Tool(3, 9),
+    Operation::Segment(7),
+    Operation::Entry(1, 5_399, 12, 0, 10),
+    Operation::Entry(1, 48, 13, 1, 0),
+    Operation::Segment(1),
+    Operation::PowerOn,
+    Operation::Entry(2, 1, 14, 2, 0),
+    Operation::Load(TURN),
 ];
 
-/// The device of so many sectors that the journal leaves after these deeds.
-fn logged(alloc: Global, sectors: usize, deeds: &[Deed]) -> Result<MemoryRig<Global>, Fail> {
+/// The device with this many sectors that the journal leaves after these operations.
+fn logged(
+    alloc: Global,
+    sectors: usize,
+    operations: &[Operation],
+) -> Result<MemoryRig<Global>, Fail> {
     let mut mill = Mill::on(alloc, device(alloc, sectors, true)?)?;
-    for deed in deeds {
-        mill = mill.make(alloc, *deed)?;
+    for operation in operations {
+        mill = mill.make(alloc, *operation)?;
     }
     Ok(mill.off())
 }
 
-/// The device of so many sectors and of this format that the plain journal leaves, and what is stored on it, with
+/// The device with this many sectors and of this format that the plain journal leaves, and what is stored on it, with
 /// nothing open. In format 1 no slot is stored.
 fn snapshotted(
     alloc: Global,
     sectors: usize,
     format: Format,
-    deeds: &[Deed],
+    operations: &[Operation],
 ) -> Result<(MemoryRig<Global>, Stored<Global>), Fail> {
     let mut plain = Plain::on(alloc, sectors, format)?;
-    for deed in deeds {
-        let is_stored = format == Format::Two || !matches!(deed, Deed::Tool(_, _));
-        if is_stored && !plain.make(*deed) {
+    for operation in operations {
+        let is_stored = format == Format::Two || !matches!(operation, Operation::Tool(_, _));
+        if is_stored && !plain.make(*operation) {
             return Err(Fail::from("a sector isn't written"));
         }
     }
@@ -328,11 +332,11 @@ fn snapshotted(
     Ok((rig, stored))
 }
 
-/// What a device stands for that power left with nothing unsynced, and the program's line at its place and at the
+/// What a device stands for after power was lost with nothing unsynced, and the program's line at its place and at the
 /// beginning.
 type Found = (Stored<Global>, [Option<ProgramLine>; 2]);
 
-/// What it stands for beside these tools in the settings.
+/// What it stands for, given these tools in the settings.
 fn found(alloc: Global, rig: &MemoryRig<Global>, tools: &Tools) -> Result<Found, Fault> {
     let (stored, next) = line_at(alloc, rig, tools, false)?;
     let (_, first) = line_at(alloc, rig, tools, true)?;
@@ -397,12 +401,16 @@ fn are_lines_alike(one: &Option<ProgramLine>, other: &Option<ProgramLine>) -> bo
     }
 }
 
-/// Whether both journals stand for what is stored, and for the same lines of the program, after these deeds on devices
-/// of so many sectors.
-fn stand_for_the_same(alloc: Global, sectors: usize, deeds: &[Deed]) -> Result<bool, Fail> {
-    let (rig, stored) = snapshotted(alloc, sectors, Format::Two, deeds)?;
+/// Whether both journals stand for what is stored, and for the same lines of the program, after these operations on
+/// devices with this many sectors.
+fn stand_for_the_same(
+    alloc: Global,
+    sectors: usize,
+    operations: &[Operation],
+) -> Result<bool, Fail> {
+    let (rig, stored) = snapshotted(alloc, sectors, Format::Two, operations)?;
     let (wanted, wanted_lines) = found(alloc, &rig, &Tools::new())?;
-    let logged = logged(alloc, sectors, deeds)?;
+    let logged = logged(alloc, sectors, operations)?;
     let (other, lines) = found(alloc, &logged, &Tools::new())?;
     Ok(
         are_alike(&wanted, &stored)?
@@ -412,11 +420,11 @@ fn stand_for_the_same(alloc: Global, sectors: usize, deeds: &[Deed]) -> Result<b
     )
 }
 
-/// The first number of deeds after which they don't.
-fn first_unlike(alloc: Global, sectors: usize) -> Result<Option<usize>, Fail> {
-    for n in 0..=DEEDS.len() {
-        let deeds = DEEDS.get(..n).unwrap_or_default();
-        if !stand_for_the_same(alloc, sectors, deeds)? {
+/// The first number of operations after which they don't.
+fn first_mismatch(alloc: Global, sectors: usize) -> Result<Option<usize>, Fail> {
+    for n in 0..=OPERATIONS.len() {
+        let operations = OPERATIONS.get(..n).unwrap_or_default();
+        if !stand_for_the_same(alloc, sectors, operations)? {
             return Ok(Some(n));
         }
     }
@@ -426,28 +434,28 @@ fn first_unlike(alloc: Global, sectors: usize) -> Result<Option<usize>, Fail> {
 #[test]
 fn a_journal_of_snapshots_stands_for_the_same(rt: HostRuntime) -> Result<(), Fail> {
     for sectors in [1_710, 5_806] {
-        assert_eq!(rt; first_unlike(rt.alloc(), sectors)?, None, "{sectors}");
+        assert_eq!(rt; first_mismatch(rt.alloc(), sectors)?, None, "{sectors}");
     }
     Ok(())
 }
 
 /// Whether a plain journal of format 1 stands for what is stored, with the settings' tools in place of its own, after
-/// these deeds.
-fn stands_beside_tools(alloc: Global, deeds: &[Deed]) -> Result<bool, Fail> {
+/// these operations.
+fn takes_settings_tools(alloc: Global, operations: &[Operation]) -> Result<bool, Fail> {
     let mut tools = Tools::new();
     set_slot(&mut tools, 1, 50_000_000);
     set_slot(&mut tools, 2, 7);
-    let (rig, mut stored) = snapshotted(alloc, 1_710, Format::One, deeds)?;
+    let (rig, mut stored) = snapshotted(alloc, 1_710, Format::One, operations)?;
     stored.take_tools(&tools);
     let (found, _) = found(alloc, &rig, &tools)?;
     Ok(are_alike(&found, &stored)?)
 }
 
 #[test]
-fn a_journal_of_format_1_stands_beside_the_settings_tools(rt: HostRuntime) -> Result<(), Fail> {
-    for n in 0..=DEEDS.len() {
-        let deeds = DEEDS.get(..n).unwrap_or_default();
-        assert!(rt; stands_beside_tools(rt.alloc(), deeds)?, "{n}");
+fn a_journal_of_format_1_takes_the_settings_tools(rt: HostRuntime) -> Result<(), Fail> {
+    for n in 0..=OPERATIONS.len() {
+        let operations = OPERATIONS.get(..n).unwrap_or_default();
+        assert!(rt; takes_settings_tools(rt.alloc(), operations)?, "{n}");
     }
     Ok(())
 }

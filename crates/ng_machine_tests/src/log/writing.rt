@@ -1,4 +1,4 @@
-//! What an entry writes: a record, a sector a part.
+//! What an entry writes: a record, one sector for each part.
 use crate::images::{FRESH, put, sector_of};
 use crate::journal::counting::Counting;
 use crate::journal::formatted;
@@ -8,7 +8,7 @@ use ng_rig::MemoryRig;
 use std::alloc::Global;
 use std::test::Fail;
 
-/// How many parameters an entry changes, and how many parts its record has: one with the state, and one for each 48
+/// How many parameters an entry changes, and how many parts its record has: one with the state, and one for every 48
 /// changes.
 const ENTRIES: &[(i64, u64)] = &[
     (0, 1),
@@ -20,7 +20,7 @@ const ENTRIES: &[(i64, u64)] = &[
     (5_399, 114),
 ];
 
-/// How many reads, writes and syncs there are from power on to an entry that changes so many parameters, if one is
+/// How many reads, writes and syncs there are from power on up to an entry that changes this many parameters, if one is
 /// made; and the device.
 fn counted(alloc: Global, changes: Option<i64>) -> Result<([u64; 3], MemoryRig<Global>), Fail> {
     let mut mill = Mill::on(alloc, Counting::new(formatted(alloc)?))?;
@@ -31,7 +31,7 @@ fn counted(alloc: Global, changes: Option<i64>) -> Result<([u64; 3], MemoryRig<G
     Ok(mill.off().counted())
 }
 
-/// Whether the first so many parameters are 2 once power is on again, and the next one isn't; and the entries.
+/// Whether the first parameters, this many, are 2 once power is on again, and the next one isn't; and the entries.
 fn stands(alloc: Global, rig: MemoryRig<Global>, changes: i64) -> Result<(bool, u64), Fail> {
     let mill = Mill::on(alloc, rig)?;
     let params = &mill.stored.state.params;
@@ -42,9 +42,9 @@ fn stands(alloc: Global, rig: MemoryRig<Global>, changes: i64) -> Result<(bool, 
     Ok((is_so, entries))
 }
 
-/// An entry makes a write a part and one sync, and reads nothing.
+/// An entry makes a write for each part and one sync, and reads nothing.
 #[test]
-fn an_entry_is_a_write_a_part_and_a_sync(rt: HostRuntime) -> Result<(), Fail> {
+fn an_entry_makes_a_write_for_each_part_and_a_sync(rt: HostRuntime) -> Result<(), Fail> {
     let ([reads, writes, syncs], _) = counted(rt.alloc(), None)?;
     for (changes, parts) in ENTRIES {
         let (found, rig) = counted(rt.alloc(), Some(*changes))?;
@@ -59,12 +59,12 @@ fn an_entry_is_a_write_a_part_and_a_sync(rt: HostRuntime) -> Result<(), Fail> {
     Ok(())
 }
 
-/// How many parameters each of seven entries changes, one after the other from the first on; each becomes the number of
-/// its entry.
+/// How many parameters each of seven entries changes, in order from the first on. Each is set to the number of its
+/// entry.
 const GROUPS: &[i64] = &[49, 49, 42, 42, 42, 42, 34];
 
-/// The parts of their seven records, by their sectors: the first part holds the entry count, another so many parameters
-/// from this one on.
+/// The parts of their seven records, by sector: the first part of a record holds the entry count, another part this
+/// many parameters from this one on.
 const PARTS: &[(usize, Label, i64, i64)] = &[
     (686, (2, 0, 0, 3, 49), 0, 0),
     (687, (2, 0, 1, 3, 49), 1, 48),
@@ -85,7 +85,7 @@ const PARTS: &[(usize, Label, i64, i64)] = &[
 ];
 
 /// The device after those entries.
-fn grouped(alloc: Global) -> Result<MemoryRig<Global>, Fail> {
+fn device_with_groups(alloc: Global) -> Result<MemoryRig<Global>, Fail> {
     let mut mill = Mill::on(alloc, formatted(alloc)?)?;
     let mut first: i64 = 1;
     let mut value: i64 = 0;
@@ -98,7 +98,7 @@ fn grouped(alloc: Global) -> Result<MemoryRig<Global>, Fail> {
     Ok(mill.off())
 }
 
-/// A part of such a record, as the format has it.
+/// A part of such a record, in the format's layout.
 fn wanted_part(label: Label, first: i64, count: i64) -> [u8; 512] {
     let entry = label.1.saturating_add(1);
     if label.2 == 0 {
@@ -122,7 +122,7 @@ fn wanted_part(label: Label, first: i64, count: i64) -> [u8; 512] {
 
 #[test]
 fn seven_entries_are_seven_records(rt: HostRuntime) -> Result<(), Fail> {
-    let mut rig = grouped(rt.alloc())?;
+    let mut rig = device_with_groups(rt.alloc())?;
     for (sector, label, first, count) in PARTS {
         let wanted = wanted_part(*label, *first, *count);
         assert!(rt; sector_of(&mut rig, *sector) == wanted, "{sector}");
@@ -132,8 +132,8 @@ fn seven_entries_are_seven_records(rt: HostRuntime) -> Result<(), Fail> {
 }
 
 #[test]
-fn what_seven_records_change_stands(rt: HostRuntime) -> Result<(), Fail> {
-    let mill = Mill::on(rt.alloc(), grouped(rt.alloc())?)?;
+fn seven_records_are_read_back(rt: HostRuntime) -> Result<(), Fail> {
+    let mill = Mill::on(rt.alloc(), device_with_groups(rt.alloc())?)?;
     let mut first: i64 = 1;
     let mut value: i64 = 0;
     let mut are_right = mill.stored.entries == 7;
@@ -148,10 +148,10 @@ fn what_seven_records_change_stands(rt: HostRuntime) -> Result<(), Fail> {
     Ok(())
 }
 
-/// The slots that entries set, with their lengths in nm; the slot and the length that the record of each names.
+/// The slots that entries set, with their lengths in nm; the slot and the length in each record.
 const TOOLS: &[((u8, i64), (i64, i64))] = &[
     ((1, 50_000_000), (1, 50_000_000)),
-    // the length that the slot has: no slot is changed
+    // the length that the slot has already: no slot is changed
     ((1, 50_000_000), (0, 0)),
     ((2, 0), (2, 0)),
     ((2, 0), (0, 0)),
@@ -161,7 +161,7 @@ const TOOLS: &[((u8, i64), (i64, i64))] = &[
 ];
 
 /// The device after those entries.
-fn tooled(alloc: Global) -> Result<MemoryRig<Global>, Fail> {
+fn device_with_tools(alloc: Global) -> Result<MemoryRig<Global>, Fail> {
     let mut mill = Mill::on(alloc, formatted(alloc)?)?;
     for ((slot, nm), _) in TOOLS {
         mill = mill.set_tool(*slot, *nm)?;
@@ -169,7 +169,7 @@ fn tooled(alloc: Global) -> Result<MemoryRig<Global>, Fail> {
     Ok(mill.off())
 }
 
-/// The one part of the record of this number, in which this slot and length stand.
+/// The only part of the record with this number, with this slot and length.
 fn tool_part(number: i64, slot: i64, length: i64) -> [u8; 512] {
     let mut sector = part_with((2, number, 0, 1, 0), &FRESH);
     put(&mut sector, 32, 8, number.saturating_add(1));
@@ -178,7 +178,7 @@ fn tool_part(number: i64, slot: i64, length: i64) -> [u8; 512] {
     sector
 }
 
-/// The first sector of the log that isn't the part of the record of its entry.
+/// The first sector of the log that isn't the part of its entry's record.
 fn first_other_part(rig: &mut MemoryRig<Global>) -> Option<usize> {
     let mut sector: usize = 686;
     let mut number: i64 = 0;
@@ -194,7 +194,7 @@ fn first_other_part(rig: &mut MemoryRig<Global>) -> Option<usize> {
 
 #[test]
 fn a_record_names_the_slot_that_its_entry_changes(rt: HostRuntime) -> Result<(), Fail> {
-    let mut rig = tooled(rt.alloc())?;
+    let mut rig = device_with_tools(rt.alloc())?;
     assert_eq!(rt; first_other_part(&mut rig), None);
     Ok(())
 }

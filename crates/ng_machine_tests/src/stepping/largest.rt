@@ -5,7 +5,7 @@ use ng_step::Stepper;
 use std::test::Fail;
 use std::time::Instant;
 
-/// How many of the next thousand pulses step X backward and Y forward, and their period where it is one.
+/// How many of the next thousand pulses step X backward and Y forward, and their period if it is the same for all.
 fn thousand(stepper: &mut Stepper) -> (u64, u64, u64) {
     let (mut x, mut y, mut period_us) = (0, 0, 0);
     for k in 0..1_000 {
@@ -26,7 +26,7 @@ fn thousand(stepper: &mut Stepper) -> (u64, u64, u64) {
     (x, y, period_us)
 }
 
-/// From 10 m on X to an end, round the origin.
+/// From 10 m on X to an end, around the origin.
 fn round(end: Point, pace: Pace) -> Segment {
     Segment::Arc(Arc {
         plane: Plane::Xy,
@@ -39,8 +39,8 @@ fn round(end: Point, pace: Pace) -> Segment {
     })
 }
 
-/// The fewest microseconds, of twenty tries, in which a segment begins, and whether its first thousand pulses are one
-/// of X backward and the others of Y forward, of this period.
+/// The least time in microseconds, out of twenty tries, in which a segment begins; and whether one of its first
+/// thousand pulses steps X backward and the others Y forward, with this period.
 fn least_us(
     rt: &HostRuntime,
     segment: &Segment,
@@ -58,11 +58,11 @@ fn least_us(
     Ok((least, is_same))
 }
 
-/// The circle of 8,000,000,000 pulses and a quarter of it: 60,000,000,000,000 us over that many each.
+/// The circle has 8,000,000,000 pulses; a quarter of it has a quarter of them. Both take 60,000,000,000,000 us.
 #[test]
 fn the_largest_arcs_begin_within_a_millisecond(rt: HostRuntime) -> Result<(), Fail> {
     let machine = steps_of(10, 10, 10);
-    // a million minutes, so that the period tells the number of pulses
+    // a million minutes, so that the period shows the number of pulses
     let pace = InverseTime::of(Num::of(1)?).map_or(Pace::Traverse, Pace::InverseTime);
     let circle = round(point(10_000_000_000, 0, 0), pace);
     let (us, is_same) = least_us(&rt, &circle, &machine, 7_500)?;

@@ -1,4 +1,4 @@
-//! Lines that nobody would write: each is answered by a fault, or read, at once.
+//! Lines that nobody would write. Each is refused or read, at once.
 use super::{dry_text, executed};
 use ng_dry::Ended;
 use ng_num::Fault;
@@ -6,14 +6,14 @@ use ng_state::State;
 use std::alloc::Global;
 use std::test::Fail;
 
-/// The next of a row of numbers that look as if by chance (Marsaglia's shift register).
-fn next_chance(chance: u64) -> u64 {
+/// The next of a sequence of pseudo-random numbers (Marsaglia's xorshift).
+fn next_random(chance: u64) -> u64 {
     let a = chance ^ (chance << 13);
     let b = a ^ (a >> 7);
     b ^ (b << 17)
 }
 
-/// Lines that hold much of the grammar.
+/// Lines with much of the grammar.
 const ROWS: &[&str] = &[
     "N12 G0 X[2.0/3*1.5-5.5/11.0] Y##2 (MSG, a) (b)",
     "G0 XFIX[-2.8] YFUP[-2.8] Z[-7MOD3]",
@@ -25,7 +25,7 @@ const ROWS: &[&str] = &[
     "%",
 ];
 
-/// How a program of one line ends: whether it is refused in its first or second line, with a last line that says so.
+/// How a program with one line ends: whether it is refused in its first or second line, with a last line that says so.
 fn is_refused(alloc: Global, line: &[u8]) -> bool {
     let (text, ended) = dry_text(alloc, line, false);
     match ended {
@@ -47,17 +47,17 @@ fn ends_with(text: &[u8], before: &[u8], fault: Fault) -> bool {
 }
 
 #[test]
-fn broken_lines_are_refused_by_name(rt: HostRuntime) -> Result<(), Fail> {
+fn broken_lines_are_refused_with_a_fault(rt: HostRuntime) -> Result<(), Fail> {
     let mut chance: u64 = 0x9e37_79b9_7f4a_7c15;
     let state = State::fresh(rt.alloc())?;
     for i in 0..10_000 {
         let mut line = [0u8; 40];
         for byte in &mut line {
-            chance = next_chance(chance);
+            chance = next_random(chance);
             *byte = (chance % 256) as u8;
         }
         let done = executed(&state, &line);
-        // by chance a line may be one comment
+        // a random line may be one comment
         assert!(rt;
             matches!(done, Err(Fault::Unreadable)) || line[0] == b'(',
             "line {i}"
@@ -67,7 +67,7 @@ fn broken_lines_are_refused_by_name(rt: HostRuntime) -> Result<(), Fail> {
 }
 
 #[test]
-fn a_byte_alone_is_no_program(rt: HostRuntime) {
+fn one_byte_is_not_a_program(rt: HostRuntime) {
     for byte in b"[#-0123456789]*+/(.)=%GXN \t" {
         let line = [*byte; 256];
         assert!(rt; is_refused(rt.alloc(), &line), "byte {byte}");
@@ -75,7 +75,7 @@ fn a_byte_alone_is_no_program(rt: HostRuntime) {
 }
 
 #[test]
-fn cut_lines_are_refused_by_name(rt: HostRuntime) {
+fn cut_lines_are_refused_with_a_fault(rt: HostRuntime) {
     for row in ROWS {
         let line = row.as_bytes();
         for n in 0..=line.len() {

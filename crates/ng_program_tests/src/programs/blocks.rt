@@ -6,7 +6,7 @@ use ng_num::{Len, Point, Unit};
 use ng_state::{Motion, State};
 use std::test::Fail;
 
-/// Whether an effect has just these commands.
+/// Whether an effect has exactly these commands.
 fn has_commands(effect: &Effect, wanted: &[CanonicalCommand]) -> bool {
     let mut commands = effect.commands();
     for command in wanted {
@@ -18,7 +18,7 @@ fn has_commands(effect: &Effect, wanted: &[CanonicalCommand]) -> bool {
     commands.next().is_none()
 }
 
-/// Whether an effect has just these segments.
+/// Whether an effect has exactly these segments.
 fn has_segments(effect: &Effect, wanted: &[Segment]) -> bool {
     let mut segments = effect.segments();
     for segment in wanted {
@@ -90,7 +90,7 @@ fn a_tool_table_counts_its_slots_up_to_128(rt: HostRuntime) -> Result<(), Fail> 
     assert_eq!(rt; tools.slots(), 0);
     tools.push(tool_length);
     assert_eq!(rt; tools.slots(), 1);
-    // a slot of no length counts too
+    // a slot with length 0 counts too
     tools.push(Len::default());
     assert_eq!(rt; tools.slots(), 2);
     for _ in 0..200 {

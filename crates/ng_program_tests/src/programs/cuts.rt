@@ -1,10 +1,10 @@
-//! A program that is broken off in every place, and what it writes.
+//! A program that is broken off at every place, and what it writes.
 
 /// What the program end writes.
 pub(super) const PROGRAM_END: &str =
     "SET_ORIGIN_OFFSETS(0.000000, 0.000000, 0.000000)\nSELECT_PLANE(XY)\nSTOP_SPINDLE_TURNING()\nMIST_OFF()\nFLOOD_OFF()\nPROGRAM_END()\n";
 
-/// A program whose reads and writes are broken off in every place.
+/// A program whose reads and writes are broken off at every place.
 pub(super) const CUTS: &str = "G21 G90 F600\nG0 X1 Y2\r\nG1 Z-1.5\nX3\n\nG91 X1\nM2\njunk";
 
 /// What `CUTS` writes.

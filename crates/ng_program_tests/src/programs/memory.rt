@@ -10,7 +10,7 @@ use std::io;
 use std::io::{ErrorKind, Write};
 use std::test::Fail;
 
-/// A writer that counts what it takes, and fails once it has taken so many bytes.
+/// A writer that counts what it accepts, and fails once it has accepted this many bytes.
 #[derive(Drop)]
 struct Counted {
     bytes: usize,
@@ -48,7 +48,7 @@ impl Write for Counted {
 }
 
 #[test]
-fn runs_in_flat_memory_and_writes_a_beginning_without_it(rt: HostRuntime) -> Result<(), Fail> {
+fn runs_in_constant_memory_and_writes_a_beginning_without_it(rt: HostRuntime) -> Result<(), Fail> {
     let mut whole = 0u32;
     let mut cut = 0u32;
     for step in 0..64usize {
@@ -79,7 +79,7 @@ fn runs_in_flat_memory_and_writes_a_beginning_without_it(rt: HostRuntime) -> Res
     Ok(())
 }
 
-/// The lines that a dry run writes in a heap of so many bytes, until so many bytes are taken, and how it ends.
+/// The lines that a dry run writes in a heap with this many bytes, until this many bytes are accepted, and how it ends.
 fn lines_in(
     alloc: Global,
     size: usize,
@@ -93,7 +93,7 @@ fn lines_in(
     Ok((writer.lines, ended))
 }
 
-/// A thousand traverses: enough that the text that waits is written in between.
+/// A thousand traverses: enough that waiting text is written before the end.
 fn traverses(alloc: Global) -> Result<String<Global>, Fail> {
     let mut program = String::new(alloc);
     for _ in 0..1_000 {
@@ -112,11 +112,11 @@ const PECKS: &str = "G83 X0 Z-1000 R0 Q0.1 F100\nM2";
 /// 333,334 pecks, which are 1,000,002 segments of one block.
 const MILLION: &str = "G83 X0 Z-1000 R0 Q0.003 F100\nM2";
 
-/// 9,999,999 holes of 10,000,000 pecks each: nobody walks them to their end.
+/// 9,999,999 holes of 10,000,000 pecks each: too many to step through to the end.
 const ENDLESS: &str = "G91 G83 X0.0001 Z-1000 R0 Q0.0001 L9999999 F100\nM2";
 
 #[test]
-fn cycles_run_in_flat_memory_and_begin_at_once(rt: HostRuntime) -> Result<(), Fail> {
+fn cycles_run_in_constant_memory_and_begin_at_once(rt: HostRuntime) -> Result<(), Fail> {
     let (_, ended) = lines_in(
         rt.alloc(),
         HEAP,
@@ -134,15 +134,14 @@ fn cycles_run_in_flat_memory_and_begin_at_once(rt: HostRuntime) -> Result<(), Fa
     Ok(())
 }
 
-/// The bytes by which heaps are tried.
+/// The step in bytes between the heaps that are tried.
 const GRAIN: usize = 64;
 
-/// The least heap, in bytes, in which a program finds all memory that it wants, until so many bytes of its text are
-/// taken.
+/// The least heap, in bytes, in which a program has enough memory until this many bytes of its text are accepted.
 fn least_heap(alloc: Global, program: &str, at_most: usize) -> Result<usize, Fail> {
     let mut small: usize = 0;
     let mut large: usize = HEAP / GRAIN;
-    // each turn halves the heaps between them
+    // each round halves the range of heaps
     for _ in 0..11 {
         let middle = small.saturating_add(large) / 2;
         let size = middle.saturating_mul(GRAIN);

@@ -1,5 +1,4 @@
-//! Modal groups: a line's segments in the order of the steps. All of it is worked out by hand
-//! from the language.
+//! Modal groups: a line's segments in the order of the steps. Everything is worked out by hand from the language.
 use super::{dry_text, executed};
 use ng_block::ProgramFlow;
 use ng_canon::{Outputs, Segment, Spindle};
@@ -58,7 +57,7 @@ fn a_whole_line_has_its_segments_in_the_order_of_the_steps(rt: HostRuntime) -> R
     Ok(())
 }
 
-/// Lines, one after the other: whether mist and flood are then on, and how the line stops.
+/// Lines, one after the other: whether mist and flood are on after the line, and how the line stops.
 const COOLANTS: &[(&[u8], bool, bool, ProgramFlow)] = &[
     (b"M7", true, false, ProgramFlow::GoesOn),
     (b"M8 M0", true, true, ProgramFlow::Stops),
@@ -69,7 +68,7 @@ const COOLANTS: &[(&[u8], bool, bool, ProgramFlow)] = &[
 ];
 
 #[test]
-fn coolants_add_up_and_stops_are_told_apart(rt: HostRuntime) -> Result<(), Fail> {
+fn coolants_add_up_and_stops_are_distinguished(rt: HostRuntime) -> Result<(), Fail> {
     let mut state = State::fresh(rt.alloc())?;
     for (line, mist, flood, stop) in COOLANTS {
         let effect = executed(&state, line)?;

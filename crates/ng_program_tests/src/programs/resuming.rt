@@ -1,5 +1,5 @@
-//! Blocks that go on at one of their segments: where the machine stands then, how its spindle turns, and the segment
-//! that comes. Worked out by hand from the language.
+//! Blocks that continue at one of their segments: the machine's position then, how its spindle turns, and the next
+//! segment. Worked out by hand from the language.
 use super::executed;
 use ng_block::Resumed;
 use ng_canon::{Pace, Segment, Spindle};
@@ -10,9 +10,9 @@ use std::test::Fail;
 
 type Text = Result<String<Global>, Fail>;
 
-/// A line, a number of segments that are done of it, and what holds after them: the machine point, the spindle, and the
-/// segment that comes with where it ends. Lengths are in nanometres, dwells in millionths of a second. The line begins
-/// 5 mm above the zero point, while the spindle turns clockwise.
+/// A line, how many of its segments are done, and what holds after them: the machine point, the spindle, and the next
+/// segment with its end. Lengths are in nanometres, dwells in millionths of a second. The line begins 5 mm above the
+/// zero point, while the spindle turns clockwise.
 const ROWS: &[(&str, u64, &str)] = &[
     // no segment at all
     ("", 0, "0 0 5000000 clockwise, nothing"),
@@ -171,7 +171,7 @@ const ROWS: &[(&str, u64, &str)] = &[
         2_999_999_999,
         "0 0 -999745999 clockwise, feed 0 0 -1000000000",
     ),
-    // of 10,000 pecks as often as a line can have them: 30,001 segments each time
+    // of 10,000 pecks as often as a line can repeat them: 30,001 segments each time
     (
         "G83 X0 Z-1000 R0 Q0.1 L9999999 F100",
         300_009_969_997,
@@ -225,7 +225,7 @@ fn push_segment(text: &mut String<Global>, alloc: Global, segment: &Segment) -> 
     Ok(())
 }
 
-/// What holds where a block goes on.
+/// The text of what holds where a block continues.
 fn resumed_text(alloc: Global, resumed: Resumed) -> Text {
     let standing = resumed.standing;
     let mut block_segments = resumed.block_segments;
@@ -241,7 +241,7 @@ fn resumed_text(alloc: Global, resumed: Resumed) -> Text {
     Ok(text)
 }
 
-/// What holds after so many segments of a line.
+/// The text of what holds after this many segments of a line.
 fn resumed(alloc: Global, line: &str, n: u64) -> Text {
     let start = Point {
         x: Len::zero(),
@@ -256,7 +256,7 @@ fn resumed(alloc: Global, line: &str, n: u64) -> Text {
 }
 
 #[test]
-fn blocks_go_on_at_any_segment(rt: HostRuntime) -> Result<(), Fail> {
+fn blocks_resume_at_any_segment(rt: HostRuntime) -> Result<(), Fail> {
     for (line, n, wanted) in ROWS {
         let found = resumed(rt.alloc(), line, *n)?;
         assert!(rt; found.as_str() == *wanted, "{line:?} {n}: {found}");

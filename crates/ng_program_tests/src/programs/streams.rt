@@ -1,4 +1,4 @@
-//! Readers that give little, and readers and writers that fail.
+//! Readers that return few bytes, and readers and writers that fail.
 use super::cuts::{CUTS, CUTS_TEXT, PROGRAM_END};
 use super::dry_run;
 use ng_dry::{DryFault, Ended};
@@ -6,12 +6,12 @@ use std::io;
 use std::io::{ErrorKind, Read, Write};
 use std::test::Fail;
 
-/// A reader that gives a few bytes at a read, and fails at one of its reads.
+/// A reader that returns a few bytes at a read, and fails at one of its reads.
 #[derive(Drop)]
 struct Drip<'a> {
     bytes: &'a [u8],
     at_most: usize,
-    /// The reads that succeed first.
+    /// How many reads succeed.
     reads_left: usize,
 }
 
@@ -28,12 +28,12 @@ impl Read for Drip<'_> {
     }
 }
 
-/// A writer that takes a few bytes at a write, and at one of its writes fails or takes none.
+/// A writer that accepts a few bytes at a write, and at one of its writes fails or accepts none.
 #[derive(Drop)]
 struct Full {
     taken: Vec<u8>,
     at_most: usize,
-    /// The writes that succeed first.
+    /// How many writes succeed.
     writes_left: usize,
     takes_none: bool,
 }
@@ -60,8 +60,8 @@ impl Write for Full {
     }
 }
 
-/// How many bytes a read and a write move at most, whether it is the reader that fails, and whether a writer that fails
-/// takes none.
+/// The most bytes of a read and of a write, whether it is the reader that fails, and whether a writer that fails
+/// accepts none.
 const LIMITS: &[(usize, usize, bool, bool)] = &[
     (1, 8192, true, false),
     (7, 8192, true, false),
@@ -71,7 +71,7 @@ const LIMITS: &[(usize, usize, bool, bool)] = &[
     (8192, 8192, false, false),
 ];
 
-/// Whether a run was broken off by its reader, or by its writer.
+/// Whether a run was aborted because of its reader, or because of its writer.
 fn is_broken(ended: &Result<Ended, DryFault>, by_reader: bool) -> bool {
     match ended {
         Err(DryFault::Reader) => by_reader,
@@ -81,7 +81,7 @@ fn is_broken(ended: &Result<Ended, DryFault>, by_reader: bool) -> bool {
 }
 
 #[test]
-fn stops_where_the_reader_or_the_writer_fails(rt: HostRuntime) -> Result<(), Fail> {
+fn stops_when_the_reader_or_the_writer_fails(rt: HostRuntime) -> Result<(), Fail> {
     for (read_most, write_most, by_reader, takes_none) in LIMITS {
         let mut whole = 0u32;
         let mut cut = 0u32;
@@ -119,7 +119,7 @@ fn stops_where_the_reader_or_the_writer_fails(rt: HostRuntime) -> Result<(), Fai
 }
 
 #[test]
-fn writes_a_beginning_where_its_second_write_fails(rt: HostRuntime) -> Result<(), Fail> {
+fn writes_a_beginning_when_its_second_write_fails(rt: HostRuntime) -> Result<(), Fail> {
     let mut reader = b"g0x +0. 12 34y 7\nM2\n".as_slice();
     let mut writer = Full {
         taken: Vec::new(rt.alloc()),
@@ -135,8 +135,7 @@ fn writes_a_beginning_where_its_second_write_fails(rt: HostRuntime) -> Result<()
     Ok(())
 }
 
-/// How many lines a program has, and how many bytes a read gives at most: 24,000 reads of a byte, and 110 of a whole
-/// buffer.
+/// How many lines a program has, and the most bytes of a read: 24,000 reads of a byte, and 110 of a whole buffer.
 const READS: &[(usize, usize)] = &[(4_000, 1), (150_000, 8192)];
 
 #[test]
@@ -163,7 +162,7 @@ fn reads_as_often_as_a_program_needs(rt: HostRuntime) -> Result<(), Fail> {
     Ok(())
 }
 
-/// A reader that gives a line at each read, and then fails: what the lines before gave is written.
+/// A reader that returns a line at each read, and then fails: the text of the lines before is written.
 #[test]
 fn writes_what_was_executed_before_its_reader_fails(rt: HostRuntime) -> Result<(), Fail> {
     let mut expected = Vec::new(rt.alloc());

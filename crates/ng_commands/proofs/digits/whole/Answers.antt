@@ -3,7 +3,7 @@ use Rattle.ng_words.specs.Grammar.{written_after}
 use Rattle.ng_commands.proofs.Written.{too_great}
 use Rattle.ng_commands.proofs.digits.whole.Goals as goal
 
--- what the first digits write is above the greatest
+-- the number of the first digits is above the greatest
 pub returns-then-value-greatest : goal.returns-then-value-greatest
 returns-then-value-greatest c =
     let front : c.loop-first.rest.now ≡ c.in-Some.first.now ∷ c.in-Some.others.now = search rules in

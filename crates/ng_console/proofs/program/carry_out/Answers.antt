@@ -5,7 +5,7 @@ use Rattle.ng_console.specs.Status.{JobSpec}
 use Rattle.ng_console.specs.declared.command_line.Job.TheVariants.{Format}
 use Rattle.ng_console.proofs.program.carry_out.Goals as goal
 
--- a status that is 2 where there is none
+-- a status that is 2 if there is none
 told : {E : Type 0} (P : ℕ → Type 0) (r : Result ℕ E) (status : ℕ) → status ≡ result_unwrap_or r 2 → IfOk r P → (status ≡ 2) ⊎ P status
 told P (Ok n) status is h = inr (subst P (sym is) h)
 told P (Err e) status is h = inl is

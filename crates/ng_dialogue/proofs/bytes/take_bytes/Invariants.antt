@@ -3,7 +3,7 @@ use Rattle.std.specs.Io.KnownBytes.{Consumes}
 use Rattle.ng_dialogue.specs.Waiting.{EndHolds, text_left}
 use Rattle.ng_dialogue.proofs.bytes.take_bytes.Given as goal
 
--- the bytes that were passed, which are kept where there was room; nothing is read where the text had ended
+-- the bytes that were passed, which are kept if there was room; if the text had ended, nothing is read
 abbrev pub invariant-loop-left : goal.invariant-loop-left
 invariant-loop-left g l =
     (passed : List ℕ) × Consumes (text_left l.fn.input (g.R.Read.remaining l.fn.reader)) (text_left l.input (g.R.Read.remaining l.reader)) passed

@@ -4,7 +4,7 @@ use Rattle.ng_text.specs.Newlines.{HasNoNewline}
 use Rattle.ng_dialogue.specs.Waiting.{EndHolds, text_left}
 use Rattle.ng_dialogue.proofs.listening.next_line.Given as goal
 
--- what was passed of the line, and what is kept of that; nothing is read where the text had ended
+-- what was passed of the line, and what is kept of it; if the text had ended, nothing is read
 abbrev pub invariant-loop-turn : goal.invariant-loop-turn
 invariant-loop-turn g l =
     (passed : List ℕ) × HasNoNewline passed × (l.line.items ≡ take 301 passed)

@@ -3,7 +3,7 @@ use Rattle.ng_dialogue.specs.Waiting.{EndHolds, text_left}
 use Rattle.ng_run.proofs.Conversing.{Talked}
 use Rattle.ng_run.proofs.talking.talk_on.Given as goal
 
--- what was heard is answered whole; where the text had ended, nothing was heard
+-- what was read is answered in full; if the text had ended, nothing was read
 abbrev pub invariant-loop-turn : goal.invariant-loop-turn
 invariant-loop-turn g l =
     Talked g.row.A.Denot g.R.Rig.honest g.R.Rig.trace g.R.Rig.failed g.R.Rig.sectors (text_left l.fn.input (g.I.Read.remaining l.fn.reader)) (text_left l.input (g.I.Read.remaining l.reader))

@@ -10,7 +10,7 @@ use Rattle.ng_rig.proofs.Replaying.{within_take}
 use Rattle.ng_rig.proofs.Reach.{reached_at, stop-kept_image}
 use Rattle.ng_rig.proofs.memory.MemoryRig.stopped.Goals as goal
 
--- the image left, by the trace at the moment
+-- the image that is left, in terms of the trace at the moment
 left : (first was : List (List ℕ)) (calls part : List Call) (n : ℕ) (keep : List ℕ) (image : ℕ → List ℕ) → was ≡ first → part ≡ take n calls → image ≡ kept_image (trace_of_calls was part) keep → image ≡ kept_image (trace_at n (trace_of_calls first calls)) keep
 left first was calls part n keep image e p is =
     is ∙ ap (λ (s : List (List ℕ)). kept_image (trace_of_calls s part) keep) e ∙ ap (λ (cs : List Call). kept_image (trace_of_calls first cs) keep) p ∙ sym (ap (λ (l : Trace). kept_image l keep) (trace_at-trace_of_calls n first calls))
