@@ -3,7 +3,11 @@ use Rattle.std.proofs.Common.{◌≡◌, ◌⊎◌, inl, inr, true, false, Err, 
 use Rattle.ng_num.specs.declared.fault.Fault.{Fault}
 use Rattle.ng_num.specs.declared.fault.Fault.TheVariants.{DeviceFailed, CountersUsed}
 use Rattle.ng_layout.specs.Stored.{StoredModel}
-use Rattle.ng_journal.specs.Journal.{JournalModel, IsBrokenBy}
+use Rattle.ng_journal.specs.Journal.{JournalModel, IsBrokenBy, kept_by}
+
+-- A journal keeps the whole of a state that has the room of what it stored before.
+pub kept_whole : {R : Type 0} (journal : JournalModel R) (stored was : StoredModel) → was ≡ journal.saved → stored.room ≡ was.room → kept_by journal stored ≡ stored
+kept_whole journal stored was saved room = let same : journal.saved.room ≡ stored.room = sym (room ∙ ap (λ (x : StoredModel). x.room) saved) in λ i. record stored { room = same i }
 
 -- what a journal stores that failed is what it stored, as long as its device didn't
 pub kept_failed : {R : Type 0} (T : Type 0) (e : Fault) (before after : JournalModel R) (x : StoredModel) → (e ≡ CountersUsed) ⊎ (e ≡ DeviceFailed) → IsBrokenBy {T = T} (Err e) after.broken

@@ -1,16 +1,14 @@
 -- An image that stands by its snapshot alone, and the end of its log where its format is the second.
-use Rattle.std.proofs.Common.{◌≡◌, ◌≢◌, ℕ, ◌+◌, ◌<◌, Option, Some, Ok, sym, ◌∙◌, ap, arith}
+use Rattle.std.proofs.Common.{◌≡◌, ◌≢◌, ◌<◌, Ok, sym, ◌∙◌, ap, arith}
 use Rattle.ng_rig.specs.Trace.{Image, Trace, reads}
 use Rattle.ng_layout.specs.declared.header.Format.TheVariants.{Two}
 use Rattle.ng_layout.specs.declared.header.Header.{Header}
 use Rattle.ng_layout.specs.Fields.{number_at}
-use Rattle.ng_layout.specs.Areas.{shortest_log, log_size, log_size_of, log_first, program_first, program_size, snapshot_first, snapshot_size, tools_first, tools_size}
-use Rattle.ng_layout.specs.Log.{ReplayState}
-use Rattle.ng_layout.specs.Sectors.{program_text}
-use Rattle.ng_layout.specs.Stands.{snapshot, standing, stands, stretch}
+use Rattle.ng_layout.specs.Areas.{shortest_log, log_size, log_size_of, log_first}
+use Rattle.ng_layout.specs.Stands.{standing, stands}
 use Rattle.ng_layout.specs.Stored.{DurableState}
 use Rattle.ng_layout.proofs.Images.{stands-snapshot, stretch-at}
-use Rattle.ng_log.specs.AtEnd.{replay_state_in, no_records, EndsIn, IsAtEnd}
+use Rattle.ng_log.specs.AtEnd.{no_records, EndsIn, IsAtEnd}
 use Rattle.ng_journal.specs.Private.CheckpointSteps.{BeginsIn, IsBegun}
 
 -- the first sector of its log has no part of its epoch

@@ -3,6 +3,7 @@ pub mod Begun
 pub mod Finding
 pub mod FirstLinesRead
 pub mod Framing
+pub mod Keeping
 pub mod LinesRead
 pub mod Modern
 pub mod Moving

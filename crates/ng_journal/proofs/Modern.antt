@@ -1,6 +1,6 @@
 -- What stands under a header of format 1 whose log has no record, stored in format 2 with a table.
-use Rattle.std.proofs.Common.{◌≡◌, inl, inr, ⊎_elim, ℕ, ◌+◌, ◌<◌, List, ℤ, Some, Result, Ok, Err, refl, sym, ◌∙◌, ap, subst, arith}
-use Rattle.ng_rig.specs.Trace.{Image, Trace, reads, items}
+use Rattle.std.proofs.Common.{◌≡◌, inr, ⊎_elim, ℕ, ◌<◌, List, ℤ, Some, Result, Ok, Err, refl, sym, ◌∙◌, ap, subst, arith}
+use Rattle.ng_rig.specs.Trace.{Trace, reads, items}
 use Rattle.ng_rig.specs.Continuation.{IsContinuation}
 use Rattle.ng_rig.specs.Only.{WritesOnly}
 use Rattle.ng_rig.proofs.Running.{stays, weaker}
@@ -13,13 +13,13 @@ use Rattle.ng_layout.specs.Sectors.{program_text}
 use Rattle.ng_layout.specs.Header.{IsValidHeader}
 use Rattle.ng_layout.specs.Limits.{greatest_count}
 use Rattle.ng_layout.proofs.Images.{force-within}
-use Rattle.ng_layout.specs.Stands.{is_large, stretch, in_force, stands, stands_beside, beside_header, beside_format, saved_beside, IsWritten}
+use Rattle.ng_layout.specs.Stands.{is_large, stretch, stands, beside_header, beside_format, saved_beside}
 use Rattle.ng_layout.specs.Stored.{StoredModel, DurableState}
 use Rattle.ng_log.specs.AtEnd.{no_records, IsAtEnd}
-use Rattle.ng_journal.specs.Private.CheckpointSteps.{FitsDevice, IsOwnImage, IsBegun, IsEitherUnder, MayFollow, WritesState, StoresState, beside, CheckpointSpec}
+use Rattle.ng_journal.specs.Private.CheckpointSteps.{FitsDevice, IsOwnImage, IsBegun, IsEitherUnder, WritesState, StoresState, beside, CheckpointSpec}
 use Rattle.ng_journal.specs.AtRest.{BelongsTo, IsLaidOut, migrated}
 use Rattle.ng_journal.specs.Journal.{StandsBeside}
-use Rattle.ng_journal.specs.Private.RecoverySteps.{ModernizeSpec, StoresModern, BelongsToModern, modern_by}
+use Rattle.ng_journal.specs.Private.RecoverySteps.{ModernizeSpec, StoresModern, BelongsToModern}
 use Rattle.ng_journal.proofs.Begun.{begins-empty, begins-stand, begun-end}
 use Rattle.ng_journal.proofs.Restoring.{beside-under, Promised}
 

@@ -1,5 +1,5 @@
 -- What `recover` hands back.
-use Rattle.std.proofs.Common.{◌≡◌, inl, inr, List, ℤ, Result, Ok, Err, sym, ◌∙◌, subst}
+use Rattle.std.proofs.Common.{◌≡◌, inl, inr, List, ℤ, Ok, Err, sym, ◌∙◌, subst}
 use Rattle.ng_rig.specs.Trace.{Trace, reads}
 use Rattle.ng_layout.specs.declared.header.Header.{Header}
 use Rattle.ng_layout.specs.Stored.{StoredModel}
@@ -12,7 +12,7 @@ use Rattle.ng_journal.specs.Storing.{ledger_of}
 use Rattle.ng_journal.specs.Recover.{RecoverSpec, IsJournalRecovered}
 use Rattle.ng_journal.specs.Recovery.{IsNextEpoch}
 use Rattle.ng_num.specs.declared.fault.Fault.{Fault}
-use Rattle.ng_num.specs.declared.fault.Fault.TheVariants.{DeviceFailed, NotFormatted, Damaged, CountersUsed}
+use Rattle.ng_num.specs.declared.fault.Fault.TheVariants.{DeviceFailed}
 use Rattle.ng_journal.specs.Private.RecoverySteps.{IsReady, IsRefusal, RestoreSpec}
 
 ready-rests : {R : Type 0} (tools : List ℤ) (journal : JournalModel R) (header : Header) (saved : StoredModel) (old new : Trace) → tip_of (ledger_of journal) ≡ record { header = header; end = no_records } → journal.saved ≡ saved → IsReady tools header saved old new → IsJournalRecovered tools journal old new

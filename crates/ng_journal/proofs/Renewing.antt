@@ -9,7 +9,6 @@ use Rattle.ng_rig.specs.Continuation.{IsContinuation, IsSynced}
 use Rattle.ng_rig.specs.Only.{IsMixOf, WritesOnly}
 use Rattle.ng_rig.proofs.Running.{stays, joined, weaker, on_write, on_perhaps, on_sync, is_synced}
 use Rattle.ng_rig.proofs.Writes_only.{reads_blend, only_sync, only_wider}
-use Rattle.ng_layout.specs.declared.header.Format.{Format}
 use Rattle.ng_layout.specs.declared.header.Format.TheVariants.{One, Two}
 use Rattle.ng_layout.specs.declared.header.Header.{Header}
 use Rattle.ng_layout.specs.Fields.{number_at}
@@ -17,14 +16,15 @@ use Rattle.ng_layout.specs.Header.{header_in, program_room, IsValidHeader}
 use Rattle.ng_layout.specs.Sectors.{program_text}
 use Rattle.ng_layout.specs.Snapshot.{HoldsPart, HoldsToolPart}
 use Rattle.ng_layout.specs.Spare.{IsAmong}
-use Rattle.ng_layout.specs.Storable.{IsStorable}
+use Rattle.ng_layout.specs.Storable.{IsStorableTools}
+use Rattle.ng_params.specs.Numbers.{parameter_count}
 use Rattle.ng_layout.proofs.Spares.{IsSpare, SameButSpare, IsInTail, SameButTail}
 use Rattle.ng_layout.specs.Areas.{snapshot_first, snapshot_size, tools_first, tools_size, program_first, program_size, log_first, shortest_log}
 use Rattle.ng_layout.specs.Stands.{is_large, stretch, in_force, snapshot, stands, IsWritten}
 use Rattle.ng_layout.specs.Stored.{StoredModel, DurableState}
 use Rattle.ng_layout.proofs.Images.{area-most, area-where, force-frame, force-next, stretch-same, stretch-at, stands-frame, written-frame, written-new, none-of-new, tail-force, tail-stands, tail-written}
 use Rattle.ng_layout.proofs.Snapshots.{snapshot-new, tools-new}
-use Rattle.ng_journal.specs.Private.CheckpointSteps.{WritesAreas, MayFollow, FitsDevice, IsOwnImage, IsEitherUnder, BeginsIn, IsBegun, beside, CheckpointSpec}
+use Rattle.ng_journal.specs.Private.CheckpointSteps.{WritesAreas, MayFollow, FitsDevice, IsOwnImage, IsEitherUnder, BeginsIn, beside, CheckpointSpec}
 use Rattle.ng_journal.specs.AtRest.{IsOfAreas, BelongsToAreas}
 use Rattle.ng_journal.proofs.Begun.{begins-stand}
 use Rattle.ng_journal.proofs.Framing.{of_areas}
@@ -100,7 +100,8 @@ pub record Ready (old mid : Trace) (header new : Header) (saved : StoredModel) (
   pub writes : WritesOnly (In new) old mid
   pub parts : (j : ℕ) → j < snapshot_size → HoldsPart saved j (reads mid (snapshot_first new.epoch + j))
   pub tools : new.format ≡ Two → (j : ℕ) → j < tools_size → HoldsToolPart saved j (reads mid (tools_first new.epoch + j))
-  pub storable : IsStorable saved
+  pub table : length saved.setup.params ≡ parameter_count
+  pub lengths : IsStorableTools saved.tools
   pub none : new.format ≡ One → saved.tools ≡ []
   pub bytes_are : (large : Bool) → IsValidHeader large new → header_in large (new.epoch % 2) bytes ≡ Some new
   pub fits : FitsDevice (reads old) new saved
@@ -128,8 +129,8 @@ new_image old mid header new saved bytes r image there others =
     let row : (j : ℕ) → j < snapshot_size → stretch (snapshot_first new.epoch) snapshot_size image j ≡ reads mid (snapshot_first new.epoch + j) = λ j lt. stretch-at (snapshot_first new.epoch) snapshot_size image j lt ∙ others (snapshot_first new.epoch + j) (λ e. omega (arith, e)) in
     let parts : (j : ℕ) → j < snapshot_size → HoldsPart saved j (stretch (snapshot_first new.epoch) snapshot_size image j) = λ j lt. subst (HoldsPart saved j) (sym (row j lt)) (r.parts j lt) in
     let tools : new.format ≡ Two → (j : ℕ) → j < tools_size → HoldsToolPart saved j (stretch (tools_first new.epoch) tools_size image j) = λ two j lt. subst (HoldsToolPart saved j) (sym (stretch-at (tools_first new.epoch) tools_size image j lt ∙ others (tools_first new.epoch + j) (λ e. omega (arith, e)))) (r.tools two j lt) in
-    let table = tools-new new.format saved (stretch (snapshot_first new.epoch) snapshot_size image 0) (stretch (tools_first new.epoch) tools_size image) ((parts 0 (omega arith)).slots refl) r.storable.tools.few r.storable.tools.each r.none tools in
-    let snap = snapshot-new new.format saved (stretch (snapshot_first new.epoch) snapshot_size image) (stretch (tools_first new.epoch) tools_size image) r.storable.table parts table in
+    let table = tools-new new.format saved (stretch (snapshot_first new.epoch) snapshot_size image 0) (stretch (tools_first new.epoch) tools_size image) ((parts 0 (omega arith)).slots refl) r.lengths.few r.lengths.each r.none tools in
+    let snap = snapshot-new new.format saved (stretch (snapshot_first new.epoch) snapshot_size image) (stretch (tools_first new.epoch) tools_size image) r.table parts table in
     let most : new.area ≤ 3 = omega (arith, r.fits.valid.area, area-most (is_large (reads old))) in
     let text = stretch-same (program_first new.area) (program_size new.area) image (reads old) (λ j lt.
     let apart : (program_first new.area + j ≢ new.epoch % 2) × (IsOfAreas new (program_first new.area + j) → ⊥) = elim (area-where new.area j most lt) [
@@ -205,15 +206,16 @@ exit_areas e result old mid header next saved b w = record {
 pub exit_sync : {T E F : Type 0} (e : E) (result : Result T F) (old mid last : Trace) (header next : Header) (saved : StoredModel) → Begins old header next → WritesAreas result next saved old mid → last ≡ mid → CheckpointSpec {T = T} (Err e) header next saved old last
 exit_sync {T = T} e result old mid last header next saved b w same = subst (λ (l : Trace). CheckpointSpec {T = T} (Err e) header next saved old l) (sym same) (exit_areas e result old mid header next saved b w)
 
-pub ready : {T E : Type 0} (v : T) (old mid : Trace) (header new : Header) (saved : StoredModel) (bytes : List ℕ) → Begins old header new → WritesAreas {E = E} (Ok v) new saved old mid → IsStorable saved → (new.format ≡ One → saved.tools ≡ []) → ((large : Bool) → IsValidHeader large new → header_in large (new.epoch % 2) bytes ≡ Some new) → FitsDevice (reads old) new saved → new.length ≡ saved.length → Ready old mid header new saved bytes
-ready {E = E} v old mid header new saved bytes b w storable none bytes_are fits long =
+pub ready : {T E : Type 0} (v : T) (old mid : Trace) (header new : Header) (saved : StoredModel) (bytes : List ℕ) → Begins old header new → WritesAreas {E = E} (Ok v) new saved old mid → length saved.setup.params ≡ parameter_count → IsStorableTools saved.tools → (new.format ≡ One → saved.tools ≡ []) → ((large : Bool) → IsValidHeader large new → header_in large (new.epoch % 2) bytes ≡ Some new) → FitsDevice (reads old) new saved → new.length ≡ saved.length → Ready old mid header new saved bytes
+ready {E = E} v old mid header new saved bytes b w table lengths none bytes_are fits long =
     let ok : Result _ E = Ok v in
     record {
       begins = b;
       writes = in_areas ok new saved old mid w;
       parts = w.parts;
       tools = w.tools;
-      storable = storable;
+      table = table;
+      lengths = lengths;
       none = none;
       bytes_are = bytes_are;
       fits = fits;

@@ -1,5 +1,5 @@
 -- The exits of power on: a sync, what is found, a checkpoint of its recovered, and over format 1 one more in format 2.
-use Rattle.std.proofs.Common.{◌≡◌, inl, inr, ⊎_elim, ℕ, ◌+◌, ◌<◌, ◌≤◌, List, ℤ, Option, Some, Result, Ok, Err, refl, sym, ◌∙◌, ap, subst, arith}
+use Rattle.std.proofs.Common.{◌≡◌, inl, inr, ⊎_elim, ℕ, ◌+◌, ◌<◌, ◌≤◌, List, ℤ, Some, Result, Ok, Err, refl, sym, ◌∙◌, ap, subst, arith}
 use Rattle.std.specs.Option.{option_map}
 use Rattle.ng_num.specs.declared.fault.Fault.{Fault}
 use Rattle.ng_num.specs.declared.fault.Fault.TheVariants.{CountersUsed}
@@ -16,10 +16,9 @@ use Rattle.ng_layout.specs.Limits.{greatest_count}
 use Rattle.ng_layout.specs.Stands.{in_force, stands, stands_beside, beside_header, beside_format, saved_beside, recovered, closed, IsWritten}
 use Rattle.ng_layout.specs.Stored.{StoredModel, DurableState}
 use Rattle.ng_layout.proofs.Images.{force-within}
-use Rattle.ng_log.specs.AtEnd.{no_records, IsAtEnd}
 use Rattle.ng_journal.specs.Private.CheckpointSteps.{FitsDevice, IsOwnImage, IsBegun, IsEitherUnder, MayFollow, WritesState, StoresState, beside, CheckpointSpec}
-use Rattle.ng_journal.specs.AtRest.{BelongsTo, IsLaidOut, next_header, migrated}
-use Rattle.ng_journal.specs.Recovery.{recovered_of, epochs_for, HasCause, BelongsToRenewal, BelongsToNext, Renews, IsEitherBeside, IsFound, IsNextEpoch}
+use Rattle.ng_journal.specs.AtRest.{BelongsTo, IsLaidOut, next_header}
+use Rattle.ng_journal.specs.Recovery.{recovered_of, epochs_for, HasCause, BelongsToNext, Renews, IsEitherBeside}
 use Rattle.ng_journal.specs.Journal.{StandsBeside}
 use Rattle.ng_journal.specs.Private.RecoverySteps.{StandsUnder, IsRead, RestoreSpec, ModernizeSpec, StoresModern, BelongsToModern, modern_by}
 

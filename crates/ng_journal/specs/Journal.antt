@@ -25,6 +25,10 @@ pub record JournalModel (R : Type 0) : Type 0 where
   pub saved : StoredModel
   pub broken : Bool
 
+-- What a journal keeps of a state: all but the room for a program, which is its device's.
+abbrev pub kept_by : {R : Type 0} → JournalModel R → StoredModel → StoredModel
+kept_by journal stored = record stored { room = journal.saved.room }
+
 -- The header is of format 2 and names a program of this length; its log ends here, within its sectors, of which each
 -- record has one at least.
 pub record IsTip (length : ℕ) (header : Header) (end : LogEnd) : Type 0 where

@@ -1,5 +1,5 @@
 //! A whole state written under the next epoch.
-ghost use Rattle.std.specs.Prelude.{Bool, ◌≡◌, ◌≤◌, ◌<◌, ◌+◌, ◌%◌, [], Some};
+ghost use Rattle.std.specs.Prelude.{ℕ, Bool, ◌≡◌, ◌≤◌, ◌<◌, ◌+◌, ◌%◌, [], Some};
 ghost use Rattle.ng_rig.specs.Trace.{reads};
 ghost use Rattle.ng_layout.specs.declared.header.Format.TheVariants.{One};
 ghost use Rattle.ng_rig.specs.Calls.{IfHonest, FailureCountSpec};
@@ -125,10 +125,12 @@ pub(crate) fn checkpoint<R: Rig, A: Allocator + Copy + Drop>(
     requires count { stored.now.entries ≤ greatest_count }
     requires storable { IsStorable stored.now }
     requires tools { next.format ≡ One → stored.now.tools ≡ [] }
+    // for any room for a program, since none is written
     ensures stops { IfHonest (R.honest rig.old) (R.honest rig.new)
-        ((header : Header) → IsOwnImage (R.trace rig.old) header → next.epoch ≡ header.epoch + 1
-        → MayFollow next header (reads (R.trace rig.old)) → FitsDevice (reads (R.trace rig.old)) next stored.now
-        → CheckpointSpec result header next stored.now (R.trace rig.old) (R.trace rig.new)) }
+        ((room : ℕ) (header : Header) → IsOwnImage (R.trace rig.old) header → next.epoch ≡ header.epoch + 1
+        → MayFollow next header (reads (R.trace rig.old))
+        → FitsDevice (reads (R.trace rig.old)) next (record stored.now { room = room })
+        → CheckpointSpec result header next (record stored.now { room = room }) (R.trace rig.old) (R.trace rig.new)) }
     ensures stores { IfHonest (R.honest rig.old) (R.honest rig.new)
         (StoresState result next stored.now (R.trace rig.old) (R.trace rig.new)) }
     ensures size { R.sectors rig.new ≡ R.sectors rig.old }

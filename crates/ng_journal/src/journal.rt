@@ -19,7 +19,9 @@ ghost use Rattle.ng_journal.specs.Storing.{Commit, Open, Load, UsesUp, IsFullFor
 use crate::checkpoint::next_header;
 use crate::loading::load;
 use crate::recovery::restore;
-use crate::storing::{Tip, changes_between, slot_between, store, store_half, take_changed};
+use crate::storing::{
+    Tip, changes_between, slot_between, store, store_half, take_changed, take_state,
+};
 use ng_canon::Item;
 use ng_layout::{GREATEST_COUNT, Half, LARGE_SIZE, LEAST_SIZE, Stored, program_room, spare_area};
 use ng_num::Fault;
@@ -107,13 +109,14 @@ fn two_fresh<A: Allocator + Copy + Drop>(
     alloc: A,
     room: u64,
 ) -> Result<(Stored<A>, Stored<A>), AllocError>
-    ensures { IfOk result (λ x. (length x.0.setup.params ≡ parameter_count) × (length x.1.setup.params ≡ parameter_count) × (x.0.tools ≡ []) × (x.0.room ≡ room)) }
+    ensures { IfOk result (λ x. (length x.0.setup.params ≡ parameter_count) × (length x.1.setup.params ≡ parameter_count)
+        × (x.0.tools ≡ []) × (x.0.room ≡ room)) }
 {
     Ok((Stored::fresh(alloc, room)?, Stored::fresh(alloc, room)?))
 }
 
 impl<R: Rig, A: Allocator + Copy + Drop> Journal<R, A> {
-    ghost use Rattle.ng_journal.specs.Journal.{JournalModel, IsDurablyAt, CommitSpec, JournalHandOutSpec, IsBrokenBy};
+    ghost use Rattle.ng_journal.specs.Journal.{JournalModel, IsDurablyAt, CommitSpec, JournalHandOutSpec, IsBrokenBy, kept_by};
 
     /// The device as it is, with no call to it.
     pub fn into_rig(self) -> R
@@ -137,7 +140,7 @@ impl<R: Rig, A: Allocator + Copy + Drop> Journal<R, A> {
 
     /// Stores an entry (own): what is stored from now on, beside the same program. It is written as a record after the
     /// log's end, one write a part and one sync. Where the log has no room for it, what stood is written under the next
-    /// epoch before.
+    /// epoch before. The room for a program stays the device's, whatever that of the entry (`kept_by`).
     ///
     /// J4 where the entry count would be beyond its limit, or where the next epoch is needed and would be; then nothing
     /// is changed. J1 where the device failed: the journal is broken then, and the device stands for what stood before
@@ -147,15 +150,16 @@ impl<R: Rig, A: Allocator + Copy + Drop> Journal<R, A> {
         requires whole { self.old.broken ≡ false }
         requires storable { IsStorable stored.now }
         requires program { stored.now.length ≡ self.old.saved.length }
-        requires room { stored.now.room ≡ self.old.saved.room }
         requires tools { IsOneSlotFrom self.old.saved.tools stored.now.tools }
         ensures stops { IfHonest (R.honest self.old.rig) (R.honest self.new.rig)
             ((before : DurableState) → IsDurablyAt (R.trace self.old.rig) self.old before
-            → CommitSpec result self.new before (record before { saved = stored.now }) (R.trace self.old.rig) (R.trace self.new.rig)) }
+            → CommitSpec result self.new before (record before { saved = kept_by self.old stored.now })
+            (R.trace self.old.rig) (R.trace self.new.rig)) }
         ensures stores { IfHonest (R.honest self.old.rig) (R.honest self.new.rig)
-            (StoresRecord result (ledger_of self.old) stored.now (R.trace self.old.rig) (R.trace self.new.rig)) }
-        ensures saved { OnOk result (self.new.saved ≡ stored.now) }
-        ensures ledger { OnOk result (IsLedgerAfter (ledger_of self.old) stored.now (ledger_of self.new)) }
+            (StoresRecord result (ledger_of self.old) (kept_by self.old stored.now)
+            (R.trace self.old.rig) (R.trace self.new.rig)) }
+        ensures saved { OnOk result (self.new.saved ≡ kept_by self.old stored.now) }
+        ensures ledger { OnOk result (IsLedgerAfter (ledger_of self.old) (kept_by self.old stored.now) (ledger_of self.new)) }
         ensures broken { IsBrokenBy result self.new.broken }
         ensures errors { IfErr result (λ e. (e ≡ CountersUsed) ⊎ (e ≡ DeviceFailed)) }
         ensures used_up { IsErrOf result CountersUsed ↔ UsesUp (ledger_of self.old) (Commit stored.now) }
@@ -225,7 +229,7 @@ impl<R: Rig, A: Allocator + Copy + Drop> Journal<R, A> {
     }
 
     /// Stores a program and what goes with it (own): the text takes the place of the program in force, and the log
-    /// begins anew.
+    /// begins anew. The room for a program stays the device's, as for `commit`.
     ///
     /// It is written to program area 1 where area 0 is in force, else to 0; on a large device to area 3 where 2 is in
     /// force, else to 2.
@@ -239,23 +243,23 @@ impl<R: Rig, A: Allocator + Copy + Drop> Journal<R, A> {
         requires whole { self.old.broken ≡ false }
         requires storable { length text.now ≤ self.old.saved.room → IsStorable stored.now }
         requires long { stored.now.length ≡ length text.now }
-        requires room { stored.now.room ≡ self.old.saved.room }
         ensures stops { IfHonest (R.honest self.old.rig) (R.honest self.new.rig)
             ((before : DurableState) → IsDurablyAt (R.trace self.old.rig) self.old before
-            → CommitSpec result self.new before (record { saved = stored.now; program = text.now })
+            → CommitSpec result self.new before (record { saved = kept_by self.old stored.now; program = text.now })
             (R.trace self.old.rig) (R.trace self.new.rig)) }
         ensures stores { IfHonest (R.honest self.old.rig) (R.honest self.new.rig)
             (let area = spare_area (is_large_size (R.sectors self.old.rig)) self.old.header.area in
-            StoresLoad result area self.old.header (record { saved = stored.now; program = text.now })
+            StoresLoad result area self.old.header (record { saved = kept_by self.old stored.now; program = text.now })
             (R.trace self.old.rig) (R.trace self.new.rig)) }
-        ensures saved { OnOk result (self.new.saved ≡ stored.now) }
+        ensures saved { OnOk result (self.new.saved ≡ kept_by self.old stored.now) }
         ensures end { OnOk result (self.new.end ≡ no_records) }
         ensures ledger { let area = spare_area (is_large_size (R.sectors self.old.rig)) self.old.header.area in
-            OnOk result (ledger_of self.new ≡ with_program area (ledger_of self.old) stored.now) }
+            OnOk result (ledger_of self.new ≡ with_program area (ledger_of self.old) (kept_by self.old stored.now)) }
         ensures broken { IsBrokenBy result self.new.broken }
         ensures errors { IfErr result (λ e. (e ≡ ProgramTooLong) ⊎ ((e ≡ CountersUsed) ⊎ (e ≡ DeviceFailed))) }
         ensures too_long { IsErrOf result ProgramTooLong ↔ (self.old.saved.room < length text.now) }
-        ensures used_up { IsErrOf result CountersUsed ↔ ((length text.now ≤ self.old.saved.room) × UsesUp (ledger_of self.old) (Load stored.now)) }
+        ensures used_up { IsErrOf result CountersUsed
+            ↔ ((length text.now ≤ self.old.saved.room) × UsesUp (ledger_of self.old) (Load stored.now)) }
         ensures count { OnOk result (stored.now.entries ≤ greatest_count) }
         ensures unchanged { (IsErrOf result CountersUsed ⊎ IsErrOf result ProgramTooLong) → self.new ≡ self.old }
         ensures size { R.sectors self.new.rig ≡ R.sectors self.old.rig }
@@ -272,7 +276,7 @@ impl<R: Rig, A: Allocator + Copy + Drop> Journal<R, A> {
         let next = next_header(header, area, stored.length);
         match load(&mut self.rig, header, area, text, stored) {
             Ok(()) => {
-                self.stored.take_over(stored);
+                take_state(&mut self.stored, stored);
                 self.tip = Tip::beginning(next);
                 Ok(())
             }

@@ -76,7 +76,8 @@ pub(crate) fn part_of(
     requires to { sector_size * n < program_end }
     requires small { program_end ≤ longest_program }
     ensures within { max place (sector_size * n) + length result.now ≤ program_end }
-    ensures part { (row : ℕ → List ℕ) → sector.now ≡ row n → IsPart (program_text program_end row) place (sector_size * n) result.now }
+    ensures part { (row : ℕ → List ℕ) → sector.now ≡ row n
+        → IsPart (program_text program_end row) place (sector_size * n) result.now }
 {
     let start = SECTOR_BYTES * n;
     &sector[place.max(start) - start..SECTOR_BYTES.min(program_end - start)]
@@ -106,7 +107,8 @@ fn find_end<R: Rig>(
     requires small { program_end ≤ longest_in area }
     requires empty { text.old.items ≡ [] }
     ensures read { IfHonest (R.honest rig.old) (R.honest rig.new)
-        (ReadSpec result (λ image end. IsEnd (drop place (program_text program_end (stretch (program_first area) (program_size area) image))) text.new.items end) (R.trace rig.old) (R.trace rig.new)) }
+        (ReadSpec result (λ image end. let program = program_text program_end (stretch (program_first area) (program_size area) image) in
+        IsEnd (drop place program) text.new.items end) (R.trace rig.old) (R.trace rig.new)) }
     // without honesty too
     ensures within { IfOk result (λ end. IfSome end (λ n. place + n < program_end)) }
     ensures size { R.sectors rig.new ≡ R.sectors rig.old }
@@ -135,7 +137,8 @@ pub(crate) fn read_line<R: Rig>(
     requires place { place ≤ program_end }
     requires small { program_end ≤ longest_in area }
     ensures read { IfHonest (R.honest rig.old) (R.honest rig.new)
-        (ReadSpec result (λ image line. line ≡ program_line_at (program_text program_end (stretch (program_first area) (program_size area) image)) place) (R.trace rig.old) (R.trace rig.new)) }
+        (ReadSpec result (λ image line. let program = program_text program_end (stretch (program_first area) (program_size area) image) in
+        line ≡ program_line_at program place) (R.trace rig.old) (R.trace rig.new)) }
     // without honesty too
     ensures next { IfOk result (λ line. IfSome line (λ l. (place < l.next) × (l.next ≤ program_end))) }
     ensures size { R.sectors rig.new ≡ R.sectors rig.old }

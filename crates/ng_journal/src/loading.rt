@@ -1,5 +1,5 @@
 //! A program written to the area that isn't in force, and what is stored with it.
-ghost use Rattle.std.specs.Prelude.{true, ◌≡◌, ◌≢◌, ◌≤◌, ◌<◌, ◌+◌, length};
+ghost use Rattle.std.specs.Prelude.{ℕ, true, ◌≡◌, ◌≢◌, ◌≤◌, ◌<◌, ◌+◌, length};
 ghost use Rattle.ng_rig.specs.Calls.{IfHonest, FailureCountSpec};
 ghost use Rattle.ng_layout.specs.Limits.{greatest_count};
 ghost use Rattle.ng_layout.specs.Areas.{program_first, program_size, least_size, greatest_area};
@@ -51,10 +51,11 @@ pub(crate) fn load<R: Rig, A: Allocator + Copy + Drop>(
     requires storable { IsStorable stored.now }
     requires long { stored.now.length ≡ length text.now }
     requires format { header.format ≡ Two }
+    // for any room for a program, since none is written
     ensures stops { IfHonest (R.honest rig.old) (R.honest rig.new)
-        (IsOwnImage (R.trace rig.old) header
-        → FitsDevice (reads (R.trace rig.old)) (next_header header area stored.now.length) stored.now
-        → LoadSpec result area header (record { saved = stored.now; program = text.now }) (R.trace rig.old) (R.trace rig.new)) }
+        ((room : ℕ) → IsOwnImage (R.trace rig.old) header → (let saved = record stored.now { room = room } in
+        FitsDevice (reads (R.trace rig.old)) (next_header header area saved.length) saved
+        → LoadSpec result area header (record { saved = saved; program = text.now }) (R.trace rig.old) (R.trace rig.new))) }
     ensures stores { IfHonest (R.honest rig.old) (R.honest rig.new)
         (StoresLoad result area header (record { saved = stored.now; program = text.now }) (R.trace rig.old) (R.trace rig.new)) }
     ensures size { R.sectors rig.new ≡ R.sectors rig.old }

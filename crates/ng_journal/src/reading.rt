@@ -43,7 +43,8 @@ fn read_header<R: Rig>(rig: &mut R, large: bool, k: u64) -> Result<Option<Header
 /// Of two valid headers that of the greater epoch.
 fn newer(a: Option<Header>, b: Option<Header>) -> Option<Header>
     ensures value { result ≡ newer a b }
-    ensures valid { (large : Bool) → IfSome a (IsValidHeader large) → IfSome b (IsValidHeader large) → IfSome result (IsValidHeader large) }
+    ensures valid { (large : Bool) → IfSome a (IsValidHeader large) → IfSome b (IsValidHeader large)
+        → IfSome result (IsValidHeader large) }
 {
     match (a, b) {
         (None, b) => b,

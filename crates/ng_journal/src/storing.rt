@@ -71,8 +71,18 @@ pub(crate) fn slot_between<A: Allocator + Copy + Drop>(
     old.tools.change_to(&stored.tools)
 }
 
-/// Makes what is stored equal to another, from which its table differs in so many parameters: with none, the table
-/// stays. It takes no memory.
+/// Takes over all of another state but its room for a program, which stays the device's. It takes no memory.
+pub(crate) fn take_state<A: Allocator + Copy + Drop>(stored: &mut Stored<A>, other: &Stored<A>)
+    requires own { length stored.old.setup.params ≡ parameter_count }
+    requires other { length other.now.setup.params ≡ parameter_count }
+    ensures { stored.new ≡ record other.now { room = stored.old.room } }
+{
+    let room = stored.room;
+    stored.take_over(other);
+    stored.room = room;
+}
+
+/// The same of a state whose table differs in so many parameters: with none, the table stays.
 pub(crate) fn take_changed<A: Allocator + Copy + Drop>(
     stored: &mut Stored<A>,
     other: &Stored<A>,
@@ -81,12 +91,14 @@ pub(crate) fn take_changed<A: Allocator + Copy + Drop>(
     requires own { length stored.old.setup.params ≡ parameter_count }
     requires other { length other.now.setup.params ≡ parameter_count }
     requires count { count ≡ length (differences stored.old.setup.params other.now.setup.params) }
-    ensures { stored.new ≡ other.now }
+    ensures { stored.new ≡ record other.now { room = stored.old.room } }
 {
     if count == 0 {
+        let room = stored.room;
         stored.take_all_but_parameters(other);
+        stored.room = room;
     } else {
-        stored.take_over(other);
+        take_state(stored, other);
     }
 }
 
@@ -135,7 +147,6 @@ fn append_to<R: Rig, A: Allocator + Copy + Drop>(
     requires tip { IsTip stored.now.length tip.header tip.end }
     requires slot { slot ≡ first_change old.now.tools stored.now.tools }
     requires one { IsOneSlotFrom old.now.tools stored.now.tools }
-    requires same_room { stored.now.room ≡ old.now.room }
     requires table { length old.now.setup.params ≡ parameter_count }
     requires count { count ≡ length (differences old.now.setup.params stored.now.setup.params) }
     requires few { count ≤ parameter_count }
@@ -146,11 +157,13 @@ fn append_to<R: Rig, A: Allocator + Copy + Drop>(
         ((before : DurableState) → IsAtEnd (R.trace rig.old) tip.header before tip.end
         → before.saved.setup.params ≡ old.now.setup.params → before.saved.tools ≡ old.now.tools
         → before.saved.room ≡ old.now.room
-        → StoreRecordSpec result before stored.now (R.trace rig.old) (R.trace rig.new)) }
+        → StoreRecordSpec result before (record stored.now { room = old.now.room }) (R.trace rig.old) (R.trace rig.new)) }
     ensures writes { IfHonest (R.honest rig.old) (R.honest rig.new)
-        (WritesRecord result (record_of (ledger tip old.now) stored.now) (R.trace rig.old) (R.trace rig.new)) }
+        (WritesRecord result (record_of (ledger tip old.now) (record stored.now { room = old.now.room }))
+        (R.trace rig.old) (R.trace rig.new)) }
     // without honesty too
-    ensures end { IfOk result (λ t. t ≡ tip_of (with_record (ledger tip old.now) stored.now)) }
+    ensures end { let saved = record stored.now { room = old.now.room } in
+        IfOk result (λ t. t ≡ tip_of (with_record (ledger tip old.now) saved)) }
     ensures tip { IfOk result (λ t. IsTip stored.now.length t.header t.end) }
     ensures size { R.sectors rig.new ≡ R.sectors rig.old }
     ensures failures { FailureCountSpec result (R.failed rig.old) (R.failed rig.new) }
@@ -184,7 +197,6 @@ pub(crate) fn store<R: Rig, A: Allocator + Copy + Drop>(
     requires tip { IsTip old.now.length tip.header tip.end }
     requires slot { slot ≡ first_change old.now.tools stored.now.tools }
     requires one { IsOneSlotFrom old.now.tools stored.now.tools }
-    requires same_room { stored.now.room ≡ old.now.room }
     requires count { count ≡ length (differences old.now.setup.params stored.now.setup.params) }
     requires few { count ≤ parameter_count }
     requires epoch { IsFullFor tip.header tip.end count → tip.header.epoch < greatest_count }
@@ -195,11 +207,14 @@ pub(crate) fn store<R: Rig, A: Allocator + Copy + Drop>(
     requires long { stored.now.length ≡ old.now.length }
     ensures stops { IfHonest (R.honest rig.old) (R.honest rig.new)
         ((before : DurableState) → IsAtEnd (R.trace rig.old) tip.header before tip.end
-        → before.saved ≡ old.now → StoreRecordSpec result before stored.now (R.trace rig.old) (R.trace rig.new)) }
+        → before.saved ≡ old.now
+        → StoreRecordSpec result before (record stored.now { room = old.now.room }) (R.trace rig.old) (R.trace rig.new)) }
     ensures stores { IfHonest (R.honest rig.old) (R.honest rig.new)
-        (StoresRecord result (ledger tip old.now) stored.now (R.trace rig.old) (R.trace rig.new)) }
+        (StoresRecord result (ledger tip old.now) (record stored.now { room = old.now.room })
+        (R.trace rig.old) (R.trace rig.new)) }
     // without honesty too
-    ensures ledger { IfOk result (λ t. IsLedgerAfter (ledger tip old.now) stored.now (ledger t stored.now)) }
+    ensures ledger { let saved = record stored.now { room = old.now.room } in
+        IfOk result (λ t. IsLedgerAfter (ledger tip old.now) saved (ledger t saved)) }
     ensures tip { IfOk result (λ t. IsTip stored.now.length t.header t.end) }
     ensures size { R.sectors rig.new ≡ R.sectors rig.old }
     ensures failures { FailureCountSpec result (R.failed rig.old) (R.failed rig.new) }

@@ -1,5 +1,5 @@
 -- What writing a program's text leaves, and a load.
-use Rattle.std.specs.Prelude.{◌≡◌, ◌+◌, ◌*◌, ◌<◌, ℕ, List, length, Result, Ok, OnOk}
+use Rattle.std.specs.Prelude.{◌≡◌, ◌+◌, ◌*◌, ◌<◌, ℕ, List, Result, Ok, OnOk}
 use Rattle.ng_rig.specs.Trace.{Trace, reads, items}
 use Rattle.ng_rig.specs.Continuation.{IsContinuation}
 use Rattle.ng_rig.specs.Only.{WritesOnly}

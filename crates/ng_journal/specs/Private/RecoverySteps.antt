@@ -1,5 +1,4 @@
 -- What the steps of a recovery find and leave.
-use Rattle.ng_canon.specs.declared.item.Item.{Item}
 use Rattle.std.specs.Prelude.{◌≡◌, ◌⊎◌, ℕ, ℤ, List, Some, Result, Ok, Err, OnOk, IfOk, IfErr}
 use Rattle.ng_num.specs.declared.fault.Fault.{Fault}
 use Rattle.ng_num.specs.declared.fault.Fault.TheVariants.{NotFormatted, Damaged, CountersUsed}

@@ -1,4 +1,4 @@
-use Rattle.std.proofs.Common.{◌∷◌, ◌++◌, length, sym, subst, Some}
+use Rattle.std.proofs.Common.{length, sym, subst, Some}
 use Rattle.ng_journal.specs.Private.LineParts.{TakesPart}
 use Rattle.ng_journal.proofs.LinesRead.{line_taken}
 use Rattle.ng_journal.proofs.line.take_part.Goals as goal

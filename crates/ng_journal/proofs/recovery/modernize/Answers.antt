@@ -1,4 +1,4 @@
-use Rattle.std.proofs.Common.{ℤ, List, ◌≡◌, sym, ◌∙◌, ap, subst}
+use Rattle.std.proofs.Common.{ℤ, List, sym, ◌∙◌, ap}
 use Rattle.ng_layout.specs.Stands.{saved_beside}
 use Rattle.ng_layout.specs.declared.header.Format.{Format}
 use Rattle.std.proofs.lemmas.Result.{err_from_is_err_and}
@@ -15,7 +15,7 @@ returns-in-Two-clause-stores g c = promised (λ table over. nothing_modern table
 pub returns-in_err-checkpoint-in-One-clause-stops : goal.returns-in_err-checkpoint-in-One-clause-stops
 returns-in_err-checkpoint-in-One-clause-stops g c =
     let p = err_from_is_err_and c.from_residual.result c.from_residual.ensures.1 in
-    rw p.1 (meaning c.checkpoint.ensures.stops (λ f table over standing b saved_is. modern_over c.args.tools.now table _ c.args.header standing _ _ (over c.in-One.is) (modern_failed c.args.tools.now c.args.header c.migrated-last.result c.args.stored.now c.take_tools.new.self standing _ _ c.in-One.is c.migrated-last.ensures c.take_tools.ensures b saved_is (c.requires.epoch c.in-One.is) p.0 c.checkpoint.result f)))
+    rw p.1 (meaning c.checkpoint.ensures.stops (λ f table over standing b saved_is. modern_over c.args.tools.now table _ c.args.header standing _ _ (over c.in-One.is) (modern_failed c.args.tools.now c.args.header c.migrated-last.result c.args.stored.now c.take_tools.new.self standing _ _ c.in-One.is c.migrated-last.ensures c.take_tools.ensures b saved_is (c.requires.epoch c.in-One.is) p.0 c.checkpoint.result (f c.take_tools.new.self.room))))
 
 pub returns-in_err-checkpoint-in-One-clause-stores : goal.returns-in_err-checkpoint-in-One-clause-stores
 returns-in_err-checkpoint-in-One-clause-stores g c =
@@ -24,7 +24,7 @@ returns-in_err-checkpoint-in-One-clause-stores g c =
 
 pub returns-in_ok-checkpoint-in-One-clause-stops : goal.returns-in_ok-checkpoint-in-One-clause-stops
 returns-in_ok-checkpoint-in-One-clause-stops g c =
-    meaning c.in_ok-checkpoint-in-One.ensures.stops (λ f table over standing b saved_is. modern_over c.args.tools.now table _ c.args.header standing _ _ (over c.in-One.is) (modern_made c.args.tools.now c.args.header c.migrated-last.result c.args.stored.now c.take_tools.new.self standing _ _ c.in-One.is c.migrated-last.ensures c.take_tools.ensures b saved_is (c.requires.epoch c.in-One.is) _ f))
+    meaning c.in_ok-checkpoint-in-One.ensures.stops (λ f table over standing b saved_is. modern_over c.args.tools.now table _ c.args.header standing _ _ (over c.in-One.is) (modern_made c.args.tools.now c.args.header c.migrated-last.result c.args.stored.now c.take_tools.new.self standing _ _ c.in-One.is c.migrated-last.ensures c.take_tools.ensures b saved_is (c.requires.epoch c.in-One.is) _ (f c.take_tools.new.self.room)))
 
 pub returns-in_ok-checkpoint-in-One-clause-stores : goal.returns-in_ok-checkpoint-in-One-clause-stores
 returns-in_ok-checkpoint-in-One-clause-stores g c =

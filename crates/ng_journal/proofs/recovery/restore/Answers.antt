@@ -54,7 +54,7 @@ returns-in_err-checkpoint-in-Ok-clause-restores g c =
           let f = found.holds (sync.keeps h) in
           let now = f.same ∙ sync.holds h in
           let u = found_under c.in_ok-fault.field-0 header c.found.new.stored _ _ c.in-Ok.is f.same f.right in
-          within table header c.found.new.stored c.close.new.self _ _ now u c.close.ensures.value more p.0 c.checkpoint.result c.next_header-next.result c.close.new.self _ (next_is header c.next_header-next.result c.found.new.stored c.close.new.self _ u c.close.ensures.value c.next_header-next.ensures) (stores.holds (found.keeps (sync.keeps h))).writes (last.holds (found.keeps (sync.keeps h)));
+          within table header c.found.new.stored c.close.new.self _ _ now u c.close.ensures.value more p.0 c.checkpoint.result c.next_header-next.result c.close.new.self _ (next_is header c.next_header-next.result c.found.new.stored c.close.new.self _ u c.close.ensures.value c.next_header-next.ensures) (stores.holds (found.keeps (sync.keeps h))).writes (last.holds (found.keeps (sync.keeps h)) c.close.new.self.room);
     })
 
 pub returns-in_err-last-in-Ok-clause-restores : goal.returns-in_err-last-in-Ok-clause-restores
@@ -78,7 +78,7 @@ returns-in_err-last-in-Ok-clause-restores g c =
           let u = found_under c.in_ok-fault.field-0 header c.found.new.stored _ _ c.in-Ok.is f.same f.right in
           let force = subst (λ (l : Trace). in_force (reads l) ≡ Some header) now u.force in
           let given : c.next_header-next.result.format ≡ One → table ≡ c.args.tools.now = λ one. over header force (sym (ap (λ (x : Header). x.format) c.next_header-next.ensures) ∙ one) in
-          exit_modern table header c.found.new.stored c.close.new.self _ _ now u c.close.ensures.value more _ c.next_header-next.result _ _ (next_is header c.next_header-next.result c.found.new.stored c.close.new.self _ u c.close.ensures.value c.next_header-next.ensures) (stores.holds at) (last.holds at) p.0 c.modernize.result c.modernize.new.stored (modern.holds (last.keeps at) table given) (again.holds (last.keeps at) table given);
+          exit_modern table header c.found.new.stored c.close.new.self _ _ now u c.close.ensures.value more _ c.next_header-next.result _ _ (next_is header c.next_header-next.result c.found.new.stored c.close.new.self _ u c.close.ensures.value c.next_header-next.ensures) (stores.holds at) (last.holds at c.close.new.self.room) p.0 c.modernize.result c.modernize.new.stored (modern.holds (last.keeps at) table given) (again.holds (last.keeps at) table given);
     })
 
 pub returns-in_ok-last-in-Ok-clause-restores : goal.returns-in_ok-last-in-Ok-clause-restores
@@ -101,5 +101,5 @@ returns-in_ok-last-in-Ok-clause-restores g c =
           let u = found_under c.in_ok-fault.field-0 header c.found.new.stored _ _ c.in-Ok.is f.same f.right in
           let force = subst (λ (l : Trace). in_force (reads l) ≡ Some header) now u.force in
           let given : c.next_header-next.result.format ≡ One → table ≡ c.args.tools.now = λ one. over header force (sym (ap (λ (x : Header). x.format) c.next_header-next.ensures) ∙ one) in
-          exit_restored table header c.found.new.stored c.close.new.self _ _ now u c.close.ensures.value more _ c.next_header-next.result _ _ (next_is header c.next_header-next.result c.found.new.stored c.close.new.self _ u c.close.ensures.value c.next_header-next.ensures) (stores.holds at) (last.holds at) c.in_ok-last-in-Ok.last c.modernize.new.stored (modern.holds (last.keeps at) table given) (again.holds (last.keeps at) table given) c.in_ok-last-in-Ok.ensures.header (c.in_ok-last-in-Ok.ensures.saved table given);
+          exit_restored table header c.found.new.stored c.close.new.self _ _ now u c.close.ensures.value more _ c.next_header-next.result _ _ (next_is header c.next_header-next.result c.found.new.stored c.close.new.self _ u c.close.ensures.value c.next_header-next.ensures) (stores.holds at) (last.holds at c.close.new.self.room) c.in_ok-last-in-Ok.last c.modernize.new.stored (modern.holds (last.keeps at) table given) (again.holds (last.keeps at) table given) c.in_ok-last-in-Ok.ensures.header (c.in_ok-last-in-Ok.ensures.saved table given);
     }

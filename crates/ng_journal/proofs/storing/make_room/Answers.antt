@@ -21,7 +21,7 @@ returns-in_err-checkpoint-clause-makes g c =
     let p = err_from_is_err_and c.from_residual.result c.from_residual.ensures.1 in
     let is = c.next_header-next.ensures in
     rw p.1 (meaning c.checkpoint.ensures.stops (λ f before at same.
-    room_failed _ _ c.args.tip.header c.next_header-next.result before c.args.tip.end c.args.stored.now at same (ap (λ (h : Header). h.area) is) (ap (λ (h : Header). h.format) is ∙ c.requires.tip.format) p.0 c.checkpoint.result (f c.args.tip.header (own at) (ap (λ (h : Header). h.epoch) is) (inl (ap (λ (h : Header). h.format) is)) (fits_next c.next_header-next.result c.args.stored.now at same is (c.requires.epoch (c.is_full_for.ensures.0 c.if-not-is_full_for.false))))))
+    room_failed _ _ c.args.tip.header c.next_header-next.result before c.args.tip.end c.args.stored.now at same (ap (λ (h : Header). h.area) is) (ap (λ (h : Header). h.format) is ∙ c.requires.tip.format) p.0 c.checkpoint.result (f c.args.stored.now.room c.args.tip.header (own at) (ap (λ (h : Header). h.epoch) is) (inl (ap (λ (h : Header). h.format) is)) (fits_next c.next_header-next.result c.args.stored.now at same is (c.requires.epoch (c.is_full_for.ensures.0 c.if-not-is_full_for.false))))))
 
 pub returns-in_err-checkpoint-clause-stores : goal.returns-in_err-checkpoint-clause-stores
 returns-in_err-checkpoint-clause-stores g c =
@@ -33,7 +33,7 @@ pub returns-clause-makes : goal.returns-clause-makes
 returns-clause-makes g c =
     let is = c.next_header-next.ensures in
     meaning c.in_ok-checkpoint.ensures.stops (λ f before at same.
-    room_made _ _ c.args.tip.header c.next_header-next.result before c.args.tip.end c.args.stored.now at same (ap (λ (h : Header). h.area) is) (ap (λ (h : Header). h.format) is ∙ c.requires.tip.format) _ c.beginning.result c.beginning.ensures (f c.args.tip.header (own at) (ap (λ (h : Header). h.epoch) is) (inl (ap (λ (h : Header). h.format) is)) (fits_next c.next_header-next.result c.args.stored.now at same is (c.requires.epoch (c.is_full_for.ensures.0 c.if-not-is_full_for.false)))))
+    room_made _ _ c.args.tip.header c.next_header-next.result before c.args.tip.end c.args.stored.now at same (ap (λ (h : Header). h.area) is) (ap (λ (h : Header). h.format) is ∙ c.requires.tip.format) _ c.beginning.result c.beginning.ensures (f c.args.stored.now.room c.args.tip.header (own at) (ap (λ (h : Header). h.epoch) is) (inl (ap (λ (h : Header). h.format) is)) (fits_next c.next_header-next.result c.args.stored.now at same is (c.requires.epoch (c.is_full_for.ensures.0 c.if-not-is_full_for.false)))))
 
 pub returns-clause-stores : goal.returns-clause-stores
 returns-clause-stores g c =

@@ -2,6 +2,7 @@ use Rattle.std.proofs.Common.{◌≡◌, ℕ, List, Ok, Err, refl, sym, ◌∙�
 use Rattle.std.proofs.lemmas.Result.{err_from_is_err_and}
 use Rattle.ng_num.specs.declared.fault.Fault.{Fault}
 use Rattle.ng_num.specs.declared.fault.Fault.TheVariants.{CountersUsed}
+use Rattle.ng_journal.specs.Journal.{kept_by}
 use Rattle.ng_journal.specs.Storing.{ledger_of}
 use Rattle.ng_session.specs.Entries.{Equipment}
 use Rattle.ng_session.specs.Planned.{base_of}
@@ -11,6 +12,7 @@ use Rattle.ng_core.specs.Model.{ControllerModel}
 use Rattle.ng_core.proofs.Anyway.{comes_commit}
 use Rattle.ng_core.proofs.Carrying.{carried_as, carried_failed}
 use Rattle.ng_core.proofs.Hindering.{hindered_entry}
+use Rattle.ng_core.proofs.Storing.{kept_whole}
 use Rattle.ng_core.proofs.Ticks.{IsDue, does_commit, does_not_commit}
 use Rattle.ng_core.proofs.controller.Controller.commit.Goals as goal
 
@@ -19,8 +21,10 @@ invariant_of-self-2 g c =
     let block = c.in-Some.ensures.after in
     let stored : c.commit-2.new.self.stored ≡ c.in-Some.after.now = ap (λ (s : SessionModel). s.stored) (c.commit-2.ensures.next block.0 block.1) ∙ sym block.2 in
     let same = ap base_of (c.commit-2.ensures.next block.0 block.1) ∙ committed_base c.self.inside.session block.0 block.1 in
+    let before = ap (λ (x : ControllerModel g.row.R.Denot). x.journal.broken) c.self.view_is ∙ c.requires.whole in
+    let kept = kept_whole c.self.inside.journal c.in-Some.after.now c.self.inside.session.stored (c.self.invariant.saved before) c.in-Some.ensures.next.room in
     record {
-      saved = λ whole. stored ∙ sym c.in_ok-commit.ensures.saved;
+      saved = λ whole. stored ∙ sym kept ∙ sym c.in_ok-commit.ensures.saved;
       plan = plan_as _ (base_of c.self.inside.session) (base_of c.commit-2.new.self) c.self.inside.lines.ahead same c.self.invariant.plan;
     }
 
@@ -33,10 +37,13 @@ returns-in_err-commit g c =
     let new : ControllerModel g.row.R.Denot = record { journal = c.commit.new.self; session = c.self.inside.session; lines = c.self.inside.lines; equipment = equipment } in
     let block = c.in-Some.ensures.after in
     let due : IsDue old.session c.in-Some.after.now = record { block = block.0; current = block.1; after = block.2 } in
+    let whole = ap (λ (x : ControllerModel g.row.R.Denot). x.journal.broken) c.self.view_is ∙ c.requires.whole in
+    let kept = kept_whole old.journal c.in-Some.after.now old.session.stored (c.self.invariant.saved whole) c.in-Some.ensures.next.room in
+    let due_kept : IsDue old.session (kept_by old.journal c.in-Some.after.now) = record { block = block.0; current = block.1; after = kept ∙ block.2 } in
     let unchanged : e ≡ CountersUsed → new.journal ≡ old.journal = λ used. c.in_err-commit.ensures.unchanged (ap (λ (f : Fault). Err f) used) in
     rw (p.1) (carried_as g.R.Rig.honest g.R.Rig.trace g.R.Rig.failed g.R.Rig.sectors (λ (x : ControllerModel g.row.R.Denot). ⊥) (λ (x : ControllerModel g.row.R.Denot). Unit {0}) (λ (x : ControllerModel g.row.R.Denot). ⊥) (λ (x : ControllerModel g.row.R.Denot) (program : List ℕ). end x.equipment program x.session x.session.current) (Err p.0) c.args.self.now old new c.self.view_is
     (carried_failed g.R.Rig.honest g.R.Rig.trace g.R.Rig.failed g.R.Rig.sectors ⊥ (Unit {0}) ⊥ p.0 e (λ (program : List ℕ). end equipment program old.session old.session.current) old new p.2
-    (does_not_commit g.R.Rig.honest g.R.Rig.trace e e c.in-Some.after.now old new due refl c.in_err-commit.ensures.errors unchanged c.in_err-commit.ensures.stops refl)
+    (does_not_commit g.R.Rig.honest g.R.Rig.trace e e (kept_by old.journal c.in-Some.after.now) old new due_kept refl c.in_err-commit.ensures.errors unchanged c.in_err-commit.ensures.stops refl)
     c.in_err-commit.ensures.errors unchanged refl refl
     (hindered_entry (Unit {0}) e equipment old.session (ledger_of old.journal) c.in-Some.after.now due c.in_err-commit.ensures.errors c.in_err-commit.ensures.used_up)
     c.in_err-commit.ensures.broken c.in_err-commit.ensures.size c.in_err-commit.ensures.failures))
@@ -48,8 +55,11 @@ returns g c =
     let new : ControllerModel g.row.R.Denot = record { journal = c.commit.new.self; session = c.commit-2.new.self; lines = c.self.inside.lines; equipment = equipment } in
     let block = c.in-Some.ensures.after in
     let due : IsDue old.session c.in-Some.after.now = record { block = block.0; current = block.1; after = block.2 } in
+    let whole = ap (λ (x : ControllerModel g.row.R.Denot). x.journal.broken) c.self.view_is ∙ c.requires.whole in
+    let kept = kept_whole old.journal c.in-Some.after.now old.session.stored (c.self.invariant.saved whole) c.in-Some.ensures.next.room in
+    let due_kept : IsDue old.session (kept_by old.journal c.in-Some.after.now) = record { block = block.0; current = block.1; after = kept ∙ block.2 } in
     carried_as g.R.Rig.honest g.R.Rig.trace g.R.Rig.failed g.R.Rig.sectors (λ (x : ControllerModel g.row.R.Denot). ⊥) (λ (x : ControllerModel g.row.R.Denot). Unit {0}) (λ (x : ControllerModel g.row.R.Denot). ⊥) (λ (x : ControllerModel g.row.R.Denot) (program : List ℕ). end x.equipment program x.session x.session.current) (Ok c.commit-2.result) c.args.self.now old new c.self.view_is (record {
-      does = does_commit g.R.Rig.honest g.R.Rig.trace c.in_ok-commit.field-0 c.commit-2.result c.in-Some.after.now old new due
+      does = does_commit g.R.Rig.honest g.R.Rig.trace c.in_ok-commit.field-0 c.commit-2.result (kept_by old.journal c.in-Some.after.now) old new due_kept
           (c.commit-2.ensures.reply block.0 block.1) (c.commit-2.ensures.next block.0 block.1) c.in_ok-commit.ensures.stops refl;
       comes = comes_commit ⊥ c.commit-2.result c.in-Some.after.now old new due (c.commit-2.ensures.reply block.0 block.1) (c.commit-2.ensures.next block.0 block.1);
       line = λ none. absurd none;

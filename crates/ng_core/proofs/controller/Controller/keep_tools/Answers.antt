@@ -2,6 +2,7 @@ use Rattle.std.proofs.Common.{◌≡◌, ◌+◌, ℕ, ℤ, List, Some, Ok, Err,
 use Rattle.ng_num.specs.declared.fault.Fault.{Fault}
 use Rattle.ng_num.specs.declared.fault.Fault.TheVariants.{CountersUsed}
 use Rattle.ng_layout.specs.Stored.{StoredModel}
+use Rattle.ng_journal.specs.Journal.{kept_by}
 use Rattle.ng_journal.specs.Storing.{Storing, Commit, ledger_of}
 use Rattle.ng_session.specs.Entries.{Equipment}
 use Rattle.ng_session.specs.Session.{SessionModel, commits}
@@ -11,6 +12,7 @@ use Rattle.ng_core.proofs.Anyway.{comes_by}
 use Rattle.ng_core.proofs.Carrying.{carried_as, carried_failed}
 use Rattle.ng_core.proofs.Hindering.{hindered_storing}
 use Rattle.ng_core.proofs.Reporting.{keeps, keeps_none}
+use Rattle.ng_core.proofs.Storing.{kept_whole}
 use Rattle.ng_core.proofs.controller.Controller.keep_tools.Goals as goal
 
 -- another table, with one entry more
@@ -27,11 +29,13 @@ returns-in-Ok g c = λ entry committed.
     let there : c.exchange_tools-before.new.self ≡ next =
     c.exchange_tools-before.ensures.next ∙ (λ i. let s : SessionModel = record old.session { stored = record old.session.stored { entries = count i + 1; tools = c.args.tools } } in s) in
     let stored : c.stored-2.result.now ≡ next.stored = c.stored-2.ensures.value ∙ ap (λ (s : SessionModel). s.stored) there in
+    let whole = ap (λ (x : ControllerModel g.row.R.Denot). x.journal.broken) c.self.view_is ∙ c.requires.whole in
+    let kept = kept_whole old.journal c.stored-2.result.now old.session.stored (c.self.invariant.saved whole) (ap (λ (x : StoredModel). x.room) stored) in
     let counted : reply.Done c.behind-self-in-Ok.inside.entries ≡ reply.Done next.stored.entries =
     ap (λ (x : StoredModel). reply.Done x.entries) (c.behind-self-in-Ok.view_is ∙ c.stored-in-Ok.ensures.value ∙ ap (λ (s : SessionModel). s.stored) there) in
     carried_as g.R.Rig.honest g.R.Rig.trace g.R.Rig.failed g.R.Rig.sectors (λ (x : ControllerModel g.row.R.Denot). ⊥) (λ (x : ControllerModel g.row.R.Denot). Unit {0}) (λ (x : ControllerModel g.row.R.Denot). ⊥)
     (λ (x : ControllerModel g.row.R.Denot) (program : List ℕ). commits program entry (with_table x.session c.args.tools)) (Ok (reply.Done c.behind-self-in-Ok.inside.entries)) c.args.self.now old new c.self.view_is (record {
-      does = keeps g.R.Rig.honest g.R.Rig.trace c.in-Ok.field-0 (reply.Done c.behind-self-in-Ok.inside.entries) c.stored-2.result.now entry next old new stored counted there c.in-Ok.ensures.stops refl;
+      does = keeps g.R.Rig.honest g.R.Rig.trace c.in-Ok.field-0 (reply.Done c.behind-self-in-Ok.inside.entries) (kept_by old.journal c.stored-2.result.now) entry next old new (kept ∙ stored) counted there c.in-Ok.ensures.stops refl;
       comes = comes_by ⊥ (reply.Done c.behind-self-in-Ok.inside.entries) (λ program. commits program entry next) old new (λ program. counted) (λ program. there);
       line = λ none. absurd none;
       hindered = tt;
@@ -51,13 +55,15 @@ returns-in-Err g c = λ entry committed.
     let there : c.exchange_tools-before.new.self ≡ next =
     c.exchange_tools-before.ensures.next ∙ (λ i. let s : SessionModel = record old.session { stored = record old.session.stored { entries = count i + 1; tools = c.args.tools } } in s) in
     let stored : c.stored-2.result.now ≡ next.stored = c.stored-2.ensures.value ∙ ap (λ (s : SessionModel). s.stored) there in
+    let whole = ap (λ (x : ControllerModel g.row.R.Denot). x.journal.broken) c.self.view_is ∙ c.requires.whole in
+    let kept = kept_whole old.journal c.stored-2.result.now old.session.stored (c.self.invariant.saved whole) (ap (λ (x : StoredModel). x.room) stored) in
     let same : c.exchange_tools.new.self ≡ old.session = c.exchange_tools.ensures.next
     ∙ (λ i. let s : SessionModel = record (c.exchange_tools-before.ensures.next i) { stored = record (c.exchange_tools-before.ensures.next i).stored { entries = count i; tools = c.exchange_tools-before.ensures.before i } } in s) in
     let unchanged : c.in-Err.fault ≡ CountersUsed → new.journal ≡ old.journal = λ used. c.in-Err.ensures.unchanged (ap (λ (f : Fault). Err f) used) in
     carried_as g.R.Rig.honest g.R.Rig.trace g.R.Rig.failed g.R.Rig.sectors (λ (x : ControllerModel g.row.R.Denot). ⊥) (λ (x : ControllerModel g.row.R.Denot). Unit {0}) (λ (x : ControllerModel g.row.R.Denot). ⊥)
     (λ (x : ControllerModel g.row.R.Denot) (program : List ℕ). commits program entry (with_table x.session c.args.tools)) (Err c.in-Err.fault) c.args.self.now old new c.self.view_is
     (carried_failed g.R.Rig.honest g.R.Rig.trace g.R.Rig.failed g.R.Rig.sectors ⊥ (Unit {0}) ⊥ c.in-Err.fault c.in-Err.fault (λ (program : List ℕ). commits program entry next) old new refl
-    (keeps_none g.R.Rig.honest g.R.Rig.trace c.in-Err.fault c.stored-2.result.now entry next old new stored same c.in-Err.ensures.errors unchanged c.in-Err.ensures.stops refl)
+    (keeps_none g.R.Rig.honest g.R.Rig.trace c.in-Err.fault (kept_by old.journal c.stored-2.result.now) entry next old new (kept ∙ stored) same c.in-Err.ensures.errors unchanged c.in-Err.ensures.stops refl)
     c.in-Err.ensures.errors unchanged refl same
     (hindered_storing (Unit {0}) c.in-Err.fault (ledger_of old.journal) (λ (program : List ℕ). commits program entry next) (Commit c.stored-2.result.now) c.in-Err.ensures.errors c.in-Err.ensures.used_up
     (λ program. ap (λ (x : Storing). Some x) (committed next.stored) ∙ ap (λ (x : StoredModel). Some (Commit x)) (sym stored)))

@@ -3,23 +3,19 @@ use Rattle.std.proofs.lemmas.Result.{err_from_is_err_and}
 use Rattle.ng_num.specs.declared.fault.Fault.{Fault}
 use Rattle.ng_num.specs.declared.fault.Fault.TheVariants.{DeviceFailed, CountersUsed}
 use Rattle.ng_layout.specs.Stored.{StoredModel}
+use Rattle.ng_journal.specs.Journal.{kept_by}
 use Rattle.ng_journal.specs.Storing.{ledger_of}
 use Rattle.ng_session.specs.Entries.{Equipment}
 use Rattle.ng_session.proofs.Ahead.{plan_none}
-use Rattle.ng_session.specs.Session.{SessionModel, load, load_unless, load_refusal}
+use Rattle.ng_session.specs.Session.{SessionModel, load, load_unless, load_refusal, loaded}
 use Rattle.ng_session.specs.declared.reply.Reply.{Reply}
 use Rattle.ng_core.specs.Model.{ControllerModel}
 use Rattle.ng_core.proofs.Answering.{does_load, does_not_load, not_too_long}
 use Rattle.ng_core.proofs.Hindering.{hindered_load}
-use Rattle.ng_core.proofs.Storing.{kept_failed}
+use Rattle.ng_core.proofs.Storing.{kept_whole, kept_failed}
 use Rattle.ng_core.proofs.Anyway.{comes_load}
 use Rattle.ng_core.proofs.Carrying.{carried_as, carried_refused, carried_short, carried_failed}
 use Rattle.ng_core.proofs.controller.Controller.load.Goals as goal
-
-pub load_program-requires-clause-room : goal.load_program-requires-clause-room
-load_program-requires-clause-room g c =
-    let whole = ap (λ (x : ControllerModel g.row.R.Denot). x.journal.broken) c.self.view_is ∙ c.requires.whole in
-    ap (λ (x : StoredModel). x.room) c.in_ok-stored.ensures.value ∙ ap (λ (x : StoredModel). x.room) (c.self.invariant.saved whole)
 
 pub invariant_of-self : goal.invariant_of-self
 invariant_of-self g c =
@@ -35,7 +31,9 @@ invariant_of-self g c =
 pub invariant_of-self-2 : goal.invariant_of-self-2
 invariant_of-self-2 g c =
     let stored : c.load.new.self.stored ≡ c.in_ok-stored.stored = ap (λ (s : SessionModel). s.stored) c.load.ensures.next in
-    record { saved = λ whole. stored ∙ sym c.in_ok-load_program.ensures.saved; plan = plan_none _ _ c.forget.new.self.ahead c.forget.ensures.ahead }
+    let before = ap (λ (x : ControllerModel g.row.R.Denot). x.journal.broken) c.self.view_is ∙ c.requires.whole in
+    let kept = kept_whole c.self.inside.journal c.in_ok-stored.stored c.self.inside.session.stored (c.self.invariant.saved before) (ap (λ (x : StoredModel). x.room) c.in_ok-stored.ensures.value) in
+    record { saved = λ whole. stored ∙ sym kept ∙ sym c.in_ok-load_program.ensures.saved; plan = plan_none _ _ c.forget.new.self.ahead c.forget.ensures.ahead }
 
 pub returns-in-Some : goal.returns-in-Some
 returns-in-Some g c =
@@ -64,11 +62,12 @@ returns-in_err-load_program g c =
     let whole = ap (λ (x : ControllerModel g.row.R.Denot). x.journal.broken) c.self.view_is ∙ c.requires.whole in
     let small : length c.args.text.now ≤ c.self.inside.journal.saved.room = subst (λ (x : StoredModel). length c.args.text.now ≤ x.room) (c.self.invariant.saved whole) c.in_default.ensures.none.1 in
     let which : (e ≡ CountersUsed) ⊎ (e ≡ DeviceFailed) = not_too_long (Unit {0}) e c.self.inside.journal.saved.room (length c.args.text.now) small c.in_err-load_program.ensures.errors c.in_err-load_program.ensures.too_long in
+    let kept = kept_whole old.journal c.in_ok-stored.stored old.session.stored (c.self.invariant.saved whole) (ap (λ (x : StoredModel). x.room) c.in_ok-stored.ensures.value) in
     let unchanged : e ≡ CountersUsed → new.journal ≡ old.journal = λ used. c.in_err-load_program.ensures.unchanged (inl (ap (λ (f : Fault). Err f) used)) in
     rw (p.1) (carried_as g.R.Rig.honest g.R.Rig.trace g.R.Rig.failed g.R.Rig.sectors (λ (x : ControllerModel g.row.R.Denot). load_refusal x.session c.args.text.now ≡ None) (λ (x : ControllerModel g.row.R.Denot). load_refusal x.session c.args.text.now ≡ None) (λ (x : ControllerModel g.row.R.Denot). ⊥) (λ (x : ControllerModel g.row.R.Denot) (program : List ℕ). load program x.session c.args.text.now) (Err p.0) c.args.self.now old new c.self.view_is
     (carried_failed g.R.Rig.honest g.R.Rig.trace g.R.Rig.failed g.R.Rig.sectors (load_refusal old.session c.args.text.now ≡ None) (load_refusal old.session c.args.text.now ≡ None) ⊥ p.0 e
     (λ (program : List ℕ). load program old.session c.args.text.now) old new p.2
-    (does_not_load g.R.Rig.honest g.R.Rig.trace e e c.in_ok-stored.stored c.args.text.now old new free c.in_ok-stored.ensures.value refl which unchanged c.in_err-load_program.ensures.stops refl)
+    (does_not_load g.R.Rig.honest g.R.Rig.trace e e (kept_by old.journal c.in_ok-stored.stored) c.args.text.now old new free (kept ∙ c.in_ok-stored.ensures.value) refl which unchanged c.in_err-load_program.ensures.stops refl)
     which unchanged refl refl
     (hindered_load (Unit {0}) e c.self.inside.journal.saved.room old.session c.in_ok-stored.stored c.args.text.now (ledger_of old.journal) free small c.in_ok-stored.ensures.value which c.in_err-load_program.ensures.used_up)
     c.in_err-load_program.ensures.broken c.in_err-load_program.ensures.size c.in_err-load_program.ensures.failures))
@@ -79,9 +78,11 @@ returns g c =
     let old : ControllerModel g.row.R.Denot = record { journal = c.self.inside.journal; session = c.self.inside.session; lines = c.self.inside.lines; equipment = equipment } in
     let new : ControllerModel g.row.R.Denot = record { journal = c.load_program.new.self; session = c.load.new.self; lines = c.forget.new.self; equipment = equipment } in
     let free : load_refusal old.session c.args.text.now ≡ None = sym c.in_default.ensures.value in
+    let whole = ap (λ (x : ControllerModel g.row.R.Denot). x.journal.broken) c.self.view_is ∙ c.requires.whole in
+    let kept = kept_whole old.journal c.in_ok-stored.stored old.session.stored (c.self.invariant.saved whole) (ap (λ (x : StoredModel). x.room) c.in_ok-stored.ensures.value) in
     carried_as g.R.Rig.honest g.R.Rig.trace g.R.Rig.failed g.R.Rig.sectors (λ (x : ControllerModel g.row.R.Denot). load_refusal x.session c.args.text.now ≡ None) (λ (x : ControllerModel g.row.R.Denot). load_refusal x.session c.args.text.now ≡ None) (λ (x : ControllerModel g.row.R.Denot). ⊥) (λ (x : ControllerModel g.row.R.Denot) (program : List ℕ). load program x.session c.args.text.now) (Ok c.load.result) c.args.self.now old new c.self.view_is (record {
-      does = does_load g.R.Rig.honest g.R.Rig.trace c.in_ok-load_program.field-0 c.load.result c.in_ok-stored.stored c.args.text.now old new free c.in_ok-stored.ensures.value
-          c.load.ensures.reply c.load.ensures.next c.in_ok-load_program.ensures.stops (c.forget.ensures.holds c.args.text.now);
+      does = does_load g.R.Rig.honest g.R.Rig.trace c.in_ok-load_program.field-0 c.load.result (kept_by old.journal c.in_ok-stored.stored) c.args.text.now old new free (kept ∙ c.in_ok-stored.ensures.value)
+          c.load.ensures.reply (c.load.ensures.next ∙ ap (loaded old.session) (sym kept)) c.in_ok-load_program.ensures.stops (c.forget.ensures.holds c.args.text.now);
       comes = comes_load ⊥ c.load.result c.in_ok-stored.stored c.args.text.now old new free c.in_ok-stored.ensures.value c.load.ensures.reply c.load.ensures.next;
       line = λ none. absurd none;
       hindered = tt;

@@ -1,21 +1,22 @@
 use Rattle.std.proofs.Common.{refl}
 use Rattle.ng_rig.proofs.Promise.{meaning}
+use Rattle.ng_journal.proofs.Keeping.{with_room}
 use Rattle.ng_journal.proofs.Moving.{moved, not_moved, ledger_moved, stored_as, not_stored_as}
 use Rattle.ng_journal.proofs.journal.Journal.commit.Goals as goal
 
 pub returns-in-Ok-clause-stops : goal.returns-in-Ok-clause-stops
 returns-in-Ok-clause-stops g c =
-    rw (← c.self.view_is) (meaning c.in-Ok.ensures.stops (λ f. λ before rest. moved _ c.in-Ok.tip _ before c.args.stored.now _ _ refl c.take_changed.ensures (f before rest.at rest.saved_is)))
+    rw (← c.self.view_is) (meaning c.in-Ok.ensures.stops (λ f. λ before rest. moved _ c.in-Ok.tip _ before (with_room c.self.inside.stored.room c.args.stored.now) _ _ refl c.take_changed.ensures (f before rest.at rest.saved_is)))
 
 pub returns-in-Ok-clause-stores : goal.returns-in-Ok-clause-stores
-returns-in-Ok-clause-stores g c = rw (← c.self.view_is) (meaning c.in-Ok.ensures.stores (λ s. stored_as _ c.in-Ok.tip _ c.args.stored.now _ _ s))
+returns-in-Ok-clause-stores g c = rw (← c.self.view_is) (meaning c.in-Ok.ensures.stores (λ s. stored_as _ c.in-Ok.tip _ (with_room c.self.inside.stored.room c.args.stored.now) _ _ s))
 
 pub returns-in-Ok-clause-ledger : goal.returns-in-Ok-clause-ledger
-returns-in-Ok-clause-ledger g c = rw (← c.self.view_is) (ledger_moved c.in-Ok.tip _ c.args.stored.now _ c.take_changed.ensures c.in-Ok.ensures.ledger)
+returns-in-Ok-clause-ledger g c = rw (← c.self.view_is) (ledger_moved c.in-Ok.tip _ (with_room c.self.inside.stored.room c.args.stored.now) _ c.take_changed.ensures c.in-Ok.ensures.ledger)
 
 pub returns-in-Err-clause-stops : goal.returns-in-Err-clause-stops
 returns-in-Err-clause-stops g c =
-    rw (← c.self.view_is) (meaning c.store.ensures.stops (λ f. λ before rest. not_moved _ c.store.result _ before c.args.stored.now _ _ (f before rest.at rest.saved_is)))
+    rw (← c.self.view_is) (meaning c.store.ensures.stops (λ f. λ before rest. not_moved _ c.store.result _ before (with_room c.self.inside.stored.room c.args.stored.now) _ _ (f before rest.at rest.saved_is)))
 
 pub returns-in-Err-clause-stores : goal.returns-in-Err-clause-stores
-returns-in-Err-clause-stores g c = rw (← c.self.view_is) (meaning c.store.ensures.stores (λ s. not_stored_as _ c.store.result _ c.args.stored.now _ _ s))
+returns-in-Err-clause-stores g c = rw (← c.self.view_is) (meaning c.store.ensures.stores (λ s. not_stored_as _ c.store.result _ (with_room c.self.inside.stored.room c.args.stored.now) _ _ s))
