@@ -107,6 +107,6 @@ pub fn nm_of(number: Num, unit: Unit) -> Result<Len, Fault>
 {
     match unit {
         Unit::Inches => Len::of_i64(inches_to_nm(number.count())),
-        Unit::Millimetres => Len::of_i64(number.count()),
+        Unit::Millimetres => Ok(Len { nm: number.count() }),
     }
 }
