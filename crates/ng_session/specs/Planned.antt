@@ -16,8 +16,8 @@ use Rattle.ng_session.specs.SessionInvariant.{Prepared, IsReady}
 use Rattle.ng_session.specs.declared.event.Event.{Event}
 use Rattle.ng_session.specs.declared.event.Event.TheVariants as event
 use Rattle.ng_session.specs.declared.reply.Reply.{Reply}
-use Rattle.ng_session.specs.declared.stage.Stage.{Stage}
-use Rattle.ng_session.specs.declared.stage.Stage.TheVariants as stage
+use Rattle.ng_session.specs.Stages.{Stage}
+use Rattle.ng_session.specs.Stages as stage
 
 -- a line that was read ahead: the places at which it and the next one begin, the kind of the first line before it that
 -- isn't blank, and its block, as it will be begun

@@ -5,7 +5,6 @@ ghost use Rattle.ng_layout.specs.Limits.{greatest_count};
 use crate::current_block::CurrentBlock;
 use crate::reply::Reply;
 use crate::session::Session;
-use crate::stage::{Approach, Stage};
 use ng_canon::{Geometry, Item};
 use ng_layout::{Half, Opened, Stored};
 use std::alloc::Allocator;
@@ -15,8 +14,9 @@ impl<A: Allocator + Copy + Drop> Session<A> {
     ghost use Rattle.ng_layout.specs.Storable.{IsStorableHalf};
     ghost use Rattle.ng_session.specs.Entries.{Equipment};
     ghost use Rattle.ng_session.specs.SessionInvariant.{IsNextEntry};
-    ghost use Rattle.ng_session.specs.Session.{CurrentBlockModel, answers, tick, is_running, item_of, handed, opening_of, opening_reply, opened, committed, approach_done, activity_after, after_current_block, rest};
-    ghost use Rattle.ng_session.specs.SessionInvariant.{IsBeforeBlock, IsReady};
+    ghost use Rattle.ng_session.specs.Session.{CurrentBlockModel, answers, tick, is_running, item_of, handed, opening_of, opening_reply, opened, committed, activity_after, after_current_block, rest};
+    ghost use Rattle.ng_session.specs.SessionInvariant.{IsReady};
+    ghost use Rattle.ng_session.specs.Stages.{OnBlock};
 
     /// Whether it is held: then a Tick moves, opens, commits and begins nothing.
     pub fn is_held(&self) -> bool
@@ -99,14 +99,12 @@ impl<A: Allocator + Copy + Drop> Session<A> {
         ensures rest_reply { (program : List ℕ) → self.old.current ≡ None → result ≡ (rest program self.old).reply }
         ensures rest_next { self.old.current ≡ None → self.new ≡ self.old }
     {
-        let Some(current) = self.current.take() else {
+        let Some(mut current) = self.current.take() else {
             return self.rest();
         };
-        match current.stage() {
-            Stage::ToApproach(approach) | Stage::OnApproach(approach) => {
-                self.end_approach(current, approach)
-            }
-            Stage::OnBlock => self.end_block(current),
+        match current.end_approach() {
+            Some(between) => self.go_on(current, between),
+            None => self.end_block(current),
         }
         Reply::Done(self.stored.entries)
     }
@@ -124,45 +122,17 @@ impl<A: Allocator + Copy + Drop> Session<A> {
         self.stored = current.after;
     }
 
-    /// Goes on with the block that was taken from it, after its approach.
+    /// Goes on with the block that was taken from it, after its approach, which leaves what is to be stored.
     #[tactic(auto, using(crate::proofs::Keeping::kept_between))]
-    fn end_approach(&mut self, current: CurrentBlock<A>, approach: Approach)
+    fn go_on(&mut self, current: CurrentBlock<A>, between: Stored<A>)
         requires count { self.old.stored.entries < greatest_count }
-        requires ready { IsBeforeBlock self.old.stored current approach }
-        ensures { self.new ≡ record (approach_done self.old current.block approach) { current = Some (record current.block { stage = Stage.OnBlock }) } }
+        requires stage { current.block.stage ≡ OnBlock }
+        requires next { IsNextEntry self.old.stored between }
+        requires ready { IsReady between current }
+        ensures { self.new ≡ record self.old { stored = between; current = Some current.block } }
     {
-        let CurrentBlock {
-            source,
-            text,
-            block_delete,
-            stage: _,
-            index,
-            upcoming,
-            left,
-            switch,
-            items,
-            after,
-            approached,
-            stop,
-        } = current;
-        let Some(between) = approached else {
-            unreachable!()
-        };
         self.stored = between;
-        self.current = Some(CurrentBlock {
-            source,
-            text,
-            block_delete,
-            stage: Stage::OnBlock,
-            index,
-            upcoming,
-            left,
-            switch,
-            items,
-            after,
-            approached: None,
-            stop,
-        });
+        self.current = Some(current);
     }
 
     /// The reply of a session that has nothing to do.
