@@ -1,5 +1,5 @@
 //! A controller, and how it answers events.
-ghost use Rattle.std.specs.Prelude.{◌≡◌, true, false, None, IfErr, [], ◌∷◌};
+ghost use Rattle.std.specs.Prelude.{◌≡◌, true, false, IfErr, [], ◌∷◌};
 ghost use Rattle.ng_num.specs.declared.fault.Fault.TheVariants.{OutOfMemory};
 ghost use Rattle.ng_rig.specs.Calls.{IfHonest};
 
@@ -33,9 +33,9 @@ impl<R: Rig, A: Allocator + Copy + Drop> Model for Controller<R, A> {
 }
 
 impl<R: Rig, A: Allocator + Copy + Drop> Controller<R, A> {
-    ghost use Rattle.ng_session.specs.Session.{load, load_refusal, IsQuiet};
+    ghost use Rattle.ng_session.specs.Session.{IsQuiet};
     ghost use Rattle.ng_session.specs.Planned.{drops_plan};
-    ghost use Rattle.ng_core.specs.Events.{CarriesOut, CarriesOutEvent, Handles, TellsFailure, reply_to, broken_answer};
+    ghost use Rattle.ng_core.specs.Events.{CarriesOutEvent, Handles, TellsFailure, reply_to, broken_answer};
     ghost use Rattle.ng_rig.specs.Trace.{moment};
     ghost use Rattle.ng_core.specs.Headline.{AddsToPast};
 
@@ -163,7 +163,7 @@ impl<R: Rig, A: Allocator + Copy + Drop> Controller<R, A> {
     fn load(&mut self, text: &[u8]) -> Result<Reply, Fault>
         requires whole { self.old.journal.broken ≡ false }
         requires alone { self.old.lines.ahead ≡ [] }
-        ensures { CarriesOut R.honest R.trace R.failed R.sectors (load_refusal self.old.session text.now ≡ None) (load_refusal self.old.session text.now ≡ None) ⊥ (λ program. load program self.old.session text.now) result self.old self.new }
+        ensures { CarriesOutEvent {A = A} R.honest R.trace R.failed R.sectors (Event.Load text.now) result self.old self.new }
     {
         if let Some(fault) = self.session.load_refusal(text) {
             return Ok(Reply::Refused(fault));

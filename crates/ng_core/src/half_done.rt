@@ -51,9 +51,11 @@ fn next_line<R: Rig, A: Allocator + Copy + Drop>(
 
 impl<R: Rig, A: Allocator + Copy + Drop> Controller<R, A> {
     ghost use Rattle.std.specs.Prelude.{None, []};
-    ghost use Rattle.ng_session.specs.Session.{reference, reference_refusal, abandon, abandon_refusal, resume, resume_refusal, IsProgramsLine, commits};
+    ghost use Rattle.ng_session.specs.Session.{commits};
     ghost use Rattle.ng_session.specs.Entries.{Entry};
-    ghost use Rattle.ng_core.specs.Events.{CarriesOut};
+    ghost use Rattle.ng_session.specs.declared.event.Event.TheVariants as event;
+    ghost use Rattle.ng_core.specs.Events.{CarriesOut, CarriesOutEvent};
+    ghost use Rattle.ng_core.specs.Needs.{needs_device};
     ghost use Rattle.ng_core.specs.Causes.{IsCommitted};
 
     /// Commits a report: it takes the place of what is stored of it. J4 where a counter is used up, J1 where the device
@@ -64,7 +66,7 @@ impl<R: Rig, A: Allocator + Copy + Drop> Controller<R, A> {
         requires free { self.old.session.current ≡ None }
         requires count { report.entries ≤ greatest_count }
         requires storable { IsStorable (with_decoded_state self.old.session.stored report self.old.session.stored.length) }
-        ensures { (entry : Entry) → IsCommitted entry → CarriesOut R.honest R.trace R.failed R.sectors ⊥ (Unit {0}) ⊥
+        ensures { (entry : Entry) → IsCommitted entry → CarriesOut R.honest R.trace R.failed R.sectors needs_device
             (λ program. commits program entry (record self.old.session { stored = with_decoded_state self.old.session.stored report self.old.session.stored.length })) result self.old self.new }
     {
         // called for its contract: what is stored can be stored again
@@ -85,7 +87,7 @@ impl<R: Rig, A: Allocator + Copy + Drop> Controller<R, A> {
     pub(crate) fn reference(&mut self, point: &Point) -> Result<Reply, Fault>
         requires whole { self.old.journal.broken ≡ false }
         requires alone { self.old.lines.ahead ≡ [] }
-        ensures { CarriesOut R.honest R.trace R.failed R.sectors ⊥ (reference_refusal self.old.equipment.geometry self.old.session point.now ≡ None) ⊥ (λ program. reference self.old.equipment program self.old.session point.now) result self.old self.new }
+        ensures { CarriesOutEvent {A = A} R.honest R.trace R.failed R.sectors (event.Reference point.now) result self.old self.new }
     {
         if let Some(fault) = self.session.reference_refusal(*point, &self.geometry) {
             return Ok(Reply::Refused(fault));
@@ -104,7 +106,7 @@ impl<R: Rig, A: Allocator + Copy + Drop> Controller<R, A> {
     pub(crate) fn abandon(&mut self) -> Result<Reply, Fault>
         requires whole { self.old.journal.broken ≡ false }
         requires alone { self.old.lines.ahead ≡ [] }
-        ensures { CarriesOut R.honest R.trace R.failed R.sectors ⊥ (abandon_refusal self.old.session ≡ None) ⊥ (λ program. abandon program self.old.session) result self.old self.new }
+        ensures { CarriesOutEvent {A = A} R.honest R.trace R.failed R.sectors event.Abandon result self.old self.new }
     {
         if let Some(fault) = self.session.abandon_refusal() {
             return Ok(Reply::Refused(fault));
@@ -125,8 +127,7 @@ impl<R: Rig, A: Allocator + Copy + Drop> Controller<R, A> {
     pub(crate) fn resume(&mut self) -> Result<Reply, Fault>
         requires whole { self.old.journal.broken ≡ false }
         requires alone { self.old.lines.ahead ≡ [] }
-        ensures { CarriesOut R.honest R.trace R.failed R.sectors (resume_refusal self.old.equipment self.old.session ≡ None) ((resume_refusal self.old.equipment self.old.session ≡ None) × IsProgramsLine self.old.session.stored.half) ((resume_refusal self.old.equipment self.old.session ≡ None) × IsProgramsLine self.old.session.stored.half)
-            (λ program. resume self.old.equipment program self.old.session) result self.old self.new }
+        ensures { CarriesOutEvent {A = A} R.honest R.trace R.failed R.sectors event.Resume result self.old self.new }
     {
         if let Some(fault) = self.session.resume_refusal(&self.geometry) {
             return Ok(Reply::Refused(fault));
