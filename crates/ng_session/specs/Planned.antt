@@ -103,7 +103,7 @@ abbrev pub ends_at_end : Bool → List PlannedModel → Bool
 ends_at_end ends [] = ends
 ends_at_end ends (p ∷ ps) = ends_at_end (is_end p.prepared.block.stop) ps
 
--- The line at the place that will be stored is lawful then, and its block is what it does then; no line is before the
+-- The line at the place that will be stored is valid then, and its block is what it does then; no line is before the
 -- program's beginning.
 pub record IsPlannedOn (equipment : Equipment) (base : Base) (p : PlannedModel) : Type 0 where
   pub place : p.place ≡ base.stored.place

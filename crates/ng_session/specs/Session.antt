@@ -474,7 +474,7 @@ tick equipment program s =
     (if is_running s.activity then begin equipment program s (program_line_at program s.stored.place)
     else rest program s)))
 
--- the same from its third and from its second case on
+-- a Tick from its third and from its second case on
 abbrev pub end : Equipment → List ℕ → SessionModel → Option CurrentBlockModel → Transition
 end equipment program s current =
     if_some current (λ c. commit program s c)

@@ -56,7 +56,18 @@ impl<A: Allocator> Model for CurrentBlock<A> {
     ghost Value = { Prepared };
 
     ghost view = { λ c. record {
-      block = record { source = c.source; text = c.text.items; block_delete = c.block_delete; stage = stage_of c.stage; index = c.index; left = left_of c.upcoming c.left; items = onto c.switch (unwrap_or c.items []); setup = c.after.setup; place = c.after.place; stop = c.stop };
+      block = record {
+        source = c.source;
+        text = c.text.items;
+        block_delete = c.block_delete;
+        stage = stage_of c.stage;
+        index = c.index;
+        left = left_of c.upcoming c.left;
+        items = onto c.switch (unwrap_or c.items []);
+        setup = c.after.setup;
+        place = c.after.place;
+        stop = c.stop;
+      };
       after = c.after;
       approached = approached_of c.stage;
     } };
@@ -84,7 +95,7 @@ fn place_by(next: u64, place: u64, source: Source) -> u64
     }
 }
 
-/// What is to be stored after a block, by its effect. `AllocError` where its table found no memory.
+/// What is to be stored after a block, by its effect. `AllocError` where there isn't enough memory for its table.
 #[tactic(auto, using(crate::proofs::Standing::next_storable))]
 fn after_block<A: Allocator + Copy + Drop>(
     next: u64,
@@ -112,8 +123,8 @@ fn after_block<A: Allocator + Copy + Drop>(
     })
 }
 
-/// What is to be stored after the approach of a half-done block, which ends so. `AllocError` where its table found no
-/// memory.
+/// What is to be stored after the approach of a half-done block, which ends so. `AllocError` where there isn't enough
+/// memory for its table.
 #[tactic(auto, using(crate::proofs::Standing::approach_storable))]
 fn after_approach<A: Allocator + Copy + Drop>(
     stored: &Stored<A>,
@@ -183,8 +194,8 @@ impl<A: Allocator + Copy + Drop> CurrentBlock<A> {
     ghost use Rattle.ng_session.specs.SessionInvariant.{IsReady, IsBeforeBlock};
     ghost use Rattle.ng_session.specs.Session.{begun, begun_again, first_of, rest_of, opening_on, opened_on};
 
-    /// The block of a line, before its first segment, by its effect. `AllocError` where the state after it found no
-    /// memory.
+    /// The block of a line, before its first segment, by its effect. `AllocError` where there isn't enough memory for
+    /// the state after it.
     pub fn begun(
         stored: &Stored<A>,
         source: Source,
@@ -198,7 +209,8 @@ impl<A: Allocator + Copy + Drop> CurrentBlock<A> {
         requires within { next ≤ stored.now.length }
         requires stands { IsStorableMachine effect.now.machine }
         requires short { length text.now ≤ 256 }
-        ensures value { IfOk result (λ p. p.block ≡ begun stored.now source text.now block_delete next (in_state stored.now.setup effect.now)) }
+        ensures value { IfOk result (λ p.
+            p.block ≡ begun stored.now source text.now block_delete next (in_state stored.now.setup effect.now)) }
         ensures ready { IfOk result (λ p. IsReady stored.now p) }
     {
         let after = after_block(next, stored, source, effect)?;
@@ -220,7 +232,7 @@ impl<A: Allocator + Copy + Drop> CurrentBlock<A> {
     }
 
     /// The half-done block from its index on, before its approach from a point, by the effect of its whole line.
-    /// `AllocError` where the states after it and after the approach found no memory.
+    /// `AllocError` where there isn't enough memory for the states after it and after the approach.
     pub fn begun_again(
         stored: &Stored<A>,
         half: &Half,
@@ -234,7 +246,8 @@ impl<A: Allocator + Copy + Drop> CurrentBlock<A> {
         requires stands { IsStorableMachine effect.now.machine }
         requires short { length half.now.text ≤ 256 }
         ensures value { IfOk result (λ p. p.block ≡ begun_again stored.now half.now from next (in_state stored.now.setup effect.now)) }
-        ensures ready { IfOk result (λ p. IsBeforeBlock stored.now p (record { from = from; to = stance_before stored.now.setup (in_state stored.now.setup effect.now) half.now.index })) }
+        ensures ready { IfOk result (λ p. IsBeforeBlock stored.now p
+            (record { from = from; to = stance_before stored.now.setup (in_state stored.now.setup effect.now) half.now.index })) }
     {
         let Resumed {
             block_segments: mut left,
@@ -310,7 +323,8 @@ impl<A: Allocator + Copy + Drop> CurrentBlock<A> {
     /// What is to be stored once nothing is left of it, or of its approach where that isn't committed.
     pub fn next_stored(&self) -> &Stored<A>
         ensures block { self.now.block.stage ≡ OnBlock → result.now ≡ self.now.after }
-        ensures between { (between : StoredModel) → self.now.approached ≡ Some between → (self.now.block.stage ≢ OnBlock) → result.now ≡ between }
+        ensures between { (between : StoredModel) → self.now.approached ≡ Some between
+            → (self.now.block.stage ≢ OnBlock) → result.now ≡ between }
     {
         match &self.stage {
             Stage::ToApproach { after, .. } | Stage::OnApproach { after, .. } => after,
@@ -335,7 +349,10 @@ impl<A: Allocator + Copy + Drop> CurrentBlock<A> {
 
     /// Opens the approach, after which a state is to be stored.
     fn open_approach(&mut self, approach: Approach, after: Stored<A>, geometry: &Geometry)
-        ensures { self.new ≡ record self.old { block = record self.old.block { stage = OnApproach approach; items = hand_approach geometry.now approach }; approached = Some after } }
+        ensures { self.new ≡ record self.old {
+          block = record self.old.block { stage = OnApproach approach; items = hand_approach geometry.now approach };
+          approached = Some after;
+        } }
     {
         self.switch = Some(switch(&approach));
         let way = way(&approach);
@@ -346,7 +363,8 @@ impl<A: Allocator + Copy + Drop> CurrentBlock<A> {
     /// Goes on to its segments, and gives what is to be stored after its approach; none where it is past that: it stays
     /// as it is then.
     pub fn end_approach(&mut self) -> Option<Stored<A>>
-        ensures way { MatchOption result (self.old.block.stage ≡ OnBlock) (λ between. (self.old.block.stage ≢ OnBlock) × (self.old.approached ≡ Some between)) }
+        ensures way { MatchOption result (self.old.block.stage ≡ OnBlock)
+            (λ between. (self.old.block.stage ≢ OnBlock) × (self.old.approached ≡ Some between)) }
         ensures next { self.new ≡ record self.old { block = record self.old.block { stage = OnBlock }; approached = None } }
     {
         match mem::replace(&mut self.stage, Stage::OnBlock) {

@@ -21,7 +21,8 @@ impl<A: Allocator + Copy + Drop> Session<A> {
     /// Whether it is held: then a Tick moves, opens, commits and begins nothing.
     pub fn is_held(&self) -> bool
         ensures held { result ≡ self.now.held }
-        ensures tick { (equipment : Equipment) (program : List ℕ) → result ≡ true → tick equipment program self.now ≡ answers program Reply.Held self.now }
+        ensures tick { (equipment : Equipment) (program : List ℕ) → result ≡ true
+            → tick equipment program self.now ≡ answers program Reply.Held self.now }
     {
         self.held
     }
@@ -81,7 +82,8 @@ impl<A: Allocator + Copy + Drop> Session<A> {
     /// What is to be stored once nothing is left of the current block, or of its approach where that isn't committed;
     /// none where no block is current. The session stays as it is.
     pub fn after(&self) -> Option<&Stored<A>>
-        ensures after { MatchOption result (self.now.current ≡ None) (λ stored. (c : CurrentBlockModel) × (self.now.current ≡ Some c) × (stored.now ≡ (committed self.now c).stored)) }
+        ensures after { MatchOption result (self.now.current ≡ None) (λ stored. (c : CurrentBlockModel)
+            × (self.now.current ≡ Some c) × (stored.now ≡ (committed self.now c).stored)) }
         ensures next { IfSome result (λ stored. IsNextEntry self.now.stored stored.now) }
     {
         match &self.current {
@@ -94,7 +96,8 @@ impl<A: Allocator + Copy + Drop> Session<A> {
     /// that of a session that has nothing to do, and the session stays as it is.
     pub fn commit(&mut self) -> Reply
         requires { IfSome self.old.current (λ c. self.old.stored.entries < greatest_count) }
-        ensures reply { (c : CurrentBlockModel) → self.old.current ≡ Some c → result ≡ Reply.Done (committed self.old c).stored.entries }
+        ensures reply { (c : CurrentBlockModel) → self.old.current ≡ Some c
+            → result ≡ Reply.Done (committed self.old c).stored.entries }
         ensures next { (c : CurrentBlockModel) → self.old.current ≡ Some c → self.new ≡ committed self.old c }
         ensures rest_reply { (program : List ℕ) → self.old.current ≡ None → result ≡ (rest program self.old).reply }
         ensures rest_next { self.old.current ≡ None → self.new ≡ self.old }
@@ -114,7 +117,10 @@ impl<A: Allocator + Copy + Drop> Session<A> {
         requires count { self.old.stored.entries < greatest_count }
         requires none { self.old.current ≡ None }
         requires ready { IsReady self.old.stored current }
-        ensures { self.new ≡ record self.old { stored = after_current_block self.old.stored current.block; activity = activity_after current.block.source current.block.stop self.old.optional_stop self.old.activity } }
+        ensures { self.new ≡ record self.old {
+          stored = after_current_block self.old.stored current.block;
+          activity = activity_after current.block.source current.block.stop self.old.optional_stop self.old.activity;
+        } }
     {
         self.activity = self
             .activity
@@ -122,7 +128,7 @@ impl<A: Allocator + Copy + Drop> Session<A> {
         self.stored = current.after;
     }
 
-    /// Goes on with the block that was taken from it, after its approach, which leaves what is to be stored.
+    /// Goes on with the block that was taken from it, after its approach, where `between` is stored.
     #[tactic(auto, using(crate::proofs::Keeping::kept_between))]
     fn go_on(&mut self, current: CurrentBlock<A>, between: Stored<A>)
         requires count { self.old.stored.entries < greatest_count }
