@@ -27,12 +27,14 @@ fn next_line<R: Rig, A: Allocator + Copy + Drop>(
 ) -> Result<u64, Fault>
     requires whole { journal.old.broken ≡ false }
     requires stored { session.now.stored ≡ journal.old.saved }
-    ensures next { IfHonest (R.honest journal.old.rig) (R.honest journal.new.rig) ((standing : DurableState) → IsDurablyAt (R.trace journal.old.rig) journal.old standing
+    ensures next { IfHonest (R.honest journal.old.rig) (R.honest journal.new.rig) ((standing : DurableState)
+        → IsDurablyAt (R.trace journal.old.rig) journal.old standing
         → NextLineSpec result journal.new standing session.now (R.trace journal.old.rig) (R.trace journal.new.rig)) }
     ensures within { IfOk result (λ next. next ≤ session.now.stored.length) }
     // without honesty too
     ensures beyond { IfOk result (λ next. session.now.stored.place ≤ next) }
-    ensures unread { (IsProgramsLine session.now.stored.half → ⊥) → (journal.new ≡ journal.old) × IfOk result (λ next. (program : List ℕ) → IsNextLineAt program session.now next) }
+    ensures unread { (IsProgramsLine session.now.stored.half → ⊥) → (journal.new ≡ journal.old)
+        × IfOk result (λ next. (program : List ℕ) → IsNextLineAt program session.now next) }
     ensures ledger { ledger_of journal.new ≡ ledger_of journal.old }
     ensures broken { IsBrokenBy result journal.new.broken }
     ensures errors { IfErr result (λ e. (e ≡ DeviceFailed) × IsProgramsLine session.now.stored.half) }
@@ -67,7 +69,10 @@ impl<R: Rig, A: Allocator + Copy + Drop> Controller<R, A> {
         requires count { report.entries ≤ greatest_count }
         requires storable { IsStorable (with_decoded_state self.old.session.stored report self.old.session.stored.length) }
         ensures { (entry : Entry) → IsCommitted entry → CarriesOut R.honest R.trace R.failed R.sectors needs_device
-            (λ program. commits program entry (record self.old.session { stored = with_decoded_state self.old.session.stored report self.old.session.stored.length })) result self.old self.new }
+            (λ program. commits program entry (record self.old.session {
+              stored = with_decoded_state self.old.session.stored report self.old.session.stored.length;
+            }))
+            result self.old self.new }
     {
         // called for its contract: what is stored can be stored again
         let _ = self.session.stored();

@@ -25,7 +25,8 @@ use std::alloc::Allocator;
 
 /// The kind of the first line before a place that isn't blank, where that is known: no line is before the beginning.
 fn known_before(known: &LinesBefore, place: u64) -> Option<LineKind>
-    ensures holds { (program : List ℕ) → IsTrueOf program known.now → IfSome result (λ kind. kind ≡ first_kind (lines_before program place)) }
+    ensures holds { (program : List ℕ) → IsTrueOf program known.now
+        → IfSome result (λ kind. kind ≡ first_kind (lines_before program place)) }
     ensures beginning { place ≡ 0 → result ≡ Some LineKind.Blank }
 {
     if place == 0 {
@@ -43,7 +44,8 @@ fn first_kind_before<R: Rig, A: Allocator + Copy + Drop>(
 ) -> Result<LineKind, Fault>
     requires whole { journal.old.broken ≡ false }
     requires place { place ≤ journal.old.saved.length }
-    ensures kind { IfHonest (R.honest journal.old.rig) (R.honest journal.new.rig) ((standing : DurableState) → IsDurablyAt (R.trace journal.old.rig) journal.old standing → IsTrueOf standing.program known.now.before
+    ensures kind { IfHonest (R.honest journal.old.rig) (R.honest journal.new.rig) ((standing : DurableState)
+        → IsDurablyAt (R.trace journal.old.rig) journal.old standing → IsTrueOf standing.program known.now.before
         → FirstKindSpec result journal.new standing place (R.trace journal.old.rig) (R.trace journal.new.rig)) }
     // without honesty too
     ensures beginning { place ≡ 0 → IfOk result (λ kind. kind ≡ LineKind.Blank) }
@@ -68,7 +70,8 @@ fn lines_after<A: Allocator + Copy + Drop>(
     text: &[u8],
     next: u64,
 ) -> LinesBefore
-    ensures { (program : List ℕ) → IsTrueOf program known.now.before → IsLineBetween program place first text.now next → IsTrueOf program result }
+    ensures { (program : List ℕ) → IsTrueOf program known.now.before
+        → IsLineBetween program place first text.now next → IsTrueOf program result }
 {
     if text.len() > LONGEST_TEXT {
         return *known.lines_before();
@@ -206,7 +209,8 @@ impl<R: Rig, A: Allocator + Copy + Drop> Controller<R, A> {
         }
     }
 
-    /// The same where none was read ahead.
+    /// Reads the program's line at its place, where none was read ahead, and begins it; or stops the program at the end
+    /// of its text.
     fn begin_read(&mut self) -> Result<Reply, Fault>
         requires whole { self.old.journal.broken ≡ false }
         requires runs { is_running self.old.session.activity ≡ true }

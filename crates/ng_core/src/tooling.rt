@@ -29,7 +29,10 @@ impl<R: Rig, A: Allocator + Copy + Drop> Controller<R, A> {
         requires count { self.old.session.stored.entries < greatest_count }
         requires one { IsOneSlotFrom self.old.session.stored.tools tools }
         ensures { (entry : Entry) → IsCommitted entry → CarriesOut R.honest R.trace R.failed R.sectors needs_device
-            (λ program. commits program entry (record self.old.session { stored = record self.old.session.stored { entries = self.old.session.stored.entries + 1; tools = tools } })) result self.old self.new }
+            (λ program. commits program entry (record self.old.session {
+              stored = record self.old.session.stored { entries = self.old.session.stored.entries + 1; tools = tools };
+            }))
+            result self.old self.new }
     {
         let entries = self.session.stored().entries;
         let before = self.session.exchange_tools(tools, entries + 1);
