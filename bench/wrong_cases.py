@@ -96,7 +96,7 @@ CHANGES = [
     ("the end of a text that isn't said whole", edit("command_lines.words", "...A file that can't be read prints nothing.", "...A file that can't be read prints more.")),
     ("the beginning of a text that isn't said whole", edit("command_lines.words", "error: ...", "errors: ...")),
     ("a status of a command line", edit("command_lines.words", "REFUSED line 3: X3 NoProgramEnd\n-- status 1", "REFUSED line 3: X3 NoProgramEnd\n-- status 0")),
-    ("what a file holds afterwards", edit("files.words", "-- leaves mill.dev\nno device\\", "-- leaves mill.dev\na device\\")),
+    ("what a file holds afterwards", edit("files.words", "-- leaves mill.dev\n\\{875008 x01}", "-- leaves mill.dev\n\\{875008 x02}")),
     ("a file that isn't made", edit("files.words", "-- absent out", "-- absent mill.toml\n-- leaves out")),
     ("nobody else holds a device", edit("files.words", "-- held mill.dev\n", "")),
     ("a note that isn't one", edit("modes.dry", "# ", "")),
