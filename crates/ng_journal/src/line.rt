@@ -102,17 +102,17 @@ fn find_end<R: Rig>(
     text: &mut ArrayVec<u8, KEPT_LINE>,
 ) -> Result<Option<usize>, Failed>
     requires area { area ≤ greatest_area true }
-    requires sectors { program_first area + program_size area ≤ R.sectors rig.old }
+    requires sectors { program_first area + program_size area ≤ (R.seen rig.old).sectors }
     requires place { place ≤ program_end }
     requires small { program_end ≤ longest_in area }
     requires empty { text.old.items ≡ [] }
-    ensures read { IfHonest (R.honest rig.old) (R.honest rig.new)
+    ensures read { IfHonest (R.seen rig.old) (R.seen rig.new)
         (ReadSpec result (λ image end. let program = program_text program_end (stretch (program_first area) (program_size area) image) in
-        IsEnd (drop place program) text.new.items end) (R.trace rig.old) (R.trace rig.new)) }
+        IsEnd (drop place program) text.new.items end) (R.seen rig.old).trace (R.seen rig.new).trace) }
     // without honesty too
     ensures within { IfOk result (λ end. IfSome end (λ n. place + n < program_end)) }
-    ensures size { R.sectors rig.new ≡ R.sectors rig.old }
-    ensures failures { FailureCountSpec result (R.failed rig.old) (R.failed rig.new) }
+    ensures size { (R.seen rig.new).sectors ≡ (R.seen rig.old).sectors }
+    ensures failures { FailureCountSpec result (R.seen rig.old).failed (R.seen rig.new).failed }
 {
     let first = program_first(area);
     for n in place / SECTOR_BYTES..program_end.div_ceil(SECTOR_BYTES) {
@@ -133,16 +133,16 @@ pub(crate) fn read_line<R: Rig>(
     program_end: usize,
 ) -> Result<Option<ProgramLine>, Failed>
     requires area { area ≤ greatest_area true }
-    requires sectors { program_first area + program_size area ≤ R.sectors rig.old }
+    requires sectors { program_first area + program_size area ≤ (R.seen rig.old).sectors }
     requires place { place ≤ program_end }
     requires small { program_end ≤ longest_in area }
-    ensures read { IfHonest (R.honest rig.old) (R.honest rig.new)
+    ensures read { IfHonest (R.seen rig.old) (R.seen rig.new)
         (ReadSpec result (λ image line. let program = program_text program_end (stretch (program_first area) (program_size area) image) in
-        line ≡ program_line_at program place) (R.trace rig.old) (R.trace rig.new)) }
+        line ≡ program_line_at program place) (R.seen rig.old).trace (R.seen rig.new).trace) }
     // without honesty too
     ensures next { IfOk result (λ line. IfSome line (λ l. (place < l.next) × (l.next ≤ program_end))) }
-    ensures size { R.sectors rig.new ≡ R.sectors rig.old }
-    ensures failures { FailureCountSpec result (R.failed rig.old) (R.failed rig.new) }
+    ensures size { (R.seen rig.new).sectors ≡ (R.seen rig.old).sectors }
+    ensures failures { FailureCountSpec result (R.seen rig.old).failed (R.seen rig.new).failed }
 {
     if place == program_end {
         return Ok(None);

@@ -23,13 +23,13 @@ pub(crate) fn read_first_kind<R: Rig>(
     place: usize,
 ) -> Result<LineKind, Failed>
     requires area { area ≤ greatest_area true }
-    requires sectors { program_first area + program_size area ≤ R.sectors rig.old }
+    requires sectors { program_first area + program_size area ≤ (R.seen rig.old).sectors }
     requires small { place ≤ longest_in area }
-    ensures read { IfHonest (R.honest rig.old) (R.honest rig.new)
+    ensures read { IfHonest (R.seen rig.old) (R.seen rig.new)
         (ReadSpec result (λ image kind. kind ≡ kind_in (program_text place (stretch (program_first area) (program_size area) image)))
-        (R.trace rig.old) (R.trace rig.new)) }
-    ensures size { R.sectors rig.new ≡ R.sectors rig.old }
-    ensures failures { FailureCountSpec result (R.failed rig.old) (R.failed rig.new) }
+        (R.seen rig.old).trace (R.seen rig.new).trace) }
+    ensures size { (R.seen rig.new).sectors ≡ (R.seen rig.old).sectors }
+    ensures failures { FailureCountSpec result (R.seen rig.old).failed (R.seen rig.new).failed }
 {
     let first = program_first(area);
     let mut seen = FirstLine::Unseen;

@@ -122,13 +122,12 @@ impl<A: Allocator + Copy + Drop> Rig for MemoryRig<A> {
     ghost use Rattle.ng_rig.specs.Calls.{FailureCountSpec, KeepsOrNot};
     ghost use Rattle.ng_rig.specs.MemoryRig.{trace_of, sector_count, failure_count};
 
-    ghost trace = { trace_of };
-
-    ghost honest = { λ _. Unit {0} };
-
-    ghost sectors = { sector_count };
-
-    ghost failed = { failure_count };
+    ghost seen = { λ rig. record {
+      trace = trace_of rig;
+      honest = Unit {0};
+      sectors = sector_count rig;
+      failed = failure_count rig;
+    } };
 
     fn size(&self) -> usize {
         self.first.len()

@@ -14,7 +14,7 @@ use Rattle.ng_log.proofs.scanning.read_log.Goals as goal
 
 pub returns-in-Damaged-clause-read : goal.returns-in-Damaged-clause-read
 returns-in-Damaged-clause-read g c =
-    let old = g.R.Rig.trace c.args.rig.now in
+    let old = (g.R.Rig.seen c.args.rig.now).trace in
     let h = c.args.header in
     onto _ c.records.invariant.run c.in_ok-next_record.ensures.read (λ p q. record {
       same = q.same ∙ p.0;
@@ -23,7 +23,7 @@ returns-in-Damaged-clause-read g c =
 
 pub records-preserved : goal.records-preserved
 records-preserved g c =
-    let old = g.R.Rig.trace c.args.rig.now in
+    let old = (g.R.Rig.seen c.args.rig.now).trace in
     let h = c.args.header in
     let inv = c.records.invariant in
     let e = c.in_ok-next_record.ensures in
@@ -50,7 +50,7 @@ records-preserved g c =
 
 pub returns-in-Last-clause-read : goal.returns-in-Last-clause-read
 returns-in-Last-clause-read g c =
-    let old = g.R.Rig.trace c.args.rig.now in
+    let old = (g.R.Rig.seen c.args.rig.now).trace in
     let h = c.args.header in
     onto _ c.records.invariant.run c.in_ok-next_record.ensures.read (λ p q.
     let n = next_is h c.records.reached c.records.stored c.next_record.new.stored old _ c.in_ok-next_record.field-0 Last p.0 c.in-Last.is q.right in
@@ -61,7 +61,7 @@ returns-in-Last-clause-read g c =
 
 pub returns-clause-read : goal.returns-clause-read
 returns-clause-read g c =
-    let old = g.R.Rig.trace c.args.rig.now in
+    let old = (g.R.Rig.seen c.args.rig.now).trace in
     let h = c.args.header in
     let inv = c.records.invariant in
     let room = inv.room in
