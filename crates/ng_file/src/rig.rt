@@ -112,21 +112,14 @@ impl<S: Storage + Drop, W: Write + Drop, A: Allocator + Copy + Drop> FileRig<S, 
 }
 
 impl<S: Storage + Drop, W: Write + Drop, A: Allocator + Copy + Drop> Rig for FileRig<S, W, A> {
-    ghost use Rattle.std.specs.Prelude.{◌≡◌, ◌+◌, ◌*◌, ◌<◌, ◌≤◌, [], IfSome, OnOk, OnErr, Some, length};
+    ghost use Rattle.std.specs.Prelude.{◌≡◌, ◌+◌, ◌*◌, ◌<◌, ◌≤◌, IfSome, OnOk, OnErr, Some, length};
     ghost use Rattle.std.specs.Io.KnownBytes.{Appends};
     ghost use Rattle.ng_rig.specs.Calls.{FailureCountSpec};
-    ghost use Rattle.ng_rig.specs.Trace.{Began};
     ghost use Rattle.ng_file.specs.Bytes.{AppendsBeginning, Put, PutInPart, sector_of};
-    ghost use Rattle.ng_file.specs.FileRig.{failure_count, outlet, sector_count, storage};
+    ghost use Rattle.ng_file.specs.FileRig.{device_of, failure_count, outlet, sector_count, storage};
     ghost use Rattle.ng_file.specs.Lines.{item_line};
 
-    ghost trace = { λ _. Began (λ _. []) };
-
-    ghost honest = { λ _. ⊥ };
-
-    ghost sectors = { sector_count };
-
-    ghost failed = { failure_count };
+    ghost seen = { device_of };
 
     fn size(&self) -> usize {
         self.sectors

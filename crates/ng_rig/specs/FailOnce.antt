@@ -13,8 +13,8 @@ abbrev pub failure_count : {R : Type 0} → FailRig R → ℕ
 failure_count rig = rig.failures
 
 -- the device as contracts see it: the one that calls are passed on to, but for the failures
-abbrev pub device : {R : Type 0} → (R → Device) → FailRig R → Device
-device seen rig = record (seen (inner rig)) { failed = failure_count rig }
+abbrev pub device_of : {R : Type 0} → (R → Device) → FailRig R → Device
+device_of seen rig = record (seen (inner rig)) { failed = failure_count rig }
 
 -- how many calls are passed on before the one that fails; None if that one has failed
 abbrev pub calls_before : {R : Type 0} → FailRig R → Option ℕ

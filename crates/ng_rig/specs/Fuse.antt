@@ -13,8 +13,8 @@ abbrev pub failure_count : {R : Type 0} → FuseRig R → ℕ
 failure_count fuse = fuse.failures
 
 -- the device as contracts see it: the one that calls are passed on to, but for the failures
-abbrev pub device : {R : Type 0} → (R → Device) → FuseRig R → Device
-device seen fuse = record (seen (inner fuse)) { failed = failure_count fuse }
+abbrev pub device_of : {R : Type 0} → (R → Device) → FuseRig R → Device
+device_of seen fuse = record (seen (inner fuse)) { failed = failure_count fuse }
 
 -- how many more calls are passed on
 abbrev pub calls_left : {R : Type 0} → FuseRig R → ℕ

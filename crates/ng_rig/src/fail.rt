@@ -87,9 +87,9 @@ impl<R: Rig> Rig for FailRig<R> {
     ghost use Rattle.std.specs.Prelude.{◌≡◌, ◌<◌, OnOk};
     ghost use Rattle.ng_rig.specs.Trace.{reads};
     ghost use Rattle.ng_rig.specs.Calls.{IfHonest, WriteSpec, SyncSpec, HandOutSpec, FailureCountSpec};
-    ghost use Rattle.ng_rig.specs.FailOnce.{inner, failure_count, calls_before, device, FailRigSpec};
+    ghost use Rattle.ng_rig.specs.FailOnce.{inner, failure_count, calls_before, device_of, FailRigSpec};
 
-    ghost seen = { device R.seen };
+    ghost seen = { device_of R.seen };
 
     fn size(&self) -> usize {
         self.rig.size()
@@ -103,7 +103,7 @@ impl<R: Rig> Rig for FailRig<R> {
         requires { sector < (R.seen (inner self.old)).sectors }
         ensures bytes { (R.seen (inner self.old)).honest → OnOk result (into.new ≡ reads (R.seen (inner self.old)).trace sector) }
         ensures untouched { calls_before self.old ≡ Some 0 → into.new ≡ into.old }
-        ensures trace { IfHonest (device R.seen self.old) (device R.seen self.new)
+        ensures trace { IfHonest (device_of R.seen self.old) (device_of R.seen self.new)
             ((R.seen (inner self.new)).trace ≡ (R.seen (inner self.old)).trace) }
         ensures size { (R.seen (inner self.new)).sectors ≡ (R.seen (inner self.old)).sectors }
         ensures failures { FailureCountSpec result (failure_count self.old) (failure_count self.new) }
@@ -119,7 +119,7 @@ impl<R: Rig> Rig for FailRig<R> {
 
     fn write(&mut self, sector: usize, bytes: &[u8; 512]) -> Result<(), Failed>
         requires { sector < (R.seen (inner self.old)).sectors }
-        ensures trace { IfHonest (device R.seen self.old) (device R.seen self.new)
+        ensures trace { IfHonest (device_of R.seen self.old) (device_of R.seen self.new)
             (WriteSpec result sector bytes.now (R.seen (inner self.old)).trace (R.seen (inner self.new)).trace) }
         ensures size { (R.seen (inner self.new)).sectors ≡ (R.seen (inner self.old)).sectors }
         ensures failures { FailureCountSpec result (failure_count self.old) (failure_count self.new) }
@@ -134,7 +134,7 @@ impl<R: Rig> Rig for FailRig<R> {
     }
 
     fn sync(&mut self) -> Result<(), Failed>
-        ensures trace { IfHonest (device R.seen self.old) (device R.seen self.new)
+        ensures trace { IfHonest (device_of R.seen self.old) (device_of R.seen self.new)
             (SyncSpec result (R.seen (inner self.old)).trace (R.seen (inner self.new)).trace) }
         ensures size { (R.seen (inner self.new)).sectors ≡ (R.seen (inner self.old)).sectors }
         ensures failures { FailureCountSpec result (failure_count self.old) (failure_count self.new) }
@@ -149,7 +149,7 @@ impl<R: Rig> Rig for FailRig<R> {
     }
 
     fn hand_out(&mut self, item: Item) -> Result<(), Failed>
-        ensures trace { IfHonest (device R.seen self.old) (device R.seen self.new)
+        ensures trace { IfHonest (device_of R.seen self.old) (device_of R.seen self.new)
             (HandOutSpec result item (R.seen (inner self.old)).trace (R.seen (inner self.new)).trace) }
         ensures size { (R.seen (inner self.new)).sectors ≡ (R.seen (inner self.old)).sectors }
         ensures failures { FailureCountSpec result (failure_count self.old) (failure_count self.new) }

@@ -120,14 +120,9 @@ impl<A: Allocator + Copy + Drop> Rig for MemoryRig<A> {
     ghost use Rattle.std.specs.Prelude.{◌≡◌, ◌<◌, IsOk};
     ghost use Rattle.ng_rig.specs.Trace.{Wrote, Synced, Handed, reads};
     ghost use Rattle.ng_rig.specs.Calls.{FailureCountSpec, KeepsOrNot};
-    ghost use Rattle.ng_rig.specs.MemoryRig.{trace_of, sector_count, failure_count};
+    ghost use Rattle.ng_rig.specs.MemoryRig.{trace_of, sector_count, failure_count, device_of};
 
-    ghost seen = { λ rig. record {
-      trace = trace_of rig;
-      honest = Unit {0};
-      sectors = sector_count rig;
-      failed = failure_count rig;
-    } };
+    ghost seen = { device_of };
 
     fn size(&self) -> usize {
         self.first.len()
