@@ -2,7 +2,7 @@
 ghost use Rattle.std.specs.Prelude.{ℕ, Bool, ◌≡◌, ◌≤◌, ◌<◌, ◌+◌, ◌%◌, [], Some};
 ghost use Rattle.ng_rig.specs.Trace.{reads};
 ghost use Rattle.ng_layout.specs.declared.header.Format.TheVariants.{One};
-ghost use Rattle.ng_rig.specs.Calls.{IfHonest, FailureCountSpec};
+ghost use Rattle.ng_rig.specs.Calls.{IfHonest, IsCall};
 ghost use Rattle.ng_layout.specs.Limits.{greatest_count};
 ghost use Rattle.ng_layout.specs.Areas.{least_size, snapshot_size, tools_size};
 ghost use Rattle.ng_layout.specs.Storable.{IsStorable};
@@ -30,8 +30,7 @@ fn write_snapshot<R: Rig, A: Allocator + Copy + Drop>(
     requires count { stored.now.entries ≤ greatest_count }
     requires storable { IsStorable stored.now }
     ensures area { IfHonest (R.seen rig.old) (R.seen rig.new) (WritesArea result first stored.now (R.seen rig.old).trace (R.seen rig.new).trace) }
-    ensures size { (R.seen rig.new).sectors ≡ (R.seen rig.old).sectors }
-    ensures failures { FailureCountSpec result (R.seen rig.old).failed (R.seen rig.new).failed }
+    ensures call { IsCall result (R.seen rig.old) (R.seen rig.new) }
 {
     for part in 0..SNAPSHOT_SIZE {
         rig.write(first + part, &stored.sector(part))?;
@@ -49,8 +48,7 @@ fn write_tools<R: Rig, A: Allocator + Copy + Drop>(
     requires within { first + tools_size ≤ least_size }
     ensures tools { IfHonest (R.seen rig.old) (R.seen rig.new)
         (Overwrites result first tools_size (HoldsToolPart stored.now) (R.seen rig.old).trace (R.seen rig.new).trace) }
-    ensures size { (R.seen rig.new).sectors ≡ (R.seen rig.old).sectors }
-    ensures failures { FailureCountSpec result (R.seen rig.old).failed (R.seen rig.new).failed }
+    ensures call { IsCall result (R.seen rig.old) (R.seen rig.new) }
 {
     for part in 0..TOOLS_SIZE {
         rig.write(first + part, &stored.tool_sector(part))?;
@@ -69,8 +67,7 @@ fn write_areas<R: Rig, A: Allocator + Copy + Drop>(
     requires storable { IsStorable stored.now }
     ensures areas { IfHonest (R.seen rig.old) (R.seen rig.new)
         (WritesAreas result next stored.now (R.seen rig.old).trace (R.seen rig.new).trace) }
-    ensures size { (R.seen rig.new).sectors ≡ (R.seen rig.old).sectors }
-    ensures failures { FailureCountSpec result (R.seen rig.old).failed (R.seen rig.new).failed }
+    ensures call { IsCall result (R.seen rig.old) (R.seen rig.new) }
 {
     write_snapshot(rig, snapshot_first(next.epoch), stored)?;
     match next.format {
@@ -133,8 +130,7 @@ pub(crate) fn checkpoint<R: Rig, A: Allocator + Copy + Drop>(
         → CheckpointSpec result header next (record stored.now { room = room }) (R.seen rig.old).trace (R.seen rig.new).trace) }
     ensures stores { IfHonest (R.seen rig.old) (R.seen rig.new)
         (StoresState result next stored.now (R.seen rig.old).trace (R.seen rig.new).trace) }
-    ensures size { (R.seen rig.new).sectors ≡ (R.seen rig.old).sectors }
-    ensures failures { FailureCountSpec result (R.seen rig.old).failed (R.seen rig.new).failed }
+    ensures call { IsCall result (R.seen rig.old) (R.seen rig.new) }
 {
     write_areas(rig, next, stored)?;
     rig.sync()?;

@@ -1,7 +1,7 @@
 //! A device made fresh: no header is left on it, then it stands for a fresh controller.
 ghost use Rattle.std.specs.Prelude.{ℕ, ◌≡◌, ◌≤◌, ◌<◌, ◌+◌, ◌⊎◌, ◌↔◌, replicate, IsErrOf, IfErr};
 ghost use Rattle.ng_num.specs.declared.fault.Fault.TheVariants.{DeviceFailed, NotFormatted};
-ghost use Rattle.ng_rig.specs.Calls.{IfHonest, FailureCountSpec};
+ghost use Rattle.ng_rig.specs.Calls.{IfHonest, IsCall};
 ghost use Rattle.ng_rig.specs.Trace.{reads};
 ghost use Rattle.ng_layout.specs.Header.{program_room};
 ghost use Rattle.ng_layout.specs.Stands.{is_large};
@@ -33,8 +33,7 @@ fn clear_headers<R: Rig>(rig: &mut R) -> Result<(), Failed>
     requires { least_size ≤ (R.seen rig.old).sectors }
     ensures clears { IfHonest (R.seen rig.old) (R.seen rig.new)
         (Overwrites result 0 header_count IsEmpty (R.seen rig.old).trace (R.seen rig.new).trace) }
-    ensures size { (R.seen rig.new).sectors ≡ (R.seen rig.old).sectors }
-    ensures failures { FailureCountSpec result (R.seen rig.old).failed (R.seen rig.new).failed }
+    ensures call { IsCall result (R.seen rig.old) (R.seen rig.new) }
 {
     for k in 0..HEADERS {
         rig.write(k, &empty_sector())?;
@@ -48,8 +47,7 @@ fn clear_log<R: Rig>(rig: &mut R) -> Result<(), Failed>
     requires { least_size ≤ (R.seen rig.old).sectors }
     ensures clears { IfHonest (R.seen rig.old) (R.seen rig.new)
         (Overwrites result log_first shortest_log IsEmpty (R.seen rig.old).trace (R.seen rig.new).trace) }
-    ensures size { (R.seen rig.new).sectors ≡ (R.seen rig.old).sectors }
-    ensures failures { FailureCountSpec result (R.seen rig.old).failed (R.seen rig.new).failed }
+    ensures call { IsCall result (R.seen rig.old) (R.seen rig.new) }
 {
     for n in 0..SHORTEST_LOG {
         rig.write(LOG_FIRST + n, &empty_sector())?;
@@ -63,8 +61,7 @@ fn write_fresh_snapshot<R: Rig>(rig: &mut R, first: usize) -> Result<(), Failed>
     requires within { first + snapshot_size ≤ least_size }
     ensures writes { (room : ℕ) → IfHonest (R.seen rig.old) (R.seen rig.new)
         (Overwrites result first snapshot_size (HoldsPart (fresh_stored room)) (R.seen rig.old).trace (R.seen rig.new).trace) }
-    ensures size { (R.seen rig.new).sectors ≡ (R.seen rig.old).sectors }
-    ensures failures { FailureCountSpec result (R.seen rig.old).failed (R.seen rig.new).failed }
+    ensures call { IsCall result (R.seen rig.old) (R.seen rig.new) }
 {
     for part in 0..SNAPSHOT_SIZE {
         rig.write(first + part, &fresh_sector(part))?;
@@ -78,8 +75,7 @@ fn clear_tools<R: Rig>(rig: &mut R, first: usize) -> Result<(), Failed>
     requires within { first + tools_size ≤ least_size }
     ensures clears { IfHonest (R.seen rig.old) (R.seen rig.new)
         (Overwrites result first tools_size IsEmpty (R.seen rig.old).trace (R.seen rig.new).trace) }
-    ensures size { (R.seen rig.new).sectors ≡ (R.seen rig.old).sectors }
-    ensures failures { FailureCountSpec result (R.seen rig.old).failed (R.seen rig.new).failed }
+    ensures call { IsCall result (R.seen rig.old) (R.seen rig.new) }
 {
     for n in 0..TOOLS_SIZE {
         rig.write(first + n, &empty_sector())?;
@@ -92,8 +88,7 @@ fn make_fresh<R: Rig>(rig: &mut R) -> Result<(), Failed>
     requires { least_size ≤ (R.seen rig.old).sectors }
     ensures formats { IfHonest (R.seen rig.old) (R.seen rig.new)
         (FormatSpec result (program_room (is_large (reads (R.seen rig.old).trace))) (R.seen rig.old).trace (R.seen rig.new).trace) }
-    ensures size { (R.seen rig.new).sectors ≡ (R.seen rig.old).sectors }
-    ensures failures { FailureCountSpec result (R.seen rig.old).failed (R.seen rig.new).failed }
+    ensures call { IsCall result (R.seen rig.old) (R.seen rig.new) }
 {
     let header = Header {
         format: Format::Two,

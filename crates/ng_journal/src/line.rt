@@ -1,7 +1,7 @@
 //! A line of the program in force, read where it begins.
 ghost use Rattle.std.specs.Prelude.{true, ◌≡◌, ℕ, max, List, [], ◌≤◌, ◌<◌, ◌+◌, ◌*◌, ◌-◌, ◌++◌, take, drop, length, IfOk, IfSome};
 ghost use Rattle.std.specs.Str.Lines.{strip_carriage_return};
-ghost use Rattle.ng_rig.specs.Calls.{IfHonest, FailureCountSpec};
+ghost use Rattle.ng_rig.specs.Calls.{IfHonest, IsCall};
 ghost use Rattle.ng_layout.specs.Limits.{longest_program, sector_size};
 ghost use Rattle.ng_layout.specs.Sectors.{program_text};
 ghost use Rattle.ng_layout.specs.Areas.{program_size, greatest_area, program_first};
@@ -111,8 +111,7 @@ fn find_end<R: Rig>(
         IsEnd (drop place program) text.new.items end) (R.seen rig.old).trace (R.seen rig.new).trace) }
     // without honesty too
     ensures within { IfOk result (λ end. IfSome end (λ n. place + n < program_end)) }
-    ensures size { (R.seen rig.new).sectors ≡ (R.seen rig.old).sectors }
-    ensures failures { FailureCountSpec result (R.seen rig.old).failed (R.seen rig.new).failed }
+    ensures call { IsCall result (R.seen rig.old) (R.seen rig.new) }
 {
     let first = program_first(area);
     for n in place / SECTOR_BYTES..program_end.div_ceil(SECTOR_BYTES) {
@@ -141,8 +140,7 @@ pub(crate) fn read_line<R: Rig>(
         line ≡ program_line_at program place) (R.seen rig.old).trace (R.seen rig.new).trace) }
     // without honesty too
     ensures next { IfOk result (λ line. IfSome line (λ l. (place < l.next) × (l.next ≤ program_end))) }
-    ensures size { (R.seen rig.new).sectors ≡ (R.seen rig.old).sectors }
-    ensures failures { FailureCountSpec result (R.seen rig.old).failed (R.seen rig.new).failed }
+    ensures call { IsCall result (R.seen rig.old) (R.seen rig.new) }
 {
     if place == program_end {
         return Ok(None);

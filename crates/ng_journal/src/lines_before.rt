@@ -1,6 +1,6 @@
 //! The kind of the first line before a place of the program in force that isn't blank.
 ghost use Rattle.std.specs.Prelude.{true, ◌≡◌, ◌≤◌, ◌+◌, ℕ};
-ghost use Rattle.ng_rig.specs.Calls.{IfHonest, FailureCountSpec};
+ghost use Rattle.ng_rig.specs.Calls.{IfHonest, IsCall};
 ghost use Rattle.ng_layout.specs.Sectors.{program_text};
 ghost use Rattle.ng_layout.specs.Areas.{program_size, greatest_area, program_first};
 ghost use Rattle.ng_layout.specs.Header.{longest_in};
@@ -28,8 +28,7 @@ pub(crate) fn read_first_kind<R: Rig>(
     ensures read { IfHonest (R.seen rig.old) (R.seen rig.new)
         (ReadSpec result (λ image kind. kind ≡ kind_in (program_text place (stretch (program_first area) (program_size area) image)))
         (R.seen rig.old).trace (R.seen rig.new).trace) }
-    ensures size { (R.seen rig.new).sectors ≡ (R.seen rig.old).sectors }
-    ensures failures { FailureCountSpec result (R.seen rig.old).failed (R.seen rig.new).failed }
+    ensures call { IsCall result (R.seen rig.old) (R.seen rig.new) }
 {
     let first = program_first(area);
     let mut seen = FirstLine::Unseen;

@@ -1,6 +1,6 @@
 //! A program written to the area that isn't in force, and what is stored with it.
 ghost use Rattle.std.specs.Prelude.{ℕ, true, ◌≡◌, ◌≢◌, ◌≤◌, ◌<◌, ◌+◌, length};
-ghost use Rattle.ng_rig.specs.Calls.{IfHonest, FailureCountSpec};
+ghost use Rattle.ng_rig.specs.Calls.{IfHonest, IsCall};
 ghost use Rattle.ng_layout.specs.Limits.{greatest_count};
 ghost use Rattle.ng_layout.specs.Areas.{program_first, program_size, least_size, greatest_area};
 ghost use Rattle.ng_layout.specs.Header.{longest_in};
@@ -23,8 +23,7 @@ fn write_program<R: Rig>(rig: &mut R, area: u64, text: &[u8]) -> Result<(), Fail
     requires sectors { program_first area + program_size area ≤ (R.seen rig.old).sectors }
     requires short { length text.now ≤ longest_in area }
     ensures text { IfHonest (R.seen rig.old) (R.seen rig.new) (WritesText result area text.now (R.seen rig.old).trace (R.seen rig.new).trace) }
-    ensures size { (R.seen rig.new).sectors ≡ (R.seen rig.old).sectors }
-    ensures failures { FailureCountSpec result (R.seen rig.old).failed (R.seen rig.new).failed }
+    ensures call { IsCall result (R.seen rig.old) (R.seen rig.new) }
 {
     let first = program_first(area);
     for n in 0..text.len().div_ceil(SECTOR_BYTES) {
@@ -58,8 +57,7 @@ pub(crate) fn load<R: Rig, A: Allocator + Copy + Drop>(
         → LoadSpec result area header (record { saved = saved; program = text.now }) (R.seen rig.old).trace (R.seen rig.new).trace)) }
     ensures stores { IfHonest (R.seen rig.old) (R.seen rig.new)
         (StoresLoad result area header (record { saved = stored.now; program = text.now }) (R.seen rig.old).trace (R.seen rig.new).trace) }
-    ensures size { (R.seen rig.new).sectors ≡ (R.seen rig.old).sectors }
-    ensures failures { FailureCountSpec result (R.seen rig.old).failed (R.seen rig.new).failed }
+    ensures call { IsCall result (R.seen rig.old) (R.seen rig.new) }
 {
     write_program(rig, area, text)?;
     rig.sync()?;

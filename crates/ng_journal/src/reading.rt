@@ -2,7 +2,7 @@
 ghost use Rattle.std.specs.Prelude.{Bool, ◌≡◌, ◌≤◌, ◌<◌, ◌+◌, ◌*◌, ◌%◌, true, [], length, IfOk, IfSome};
 ghost use Rattle.ng_layout.specs.declared.header.Format.TheVariants.{One};
 ghost use Rattle.std.specs.Bool.{OnTrue};
-ghost use Rattle.ng_rig.specs.Calls.{IfHonest, FailureCountSpec};
+ghost use Rattle.ng_rig.specs.Calls.{IfHonest, IsCall};
 ghost use Rattle.ng_layout.specs.Limits.{greatest_count, longest_program};
 ghost use Rattle.ng_params.specs.Numbers.{parameter_count};
 ghost use Rattle.ng_layout.specs.Header.{header_in, IsValidHeader};
@@ -33,8 +33,7 @@ fn read_header<R: Rig>(rig: &mut R, large: bool, k: u64) -> Result<Option<Header
     ensures read { IfHonest (R.seen rig.old) (R.seen rig.new)
         (ReadSpec result (λ image header. header ≡ header_in large k (image k)) (R.seen rig.old).trace (R.seen rig.new).trace) }
     ensures valid { IfOk result (λ header. IfSome header (IsValidHeader large)) }
-    ensures size { (R.seen rig.new).sectors ≡ (R.seen rig.old).sectors }
-    ensures failures { FailureCountSpec result (R.seen rig.old).failed (R.seen rig.new).failed }
+    ensures call { IsCall result (R.seen rig.old) (R.seen rig.new) }
 {
     let bytes = read_sector(rig, k as usize)?;
     Ok(Header::read(large, k, &bytes))
@@ -61,8 +60,7 @@ pub(crate) fn header_in_force<R: Rig>(rig: &mut R, large: bool) -> Result<Option
     ensures read { IfHonest (R.seen rig.old) (R.seen rig.new)
         (ReadSpec result (λ image header. header ≡ in_force image) (R.seen rig.old).trace (R.seen rig.new).trace) }
     ensures valid { IfOk result (λ header. IfSome header (IsValidHeader large)) }
-    ensures size { (R.seen rig.new).sectors ≡ (R.seen rig.old).sectors }
-    ensures failures { FailureCountSpec result (R.seen rig.old).failed (R.seen rig.new).failed }
+    ensures call { IsCall result (R.seen rig.old) (R.seen rig.new) }
 {
     let even = read_header(rig, large, 0)?;
     let odd = read_header(rig, large, 1)?;
@@ -92,8 +90,7 @@ fn read_tools<R: Rig>(
     // without honesty too
     ensures storable { IfOk result (λ is_whole. OnTrue is_whole (IsStorableTools tools.new)) }
     ensures none { IfOk result (λ is_whole. OnTrue is_whole (header.format ≡ One → tools.new ≡ [])) }
-    ensures size { (R.seen rig.new).sectors ≡ (R.seen rig.old).sectors }
-    ensures failures { FailureCountSpec result (R.seen rig.old).failed (R.seen rig.new).failed }
+    ensures call { IsCall result (R.seen rig.old) (R.seen rig.new) }
 {
     match header.format {
         Format::One => Ok(true),
@@ -119,8 +116,7 @@ fn read_table<R: Rig, A: Allocator + Copy + Drop>(
         (ReadSpec result (IsTableOf first table.new) (R.seen rig.old).trace (R.seen rig.new).trace) }
     // without honesty too
     ensures long { IfOk result (λ is_whole. OnTrue is_whole (length table.new ≡ parameter_count)) }
-    ensures size { (R.seen rig.new).sectors ≡ (R.seen rig.old).sectors }
-    ensures failures { FailureCountSpec result (R.seen rig.old).failed (R.seen rig.new).failed }
+    ensures call { IsCall result (R.seen rig.old) (R.seen rig.new) }
 {
     for n in 0..SNAPSHOT_SIZE - 1 {
         let sector = read_sector(rig, first + 1 + n)?;
@@ -150,8 +146,7 @@ pub(crate) fn read_snapshot<R: Rig, A: Allocator + Copy + Drop>(
     ensures count { IfOk result (λ is_whole. OnTrue is_whole (stored.new.entries ≤ greatest_count)) }
     ensures long { IfOk result (λ is_whole. OnTrue is_whole (stored.new.length ≡ header.length)) }
     ensures limit { stored.new.room ≡ stored.old.room }
-    ensures size { (R.seen rig.new).sectors ≡ (R.seen rig.old).sectors }
-    ensures failures { FailureCountSpec result (R.seen rig.old).failed (R.seen rig.new).failed }
+    ensures call { IsCall result (R.seen rig.old) (R.seen rig.new) }
 {
     let first = snapshot_first(header.epoch);
     let bytes = read_sector(rig, first)?;

@@ -1,7 +1,7 @@
 //! Power on: what the device holds, written again under the next epoch with nothing open, and over format 1 under one
 //! more epoch in format 2.
 ghost use Rattle.std.specs.Prelude.{Bool, ◌≡◌, ◌≤◌, ◌<◌, ◌+◌, ℤ, List, [], length, IfOk, IfErr, OnOk};
-ghost use Rattle.ng_rig.specs.Calls.{IfHonest, FailureCountSpec};
+ghost use Rattle.ng_rig.specs.Calls.{IfHonest, IsCall};
 ghost use Rattle.ng_layout.specs.Limits.{greatest_count};
 ghost use Rattle.ng_params.specs.Numbers.{parameter_count};
 ghost use Rattle.ng_layout.specs.Areas.{least_size};
@@ -46,8 +46,7 @@ fn found<R: Rig, A: Allocator + Copy + Drop>(
     ensures count { IfOk result (λ answer. OnOk answer (stored.new.entries ≤ greatest_count)) }
     ensures long { IfOk result (λ answer. IfOk answer (λ header. stored.new.length ≡ header.length)) }
     ensures faults { IfOk result (λ answer. IfErr answer IsRefusal) }
-    ensures size { (R.seen rig.new).sectors ≡ (R.seen rig.old).sectors }
-    ensures failures { FailureCountSpec result (R.seen rig.old).failed (R.seen rig.new).failed }
+    ensures call { IsCall result (R.seen rig.old) (R.seen rig.new) }
 {
     match header_in_force(rig, large)? {
         None => Ok(Err(Fault::NotFormatted)),
@@ -95,8 +94,7 @@ fn modernize<R: Rig, A: Allocator + Copy + Drop>(
     ensures storable { OnOk result (IsStorable stored.new) }
     ensures count { OnOk result (stored.new.entries ≡ stored.old.entries) }
     ensures same { IfOk result (λ last. (last.length ≡ header.length) × (stored.new.length ≡ stored.old.length)) }
-    ensures size { (R.seen rig.new).sectors ≡ (R.seen rig.old).sectors }
-    ensures failures { FailureCountSpec result (R.seen rig.old).failed (R.seen rig.new).failed }
+    ensures call { IsCall result (R.seen rig.old) (R.seen rig.new) }
 {
     match header.format {
         Format::Two => Ok(header),
@@ -146,8 +144,7 @@ pub(crate) fn restore<R: Rig, A: Allocator + Copy + Drop>(
     ensures count { IfOk result (λ answer. OnOk answer (stored.new.entries ≤ greatest_count)) }
     ensures long { IfOk result (λ answer. IfOk answer (λ header. stored.new.length ≡ header.length)) }
     ensures faults { IfOk result (λ answer. IfErr answer IsRefusal) }
-    ensures size { (R.seen rig.new).sectors ≡ (R.seen rig.old).sectors }
-    ensures failures { FailureCountSpec result (R.seen rig.old).failed (R.seen rig.new).failed }
+    ensures call { IsCall result (R.seen rig.old) (R.seen rig.new) }
 {
     rig.sync()?;
     match found(rig, large, stored)? {

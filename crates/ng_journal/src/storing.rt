@@ -1,6 +1,6 @@
 //! What is stored, as a record; where the log has no room for it, what stands is checkpointed first.
 ghost use Rattle.std.specs.Prelude.{◌≡◌, ◌≤◌, ◌<◌, ◌+◌, ◌⊎◌, ◌↔◌, true, Some, length, OnOk, IfOk};
-ghost use Rattle.ng_rig.specs.Calls.{IfHonest, FailureCountSpec};
+ghost use Rattle.ng_rig.specs.Calls.{IfHonest, IsCall};
 ghost use Rattle.ng_layout.specs.Limits.{greatest_count};
 ghost use Rattle.ng_params.specs.Numbers.{parameter_count};
 ghost use Rattle.ng_layout.specs.Areas.{log_size_of, least_size};
@@ -123,8 +123,7 @@ fn make_room<R: Rig, A: Allocator + Copy + Drop>(
     ensures room { IfOk result (IsRoom (ledger tip stored.now) count) }
     // without honesty too
     ensures tip { IfOk result (λ t. IsTip stored.now.length t.header t.end) }
-    ensures size { (R.seen rig.new).sectors ≡ (R.seen rig.old).sectors }
-    ensures failures { FailureCountSpec result (R.seen rig.old).failed (R.seen rig.new).failed }
+    ensures call { IsCall result (R.seen rig.old) (R.seen rig.new) }
 {
     if !tip.is_full_for(count) {
         return Ok(tip);
@@ -165,8 +164,7 @@ fn append_to<R: Rig, A: Allocator + Copy + Drop>(
     ensures end { let saved = record stored.now { room = old.now.room } in
         IfOk result (λ t. t ≡ tip_of (with_record (ledger tip old.now) saved)) }
     ensures tip { IfOk result (λ t. IsTip stored.now.length t.header t.end) }
-    ensures size { (R.seen rig.new).sectors ≡ (R.seen rig.old).sectors }
-    ensures failures { FailureCountSpec result (R.seen rig.old).failed (R.seen rig.new).failed }
+    ensures call { IsCall result (R.seen rig.old) (R.seen rig.new) }
 {
     let end = append(
         rig,
@@ -216,8 +214,7 @@ pub(crate) fn store<R: Rig, A: Allocator + Copy + Drop>(
     ensures ledger { let saved = record stored.now { room = old.now.room } in
         IfOk result (λ t. IsLedgerAfter (ledger tip old.now) saved (ledger t saved)) }
     ensures tip { IfOk result (λ t. IsTip stored.now.length t.header t.end) }
-    ensures size { (R.seen rig.new).sectors ≡ (R.seen rig.old).sectors }
-    ensures failures { FailureCountSpec result (R.seen rig.old).failed (R.seen rig.new).failed }
+    ensures call { IsCall result (R.seen rig.old) (R.seen rig.new) }
 {
     let tip = make_room(rig, tip, old, count)?;
     append_to(rig, tip, old, stored, count, slot)
@@ -252,8 +249,7 @@ pub(crate) fn store_half<R: Rig, A: Allocator + Copy + Drop>(
     ensures length { stored.new.length ≡ stored.old.length }
     ensures limit { stored.new.room ≡ stored.old.room }
     ensures tip { IfOk result (λ t. IsTip stored.old.length t.header t.end) }
-    ensures size { (R.seen rig.new).sectors ≡ (R.seen rig.old).sectors }
-    ensures failures { FailureCountSpec result (R.seen rig.old).failed (R.seen rig.new).failed }
+    ensures call { IsCall result (R.seen rig.old) (R.seen rig.new) }
 {
     let tip = make_room(rig, tip, stored, 0)?;
     stored.take_half(half);

@@ -1,6 +1,6 @@
 //! Reading sectors.
 ghost use Rattle.std.specs.Prelude.{◌≡◌, ◌<◌};
-ghost use Rattle.ng_rig.specs.Calls.{IfHonest, FailureCountSpec};
+ghost use Rattle.ng_rig.specs.Calls.{IfHonest, IsCall};
 ghost use Rattle.ng_log.specs.Reading.{ReadSpec};
 
 use ng_layout::SECTOR_BYTES;
@@ -11,8 +11,7 @@ pub fn read_sector<R: Rig>(rig: &mut R, sector: usize) -> Result<[u8; SECTOR_BYT
     requires { sector < (R.seen rig.old).sectors }
     ensures read { IfHonest (R.seen rig.old) (R.seen rig.new)
         (ReadSpec result (λ image bytes. bytes ≡ image sector) (R.seen rig.old).trace (R.seen rig.new).trace) }
-    ensures size { (R.seen rig.new).sectors ≡ (R.seen rig.old).sectors }
-    ensures failures { FailureCountSpec result (R.seen rig.old).failed (R.seen rig.new).failed }
+    ensures call { IsCall result (R.seen rig.old) (R.seen rig.new) }
 {
     let mut bytes = [0; SECTOR_BYTES];
     rig.read(sector, &mut bytes)?;

@@ -4,7 +4,7 @@
 //! in what is stored.
 ghost use Rattle.std.specs.Prelude.{◌≡◌, ◌≤◌, ◌<◌, ◌+◌, length, IfOk, IfSome};
 ghost use Rattle.std.specs.Bool.{OnTrue};
-ghost use Rattle.ng_rig.specs.Calls.{IfHonest, FailureCountSpec};
+ghost use Rattle.ng_rig.specs.Calls.{IfHonest, IsCall};
 ghost use Rattle.ng_layout.specs.Limits.{greatest_count, longest_program, record_changes};
 ghost use Rattle.ng_params.specs.Numbers.{parameter_count};
 ghost use Rattle.ng_layout.specs.declared.header.Format.TheVariants.{One};
@@ -55,8 +55,7 @@ fn later_parts_stand<R: Rig>(rig: &mut R, at: usize, first: PartLabel) -> Result
     requires room { at + first.parts ≤ longest_log }
     ensures read { IfHonest (R.seen rig.old) (R.seen rig.new)
         (ReadSpec result (LaterPartsStand at (label_of first)) (R.seen rig.old).trace (R.seen rig.new).trace) }
-    ensures size { (R.seen rig.new).sectors ≡ (R.seen rig.old).sectors }
-    ensures failures { FailureCountSpec result (R.seen rig.old).failed (R.seen rig.new).failed }
+    ensures call { IsCall result (R.seen rig.old) (R.seen rig.new) }
 {
     for part in 1..first.parts {
         let sector = read_sector(rig, LOG_FIRST + at + part as usize)?;
@@ -83,8 +82,7 @@ fn take_all_changes<R: Rig, A: Allocator + Copy + Drop>(
         (ReadSpec result (MakesAllOrDamaged at changes table.old table.new) (R.seen rig.old).trace (R.seen rig.new).trace) }
     // also if the device isn't honest
     ensures long { IfOk result (λ whole. OnTrue whole (length table.new ≡ parameter_count)) }
-    ensures size { (R.seen rig.new).sectors ≡ (R.seen rig.old).sectors }
-    ensures failures { FailureCountSpec result (R.seen rig.old).failed (R.seen rig.new).failed }
+    ensures call { IsCall result (R.seen rig.old) (R.seen rig.new) }
 {
     for i in 0..parts_for(changes) - 1 {
         let sector = read_sector(rig, LOG_FIRST + at + 1 + i)?;
@@ -122,8 +120,7 @@ fn take_record<R: Rig, A: Allocator + Copy + Drop>(
     ensures long { IfOk result (λ whole. OnTrue whole (stored.new.length ≡ header.length)) }
     ensures none { IfOk result (λ whole. OnTrue whole (header.format ≡ One → stored.new.tools ≡ stored.old.tools)) }
     ensures limit { stored.new.room ≡ stored.old.room }
-    ensures size { (R.seen rig.new).sectors ≡ (R.seen rig.old).sectors }
-    ensures failures { FailureCountSpec result (R.seen rig.old).failed (R.seen rig.new).failed }
+    ensures call { IsCall result (R.seen rig.old) (R.seen rig.new) }
 {
     match decoded_state_of_part(first, header.length) {
         None => Ok(false),
@@ -162,8 +159,7 @@ fn next_record<R: Rig, A: Allocator + Copy + Drop>(
     ensures long { IfOk result (λ next. Goes next (stored.new.length ≡ header.length)) }
     ensures none { IfOk result (λ next. Goes next (header.format ≡ One → stored.new.tools ≡ stored.old.tools)) }
     ensures limit { stored.new.room ≡ stored.old.room }
-    ensures size { (R.seen rig.new).sectors ≡ (R.seen rig.old).sectors }
-    ensures failures { FailureCountSpec result (R.seen rig.old).failed (R.seen rig.new).failed }
+    ensures call { IsCall result (R.seen rig.old) (R.seen rig.new) }
 {
     if end.sector == header.log_size() {
         return Ok(Next::Last);
@@ -218,8 +214,7 @@ pub fn read_log<R: Rig, A: Allocator + Copy + Drop>(
     ensures long { IfOk result (λ end. IfSome end (λ e. stored.new.length ≡ header.length)) }
     ensures none { IfOk result (λ end. IfSome end (λ e. header.format ≡ One → stored.new.tools ≡ stored.old.tools)) }
     ensures limit { stored.new.room ≡ stored.old.room }
-    ensures size { (R.seen rig.new).sectors ≡ (R.seen rig.old).sectors }
-    ensures failures { FailureCountSpec result (R.seen rig.old).failed (R.seen rig.new).failed }
+    ensures call { IsCall result (R.seen rig.old) (R.seen rig.new) }
 {
     let mut reached = LogEnd::START;
     'records: for _ in 0..header.log_size() {

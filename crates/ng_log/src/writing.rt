@@ -1,6 +1,6 @@
 //! Writing a record after the last one.
 ghost use Rattle.std.specs.Prelude.{◌≡◌, ◌≤◌, ◌+◌, length, IfOk, IfSome};
-ghost use Rattle.ng_rig.specs.Calls.{IfHonest, FailureCountSpec};
+ghost use Rattle.ng_rig.specs.Calls.{IfHonest, IsCall};
 ghost use Rattle.ng_layout.specs.Limits.{greatest_count, part_changes};
 ghost use Rattle.ng_params.specs.Numbers.{parameter_count};
 ghost use Rattle.ng_layout.specs.Areas.{log_size_of, least_size, longest_log};
@@ -55,8 +55,7 @@ fn write_parts<R: Rig, A: Allocator + Copy + Drop>(
     requires storable { IsStorable stored.now }
     ensures writes { IfHonest (R.seen rig.old) (R.seen rig.new)
         (WritesParts result (record_from epoch end old.now slot stored.now) (R.seen rig.old).trace (R.seen rig.new).trace) }
-    ensures size { (R.seen rig.new).sectors ≡ (R.seen rig.old).sectors }
-    ensures failures { FailureCountSpec result (R.seen rig.old).failed (R.seen rig.new).failed }
+    ensures call { IsCall result (R.seen rig.old) (R.seen rig.new) }
 {
     let parts = parts_for(count);
     let first = PartLabel {
@@ -117,8 +116,7 @@ pub fn append<R: Rig, A: Allocator + Copy + Drop>(
     ensures writes { IfHonest (R.seen rig.old) (R.seen rig.new)
         (WritesRecord result (record_from header.epoch end old.now slot stored.now) (R.seen rig.old).trace (R.seen rig.new).trace) }
     ensures end { IfOk result (λ after. after ≡ end_after end count) }
-    ensures size { (R.seen rig.new).sectors ≡ (R.seen rig.old).sectors }
-    ensures failures { FailureCountSpec result (R.seen rig.old).failed (R.seen rig.new).failed }
+    ensures call { IsCall result (R.seen rig.old) (R.seen rig.new) }
 {
     write_parts(rig, header.epoch, end, old, stored, count, slot)?;
     rig.sync()?;

@@ -30,6 +30,11 @@ abbrev pub FailureCountSpec : {T E : Type 0} → Result T E → ℕ → ℕ → 
 FailureCountSpec (Ok _) old new = new ≡ old
 FailureCountSpec (Err _) old new = new ≡ (old + 1) % 2 ^ 64
 
+-- No call changes the size, and each one that fails is counted.
+pub record IsCall {T E : Type 0} (result : Result T E) (old new : Device) : Type 0 where
+  pub size : new.sectors ≡ old.sectors
+  pub failures : FailureCountSpec result old.failed new.failed
+
 -- the trace with the call, or without it if it failed
 abbrev pub KeepsOrNot : {T E : Type 0} → Result T E → Trace → Trace → Trace → Type 0
 KeepsOrNot (Ok _) with_it without new = new ≡ with_it

@@ -86,8 +86,8 @@ impl<R> FailRig<R> {
 impl<R: Rig> Rig for FailRig<R> {
     ghost use Rattle.std.specs.Prelude.{◌≡◌, ◌<◌, OnOk};
     ghost use Rattle.ng_rig.specs.Trace.{reads};
-    ghost use Rattle.ng_rig.specs.Calls.{IfHonest, WriteSpec, SyncSpec, HandOutSpec, FailureCountSpec};
-    ghost use Rattle.ng_rig.specs.FailOnce.{inner, failure_count, calls_before, device_of, FailRigSpec};
+    ghost use Rattle.ng_rig.specs.Calls.{IfHonest, WriteSpec, SyncSpec, HandOutSpec, IsCall};
+    ghost use Rattle.ng_rig.specs.FailOnce.{inner, calls_before, device_of, FailRigSpec};
 
     ghost seen = { device_of R.seen };
 
@@ -105,8 +105,7 @@ impl<R: Rig> Rig for FailRig<R> {
         ensures untouched { calls_before self.old ≡ Some 0 → into.new ≡ into.old }
         ensures trace { IfHonest (device_of R.seen self.old) (device_of R.seen self.new)
             ((R.seen (inner self.new)).trace ≡ (R.seen (inner self.old)).trace) }
-        ensures size { (R.seen (inner self.new)).sectors ≡ (R.seen (inner self.old)).sectors }
-        ensures failures { FailureCountSpec result (failure_count self.old) (failure_count self.new) }
+        ensures call { IsCall result (device_of R.seen self.old) (device_of R.seen self.new) }
         ensures once { FailRigSpec result R.seen self.old self.new }
     {
         let read = if self.passes() {
@@ -121,8 +120,7 @@ impl<R: Rig> Rig for FailRig<R> {
         requires { sector < (R.seen (inner self.old)).sectors }
         ensures trace { IfHonest (device_of R.seen self.old) (device_of R.seen self.new)
             (WriteSpec result sector bytes.now (R.seen (inner self.old)).trace (R.seen (inner self.new)).trace) }
-        ensures size { (R.seen (inner self.new)).sectors ≡ (R.seen (inner self.old)).sectors }
-        ensures failures { FailureCountSpec result (failure_count self.old) (failure_count self.new) }
+        ensures call { IsCall result (device_of R.seen self.old) (device_of R.seen self.new) }
         ensures once { FailRigSpec result R.seen self.old self.new }
     {
         let written = if self.passes() {
@@ -136,8 +134,7 @@ impl<R: Rig> Rig for FailRig<R> {
     fn sync(&mut self) -> Result<(), Failed>
         ensures trace { IfHonest (device_of R.seen self.old) (device_of R.seen self.new)
             (SyncSpec result (R.seen (inner self.old)).trace (R.seen (inner self.new)).trace) }
-        ensures size { (R.seen (inner self.new)).sectors ≡ (R.seen (inner self.old)).sectors }
-        ensures failures { FailureCountSpec result (failure_count self.old) (failure_count self.new) }
+        ensures call { IsCall result (device_of R.seen self.old) (device_of R.seen self.new) }
         ensures once { FailRigSpec result R.seen self.old self.new }
     {
         let synced = if self.passes() {
@@ -151,8 +148,7 @@ impl<R: Rig> Rig for FailRig<R> {
     fn hand_out(&mut self, item: Item) -> Result<(), Failed>
         ensures trace { IfHonest (device_of R.seen self.old) (device_of R.seen self.new)
             (HandOutSpec result item (R.seen (inner self.old)).trace (R.seen (inner self.new)).trace) }
-        ensures size { (R.seen (inner self.new)).sectors ≡ (R.seen (inner self.old)).sectors }
-        ensures failures { FailureCountSpec result (failure_count self.old) (failure_count self.new) }
+        ensures call { IsCall result (device_of R.seen self.old) (device_of R.seen self.new) }
         ensures once { FailRigSpec result R.seen self.old self.new }
     {
         let handed = if self.passes() {

@@ -81,8 +81,8 @@ impl<R> FuseRig<R> {
 impl<R: Rig> Rig for FuseRig<R> {
     ghost use Rattle.std.specs.Prelude.{◌≡◌, ◌<◌, OnOk};
     ghost use Rattle.ng_rig.specs.Trace.{reads};
-    ghost use Rattle.ng_rig.specs.Calls.{IfHonest, WriteSpec, SyncSpec, HandOutSpec, FailureCountSpec};
-    ghost use Rattle.ng_rig.specs.Fuse.{inner, failure_count, calls_left, device_of, FuseRigSpec};
+    ghost use Rattle.ng_rig.specs.Calls.{IfHonest, WriteSpec, SyncSpec, HandOutSpec, IsCall};
+    ghost use Rattle.ng_rig.specs.Fuse.{inner, calls_left, device_of, FuseRigSpec};
 
     ghost seen = { device_of R.seen };
 
@@ -100,8 +100,7 @@ impl<R: Rig> Rig for FuseRig<R> {
         ensures untouched { calls_left self.old ≡ 0 → into.new ≡ into.old }
         ensures trace { IfHonest (device_of R.seen self.old) (device_of R.seen self.new)
             ((R.seen (inner self.new)).trace ≡ (R.seen (inner self.old)).trace) }
-        ensures size { (R.seen (inner self.new)).sectors ≡ (R.seen (inner self.old)).sectors }
-        ensures failures { FailureCountSpec result (failure_count self.old) (failure_count self.new) }
+        ensures call { IsCall result (device_of R.seen self.old) (device_of R.seen self.new) }
         ensures fuse { FuseRigSpec result R.seen self.old self.new }
     {
         let read = if self.passes() {
@@ -116,8 +115,7 @@ impl<R: Rig> Rig for FuseRig<R> {
         requires { sector < (R.seen (inner self.old)).sectors }
         ensures trace { IfHonest (device_of R.seen self.old) (device_of R.seen self.new)
             (WriteSpec result sector bytes.now (R.seen (inner self.old)).trace (R.seen (inner self.new)).trace) }
-        ensures size { (R.seen (inner self.new)).sectors ≡ (R.seen (inner self.old)).sectors }
-        ensures failures { FailureCountSpec result (failure_count self.old) (failure_count self.new) }
+        ensures call { IsCall result (device_of R.seen self.old) (device_of R.seen self.new) }
         ensures fuse { FuseRigSpec result R.seen self.old self.new }
     {
         let written = if self.passes() {
@@ -131,8 +129,7 @@ impl<R: Rig> Rig for FuseRig<R> {
     fn sync(&mut self) -> Result<(), Failed>
         ensures trace { IfHonest (device_of R.seen self.old) (device_of R.seen self.new)
             (SyncSpec result (R.seen (inner self.old)).trace (R.seen (inner self.new)).trace) }
-        ensures size { (R.seen (inner self.new)).sectors ≡ (R.seen (inner self.old)).sectors }
-        ensures failures { FailureCountSpec result (failure_count self.old) (failure_count self.new) }
+        ensures call { IsCall result (device_of R.seen self.old) (device_of R.seen self.new) }
         ensures fuse { FuseRigSpec result R.seen self.old self.new }
     {
         let synced = if self.passes() {
@@ -146,8 +143,7 @@ impl<R: Rig> Rig for FuseRig<R> {
     fn hand_out(&mut self, item: Item) -> Result<(), Failed>
         ensures trace { IfHonest (device_of R.seen self.old) (device_of R.seen self.new)
             (HandOutSpec result item (R.seen (inner self.old)).trace (R.seen (inner self.new)).trace) }
-        ensures size { (R.seen (inner self.new)).sectors ≡ (R.seen (inner self.old)).sectors }
-        ensures failures { FailureCountSpec result (failure_count self.old) (failure_count self.new) }
+        ensures call { IsCall result (device_of R.seen self.old) (device_of R.seen self.new) }
         ensures fuse { FuseRigSpec result R.seen self.old self.new }
     {
         let handed = if self.passes() {

@@ -119,7 +119,7 @@ impl<A: Allocator + Copy + Drop> MemoryRig<A> {
 impl<A: Allocator + Copy + Drop> Rig for MemoryRig<A> {
     ghost use Rattle.std.specs.Prelude.{◌≡◌, ◌<◌, IsOk};
     ghost use Rattle.ng_rig.specs.Trace.{Wrote, Synced, Handed, reads};
-    ghost use Rattle.ng_rig.specs.Calls.{FailureCountSpec, KeepsOrNot};
+    ghost use Rattle.ng_rig.specs.Calls.{IsCall, KeepsOrNot};
     ghost use Rattle.ng_rig.specs.MemoryRig.{trace_of, sector_count, failure_count, device_of};
 
     ghost seen = { device_of };
@@ -148,8 +148,7 @@ impl<A: Allocator + Copy + Drop> Rig for MemoryRig<A> {
     fn write(&mut self, sector: usize, bytes: &[u8; 512]) -> Result<(), Failed>
         requires { sector < sector_count self.old }
         ensures trace { KeepsOrNot result (Wrote sector bytes.now (trace_of self.old)) (trace_of self.old) (trace_of self.new) }
-        ensures size { sector_count self.new ≡ sector_count self.old }
-        ensures failures { FailureCountSpec result (failure_count self.old) (failure_count self.new) }
+        ensures call { IsCall result (device_of self.old) (device_of self.new) }
     {
         match self.calls.push(Call::Write(sector, *bytes)) {
             Ok(()) => {
@@ -162,8 +161,7 @@ impl<A: Allocator + Copy + Drop> Rig for MemoryRig<A> {
 
     fn sync(&mut self) -> Result<(), Failed>
         ensures trace { KeepsOrNot result (Synced (trace_of self.old)) (trace_of self.old) (trace_of self.new) }
-        ensures size { sector_count self.new ≡ sector_count self.old }
-        ensures failures { FailureCountSpec result (failure_count self.old) (failure_count self.new) }
+        ensures call { IsCall result (device_of self.old) (device_of self.new) }
     {
         match self.calls.push(Call::Sync) {
             Ok(()) => Ok(()),
@@ -173,8 +171,7 @@ impl<A: Allocator + Copy + Drop> Rig for MemoryRig<A> {
 
     fn hand_out(&mut self, item: Item) -> Result<(), Failed>
         ensures trace { KeepsOrNot result (Handed item (trace_of self.old)) (trace_of self.old) (trace_of self.new) }
-        ensures size { sector_count self.new ≡ sector_count self.old }
-        ensures failures { FailureCountSpec result (failure_count self.old) (failure_count self.new) }
+        ensures call { IsCall result (device_of self.old) (device_of self.new) }
     {
         match self.calls.push(Call::Hand(item)) {
             Ok(()) => Ok(()),

@@ -3,7 +3,7 @@ ghost use Rattle.std.specs.Prelude.{◌≡◌, ◌<◌, OnOk};
 ghost use Rattle.ng_rig.specs.Trace.{reads};
 ghost use Rattle.ng_rig.specs.Device.{Device};
 ghost use Rattle.ng_rig.specs.Extent.{HasExtent};
-ghost use Rattle.ng_rig.specs.Calls.{IfHonest, WriteSpec, SyncSpec, HandOutSpec, FailureCountSpec};
+ghost use Rattle.ng_rig.specs.Calls.{IfHonest, WriteSpec, SyncSpec, HandOutSpec, IsCall};
 
 use ng_canon::Item;
 
@@ -33,8 +33,7 @@ pub trait Rig {
         requires { sector < (seen self.old).sectors }
         ensures bytes { (seen self.old).honest → OnOk result (into.new ≡ reads (seen self.old).trace sector) }
         ensures trace { IfHonest (seen self.old) (seen self.new) ((seen self.new).trace ≡ (seen self.old).trace) }
-        ensures size { (seen self.new).sectors ≡ (seen self.old).sectors }
-        ensures failures { FailureCountSpec result (seen self.old).failed (seen self.new).failed };
+        ensures call { IsCall result (seen self.old) (seen self.new) };
 
     /// Writes a sector. If it fails, reads return either the old content or the new one, always the same one, and a
     /// stop may leave either.
@@ -42,20 +41,17 @@ pub trait Rig {
         requires { sector < (seen self.old).sectors }
         ensures trace { IfHonest (seen self.old) (seen self.new)
             (WriteSpec result sector bytes.now (seen self.old).trace (seen self.new).trace) }
-        ensures size { (seen self.new).sectors ≡ (seen self.old).sectors }
-        ensures failures { FailureCountSpec result (seen self.old).failed (seen self.new).failed };
+        ensures call { IsCall result (seen self.old) (seen self.new) };
 
     /// Makes what was written durable: from then on a stop leaves what a read returns. If it fails, nothing is
     /// guaranteed.
     fn sync(&mut self) -> Result<(), Failed>
         ensures trace { IfHonest (seen self.old) (seen self.new) (SyncSpec result (seen self.old).trace (seen self.new).trace) }
-        ensures size { (seen self.new).sectors ≡ (seen self.old).sectors }
-        ensures failures { FailureCountSpec result (seen self.old).failed (seen self.new).failed };
+        ensures call { IsCall result (seen self.old) (seen self.new) };
 
     /// Hands an item out. If it fails, either the item or nothing was handed out.
     fn hand_out(&mut self, item: Item) -> Result<(), Failed>
         ensures trace { IfHonest (seen self.old) (seen self.new)
             (HandOutSpec result item (seen self.old).trace (seen self.new).trace) }
-        ensures size { (seen self.new).sectors ≡ (seen self.old).sectors }
-        ensures failures { FailureCountSpec result (seen self.old).failed (seen self.new).failed };
+        ensures call { IsCall result (seen self.old) (seen self.new) };
 }

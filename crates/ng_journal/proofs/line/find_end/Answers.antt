@@ -30,8 +30,8 @@ loop-n-preserved g c =
         part_kept (program_text c.args.program_end row) _ _ c.args.place c.loop-n.n _
             (c.part_of.ensures.part row (sector_at c.args.area c.program_first-first.result c.loop-n.n begun _ _ c.program_first-first.ensures.is few p.0 q.right)) p.1 c.in-None.ensures.taken,
       ));
-      size = c.in_ok-sector.ensures.size ∙ c.loop-n.invariant.size;
-      failures = c.in_ok-sector.ensures.failures ∙ c.loop-n.invariant.failures;
+      size = c.in_ok-sector.ensures.call.size ∙ c.loop-n.invariant.size;
+      failures = c.in_ok-sector.ensures.call.failures ∙ c.loop-n.invariant.failures;
     }
 
 pub returns-clause-read : goal.returns-clause-read

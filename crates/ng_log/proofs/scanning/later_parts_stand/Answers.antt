@@ -33,8 +33,8 @@ loop-part-preserved g c =
         (let s = sector_here old _ _ (c.args.at + c.loop-part.part) c.in_ok-sector.sector (omega arith) p.0 q.right in
             stand_more c.loop-part.part c.args.at (label_of c.args.first) (reads old) c.in_ok-sector.sector c.is_of.result s c.is_of.ensures c.if-not-is_of.false p.1),
       ));
-      size = c.in_ok-sector.ensures.size ∙ inv.size;
-      failures = c.in_ok-sector.ensures.failures ∙ inv.failures;
+      size = c.in_ok-sector.ensures.call.size ∙ inv.size;
+      failures = c.in_ok-sector.ensures.call.failures ∙ inv.failures;
     }
 
 pub returns-clause-read : goal.returns-clause-read

@@ -44,8 +44,8 @@ records-preserved g c =
         q.same ∙ p.0,
         runs_more h.format h.length (log_of h (reads old)) h.epoch _ _ (position_of after c.next_record.new.stored) p.1 (next_is h c.records.reached c.records.stored c.next_record.new.stored old _ c.in_ok-next_record.field-0 (After after) p.0 c.in-After.is q.right).0,
       ));
-      size = e.size ∙ inv.size;
-      failures = e.failures ∙ inv.failures;
+      size = e.call.size ∙ inv.size;
+      failures = e.call.failures ∙ inv.failures;
     }
 
 pub returns-in-Last-clause-read : goal.returns-in-Last-clause-read

@@ -37,6 +37,6 @@ loop-i-preserved g c =
             makes_part (from_log (reads old)) c.args.at c.loop-i.i c.min-count.result c.args.changes c.in_ok-sector.sector _ _ _ p.1 few c.min-count.ensures s m),
       ));
       long = ap length m.is ∙ with_long c.loop-i.table m.changes ∙ inv.long;
-      size = c.in_ok-sector.ensures.size ∙ inv.size;
-      failures = c.in_ok-sector.ensures.failures ∙ inv.failures;
+      size = c.in_ok-sector.ensures.call.size ∙ inv.size;
+      failures = c.in_ok-sector.ensures.call.failures ∙ inv.failures;
     }

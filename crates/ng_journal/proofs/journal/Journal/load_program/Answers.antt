@@ -92,5 +92,5 @@ invariant_of-self g c =
     let next_is = c.next_header-next.ensures ∙ (λ i. next_header header area (c.stored.view_is i).length) in
     let now_is = ap (λ (v : JournalModel g.row.R.Denot). v.saved.room) c.self.view_is in
     let storable = storable_kept inside.stored c.args.stored.now c.self.invariant.storable (c.requires.storable (omega (arith, c.if-text-self.false, room_is, now_is))) short in
-    let steady = steady_loaded _ _ area header c.next_header-next.result inside.tip.end inside.stored (with_room inside.stored.room c.args.stored.now) c.self.invariant c.in-Ok.ensures.size more.0 has longest short refl storable (subst (λ (s : StoredModel). s.entries ≤ greatest_count) c.stored.view_is more.1) next_is in
+    let steady = steady_loaded _ _ area header c.next_header-next.result inside.tip.end inside.stored (with_room inside.stored.room c.args.stored.now) c.self.invariant c.in-Ok.ensures.call.size more.0 has longest short refl storable (subst (λ (s : StoredModel). s.entries ≤ greatest_count) c.stored.view_is more.1) next_is in
     rw c.beginning-self-inside.ensures (subst (λ (x : StoredModel). IsSteady (g.R.Rig.seen c.load.new.rig).sectors c.next_header-next.result no_records x) (sym c.take_state.ensures) steady)
