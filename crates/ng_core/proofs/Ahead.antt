@@ -23,6 +23,7 @@ use Rattle.ng_layout.specs.declared.half.Source.TheVariants as source
 use Rattle.ng_block.specs.Effects.{Done}
 use Rattle.ng_core.specs.Model.{ControllerModel, IsAtRestWith, durable_state_of}
 use Rattle.ng_session.specs.Runs.{crash_in, session_of_transition}
+use Rattle.ng_core.specs.Needs.{needs, needs_line}
 use Rattle.ng_core.specs.Events.{IsCrashOfEither, program_session_of, CarriesOut, CarriesOutEvent, IsAnsweredBy, IsAnsweredAnyway, IsAnsweredByLine}
 use Rattle.ng_core.specs.Private.Ahead.{PlansAhead}
 use Rattle.ng_core.proofs.Acting.{acts_unread}
@@ -56,7 +57,7 @@ module _ {R : Type 0} (honest : R → Type 0) (trace : R → Trace) (failed sect
   -- from a controller that knows less
   pub carried_from : (memory device reads : Type 0) (out : List ℕ → Transition) (answer : Result Reply Fault) (old new : ControllerModel R) (known : KnownModel)
       → ((program : List ℕ) → IsKnownOf program old.lines → IsKnownOf program known)
-      → CarriesOut honest trace failed sectors memory device reads out answer (with_lines old known) new → CarriesOut honest trace failed sectors memory device reads out answer old new
+      → CarriesOut honest trace failed sectors (needs memory device reads) out answer (with_lines old known) new → CarriesOut honest trace failed sectors (needs memory device reads) out answer old new
   carried_from memory device reads out answer old new known still c = record {
     does = meaning c.does (λ f program rests.
         let a = f program (rests.0, still program rests.1) in
@@ -94,7 +95,7 @@ module _ {R : Type 0} (honest : R → Type 0) (trace : R → Trace) (failed sect
 
   pub carried_ahead : (told : Reply) (old new : ControllerModel R) → old.journal.broken ≡ false → is_running old.session.activity ≡ true → new.journal ≡ old.journal → new.equipment ≡ old.equipment
       → IsBegunAhead old.equipment told old.session new.session old.lines new.lines
-      → CarriesOut honest trace failed sectors (Unit {0}) (Unit {0}) (Unit {0}) (λ program. begin old.equipment program old.session (program_line_at program old.session.stored.place)) (Ok told) old new
+      → CarriesOut honest trace failed sectors needs_line (λ program. begin old.equipment program old.session (program_line_at program old.session.stored.place)) (Ok told) old new
   carried_ahead told old new whole runs same equipment b =
       let p = b.planned in
       let line : ProgramLineModel = record { text = p.prepared.block.text; next = p.next } in
@@ -188,8 +189,8 @@ module _ {R : Type 0} (honest : R → Type 0) (trace : R → Trace) (failed sect
   -- ---- a line is begun, and then more are planned
 
   pub carried_planned : (memory device reads : Type 0) (told : Reply) (v : Unit {0}) (out : List ℕ → Transition) (old mid new : ControllerModel R)
-      → CarriesOut honest trace failed sectors memory device reads out (Ok told) old mid → PlansAhead honest trace failed sectors (Ok v) mid new
-      → CarriesOut honest trace failed sectors memory device reads out (Ok told) old new
+      → CarriesOut honest trace failed sectors (needs memory device reads) out (Ok told) old mid → PlansAhead honest trace failed sectors (Ok v) mid new
+      → CarriesOut honest trace failed sectors (needs memory device reads) out (Ok told) old new
   carried_planned memory device reads told v out old mid new c p = record {
     does = record {
       keeps = λ h. p.does.keeps (c.does.keeps h);
@@ -225,8 +226,8 @@ module _ {R : Type 0} (honest : R → Type 0) (trace : R → Trace) (failed sect
   -- the device failed in that: the line is begun
   pub carried_unplanned : (fault e : Fault) (old mid new : ControllerModel R) → fault ≡ e → is_running old.session.activity ≡ true
       → (let begins : List ℕ → Transition = λ program. begin old.equipment program old.session (program_line_at program old.session.stored.place) in
-      CarriesOut honest trace failed sectors (Unit {0}) (Unit {0}) (Unit {0}) begins (Ok reply.Begun) old mid → PlansAhead honest trace failed sectors (Err e) mid new
-      → CarriesOut honest trace failed sectors (Unit {0}) (Unit {0}) (Unit {0}) begins (Err fault) old new)
+      CarriesOut honest trace failed sectors needs_line begins (Ok reply.Begun) old mid → PlansAhead honest trace failed sectors (Err e) mid new
+      → CarriesOut honest trace failed sectors needs_line begins (Err fault) old new)
   carried_unplanned fault e old mid new is runs c p =
       let begins : List ℕ → Transition = λ program. begin old.equipment program old.session (program_line_at program old.session.stored.place) in
       let l = c.line tt in

@@ -15,8 +15,8 @@ use Rattle.ng_journal.specs.Storing.{Ledger, Storing, Commit, Open, Load, UsesUp
 use Rattle.ng_num.specs.declared.point.Point.{Point}
 use Rattle.ng_session.specs.Entries.{Equipment, done_of, done_again, after_load, after_reference, after_abandon, after_tool}
 use Rattle.ng_session.specs.Session.{CurrentBlockModel, SessionModel, Transition, end, begin, begin_by, load, load_unless, load_refusal, reference, reference_unless, reference_refusal, abandon, abandon_unless, abandon_refusal, tool, tool_unless, tool_refusal, refuses, resume, resume_half, resume_from, resume_by, is_at_rest, IsBetweenLines, opening_of, opening_reply, entry_on, committed}
-use Rattle.ng_session.specs.declared.stage.Stage.{Stage}
-use Rattle.ng_session.specs.declared.stage.Stage.TheVariants as stage
+use Rattle.ng_session.specs.Stages.{Stage}
+use Rattle.ng_session.specs.Stages as stage
 use Rattle.ng_core.specs.Causes.{UsesUpCounter, IsCausedBy, stored_for, with_entry}
 use Rattle.ng_core.proofs.Ticks.{IsDue, opening}
 

@@ -25,7 +25,7 @@ with_entry saved Approached = Commit saved
 with_entry saved Abandoned = Commit saved
 with_entry saved (Tooled slot nm) = Commit saved
 
--- the same of the entry that there is, if there is one
+-- what is stored with the entry that there is, if there is one
 abbrev pub with_entries : StoredModel → List Entry → Option Storing
 with_entries saved [] = None
 with_entries saved (entry ∷ more) = Some (with_entry saved entry)

@@ -9,7 +9,7 @@ use Rattle.ng_rig.specs.Continuation.{IsContinuation}
 use Rattle.ng_journal.specs.Journal.{StandsFor, IsBrokenBy, CountsFailure}
 use Rattle.ng_journal.specs.Storing.{ledger_of}
 use Rattle.ng_text.specs.Programs.{ProgramLineModel}
-use Rattle.ng_session.specs.Session.{SessionModel, Transition, begin, is_running, session_status, TakesMemory, AsksDevice, NeedsProgramLine}
+use Rattle.ng_session.specs.Session.{SessionModel, Transition, begin, is_running, session_status}
 use Rattle.ng_session.specs.Runs.{ProgramSession, CrashState, crash_in, session_of_transition}
 use Rattle.ng_session.specs.declared.event.Event.{Event}
 use Rattle.ng_session.specs.declared.event.Event.TheVariants as event
@@ -19,6 +19,7 @@ use Rattle.ng_session.specs.declared.reply.Status.{Status}
 use Rattle.ng_session.specs.declared.reply.Condition.TheVariants as condition
 use Rattle.ng_core.specs.Causes.{IsCausedBy, transition_of}
 use Rattle.ng_core.specs.Model.{ControllerModel, IsAtRestWith}
+use Rattle.ng_core.specs.Needs.{Needs, needs_of}
 
 -- the reply to an event that the session answered, or why it didn't
 abbrev pub reply_to : Result Reply Fault → Reply
@@ -97,8 +98,8 @@ pub record IsCarriedOut {R : Type 0} (answer : Result Reply Fault) (out : Transi
   pub leaves : LeavesDevice answer out program new trace_old trace_new
   pub untouched : IfOk answer (λ r. TouchesNothing r → trace_new ≡ trace_old)
 
--- The same over an honest device that rests with what the session stored: what it leads to is by the program of what
--- stands.
+-- An event came to its outcome over an honest device that rests with what the session stored: what it leads to is by
+-- the program of what stands.
 abbrev pub IsCarriedOutIfHonest : {R : Type 0} → (R → Type 0) → (R → Trace) → Result Reply Fault → (List ℕ → Transition) → ControllerModel R → ControllerModel R → Type 0
 IsCarriedOutIfHonest honest trace answer out old new =
     IfHonest (honest old.journal.rig) (honest new.journal.rig) ((program : List ℕ) → IsAtRestWith (trace old.journal.rig) old program
@@ -109,24 +110,22 @@ abbrev pub handing : Item → List ℕ → SessionModel → Transition
 handing item program s = record { reply = reply.Moved; items = item ∷ []; entries = []; program = program; next = s }
 
 -- An answer to what leads to this, and what it leaves: of an honest device, and of any; where a line is read for it, it
--- is that line's. An error has its cause: memory is taken, the device is asked, and a line of the program is read,
--- where these say so. The journal is broken, and the device counted a failure, exactly where that failed; the device
--- keeps its size.
-pub record CarriesOut {R : Type 0} (honest : R → Type 0) (trace : R → Trace) (failed sectors : R → ℕ) (memory device reads : Type 0) (out : List ℕ → Transition) (answer : Result Reply Fault) (old new : ControllerModel R) : Type 0 where
+-- is that line's. An error has its cause, by what the answer needs. The journal is broken, and the device counted a
+-- failure, exactly where that failed; the device keeps its size.
+pub record CarriesOut {R : Type 0} (honest : R → Type 0) (trace : R → Trace) (failed sectors : R → ℕ) (needs : Needs) (out : List ℕ → Transition) (answer : Result Reply Fault) (old new : ControllerModel R) : Type 0 where
   pub does : IsCarriedOutIfHonest honest trace answer out old new
-  pub comes : IsAnsweredAnyway reads answer out old new
-  pub line : reads → IfOk answer (λ r. IsAnsweredByLine r out old new)
-  pub hindered : IfErr answer (IsCausedBy memory device (ledger_of old.journal) out)
+  pub comes : IsAnsweredAnyway needs.reads answer out old new
+  pub line : needs.reads → IfOk answer (λ r. IsAnsweredByLine r out old new)
+  pub hindered : IfErr answer (IsCausedBy needs.memory needs.device (ledger_of old.journal) out)
   pub broken : IsBrokenBy answer new.journal.broken
   pub equipment : new.equipment ≡ old.equipment
   pub size : sectors new.journal.rig ≡ sectors old.journal.rig
   pub failures : CountsFailure answer (failed old.journal.rig) (failed new.journal.rig)
 
--- the same of an event, by its own lines
+-- An answer to an event, by what that leads to and needs.
 abbrev pub CarriesOutEvent : {A R : Type 0} → (R → Type 0) → (R → Trace) → (failed sectors : R → ℕ) → Event A → Result Reply Fault → ControllerModel R → ControllerModel R → Type 0
 CarriesOutEvent honest trace failed sectors event answer old new =
-    CarriesOut honest trace failed sectors (TakesMemory old.equipment old.session event) (AsksDevice old.equipment old.session event) (NeedsProgramLine old.equipment old.session event)
-    (λ program. transition_of old program event) answer old new
+    CarriesOut honest trace failed sectors (needs_of old.equipment old.session event) (λ program. transition_of old program event) answer old new
 
 -- A reply to an event, and what became of that.
 pub record Handles {A R : Type 0} (honest : R → Type 0) (trace : R → Trace) (failed sectors : R → ℕ) (event : Event A) (told : Reply) (old new : ControllerModel R) : Type 0 where

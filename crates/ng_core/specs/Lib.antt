@@ -1,5 +1,6 @@
 pub mod Model
 pub mod Causes
+pub mod Needs
 pub mod Events
 pub mod AnsweredEvents
 pub mod Powers

@@ -100,7 +100,7 @@ abbrev pub SessionKeepsToFold : Equipment → DurableState → CutSession → Op
 SessionKeepsToFold equipment x s None = s.acknowledged ≡ 0
 SessionKeepsToFold equipment x s (Some l) = KeepsToFold equipment x s l
 
--- the same of each session, each from the fold of the one before
+-- each session keeps to the fold, each from that of the one before
 abbrev pub EachKeepsToFold : Equipment → DurableState → List CutSession → List (Option CommittedSession) → Type 0
 EachKeepsToFold equipment x [] [] = Unit {0}
 EachKeepsToFold equipment x [] (l ∷ ls) = ⊥

@@ -26,7 +26,7 @@ answered_events [] answers = []
 answered_events (event ∷ events) [] = []
 answered_events (event ∷ events) (answer ∷ answers) = answered_events_by answer event (answered_events events answers)
 
--- the same, with the event in which it failed
+-- those events, with the one in which it failed
 abbrev pub tried_events_by : {A : Type 0} → Result Reply Fault → Event A → List (Event A) → List (Event A)
 tried_events_by (Ok r) event events = event ∷ events
 tried_events_by (Err DeviceFailed) event events = event ∷ []

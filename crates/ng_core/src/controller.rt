@@ -1,5 +1,5 @@
 //! A controller, and how it answers events.
-ghost use Rattle.std.specs.Prelude.{◌≡◌, true, false, None, IfErr, [], ◌∷◌};
+ghost use Rattle.std.specs.Prelude.{◌≡◌, true, false, IfErr, [], ◌∷◌};
 ghost use Rattle.ng_num.specs.declared.fault.Fault.TheVariants.{OutOfMemory};
 ghost use Rattle.ng_rig.specs.Calls.{IfHonest};
 
@@ -27,15 +27,20 @@ impl<R: Rig, A: Allocator + Copy + Drop> Model for Controller<R, A> {
 
     ghost Value = { ControllerModel R };
 
-    ghost view = { λ c. record { journal = c.journal; session = c.session; lines = c.lines; equipment = record { geometry = c.geometry } } };
+    ghost view = { λ c. record {
+      journal = c.journal;
+      session = c.session;
+      lines = c.lines;
+      equipment = record { geometry = c.geometry };
+    } };
 
     ghost invariant = { λ c. IsControllerInvariant c.journal c.session c.lines (record { geometry = c.geometry }) };
 }
 
 impl<R: Rig, A: Allocator + Copy + Drop> Controller<R, A> {
-    ghost use Rattle.ng_session.specs.Session.{load, load_refusal, IsQuiet};
+    ghost use Rattle.ng_session.specs.Session.{IsQuiet};
     ghost use Rattle.ng_session.specs.Planned.{drops_plan};
-    ghost use Rattle.ng_core.specs.Events.{CarriesOut, CarriesOutEvent, Handles, TellsFailure, reply_to, broken_answer};
+    ghost use Rattle.ng_core.specs.Events.{CarriesOutEvent, Handles, TellsFailure, reply_to, broken_answer};
     ghost use Rattle.ng_rig.specs.Trace.{moment};
     ghost use Rattle.ng_core.specs.Headline.{AddsToPast};
 
@@ -72,22 +77,29 @@ impl<R: Rig, A: Allocator + Copy + Drop> Controller<R, A> {
     /// after it. K5 to all but Status where it is broken already. The device keeps its size. Over an honest device all
     /// that came since power on, with this event, is accounted for by the plain interpreter, whenever power is cut.
     pub fn on(&mut self, event: Event<A>) -> Reply
-        ensures serves { self.old.journal.broken ≡ false → Handles R.honest R.trace R.failed R.sectors event result self.old self.new }
-        ensures failures { self.old.journal.broken ≡ false → TellsFailure result (R.failed self.old.journal.rig) (R.failed self.new.journal.rig) }
-        ensures broken { self.old.journal.broken ≡ true → (self.new ≡ self.old) × (result ≡ reply_to (broken_answer self.old.session event)) }
+        ensures serves { self.old.journal.broken ≡ false
+            → Handles R.honest R.trace R.failed R.sectors event result self.old self.new }
+        ensures failures { self.old.journal.broken ≡ false
+            → TellsFailure result (R.failed self.old.journal.rig) (R.failed self.new.journal.rig) }
+        ensures broken { self.old.journal.broken ≡ true
+            → (self.new ≡ self.old) × (result ≡ reply_to (broken_answer self.old.session event)) }
         ensures equipment { self.new.equipment ≡ self.old.equipment }
         ensures size { R.sectors self.new.journal.rig ≡ R.sectors self.old.journal.rig }
         ensures past { IfHonest (R.honest self.old.journal.rig) (R.honest self.new.journal.rig)
-            (AddsToPast R.honest R.trace R.failed R.sectors (event ∷ []) (result ∷ []) (moment (R.trace self.new.journal.rig) ∷ []) self.old self.new) }
+            (AddsToPast R.honest R.trace R.failed R.sectors (event ∷ []) (result ∷ [])
+            (moment (R.trace self.new.journal.rig) ∷ []) self.old self.new) }
     {
         self.reply(&event)
     }
 
     /// Answers an event that stays the caller's as `on` does: the same is refused, and the same is left.
     pub(crate) fn reply(&mut self, event: &Event<A>) -> Reply
-        ensures serves { self.old.journal.broken ≡ false → Handles R.honest R.trace R.failed R.sectors event.now result self.old self.new }
-        ensures failures { self.old.journal.broken ≡ false → TellsFailure result (R.failed self.old.journal.rig) (R.failed self.new.journal.rig) }
-        ensures broken { self.old.journal.broken ≡ true → (self.new ≡ self.old) × (result ≡ reply_to (broken_answer self.old.session event.now)) }
+        ensures serves { self.old.journal.broken ≡ false
+            → Handles R.honest R.trace R.failed R.sectors event.now result self.old self.new }
+        ensures failures { self.old.journal.broken ≡ false
+            → TellsFailure result (R.failed self.old.journal.rig) (R.failed self.new.journal.rig) }
+        ensures broken { self.old.journal.broken ≡ true
+            → (self.new ≡ self.old) × (result ≡ reply_to (broken_answer self.old.session event.now)) }
         ensures equipment { self.new.equipment ≡ self.old.equipment }
         ensures size { R.sectors self.new.journal.rig ≡ R.sectors self.old.journal.rig }
     {
@@ -99,8 +111,10 @@ impl<R: Rig, A: Allocator + Copy + Drop> Controller<R, A> {
 
     /// What the session answers, or why it doesn't answer: M1, J4, J1 or K5.
     fn handle(&mut self, event: &Event<A>) -> Result<Reply, Fault>
-        ensures carried { self.old.journal.broken ≡ false → CarriesOutEvent R.honest R.trace R.failed R.sectors event.now result self.old self.new }
-        ensures broken { self.old.journal.broken ≡ true → (self.new ≡ self.old) × (result ≡ broken_answer self.old.session event.now) }
+        ensures carried { self.old.journal.broken ≡ false
+            → CarriesOutEvent R.honest R.trace R.failed R.sectors event.now result self.old self.new }
+        ensures broken { self.old.journal.broken ≡ true
+            → (self.new ≡ self.old) × (result ≡ broken_answer self.old.session event.now) }
         ensures equipment { self.new.equipment ≡ self.old.equipment }
         ensures size { R.sectors self.new.journal.rig ≡ R.sectors self.old.journal.rig }
     {
@@ -111,8 +125,8 @@ impl<R: Rig, A: Allocator + Copy + Drop> Controller<R, A> {
         self.carry_out(event)
     }
 
-    /// The same of a whole device. What was read ahead is dropped already where it doesn't come any more after the
-    /// event.
+    /// What is answered while no call of the device has failed yet, or why nothing is: M1, J4 or J1. What was read
+    /// ahead is dropped already where it doesn't come any more after the event.
     fn carry_out(&mut self, event: &Event<A>) -> Result<Reply, Fault>
         requires whole { self.old.journal.broken ≡ false }
         requires alone { drops_plan event.now ≡ true → self.old.lines.ahead ≡ [] }
@@ -163,7 +177,7 @@ impl<R: Rig, A: Allocator + Copy + Drop> Controller<R, A> {
     fn load(&mut self, text: &[u8]) -> Result<Reply, Fault>
         requires whole { self.old.journal.broken ≡ false }
         requires alone { self.old.lines.ahead ≡ [] }
-        ensures { CarriesOut R.honest R.trace R.failed R.sectors (load_refusal self.old.session text.now ≡ None) (load_refusal self.old.session text.now ≡ None) ⊥ (λ program. load program self.old.session text.now) result self.old self.new }
+        ensures { CarriesOutEvent {A = A} R.honest R.trace R.failed R.sectors (Event.Load text.now) result self.old self.new }
     {
         if let Some(fault) = self.session.load_refusal(text) {
             return Ok(Reply::Refused(fault));

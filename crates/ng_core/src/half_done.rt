@@ -27,12 +27,14 @@ fn next_line<R: Rig, A: Allocator + Copy + Drop>(
 ) -> Result<u64, Fault>
     requires whole { journal.old.broken ≡ false }
     requires stored { session.now.stored ≡ journal.old.saved }
-    ensures next { IfHonest (R.honest journal.old.rig) (R.honest journal.new.rig) ((standing : DurableState) → IsDurablyAt (R.trace journal.old.rig) journal.old standing
+    ensures next { IfHonest (R.honest journal.old.rig) (R.honest journal.new.rig) ((standing : DurableState)
+        → IsDurablyAt (R.trace journal.old.rig) journal.old standing
         → NextLineSpec result journal.new standing session.now (R.trace journal.old.rig) (R.trace journal.new.rig)) }
     ensures within { IfOk result (λ next. next ≤ session.now.stored.length) }
     // without honesty too
     ensures beyond { IfOk result (λ next. session.now.stored.place ≤ next) }
-    ensures unread { (IsProgramsLine session.now.stored.half → ⊥) → (journal.new ≡ journal.old) × IfOk result (λ next. (program : List ℕ) → IsNextLineAt program session.now next) }
+    ensures unread { (IsProgramsLine session.now.stored.half → ⊥) → (journal.new ≡ journal.old)
+        × IfOk result (λ next. (program : List ℕ) → IsNextLineAt program session.now next) }
     ensures ledger { ledger_of journal.new ≡ ledger_of journal.old }
     ensures broken { IsBrokenBy result journal.new.broken }
     ensures errors { IfErr result (λ e. (e ≡ DeviceFailed) × IsProgramsLine session.now.stored.half) }
@@ -51,9 +53,11 @@ fn next_line<R: Rig, A: Allocator + Copy + Drop>(
 
 impl<R: Rig, A: Allocator + Copy + Drop> Controller<R, A> {
     ghost use Rattle.std.specs.Prelude.{None, []};
-    ghost use Rattle.ng_session.specs.Session.{reference, reference_refusal, abandon, abandon_refusal, resume, resume_refusal, IsProgramsLine, commits};
+    ghost use Rattle.ng_session.specs.Session.{commits};
     ghost use Rattle.ng_session.specs.Entries.{Entry};
-    ghost use Rattle.ng_core.specs.Events.{CarriesOut};
+    ghost use Rattle.ng_session.specs.declared.event.Event.TheVariants as event;
+    ghost use Rattle.ng_core.specs.Events.{CarriesOut, CarriesOutEvent};
+    ghost use Rattle.ng_core.specs.Needs.{needs_device};
     ghost use Rattle.ng_core.specs.Causes.{IsCommitted};
 
     /// Commits a report: it takes the place of what is stored of it. J4 where a counter is used up, J1 where the device
@@ -64,8 +68,11 @@ impl<R: Rig, A: Allocator + Copy + Drop> Controller<R, A> {
         requires free { self.old.session.current ≡ None }
         requires count { report.entries ≤ greatest_count }
         requires storable { IsStorable (with_decoded_state self.old.session.stored report self.old.session.stored.length) }
-        ensures { (entry : Entry) → IsCommitted entry → CarriesOut R.honest R.trace R.failed R.sectors ⊥ (Unit {0}) ⊥
-            (λ program. commits program entry (record self.old.session { stored = with_decoded_state self.old.session.stored report self.old.session.stored.length })) result self.old self.new }
+        ensures { (entry : Entry) → IsCommitted entry → CarriesOut R.honest R.trace R.failed R.sectors needs_device
+            (λ program. commits program entry (record self.old.session {
+              stored = with_decoded_state self.old.session.stored report self.old.session.stored.length;
+            }))
+            result self.old self.new }
     {
         // called for its contract: what is stored can be stored again
         let _ = self.session.stored();
@@ -85,7 +92,7 @@ impl<R: Rig, A: Allocator + Copy + Drop> Controller<R, A> {
     pub(crate) fn reference(&mut self, point: &Point) -> Result<Reply, Fault>
         requires whole { self.old.journal.broken ≡ false }
         requires alone { self.old.lines.ahead ≡ [] }
-        ensures { CarriesOut R.honest R.trace R.failed R.sectors ⊥ (reference_refusal self.old.equipment.geometry self.old.session point.now ≡ None) ⊥ (λ program. reference self.old.equipment program self.old.session point.now) result self.old self.new }
+        ensures { CarriesOutEvent {A = A} R.honest R.trace R.failed R.sectors (event.Reference point.now) result self.old self.new }
     {
         if let Some(fault) = self.session.reference_refusal(*point, &self.geometry) {
             return Ok(Reply::Refused(fault));
@@ -104,7 +111,7 @@ impl<R: Rig, A: Allocator + Copy + Drop> Controller<R, A> {
     pub(crate) fn abandon(&mut self) -> Result<Reply, Fault>
         requires whole { self.old.journal.broken ≡ false }
         requires alone { self.old.lines.ahead ≡ [] }
-        ensures { CarriesOut R.honest R.trace R.failed R.sectors ⊥ (abandon_refusal self.old.session ≡ None) ⊥ (λ program. abandon program self.old.session) result self.old self.new }
+        ensures { CarriesOutEvent {A = A} R.honest R.trace R.failed R.sectors event.Abandon result self.old self.new }
     {
         if let Some(fault) = self.session.abandon_refusal() {
             return Ok(Reply::Refused(fault));
@@ -125,8 +132,7 @@ impl<R: Rig, A: Allocator + Copy + Drop> Controller<R, A> {
     pub(crate) fn resume(&mut self) -> Result<Reply, Fault>
         requires whole { self.old.journal.broken ≡ false }
         requires alone { self.old.lines.ahead ≡ [] }
-        ensures { CarriesOut R.honest R.trace R.failed R.sectors (resume_refusal self.old.equipment self.old.session ≡ None) ((resume_refusal self.old.equipment self.old.session ≡ None) × IsProgramsLine self.old.session.stored.half) ((resume_refusal self.old.equipment self.old.session ≡ None) × IsProgramsLine self.old.session.stored.half)
-            (λ program. resume self.old.equipment program self.old.session) result self.old self.new }
+        ensures { CarriesOutEvent {A = A} R.honest R.trace R.failed R.sectors event.Resume result self.old self.new }
     {
         if let Some(fault) = self.session.resume_refusal(&self.geometry) {
             return Ok(Reply::Refused(fault));

@@ -22,26 +22,37 @@ use std::alloc::Allocator;
 /// under way too.
 pub fn histories<R: Rig, A: Allocator>()
     ensures { (events : List (Event A)) (replies : List Reply) (program : List ℕ) (old new : ControllerModel R)
-        → R.honest old.journal.rig → (turns : AreAnsweredEvents R.honest R.trace R.failed R.sectors events replies old new) → old.journal.broken ≡ false → IsAtRestWith (R.trace old.journal.rig) old program
-        → PassesAsSession R.trace events replies (answered_at R.honest R.trace R.failed R.sectors events replies old new turns) old.equipment (program_session_of program old) (R.trace old.journal.rig) new }
+        → R.honest old.journal.rig → (turns : AreAnsweredEvents R.honest R.trace R.failed R.sectors events replies old new)
+        → old.journal.broken ≡ false → IsAtRestWith (R.trace old.journal.rig) old program
+        → PassesAsSession R.trace events replies
+        (answered_at R.honest R.trace R.failed R.sectors events replies old new turns)
+        old.equipment (program_session_of program old) (R.trace old.journal.rig) new }
 {}
 
 /// Whenever power of an honest device is cut since power on, the plain interpreter accounts for what is left: by as
 /// many entries as were acknowledged until then, or one more.
 pub fn accounts<R: Rig, A: Allocator>()
-    ensures cuts { (x : DurableState) (events : List (Event A)) (replies : List Reply) (moments : List ℕ) (first now : ControllerModel R)
-        → R.honest first.journal.rig → IsPast R.honest R.trace R.failed R.sectors x events replies moments first now → Accounts R.trace x events replies moments first now }
+    ensures cuts { (x : DurableState) (events : List (Event A)) (replies : List Reply) (moments : List ℕ)
+        (first now : ControllerModel R) → R.honest first.journal.rig
+        → IsPast R.honest R.trace R.failed R.sectors x events replies moments first now
+        → Accounts R.trace x events replies moments first now }
 
     // so what a stop leaves counts them
-    ensures counts { (x : DurableState) (events : List (Event A)) (replies : List Reply) (moments : List ℕ) (first now : ControllerModel R)
-        → Accounts R.trace x events replies moments first now → CountsAcknowledged R.trace x replies moments first now }
+    ensures counts { (x : DurableState) (events : List (Event A)) (replies : List Reply) (moments : List ℕ)
+        (first now : ControllerModel R) → Accounts R.trace x events replies moments first now
+        → CountsAcknowledged R.trace x replies moments first now }
 
     // and by what `on` adds to a past, that alone, no stop within an event has fewer of them than were acknowledged
     // before it
-    ensures keeps { (event : Event A) (r : Reply) (old new : ControllerModel R) → AddsToPast {A = A} R.honest R.trace R.failed R.sectors (event ∷ []) (r ∷ []) (moment (R.trace new.journal.rig) ∷ []) old new
-        → (x : DurableState) (events : List (Event A)) (told : List Reply) (before : List ℕ) (first : ControllerModel R) → R.honest first.journal.rig → IsPast R.honest R.trace R.failed R.sectors x events told before first old
-        → (t : ℕ) (image : Image) (handed : List Item) (tools : List ℤ) (y : DurableState) → moment (R.trace old.journal.rig) ≤ t → t < moment (R.trace new.journal.rig)
-        → IsStop (trace_at t (R.trace new.journal.rig)) image handed → stands_beside tools image ≡ Ok y → x.saved.entries + dones told ≤ y.saved.entries }
+    ensures keeps { (event : Event A) (r : Reply) (old new : ControllerModel R)
+        → AddsToPast {A = A} R.honest R.trace R.failed R.sectors (event ∷ []) (r ∷ [])
+        (moment (R.trace new.journal.rig) ∷ []) old new
+        → (x : DurableState) (events : List (Event A)) (told : List Reply) (before : List ℕ) (first : ControllerModel R)
+        → R.honest first.journal.rig → IsPast R.honest R.trace R.failed R.sectors x events told before first old
+        → (t : ℕ) (image : Image) (handed : List Item) (tools : List ℤ) (y : DurableState)
+        → moment (R.trace old.journal.rig) ≤ t → t < moment (R.trace new.journal.rig)
+        → IsStop (trace_at t (R.trace new.journal.rig)) image handed → stands_beside tools image ≡ Ok y
+        → x.saved.entries + dones told ≤ y.saved.entries }
 {}
 
 /// However often power is cut, within power on or after it: from an image that only such a controller wrote, the last

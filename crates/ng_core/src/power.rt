@@ -33,7 +33,8 @@ pub fn power_on<R: Rig, A: Allocator + Copy + Drop>(
     settings: Settings,
 ) -> Result<Controller<R, A>, (Fault, R)>
     ensures gives { PowerOnSpec R.honest R.trace R.failed R.sectors settings rig result }
-    ensures past { let after = power_on_rig result in least_size ≤ R.sectors rig → (tools : List ℤ) → IsTableOver settings.tools tools (reads (R.trace rig))
+    ensures past { let after = power_on_rig result in least_size ≤ R.sectors rig
+        → (tools : List ℤ) → IsTableOver settings.tools tools (reads (R.trace rig))
         → IfHonest (R.honest rig) (R.honest after) (BeginsPast A tools R.honest R.trace R.failed R.sectors result (R.trace rig)) }
 {
     let Settings { geometry, tools } = settings;

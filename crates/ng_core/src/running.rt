@@ -14,14 +14,16 @@ impl<R: Rig, A: Allocator + Copy + Drop> Controller<R, A> {
 
     /// Answers events in turn, each as `on` does: the replies in their order (own).
     ///
-    /// M1 where there is no room for all replies: then no event was answered, and nothing is changed. A fault of an
-    /// event is its reply, and the next one is answered all the same. Over an honest device each stop leaves what
+    /// M1 where there isn't enough memory for all replies: then no event was answered, and nothing is changed. A fault
+    /// of an event is its reply, and the next one is answered all the same. Over an honest device each stop leaves what
     /// stands after the events that came until then, or after the one under way too; and all that came since power on,
     /// in this call and before it, is accounted for by the plain interpreter, whenever power is cut.
     pub fn run(&mut self, events: &[Event<A>]) -> Result<Vec<Reply, A>, Fault>
-        ensures runs { IfOk result (λ replies. (moments : List ℕ) × AreRun R.honest R.trace R.failed R.sectors events.now replies.items moments self.old self.new) }
+        ensures runs { IfOk result (λ replies. (moments : List ℕ)
+            × AreRun R.honest R.trace R.failed R.sectors events.now replies.items moments self.old self.new) }
         ensures each { IfOk result (λ replies. length replies.items ≡ length events.now) }
-        ensures failures { IfOk result (λ replies. CountsOneFailure self.old.journal.broken self.new.journal.broken (R.failed self.old.journal.rig) (R.failed self.new.journal.rig)) }
+        ensures failures { IfOk result (λ replies. CountsOneFailure self.old.journal.broken self.new.journal.broken
+            (R.failed self.old.journal.rig) (R.failed self.new.journal.rig)) }
         ensures equipment { self.new.equipment ≡ self.old.equipment }
         ensures size { R.sectors self.new.journal.rig ≡ R.sectors self.old.journal.rig }
         ensures memory { IfErr result (λ fault. (fault ≡ OutOfMemory) × (self.new ≡ self.old)) }

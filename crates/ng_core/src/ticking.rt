@@ -25,7 +25,8 @@ use std::alloc::Allocator;
 
 /// The kind of the first line before a place that isn't blank, where that is known: no line is before the beginning.
 fn known_before(known: &LinesBefore, place: u64) -> Option<LineKind>
-    ensures holds { (program : List ℕ) → IsTrueOf program known.now → IfSome result (λ kind. kind ≡ first_kind (lines_before program place)) }
+    ensures holds { (program : List ℕ) → IsTrueOf program known.now
+        → IfSome result (λ kind. kind ≡ first_kind (lines_before program place)) }
     ensures beginning { place ≡ 0 → result ≡ Some LineKind.Blank }
 {
     if place == 0 {
@@ -43,7 +44,8 @@ fn first_kind_before<R: Rig, A: Allocator + Copy + Drop>(
 ) -> Result<LineKind, Fault>
     requires whole { journal.old.broken ≡ false }
     requires place { place ≤ journal.old.saved.length }
-    ensures kind { IfHonest (R.honest journal.old.rig) (R.honest journal.new.rig) ((standing : DurableState) → IsDurablyAt (R.trace journal.old.rig) journal.old standing → IsTrueOf standing.program known.now.before
+    ensures kind { IfHonest (R.honest journal.old.rig) (R.honest journal.new.rig) ((standing : DurableState)
+        → IsDurablyAt (R.trace journal.old.rig) journal.old standing → IsTrueOf standing.program known.now.before
         → FirstKindSpec result journal.new standing place (R.trace journal.old.rig) (R.trace journal.new.rig)) }
     // without honesty too
     ensures beginning { place ≡ 0 → IfOk result (λ kind. kind ≡ LineKind.Blank) }
@@ -68,7 +70,8 @@ fn lines_after<A: Allocator + Copy + Drop>(
     text: &[u8],
     next: u64,
 ) -> LinesBefore
-    ensures { (program : List ℕ) → IsTrueOf program known.now.before → IsLineBetween program place first text.now next → IsTrueOf program result }
+    ensures { (program : List ℕ) → IsTrueOf program known.now.before
+        → IsLineBetween program place first text.now next → IsTrueOf program result }
 {
     if text.len() > LONGEST_TEXT {
         return *known.lines_before();
@@ -77,17 +80,18 @@ fn lines_after<A: Allocator + Copy + Drop>(
 }
 
 impl<R: Rig, A: Allocator + Copy + Drop> Controller<R, A> {
-    ghost use Rattle.ng_session.specs.Session.{open_part_of, tick, open_next, end, begin, opening_of, has_work, is_running, IsBetweenLines};
+    ghost use Rattle.ng_session.specs.Session.{open_part_of, open_next, end, begin, opening_of, is_running};
+    ghost use Rattle.ng_session.specs.declared.event.Event.TheVariants as event;
     ghost use Rattle.ng_text.specs.Programs.{program_line_at};
     ghost use Rattle.std.specs.Prelude.{None, []};
-    ghost use Rattle.ng_core.specs.Events.{CarriesOut, handing};
+    ghost use Rattle.ng_core.specs.Events.{CarriesOut, CarriesOutEvent, handing};
+    ghost use Rattle.ng_core.specs.Needs.{needs_device, needs_line, needs_of_work};
     ghost use Rattle.ng_core.specs.Private.Ahead.{PlansAhead};
 
     /// Does the next thing that is to do, of those above the first that applies.
     pub(crate) fn tick(&mut self) -> Result<Reply, Fault>
         requires { self.old.journal.broken ≡ false }
-        ensures { CarriesOut R.honest R.trace R.failed R.sectors ((self.old.session.held ≡ false) × IsBetweenLines self.old.session) ((self.old.session.held ≡ false) × (has_work self.old.session ≡ true)) ((self.old.session.held ≡ false) × IsBetweenLines self.old.session)
-            (λ program. tick self.old.equipment program self.old.session) result self.old self.new }
+        ensures { CarriesOutEvent {A = A} R.honest R.trace R.failed R.sectors event.Tick result self.old self.new }
     {
         if self.session.is_held() {
             return Ok(Reply::Held);
@@ -101,8 +105,9 @@ impl<R: Rig, A: Allocator + Copy + Drop> Controller<R, A> {
     /// With no item left: opens the approach or the next segment of the current block, or else ends what is open of it.
     fn go_further(&mut self) -> Result<Reply, Fault>
         requires { self.old.journal.broken ≡ false }
-        ensures { CarriesOut R.honest R.trace R.failed R.sectors (IsBetweenLines self.old.session) (has_work self.old.session ≡ true) (IsBetweenLines self.old.session)
-            (λ program. open_next self.old.equipment program self.old.session (opening_of self.old.session.current)) result self.old self.new }
+        ensures { CarriesOut R.honest R.trace R.failed R.sectors (needs_of_work self.old.session)
+            (λ program. open_next self.old.equipment program self.old.session (opening_of self.old.session.current))
+            result self.old self.new }
     {
         match self.session.opening() {
             Some(half) => self.open(half),
@@ -114,8 +119,9 @@ impl<R: Rig, A: Allocator + Copy + Drop> Controller<R, A> {
     /// if it runs.
     fn end(&mut self) -> Result<Reply, Fault>
         requires { self.old.journal.broken ≡ false }
-        ensures { CarriesOut R.honest R.trace R.failed R.sectors (IsBetweenLines self.old.session) (has_work self.old.session ≡ true) (IsBetweenLines self.old.session)
-            (λ program. end self.old.equipment program self.old.session self.old.session.current) result self.old self.new }
+        ensures { CarriesOut R.honest R.trace R.failed R.sectors (needs_of_work self.old.session)
+            (λ program. end self.old.equipment program self.old.session self.old.session.current)
+            result self.old self.new }
     {
         if self.session.after().is_some() {
             return self.commit();
@@ -129,7 +135,8 @@ impl<R: Rig, A: Allocator + Copy + Drop> Controller<R, A> {
     /// Hands out an item of the open segment, which the session took from it.
     fn hand_out(&mut self, item: Item) -> Result<Reply, Fault>
         requires { self.old.journal.broken ≡ false }
-        ensures { CarriesOut R.honest R.trace R.failed R.sectors ⊥ (Unit {0}) ⊥ (λ program. handing item program self.old.session) result self.old self.new }
+        ensures { CarriesOut R.honest R.trace R.failed R.sectors needs_device
+            (λ program. handing item program self.old.session) result self.old self.new }
     {
         self.journal.hand_out(item)?;
         Ok(Reply::Moved)
@@ -141,7 +148,8 @@ impl<R: Rig, A: Allocator + Copy + Drop> Controller<R, A> {
         requires half { IsStorableHalf half }
         requires block { IsSome self.old.session.current }
         requires is_open { IsSome half.opened }
-        ensures { CarriesOut R.honest R.trace R.failed R.sectors ⊥ (Unit {0}) ⊥ (λ program. open_part_of self.old.equipment program self.old.session half) result self.old self.new }
+        ensures { CarriesOut R.honest R.trace R.failed R.sectors needs_device
+            (λ program. open_part_of self.old.equipment program self.old.session half) result self.old self.new }
     {
         self.journal.open_segment(&half)?;
         Ok(self.session.open(half, &self.geometry))
@@ -151,7 +159,9 @@ impl<R: Rig, A: Allocator + Copy + Drop> Controller<R, A> {
     fn commit(&mut self) -> Result<Reply, Fault>
         requires whole { self.old.journal.broken ≡ false }
         requires block { IsSome self.old.session.current }
-        ensures { CarriesOut R.honest R.trace R.failed R.sectors ⊥ (Unit {0}) ⊥ (λ program. end self.old.equipment program self.old.session self.old.session.current) result self.old self.new }
+        ensures { CarriesOut R.honest R.trace R.failed R.sectors needs_device
+            (λ program. end self.old.equipment program self.old.session self.old.session.current)
+            result self.old self.new }
     {
         let Some(after) = self.session.after() else {
             unreachable!()
@@ -167,8 +177,10 @@ impl<R: Rig, A: Allocator + Copy + Drop> Controller<R, A> {
         requires whole { self.old.journal.broken ≡ false }
         requires runs { is_running self.old.session.activity ≡ true }
         requires free { self.old.session.current ≡ None }
-        ensures { CarriesOut R.honest R.trace R.failed R.sectors (Unit {0}) (Unit {0}) (Unit {0})
-            (λ program. begin self.old.equipment program self.old.session (program_line_at program self.old.session.stored.place)) result self.old self.new }
+        ensures { CarriesOut R.honest R.trace R.failed R.sectors needs_line
+            (λ program. begin self.old.equipment program self.old.session
+            (program_line_at program self.old.session.stored.place))
+            result self.old self.new }
     {
         match self.begin()? {
             Reply::Begun => {
@@ -186,8 +198,10 @@ impl<R: Rig, A: Allocator + Copy + Drop> Controller<R, A> {
         requires whole { self.old.journal.broken ≡ false }
         requires runs { is_running self.old.session.activity ≡ true }
         requires free { self.old.session.current ≡ None }
-        ensures { CarriesOut R.honest R.trace R.failed R.sectors (Unit {0}) (Unit {0}) (Unit {0})
-            (λ program. begin self.old.equipment program self.old.session (program_line_at program self.old.session.stored.place)) result self.old self.new }
+        ensures { CarriesOut R.honest R.trace R.failed R.sectors needs_line
+            (λ program. begin self.old.equipment program self.old.session
+            (program_line_at program self.old.session.stored.place))
+            result self.old self.new }
     {
         match self.session.begin_ahead(&mut self.lines) {
             Some(reply) => Ok(reply),
@@ -195,13 +209,16 @@ impl<R: Rig, A: Allocator + Copy + Drop> Controller<R, A> {
         }
     }
 
-    /// The same where none was read ahead.
+    /// Reads the program's line at its place, where none was read ahead, and begins it; or stops the program at the end
+    /// of its text.
     fn begin_read(&mut self) -> Result<Reply, Fault>
         requires whole { self.old.journal.broken ≡ false }
         requires runs { is_running self.old.session.activity ≡ true }
         requires alone { self.old.lines.ahead ≡ [] }
-        ensures { CarriesOut R.honest R.trace R.failed R.sectors (Unit {0}) (Unit {0}) (Unit {0})
-            (λ program. begin self.old.equipment program self.old.session (program_line_at program self.old.session.stored.place)) result self.old self.new }
+        ensures { CarriesOut R.honest R.trace R.failed R.sectors needs_line
+            (λ program. begin self.old.equipment program self.old.session
+            (program_line_at program self.old.session.stored.place))
+            result self.old self.new }
     {
         let place = self.session.place();
         let first = first_kind_before(&mut self.journal, &self.lines, place)?;

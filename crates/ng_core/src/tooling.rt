@@ -13,9 +13,11 @@ use std::alloc::Allocator;
 
 impl<R: Rig, A: Allocator + Copy + Drop> Controller<R, A> {
     ghost use Rattle.std.specs.Prelude.{None, []};
-    ghost use Rattle.ng_session.specs.Session.{tool, tool_refusal, commits};
+    ghost use Rattle.ng_session.specs.Session.{commits};
     ghost use Rattle.ng_session.specs.Entries.{Entry};
-    ghost use Rattle.ng_core.specs.Events.{CarriesOut};
+    ghost use Rattle.ng_session.specs.declared.event.Event.TheVariants as event;
+    ghost use Rattle.ng_core.specs.Events.{CarriesOut, CarriesOutEvent};
+    ghost use Rattle.ng_core.specs.Needs.{needs_device};
     ghost use Rattle.ng_core.specs.Causes.{IsCommitted};
 
     /// Commits a table with one slot changed or added, as one entry more: it takes the place of the one that is stored.
@@ -26,8 +28,11 @@ impl<R: Rig, A: Allocator + Copy + Drop> Controller<R, A> {
         requires free { self.old.session.current ≡ None }
         requires count { self.old.session.stored.entries < greatest_count }
         requires one { IsOneSlotFrom self.old.session.stored.tools tools }
-        ensures { (entry : Entry) → IsCommitted entry → CarriesOut R.honest R.trace R.failed R.sectors ⊥ (Unit {0}) ⊥
-            (λ program. commits program entry (record self.old.session { stored = record self.old.session.stored { entries = self.old.session.stored.entries + 1; tools = tools } })) result self.old self.new }
+        ensures { (entry : Entry) → IsCommitted entry → CarriesOut R.honest R.trace R.failed R.sectors needs_device
+            (λ program. commits program entry (record self.old.session {
+              stored = record self.old.session.stored { entries = self.old.session.stored.entries + 1; tools = tools };
+            }))
+            result self.old self.new }
     {
         let entries = self.session.stored().entries;
         let before = self.session.exchange_tools(tools, entries + 1);
@@ -46,7 +51,7 @@ impl<R: Rig, A: Allocator + Copy + Drop> Controller<R, A> {
     pub(crate) fn tool(&mut self, slot: u16, tool_length: Len) -> Result<Reply, Fault>
         requires whole { self.old.journal.broken ≡ false }
         requires alone { self.old.lines.ahead ≡ [] }
-        ensures { CarriesOut R.honest R.trace R.failed R.sectors ⊥ (tool_refusal self.old.session slot tool_length ≡ None) ⊥ (λ program. tool program self.old.session slot tool_length) result self.old self.new }
+        ensures { CarriesOutEvent {A = A} R.honest R.trace R.failed R.sectors (event.Tool slot tool_length) result self.old self.new }
     {
         if let Some(fault) = self.session.tool_refusal(slot, tool_length) {
             return Ok(Reply::Refused(fault));

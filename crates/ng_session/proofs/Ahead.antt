@@ -22,8 +22,8 @@ use Rattle.ng_session.specs.Entries.{Equipment, terms_of, done_of}
 use Rattle.ng_session.specs.Session.{CurrentBlockModel, SessionModel, Transition, accepts_load, is_running, is_idle, step, answers, begin, begun, begin_by, IsQuiet, after_current_block, opened_on, next_opened, opened, handed, committed_on, committed}
 use Rattle.ng_session.specs.SessionInvariant.{Prepared, block_of, IsReady, IsReadyOn, IsSessionInvariant}
 use Rattle.ng_session.specs.Planned.{PlannedModel, KnownModel, IsLineOf, AreLinesOf, Base, IsBegunAhead, base_on, base_after, base_of, base_then, base_at_end, ends_at_end, drops_plan, IsPlannedOn, IsPlan}
-use Rattle.ng_session.specs.declared.stage.Stage.{Stage}
-use Rattle.ng_session.specs.declared.stage.Stage.TheVariants as stage
+use Rattle.ng_session.specs.Stages.{Stage}
+use Rattle.ng_session.specs.Stages as stage
 
 -- ---- one line more
 

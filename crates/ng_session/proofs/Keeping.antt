@@ -1,7 +1,6 @@
 -- What is held ready of a block, and a session that has none.
 use Rattle.std.proofs.Common.{◌≡◌, ◌≢◌, ◌≤◌, ◌<◌, ◌+◌, ℕ, ℤ, Bool, true, not, ◌&&◌, List, [], ◌∷◌, Option, None, Some, refl, sym, ◌∙◌, ap, subst, arith}
 use Rattle.std.specs.Option.{is_none, option_map}
-use Rattle.std.specs.Prelude.{unwrap_or}
 use Rattle.ng_layout.specs.Stored.{HalfModel, StoredModel}
 use Rattle.ng_canon.specs.declared.geometry.Geometry.{Geometry}
 use Rattle.ng_canon.specs.declared.segment.Segment.{Segment}
@@ -11,8 +10,8 @@ use Rattle.ng_session.specs.Session.{SessionModel, after_current_block, committe
 use Rattle.ng_session.specs.SessionInvariant.{Prepared, block_of, IsNextEntry, IsReady, IsBeforeBlock, IsReadyOn, IsSessionInvariant}
 use Rattle.ng_session.proofs.Standing.{half_storable, tool_storable}
 use Rattle.ng_session.specs.declared.stage.Approach.{Approach}
-use Rattle.ng_session.specs.declared.stage.Stage.{Stage}
-use Rattle.ng_session.specs.declared.stage.Stage.TheVariants as stage
+use Rattle.ng_session.specs.Stages.{Stage}
+use Rattle.ng_session.specs.Stages as stage
 
 pub kept_free : (x : StoredModel) (o : Option Prepared) (runs held half : Bool) → is_none (option_map block_of o) && not runs && not held && half ≡ true → IsSessionInvariant x None → IsSessionInvariant x o
 kept_free x None runs held half free kept = kept
@@ -28,9 +27,6 @@ kept_ready x o p k is r = record { count = k.count; storable = k.storable; next 
 -- one with its approach
 pub kept_again : (x : StoredModel) (o : Option Prepared) (p : Prepared) (a : Approach) → IsSessionInvariant x o → p.block.stage ≡ stage.ToApproach a → IsBeforeBlock x p a → IsSessionInvariant x (Some p)
 kept_again x o p a k is r = record { count = k.count; storable = k.storable; next = subst (IsReadyOn x p) (sym is) r }
-
-some_is : {x y : StoredModel} → Some x ≡ Some y → x ≡ y
-some_is {x} {y} e = ap (λ (o : Option StoredModel). unwrap_or o x) e
 
 -- something of the block is opened
 opened_ready : (geometry : Geometry) (x : StoredModel) (half : HalfModel) (p : Prepared) (g : Stage) → p.block.stage ≡ g → IsReadyOn x p g
@@ -75,20 +71,13 @@ pub kept_tools : (x : StoredModel) (o : Option Prepared) (tools : List ℤ) (ent
 kept_tools x None tools entries none count few kept = record { count = count; storable = tool_storable x tools entries kept.storable few; next = tt }
 kept_tools x (Some p) tools entries none count few kept = cc
 
--- the approach is committed
-pub kept_between : (x between : StoredModel) (p r : Prepared) (a : Approach) → x.entries < 1_000_000_000_000 → IsBeforeBlock x p a → p.approached ≡ Some between → r.after ≡ p.after → after_current_block between r.block ≡ after_current_block between p.block
-    → r.block.stage ≡ stage.OnBlock → IsSessionInvariant between (Some r)
-kept_between x between p r a count k is after same on =
-    let there : k.between ≡ between = some_is (sym k.held ∙ is) in
-    let more : between.entries ≡ x.entries + 1 = ap (λ (y : StoredModel). y.entries) (sym there) ∙ k.first.count in
-    record {
-      count = omega (arith, count, more);
-      storable = subst IsStorable there k.first.storable;
-      next = ready_on between r r.block.stage on (record {
-        next = subst (IsNextEntry between) (sym after) (subst (λ (y : StoredModel). IsNextEntry y p.after) there k.second);
-        after_is = after ∙ subst (λ (y : StoredModel). p.after ≡ after_current_block y p.block) there k.after_is ∙ sym same;
-      });
-    }
+-- the approach is committed, and its block goes on
+pub kept_between : (x between : StoredModel) (p : Prepared) → x.entries < 1_000_000_000_000 → IsNextEntry x between → p.block.stage ≡ stage.OnBlock → IsReady between p → IsSessionInvariant between (Some p)
+kept_between x between p count next on ready = record {
+  count = omega (arith, count, next.count);
+  storable = next.storable;
+  next = ready_on between p p.block.stage on ready;
+}
 
 -- what comes next to be stored
 pub next_is : (s : SessionModel) (p : Prepared) (g : Stage) (y : StoredModel) → g ≡ p.block.stage → IsReadyOn s.stored p g → (g ≡ stage.OnBlock → y ≡ p.after) → ((between : StoredModel) → p.approached ≡ Some between → g ≢ stage.OnBlock → y ≡ between)

@@ -16,8 +16,8 @@ use Rattle.ng_session.specs.SessionInvariant.{Prepared, IsReady}
 use Rattle.ng_session.specs.declared.event.Event.{Event}
 use Rattle.ng_session.specs.declared.event.Event.TheVariants as event
 use Rattle.ng_session.specs.declared.reply.Reply.{Reply}
-use Rattle.ng_session.specs.declared.stage.Stage.{Stage}
-use Rattle.ng_session.specs.declared.stage.Stage.TheVariants as stage
+use Rattle.ng_session.specs.Stages.{Stage}
+use Rattle.ng_session.specs.Stages as stage
 
 -- a line that was read ahead: the places at which it and the next one begin, the kind of the first line before it that
 -- isn't blank, and its block, as it will be begun
@@ -103,7 +103,7 @@ abbrev pub ends_at_end : Bool → List PlannedModel → Bool
 ends_at_end ends [] = ends
 ends_at_end ends (p ∷ ps) = ends_at_end (is_end p.prepared.block.stop) ps
 
--- The line at the place that will be stored is lawful then, and its block is what it does then; no line is before the
+-- The line at the place that will be stored is valid then, and its block is what it does then; no line is before the
 -- program's beginning.
 pub record IsPlannedOn (equipment : Equipment) (base : Base) (p : PlannedModel) : Type 0 where
   pub place : p.place ≡ base.stored.place

@@ -34,8 +34,8 @@ use Rattle.ng_session.specs.declared.reply.Status.{Status}
 use Rattle.ng_session.specs.declared.event.Event.{Event}
 use Rattle.ng_session.specs.declared.event.Event.TheVariants as event
 use Rattle.ng_session.specs.declared.stage.Approach.{Approach}
-use Rattle.ng_session.specs.declared.stage.Stage.{Stage}
-use Rattle.ng_session.specs.declared.stage.Stage.TheVariants as stage
+use Rattle.ng_session.specs.Stages.{Stage}
+use Rattle.ng_session.specs.Stages as stage
 
 -- the block that is worked, as it was begun, and what is left of it
 pub record CurrentBlockModel : Type 0 where
@@ -474,7 +474,7 @@ tick equipment program s =
     (if is_running s.activity then begin equipment program s (program_line_at program s.stored.place)
     else rest program s)))
 
--- the same from its third and from its second case on
+-- a Tick from its third and from its second case on
 abbrev pub end : Equipment → List ℕ → SessionModel → Option CurrentBlockModel → Transition
 end equipment program s current =
     if_some current (λ c. commit program s c)

@@ -11,12 +11,14 @@ impl<A: Allocator + Copy + Drop> Session<A> {
     ghost use Rattle.ng_session.specs.Session.{step, IsQuiet, TakesMemory};
 
     /// Answers an event that neither writes to the device nor hands anything out: all but a Load, a Reference, a
-    /// Resume, an Abandon, a Tool and a Tick. `AllocError` where the state after a line of the operator found no
-    /// memory: nothing is changed then.
+    /// Resume, an Abandon, a Tool and a Tick. `AllocError` where there isn't enough memory for the state after a line
+    /// of the operator: nothing is changed then.
     pub fn answer(&mut self, event: &Event<A>, geometry: &Geometry) -> Result<Reply, AllocError>
         requires { IsQuiet event.now }
-        ensures reply { IfOk result (λ reply. (program : List ℕ) → reply ≡ (step (record { geometry = geometry.now }) program self.old event.now).reply) }
-        ensures next { OnOk result ((program : List ℕ) → self.new ≡ (step (record { geometry = geometry.now }) program self.old event.now).next) }
+        ensures reply { IfOk result (λ reply. (program : List ℕ)
+            → reply ≡ (step (record { geometry = geometry.now }) program self.old event.now).reply) }
+        ensures next { OnOk result ((program : List ℕ)
+            → self.new ≡ (step (record { geometry = geometry.now }) program self.old event.now).next) }
         ensures err { OnErr result (self.new ≡ self.old) }
         ensures memory { OnErr result (TakesMemory (record { geometry = geometry.now }) self.old event.now) }
     {

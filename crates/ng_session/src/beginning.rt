@@ -30,7 +30,8 @@ fn execute_alone<'p, A: Allocator + Copy + Drop>(
     geometry: &Geometry,
 ) -> Result<&'p Effect, Fault>
     ensures done { (program : List ℕ) → MatchResult result
-        (λ e. done_of (record { geometry = geometry.now }) program stored.now source.Mdi text.now block_delete ≡ Ok (in_state stored.now.setup e.now))
+        (λ e. done_of (record { geometry = geometry.now }) program stored.now source.Mdi text.now block_delete
+        ≡ Ok (in_state stored.now.setup e.now))
         (λ fault. done_of (record { geometry = geometry.now }) program stored.now source.Mdi text.now block_delete ≡ Err fault) }
     ensures short { OnOk result (length text.now ≤ 256) }
     ensures stands { IfOk result (λ e. IsStorableMachine stored.now.setup.machine → IsStorableMachine e.now.machine) }
@@ -60,10 +61,13 @@ pub(crate) fn execute_after_lines<'p, A: Allocator + Copy + Drop>(
     geometry: &Geometry,
 ) -> Result<&'p Effect, Fault>
     ensures does { MatchResult result
-        (λ e. executed_after (terms_of (record { geometry = geometry.now }) stored.now.tools block_delete) first stored.now.setup text.now ≡ Ok (in_state stored.now.setup e.now))
-        (λ fault. executed_after (terms_of (record { geometry = geometry.now }) stored.now.tools block_delete) first stored.now.setup text.now ≡ Err fault) }
+        (λ e. executed_after (terms_of (record { geometry = geometry.now }) stored.now.tools block_delete)
+        first stored.now.setup text.now ≡ Ok (in_state stored.now.setup e.now))
+        (λ fault. executed_after (terms_of (record { geometry = geometry.now }) stored.now.tools block_delete)
+        first stored.now.setup text.now ≡ Err fault) }
     ensures done { (program : List ℕ) → first ≡ first_kind (lines_before program stored.now.place) → MatchResult result
-        (λ e. done_of (record { geometry = geometry.now }) program stored.now source.Program text.now block_delete ≡ Ok (in_state stored.now.setup e.now))
+        (λ e. done_of (record { geometry = geometry.now }) program stored.now source.Program text.now block_delete
+        ≡ Ok (in_state stored.now.setup e.now))
         (λ fault. done_of (record { geometry = geometry.now }) program stored.now source.Program text.now block_delete ≡ Err fault) }
     ensures short { OnOk result (length text.now ≤ 256) }
     ensures stands { IfOk result (λ e. IsStorableMachine stored.now.setup.machine → IsStorableMachine e.now.machine) }
@@ -86,12 +90,14 @@ impl<A: Allocator + Copy + Drop> Session<A> {
 
     /// Begins a line of the operator; where the session was held, that ends, and a program that ran waits. K1 where a
     /// block is current or half-done, or the program runs and isn't held, K3 where it isn't known where the machine
-    /// stands, then the line's own faults; nothing is changed then. `AllocError` where the state after the line found
-    /// no memory: nothing is changed then either.
+    /// stands, then the line's own faults; nothing is changed then. `AllocError` where there isn't enough memory for
+    /// the state after the line: nothing is changed then either.
     #[tactic(auto, using(crate::proofs::Keeping::kept_ready))]
     pub(crate) fn mdi(&mut self, text: &[u8], geometry: &Geometry) -> Result<Reply, AllocError>
-        ensures reply { IfOk result (λ reply. (program : List ℕ) → reply ≡ (mdi (record { geometry = geometry.now }) program self.old text.now).reply) }
-        ensures next { OnOk result ((program : List ℕ) → self.new ≡ (mdi (record { geometry = geometry.now }) program self.old text.now).next) }
+        ensures reply { IfOk result (λ reply. (program : List ℕ)
+            → reply ≡ (mdi (record { geometry = geometry.now }) program self.old text.now).reply) }
+        ensures next { OnOk result ((program : List ℕ)
+            → self.new ≡ (mdi (record { geometry = geometry.now }) program self.old text.now).next) }
         ensures err { OnErr result (self.new ≡ self.old) }
         ensures memory { OnErr result ((refuses_mdi self.old ≡ false) × (self.old.stored.setup.machine.point_known ≡ true)) }
     {
@@ -129,7 +135,7 @@ impl<A: Allocator + Copy + Drop> Session<A> {
 
     /// Begins the program's line at its place, where the next one begins at `next`; `first` is the kind of the first
     /// line before it that isn't blank. A line that is refused, by its own faults, stops the program before it.
-    /// `AllocError` where the state after the line found no memory: nothing is changed then.
+    /// `AllocError` where there isn't enough memory for the state after the line: nothing is changed then.
     pub fn begin(
         &mut self,
         text: &[u8],
@@ -140,9 +146,11 @@ impl<A: Allocator + Copy + Drop> Session<A> {
         requires { next ≤ self.old.stored.length }
         ensures stored { OnOk result (self.new.stored ≡ self.old.stored) }
         ensures reply { IfOk result (λ reply. (program : List ℕ) → first ≡ first_kind (lines_before program self.old.stored.place)
-            → reply ≡ (begin (record { geometry = geometry.now }) program self.old (Some (record { text = text.now; next = next }))).reply) }
+            → reply ≡ (begin (record { geometry = geometry.now }) program self.old
+            (Some (record { text = text.now; next = next }))).reply) }
         ensures next { OnOk result ((program : List ℕ) → first ≡ first_kind (lines_before program self.old.stored.place)
-            → self.new ≡ (begin (record { geometry = geometry.now }) program self.old (Some (record { text = text.now; next = next }))).next) }
+            → self.new ≡ (begin (record { geometry = geometry.now }) program self.old
+            (Some (record { text = text.now; next = next }))).next) }
         ensures err { OnErr result (self.new ≡ self.old) }
     {
         let block_delete = self.block_delete;
@@ -175,7 +183,8 @@ impl<A: Allocator + Copy + Drop> Session<A> {
     /// Stops the program at the end of its text, which has no program end: X4 where a percent line is missing, else X3.
     /// `first` is the kind of its first line that isn't blank.
     pub fn break_off(&mut self, first: LineKind) -> Reply
-        ensures reply { (program : List ℕ) → first ≡ first_kind (lines_before program self.old.stored.place) → result ≡ (break_off program self.old).reply }
+        ensures reply { (program : List ℕ) → first ≡ first_kind (lines_before program self.old.stored.place)
+            → result ≡ (break_off program self.old).reply }
         ensures next { (program : List ℕ) → self.new ≡ (break_off program self.old).next }
     {
         self.activity = Activity::Stopped;

@@ -20,6 +20,7 @@ use ng_num::Point;
 use ng_step::Stepper;
 use std::alloc::{AllocError, Allocator};
 use std::marker::Model;
+use std::mem;
 
 /// The block that is worked, as it was begun, and what is left of it (own). Contracts see a `Prepared`, whose block is
 /// a `CurrentBlockModel`.
@@ -30,7 +31,7 @@ pub struct CurrentBlock<A: Allocator> {
     pub text: ArrayVec<u8, LONGEST_TEXT>,
     /// Whether block delete was on when it was begun.
     pub block_delete: bool,
-    pub stage: Stage,
+    pub stage: Stage<A>,
     /// The number of the segment that opens next, counted from 0, after the approach if there is one.
     pub index: u64,
     /// The segment that opens next.
@@ -43,8 +44,6 @@ pub struct CurrentBlock<A: Allocator> {
     pub items: Option<Stepper>,
     /// What is to be stored once nothing is left of it.
     pub after: Stored<A>,
-    /// What is to be stored once nothing is left of its approach; none where it has none.
-    pub approached: Option<Stored<A>>,
     /// How the program goes on then.
     pub stop: ProgramFlow,
 }
@@ -52,13 +51,25 @@ pub struct CurrentBlock<A: Allocator> {
 impl<A: Allocator> Model for CurrentBlock<A> {
     ghost use Rattle.std.specs.Prelude.{[], unwrap_or};
     ghost use Rattle.ng_session.specs.SessionInvariant.{Prepared, left_of, onto};
+    ghost use Rattle.ng_session.specs.Stages.{stage_of, approached_of};
 
     ghost Value = { Prepared };
 
     ghost view = { λ c. record {
-      block = record { source = c.source; text = c.text.items; block_delete = c.block_delete; stage = c.stage; index = c.index; left = left_of c.upcoming c.left; items = onto c.switch (unwrap_or c.items []); setup = c.after.setup; place = c.after.place; stop = c.stop };
+      block = record {
+        source = c.source;
+        text = c.text.items;
+        block_delete = c.block_delete;
+        stage = stage_of c.stage;
+        index = c.index;
+        left = left_of c.upcoming c.left;
+        items = onto c.switch (unwrap_or c.items []);
+        setup = c.after.setup;
+        place = c.after.place;
+        stop = c.stop;
+      };
       after = c.after;
-      approached = c.approached;
+      approached = approached_of c.stage;
     } };
 }
 
@@ -84,7 +95,7 @@ fn place_by(next: u64, place: u64, source: Source) -> u64
     }
 }
 
-/// What is to be stored after a block, by its effect. `AllocError` where its table found no memory.
+/// What is to be stored after a block, by its effect. `AllocError` where there isn't enough memory for its table.
 #[tactic(auto, using(crate::proofs::Standing::next_storable))]
 fn after_block<A: Allocator + Copy + Drop>(
     next: u64,
@@ -112,8 +123,8 @@ fn after_block<A: Allocator + Copy + Drop>(
     })
 }
 
-/// What is to be stored after the approach of a half-done block, which ends so. `AllocError` where its table found no
-/// memory.
+/// What is to be stored after the approach of a half-done block, which ends so. `AllocError` where there isn't enough
+/// memory for its table.
 #[tactic(auto, using(crate::proofs::Standing::approach_storable))]
 fn after_approach<A: Allocator + Copy + Drop>(
     stored: &Stored<A>,
@@ -177,13 +188,14 @@ fn way(approach: &Approach) -> Segment
 }
 
 impl<A: Allocator + Copy + Drop> CurrentBlock<A> {
-    ghost use Rattle.std.specs.Prelude.{[], drop, IfSome};
+    ghost use Rattle.std.specs.Prelude.{[], drop, IfSome, MatchOption};
     ghost use Rattle.ng_layout.specs.Storable.{IsStorableHalf};
+    ghost use Rattle.ng_session.specs.Stages.{OnApproach, OnBlock};
     ghost use Rattle.ng_session.specs.SessionInvariant.{IsReady, IsBeforeBlock};
     ghost use Rattle.ng_session.specs.Session.{begun, begun_again, first_of, rest_of, opening_on, opened_on};
 
-    /// The block of a line, before its first segment, by its effect. `AllocError` where the state after it found no
-    /// memory.
+    /// The block of a line, before its first segment, by its effect. `AllocError` where there isn't enough memory for
+    /// the state after it.
     pub fn begun(
         stored: &Stored<A>,
         source: Source,
@@ -197,7 +209,8 @@ impl<A: Allocator + Copy + Drop> CurrentBlock<A> {
         requires within { next ≤ stored.now.length }
         requires stands { IsStorableMachine effect.now.machine }
         requires short { length text.now ≤ 256 }
-        ensures value { IfOk result (λ p. p.block ≡ begun stored.now source text.now block_delete next (in_state stored.now.setup effect.now)) }
+        ensures value { IfOk result (λ p.
+            p.block ≡ begun stored.now source text.now block_delete next (in_state stored.now.setup effect.now)) }
         ensures ready { IfOk result (λ p. IsReady stored.now p) }
     {
         let after = after_block(next, stored, source, effect)?;
@@ -214,13 +227,12 @@ impl<A: Allocator + Copy + Drop> CurrentBlock<A> {
             switch: None,
             items: None,
             after,
-            approached: None,
             stop: effect.stop,
         })
     }
 
     /// The half-done block from its index on, before its approach from a point, by the effect of its whole line.
-    /// `AllocError` where the states after it and after the approach found no memory.
+    /// `AllocError` where there isn't enough memory for the states after it and after the approach.
     pub fn begun_again(
         stored: &Stored<A>,
         half: &Half,
@@ -234,7 +246,8 @@ impl<A: Allocator + Copy + Drop> CurrentBlock<A> {
         requires stands { IsStorableMachine effect.now.machine }
         requires short { length half.now.text ≤ 256 }
         ensures value { IfOk result (λ p. p.block ≡ begun_again stored.now half.now from next (in_state stored.now.setup effect.now)) }
-        ensures ready { IfOk result (λ p. IsBeforeBlock stored.now p (record { from = from; to = stance_before stored.now.setup (in_state stored.now.setup effect.now) half.now.index })) }
+        ensures ready { IfOk result (λ p. IsBeforeBlock stored.now p
+            (record { from = from; to = stance_before stored.now.setup (in_state stored.now.setup effect.now) half.now.index })) }
     {
         let Resumed {
             block_segments: mut left,
@@ -247,23 +260,18 @@ impl<A: Allocator + Copy + Drop> CurrentBlock<A> {
             source: half.source,
             text: text_from(half.text.as_slice()),
             block_delete: false,
-            stage: Stage::ToApproach(Approach { from, to }),
+            stage: Stage::ToApproach {
+                approach: Approach { from, to },
+                after: between,
+            },
             index: half.index,
             upcoming,
             left,
             switch: None,
             items: None,
             after,
-            approached: Some(between),
             stop: effect.stop,
         })
-    }
-
-    /// How far the work on it has come.
-    pub fn stage(&self) -> Stage
-        ensures { result ≡ self.now.block.stage }
-    {
-        self.stage
     }
 
     /// Takes the next item of what is open.
@@ -288,9 +296,9 @@ impl<A: Allocator + Copy + Drop> CurrentBlock<A> {
         ensures half { result ≡ opening_on self.now.block self.now.block.stage }
         ensures waits { IfSome result IsStorableHalf }
     {
-        match self.stage {
-            Stage::ToApproach(_) => Some(self.half_open(Opened::Approach)),
-            Stage::OnApproach(_) => None,
+        match &self.stage {
+            Stage::ToApproach { .. } => Some(self.half_open(Opened::Approach)),
+            Stage::OnApproach { .. } => None,
             Stage::OnBlock => match self.upcoming {
                 Some(_) => Some(self.half_open(Opened::Segment)),
                 None => None,
@@ -314,15 +322,13 @@ impl<A: Allocator + Copy + Drop> CurrentBlock<A> {
 
     /// What is to be stored once nothing is left of it, or of its approach where that isn't committed.
     pub fn next_stored(&self) -> &Stored<A>
-        ensures block { self.now.block.stage ≡ Stage.OnBlock → result.now ≡ self.now.after }
-        ensures between { (between : StoredModel) → self.now.approached ≡ Some between → (self.now.block.stage ≢ Stage.OnBlock) → result.now ≡ between }
+        ensures block { self.now.block.stage ≡ OnBlock → result.now ≡ self.now.after }
+        ensures between { (between : StoredModel) → self.now.approached ≡ Some between
+            → (self.now.block.stage ≢ OnBlock) → result.now ≡ between }
     {
-        match self.stage {
+        match &self.stage {
+            Stage::ToApproach { after, .. } | Stage::OnApproach { after, .. } => after,
             Stage::OnBlock => &self.after,
-            Stage::ToApproach(_) | Stage::OnApproach(_) => match &self.approached {
-                Some(between) => between,
-                None => &self.after,
-            },
         }
     }
 
@@ -330,22 +336,41 @@ impl<A: Allocator + Copy + Drop> CurrentBlock<A> {
     pub fn open(&mut self, geometry: &Geometry)
         ensures { self.new ≡ record self.old { block = opened_on geometry.now self.old.block self.old.block.stage } }
     {
-        let stage = self.stage;
-        match stage {
-            Stage::ToApproach(approach) => self.open_approach(approach, geometry),
-            Stage::OnApproach(_) => {}
+        match mem::replace(&mut self.stage, Stage::OnBlock) {
+            Stage::ToApproach { approach, after } => {
+                self.open_approach(approach, after, geometry);
+            }
+            Stage::OnApproach { approach, after } => {
+                self.stage = Stage::OnApproach { approach, after };
+            }
             Stage::OnBlock => self.open_segment(geometry),
         }
     }
 
-    /// Opens the approach.
-    fn open_approach(&mut self, approach: Approach, geometry: &Geometry)
-        ensures { self.new ≡ record self.old { block = record self.old.block { stage = Stage.OnApproach approach; items = hand_approach geometry.now approach } } }
+    /// Opens the approach, after which a state is to be stored.
+    fn open_approach(&mut self, approach: Approach, after: Stored<A>, geometry: &Geometry)
+        ensures { self.new ≡ record self.old {
+          block = record self.old.block { stage = OnApproach approach; items = hand_approach geometry.now approach };
+          approached = Some after;
+        } }
     {
         self.switch = Some(switch(&approach));
         let way = way(&approach);
-        self.stage = Stage::OnApproach(approach);
+        self.stage = Stage::OnApproach { approach, after };
         self.items = Some(Stepper::new(&way, geometry));
+    }
+
+    /// Goes on to its segments, and gives what is to be stored after its approach; none where it is past that: it stays
+    /// as it is then.
+    pub fn end_approach(&mut self) -> Option<Stored<A>>
+        ensures way { MatchOption result (self.old.block.stage ≡ OnBlock)
+            (λ between. (self.old.block.stage ≢ OnBlock) × (self.old.approached ≡ Some between)) }
+        ensures next { self.new ≡ record self.old { block = record self.old.block { stage = OnBlock }; approached = None } }
+    {
+        match mem::replace(&mut self.stage, Stage::OnBlock) {
+            Stage::ToApproach { after, .. } | Stage::OnApproach { after, .. } => Some(after),
+            Stage::OnBlock => None,
+        }
     }
 
     /// Opens the next segment, where one is left.

@@ -141,7 +141,8 @@ impl<A: Allocator + Copy + Drop> Session<A> {
         requires { self.now.stored.entries < greatest_count }
         ensures count { IfSome result (λ report. report.entries ≡ self.now.stored.entries + 1) }
         ensures storable { IfSome result (λ report. IsStorable (with_decoded_state self.now.stored report self.now.stored.length)) }
-        ensures value { MatchOption result (self.now.stored.half ≡ None) (λ report. with_decoded_state self.now.stored report self.now.stored.length ≡ after_abandon self.now.stored) }
+        ensures value { MatchOption result (self.now.stored.half ≡ None)
+            (λ report. with_decoded_state self.now.stored report self.now.stored.length ≡ after_abandon self.now.stored) }
     {
         match &self.stored.half {
             Some(half) => Some(DecodedState {
@@ -185,7 +186,8 @@ impl<A: Allocator + Copy + Drop> Session<A> {
     pub fn is_programs_line(&self) -> bool
         ensures yes { result ≡ true → IsProgramsLine self.now.stored.half }
         ensures no { result ≡ false → IsProgramsLine self.now.stored.half → ⊥ }
-        ensures stays { (program : List ℕ) → result ≡ false → IfSome self.now.stored.half (λ half. self.now.stored.place ≡ next_place_after program self.now.stored.place half.source) }
+        ensures stays { (program : List ℕ) → result ≡ false → IfSome self.now.stored.half
+            (λ half. self.now.stored.place ≡ next_place_after program self.now.stored.place half.source) }
     {
         match &self.stored.half {
             Some(half) => match half.source {
@@ -211,7 +213,12 @@ impl<A: Allocator + Copy + Drop> Session<A> {
         requires count { report.entries ≤ greatest_count }
         requires storable { IsStorable (with_decoded_state self.old.stored report self.old.stored.length) }
         ensures next { self.new ≡ record self.old { stored = with_decoded_state self.old.stored report self.old.stored.length } }
-        ensures before { result ≡ record { entries = self.old.stored.entries; place = self.old.stored.place; machine = self.old.stored.setup.machine; half = self.old.stored.half } }
+        ensures before { result ≡ record {
+          entries = self.old.stored.entries;
+          place = self.old.stored.place;
+          machine = self.old.stored.setup.machine;
+          half = self.old.stored.half;
+        } }
     {
         let before = DecodedState {
             entries: self.stored.entries,
@@ -238,15 +245,17 @@ impl<A: Allocator + Copy + Drop> Session<A> {
 
     /// The half-done block goes on, by its approach, where the next line of the program begins at the byte `next`. K1
     /// where the session isn't at rest, K4 where no block is half-done, K3 where it isn't known where its machine
-    /// stands, then its line's own faults; nothing is changed then. `AllocError` where the states after it and after
-    /// its approach found no memory: nothing is changed then either.
+    /// stands, then its line's own faults; nothing is changed then. `AllocError` where there isn't enough memory for
+    /// the states after it and after its approach: nothing is changed then either.
     #[tactic(auto, using(crate::proofs::Keeping::kept_again))]
     pub fn resume(&mut self, next: u64, geometry: &Geometry) -> Result<Reply, AllocError>
         requires { next ≤ self.old.stored.length }
         ensures stored { OnOk result (self.new.stored ≡ self.old.stored) }
-        ensures reply { IfOk result (λ reply. (program : List ℕ) → IfSome self.old.stored.half (λ half. next ≡ next_place_after program self.old.stored.place half.source)
+        ensures reply { IfOk result (λ reply. (program : List ℕ)
+            → IfSome self.old.stored.half (λ half. next ≡ next_place_after program self.old.stored.place half.source)
             → reply ≡ (resume (record { geometry = geometry.now }) program self.old).reply) }
-        ensures next { OnOk result ((program : List ℕ) → IfSome self.old.stored.half (λ half. next ≡ next_place_after program self.old.stored.place half.source)
+        ensures next { OnOk result ((program : List ℕ)
+            → IfSome self.old.stored.half (λ half. next ≡ next_place_after program self.old.stored.place half.source)
             → self.new ≡ (resume (record { geometry = geometry.now }) program self.old).next) }
         ensures err { OnErr result (self.new ≡ self.old) }
         ensures memory { OnErr result (resume_refusal (record { geometry = geometry.now }) self.old ≡ None) }

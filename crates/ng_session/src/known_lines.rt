@@ -33,7 +33,8 @@ impl<A: Allocator> Model for KnownLines<A> {
 impl<A: Allocator + Copy + Drop> KnownLines<A> {
     ghost use Rattle.ng_session.specs.Planned.{PlannedModel, IsKnownOf, forgotten, forgotten_for};
 
-    /// What is known of every program, with room for all that is read ahead. `AllocError` where that found no memory.
+    /// What is known of every program, with room for all that is read ahead. `AllocError` where there isn't enough
+    /// memory for that.
     pub fn none(alloc: A) -> Result<KnownLines<A>, AllocError>
         ensures ahead { IfOk result (λ k. k.ahead ≡ []) }
         ensures holds { IfOk result (λ k. (program : List ℕ) → IsKnownOf program k) }
@@ -115,7 +116,8 @@ impl<A: Allocator + Copy + Drop> KnownLines<A> {
     /// Takes the first line that was read ahead.
     pub(crate) fn take_front(&mut self) -> Option<Planned<A>>
         ensures before { self.new.before ≡ self.old.before }
-        ensures ahead { MatchOption result ((self.old.ahead ≡ []) × (self.new.ahead ≡ [])) (λ p. self.old.ahead ≡ p ∷ self.new.ahead) }
+        ensures ahead { MatchOption result ((self.old.ahead ≡ []) × (self.new.ahead ≡ []))
+            (λ p. self.old.ahead ≡ p ∷ self.new.ahead) }
     {
         let front = self.ahead.pop_front();
         if self.ahead.is_empty() {

@@ -29,4 +29,4 @@ pub use event::{Event, Text};
 pub use known_lines::KnownLines;
 pub use reply::{Condition, HalfShown, Reply, Status};
 pub use session::Session;
-pub use stage::{Approach, Stage};
+pub use stage::Approach;

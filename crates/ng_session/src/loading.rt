@@ -11,7 +11,7 @@ use ng_layout::Stored;
 use ng_num::Fault;
 use std::alloc::{AllocError, Allocator};
 
-/// What is to be stored beside a program of this length. `AllocError` where its table found no memory.
+/// What is to be stored beside a program of this length. `AllocError` where there isn't enough memory for its table.
 fn after_load<A: Allocator + Copy + Drop>(
     stored: &Stored<A>,
     length: u64,
@@ -53,7 +53,7 @@ impl<A: Allocator + Copy + Drop> Session<A> {
     }
 
     /// What is to be stored with a program of these bytes; it can be stored unless they are too many. The session stays
-    /// as it is. `AllocError` where its table found no memory.
+    /// as it is. `AllocError` where there isn't enough memory for its table.
     #[tactic(auto, using(crate::proofs::Standing::load_storable))]
     pub fn loading(&self, text: &[u8]) -> Result<Stored<A>, AllocError>
         ensures value { IfOk result (λ x. x ≡ after_load self.now.stored (length text.now)) }

@@ -19,8 +19,8 @@ use ng_layout::{GREATEST_COUNT, Source, Stored};
 use ng_words::LineKind;
 use std::alloc::Allocator;
 
-/// The line at the place of what will be stored, as it will be begun then; none where it is refused or its state found
-/// no memory.
+/// The line at the place of what will be stored, as it will be begun then; none where it is refused or there isn't
+/// enough memory for its state.
 fn plan_line<A: Allocator + Copy + Drop>(
     places: &mut Scratch,
     base: &Stored<A>,
@@ -34,7 +34,8 @@ fn plan_line<A: Allocator + Copy + Drop>(
     requires storable { IsStorable base.now }
     requires within { next ≤ base.now.length }
     requires beginning { base.now.place ≡ 0 → first ≡ Blank }
-    ensures planned { IfSome result (λ p. IsPlannedOn (record { geometry = geometry.now }) (record { stored = base.now; block_delete = block_delete }) p) }
+    ensures planned { IfSome result (λ p.
+        IsPlannedOn (record { geometry = geometry.now }) (record { stored = base.now; block_delete = block_delete }) p) }
     ensures first { IfSome result (λ p. p.first ≡ first) }
     ensures text { IfSome result (λ p. p.prepared.block.text ≡ text.now) }
     ensures next { IfSome result (λ p. p.next ≡ next) }
@@ -62,7 +63,9 @@ fn stored_at_end<'a, A: Allocator + Copy + Drop>(
     lines: &'a KnownLines<A>,
 ) -> &'a Stored<A>
     requires { IfSome current.now (λ p. IsReadyOn stored.now p p.block.stage) }
-    ensures { (block_delete : Bool) → result.now ≡ (base_at_end (record { stored = base_after stored.now (option_map block_of current.now); block_delete = block_delete }) lines.now.ahead).stored }
+    ensures { (block_delete : Bool) → result.now ≡ (base_at_end
+        (record { stored = base_after stored.now (option_map block_of current.now); block_delete = block_delete })
+        lines.now.ahead).stored }
 {
     if let Some(planned) = lines.last() {
         return planned.after();
@@ -109,9 +112,9 @@ impl<A: Allocator + Copy + Drop> Session<A> {
         Some(stored_at_end(&self.stored, &self.current, lines).place)
     }
 
-    /// Plans the line at that place, where the next one begins at `next`; `first` is the kind of the first line before
-    /// it that isn't blank. Nothing is planned where the line is refused, or where the state after it found no memory:
-    /// none shows of that. The session stays as it is.
+    /// Plans the line at the place that `place_ahead` gave, where the next one begins at `next`; `first` is the kind of
+    /// the first line before it that isn't blank. Nothing is planned where the line is refused, or where there isn't
+    /// enough memory for the state after it: neither shows. The session stays as it is.
     pub fn plan(
         &mut self,
         lines: &mut KnownLines<A>,
@@ -126,7 +129,9 @@ impl<A: Allocator + Copy + Drop> Session<A> {
         ensures session { self.new ≡ self.old }
         ensures before { lines.new.before ≡ lines.old.before }
         ensures plan { IsPlan (record { geometry = geometry.now }) (base_of self.old) lines.new.ahead }
-        ensures holds { (program : List ℕ) → AreLinesOf program lines.old.ahead → IsLineBetween program (base_at_end (base_of self.old) lines.old.ahead).stored.place first text.now next → AreLinesOf program lines.new.ahead }
+        ensures holds { (program : List ℕ) → AreLinesOf program lines.old.ahead
+            → IsLineBetween program (base_at_end (base_of self.old) lines.old.ahead).stored.place first text.now next
+            → AreLinesOf program lines.new.ahead }
     {
         let base = stored_at_end(&self.stored, &self.current, lines);
         if base.entries > GREATEST_COUNT {
@@ -151,7 +156,8 @@ impl<A: Allocator + Copy + Drop> Session<A> {
         requires plan { (equipment : Equipment) × IsPlan equipment (base_of self.old) lines.old.ahead }
         requires free { self.old.current ≡ None }
         ensures none { result ≡ None → (self.new ≡ self.old) × (lines.new ≡ lines.old) × (lines.new.ahead ≡ []) }
-        ensures begun { (equipment : Equipment) → IsPlan equipment (base_of self.old) lines.old.ahead → IfSome result (λ reply. IsBegunAhead equipment reply self.old self.new lines.old lines.new) }
+        ensures begun { (equipment : Equipment) → IsPlan equipment (base_of self.old) lines.old.ahead
+            → IfSome result (λ reply. IsBegunAhead equipment reply self.old self.new lines.old lines.new) }
     {
         let planned = lines.take_front()?;
         self.current = Some(planned.block);

@@ -35,7 +35,14 @@ impl<A: Allocator> Model for Session<A> {
 
     ghost Value = { SessionModel };
 
-    ghost view = { λ s. record { stored = s.stored; activity = s.activity; held = s.held; optional_stop = s.optional_stop; block_delete = s.block_delete; current = option_map block_of s.current } };
+    ghost view = { λ s. record {
+      stored = s.stored;
+      activity = s.activity;
+      held = s.held;
+      optional_stop = s.optional_stop;
+      block_delete = s.block_delete;
+      current = option_map block_of s.current;
+    } };
 
     ghost invariant = { λ s. IsSessionInvariant s.stored s.current };
 }

@@ -1,6 +1,8 @@
 //! How far the work on a block has come.
 use ng_cycles::MotionState;
+use ng_layout::Stored;
 use ng_num::Point;
+use std::alloc::Allocator;
 
 /// The way back to where a half-done block goes on: from where the machine stands to how it is to stand there (own).
 #[derive(Clone, Copy)]
@@ -11,13 +13,20 @@ pub struct Approach {
     pub to: MotionState,
 }
 
-/// How far the work on a block has come (own).
-#[derive(Clone, Copy)]
-pub enum Stage {
+/// How far the work on a block has come (own). While its approach isn't committed, `after` is to be stored once nothing
+/// is left of that. Contracts see a `Stage` of `specs/Stages.antt`, and that state beside it.
+#[derive(Drop)]
+pub enum Stage<A: Allocator> {
     /// Its approach opens next.
-    ToApproach(Approach),
+    ToApproach {
+        approach: Approach,
+        after: Stored<A>,
+    },
     /// Its approach is open.
-    OnApproach(Approach),
+    OnApproach {
+        approach: Approach,
+        after: Stored<A>,
+    },
     /// Its segments are worked.
     OnBlock,
 }

@@ -5,7 +5,6 @@ ghost use Rattle.ng_layout.specs.Limits.{greatest_count};
 use crate::current_block::CurrentBlock;
 use crate::reply::Reply;
 use crate::session::Session;
-use crate::stage::{Approach, Stage};
 use ng_canon::{Geometry, Item};
 use ng_layout::{Half, Opened, Stored};
 use std::alloc::Allocator;
@@ -15,13 +14,15 @@ impl<A: Allocator + Copy + Drop> Session<A> {
     ghost use Rattle.ng_layout.specs.Storable.{IsStorableHalf};
     ghost use Rattle.ng_session.specs.Entries.{Equipment};
     ghost use Rattle.ng_session.specs.SessionInvariant.{IsNextEntry};
-    ghost use Rattle.ng_session.specs.Session.{CurrentBlockModel, answers, tick, is_running, item_of, handed, opening_of, opening_reply, opened, committed, approach_done, activity_after, after_current_block, rest};
-    ghost use Rattle.ng_session.specs.SessionInvariant.{IsBeforeBlock, IsReady};
+    ghost use Rattle.ng_session.specs.Session.{CurrentBlockModel, answers, tick, is_running, item_of, handed, opening_of, opening_reply, opened, committed, activity_after, after_current_block, rest};
+    ghost use Rattle.ng_session.specs.SessionInvariant.{IsReady};
+    ghost use Rattle.ng_session.specs.Stages.{OnBlock};
 
     /// Whether it is held: then a Tick moves, opens, commits and begins nothing.
     pub fn is_held(&self) -> bool
         ensures held { result ≡ self.now.held }
-        ensures tick { (equipment : Equipment) (program : List ℕ) → result ≡ true → tick equipment program self.now ≡ answers program Reply.Held self.now }
+        ensures tick { (equipment : Equipment) (program : List ℕ) → result ≡ true
+            → tick equipment program self.now ≡ answers program Reply.Held self.now }
     {
         self.held
     }
@@ -81,7 +82,8 @@ impl<A: Allocator + Copy + Drop> Session<A> {
     /// What is to be stored once nothing is left of the current block, or of its approach where that isn't committed;
     /// none where no block is current. The session stays as it is.
     pub fn after(&self) -> Option<&Stored<A>>
-        ensures after { MatchOption result (self.now.current ≡ None) (λ stored. (c : CurrentBlockModel) × (self.now.current ≡ Some c) × (stored.now ≡ (committed self.now c).stored)) }
+        ensures after { MatchOption result (self.now.current ≡ None) (λ stored. (c : CurrentBlockModel)
+            × (self.now.current ≡ Some c) × (stored.now ≡ (committed self.now c).stored)) }
         ensures next { IfSome result (λ stored. IsNextEntry self.now.stored stored.now) }
     {
         match &self.current {
@@ -94,19 +96,18 @@ impl<A: Allocator + Copy + Drop> Session<A> {
     /// that of a session that has nothing to do, and the session stays as it is.
     pub fn commit(&mut self) -> Reply
         requires { IfSome self.old.current (λ c. self.old.stored.entries < greatest_count) }
-        ensures reply { (c : CurrentBlockModel) → self.old.current ≡ Some c → result ≡ Reply.Done (committed self.old c).stored.entries }
+        ensures reply { (c : CurrentBlockModel) → self.old.current ≡ Some c
+            → result ≡ Reply.Done (committed self.old c).stored.entries }
         ensures next { (c : CurrentBlockModel) → self.old.current ≡ Some c → self.new ≡ committed self.old c }
         ensures rest_reply { (program : List ℕ) → self.old.current ≡ None → result ≡ (rest program self.old).reply }
         ensures rest_next { self.old.current ≡ None → self.new ≡ self.old }
     {
-        let Some(current) = self.current.take() else {
+        let Some(mut current) = self.current.take() else {
             return self.rest();
         };
-        match current.stage() {
-            Stage::ToApproach(approach) | Stage::OnApproach(approach) => {
-                self.end_approach(current, approach)
-            }
-            Stage::OnBlock => self.end_block(current),
+        match current.end_approach() {
+            Some(between) => self.go_on(current, between),
+            None => self.end_block(current),
         }
         Reply::Done(self.stored.entries)
     }
@@ -116,7 +117,10 @@ impl<A: Allocator + Copy + Drop> Session<A> {
         requires count { self.old.stored.entries < greatest_count }
         requires none { self.old.current ≡ None }
         requires ready { IsReady self.old.stored current }
-        ensures { self.new ≡ record self.old { stored = after_current_block self.old.stored current.block; activity = activity_after current.block.source current.block.stop self.old.optional_stop self.old.activity } }
+        ensures { self.new ≡ record self.old {
+          stored = after_current_block self.old.stored current.block;
+          activity = activity_after current.block.source current.block.stop self.old.optional_stop self.old.activity;
+        } }
     {
         self.activity = self
             .activity
@@ -124,45 +128,17 @@ impl<A: Allocator + Copy + Drop> Session<A> {
         self.stored = current.after;
     }
 
-    /// Goes on with the block that was taken from it, after its approach.
+    /// Goes on with the block that was taken from it, after its approach, where `between` is stored.
     #[tactic(auto, using(crate::proofs::Keeping::kept_between))]
-    fn end_approach(&mut self, current: CurrentBlock<A>, approach: Approach)
+    fn go_on(&mut self, current: CurrentBlock<A>, between: Stored<A>)
         requires count { self.old.stored.entries < greatest_count }
-        requires ready { IsBeforeBlock self.old.stored current approach }
-        ensures { self.new ≡ record (approach_done self.old current.block approach) { current = Some (record current.block { stage = Stage.OnBlock }) } }
+        requires stage { current.block.stage ≡ OnBlock }
+        requires next { IsNextEntry self.old.stored between }
+        requires ready { IsReady between current }
+        ensures { self.new ≡ record self.old { stored = between; current = Some current.block } }
     {
-        let CurrentBlock {
-            source,
-            text,
-            block_delete,
-            stage: _,
-            index,
-            upcoming,
-            left,
-            switch,
-            items,
-            after,
-            approached,
-            stop,
-        } = current;
-        let Some(between) = approached else {
-            unreachable!()
-        };
         self.stored = between;
-        self.current = Some(CurrentBlock {
-            source,
-            text,
-            block_delete,
-            stage: Stage::OnBlock,
-            index,
-            upcoming,
-            left,
-            switch,
-            items,
-            after,
-            approached: None,
-            stop,
-        });
+        self.current = Some(current);
     }
 
     /// The reply of a session that has nothing to do.

@@ -31,7 +31,8 @@ impl<A: Allocator + Copy + Drop> Session<A> {
     /// from 0 to 1 m.
     pub fn tool_refusal(&self, slot: u16, tool_length: Len) -> Option<Fault>
         ensures value { result ≡ tool_refusal self.now slot tool_length }
-        ensures none { IfNone result ((accepts_load self.now ≡ true) × (takes_slot self.now.stored.tools slot ≡ true) × (is_tool_length tool_length ≡ true)) }
+        ensures none { IfNone result ((accepts_load self.now ≡ true)
+            × (takes_slot self.now.stored.tools slot ≡ true) × (is_tool_length tool_length ≡ true)) }
     {
         if !self.accepts_load() {
             return Some(Fault::Busy);

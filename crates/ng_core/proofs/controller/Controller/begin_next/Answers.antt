@@ -4,6 +4,7 @@ use Rattle.ng_text.specs.Programs.{program_line_at}
 use Rattle.ng_session.specs.Session.{Transition, begin}
 use Rattle.ng_session.specs.declared.reply.Reply.{Reply}
 use Rattle.ng_session.specs.declared.reply.Reply.TheVariants as reply
+use Rattle.ng_core.specs.Needs.{needs_line}
 use Rattle.ng_core.specs.Events.{CarriesOut}
 use Rattle.ng_core.specs.Model.{ControllerModel}
 use Rattle.ng_core.proofs.Ahead.{carried_planned, carried_unplanned}
@@ -13,7 +14,7 @@ pub returns-in_err-plan-in-Begun : goal.returns-in_err-plan-in-Begun
 returns-in_err-plan-in-Begun g c =
     let p = err_from_is_err_and c.from_residual-in_err-plan-in-Begun.result c.from_residual-in_err-plan-in-Begun.ensures.1 in
     let old : ControllerModel g.row.R.Denot = c.args.self.now in
-    let begun = subst (λ (r : Reply). CarriesOut g.R.Rig.honest g.R.Rig.trace g.R.Rig.failed g.R.Rig.sectors (Unit {0}) (Unit {0}) (Unit {0}) (λ (program : List ℕ). begin old.equipment program old.session (program_line_at program old.session.stored.place)) (Ok r) old c.begin.new.self) c.in-Begun.is c.in_ok-reply.ensures in
+    let begun = subst (λ (r : Reply). CarriesOut g.R.Rig.honest g.R.Rig.trace g.R.Rig.failed g.R.Rig.sectors needs_line (λ (program : List ℕ). begin old.equipment program old.session (program_line_at program old.session.stored.place)) (Ok r) old c.begin.new.self) c.in-Begun.is c.in_ok-reply.ensures in
     rw (p.1) (carried_unplanned g.R.Rig.honest g.R.Rig.trace g.R.Rig.failed g.R.Rig.sectors p.0 c.in_err-plan-in-Begun.field-0.0 old c.begin.new.self c.plan.new.self p.2 c.requires.runs begun c.in_err-plan-in-Begun.ensures)
 
 pub returns-in_err-plan-in-Begun-2 : goal.returns-in_err-plan-in-Begun-2
@@ -21,7 +22,7 @@ returns-in_err-plan-in-Begun-2 g c =
     let p = err_from_is_err_and c.from_residual-in_err-plan-in-Begun-2.result c.from_residual-in_err-plan-in-Begun-2.ensures.1 in
     let old : ControllerModel g.row.R.Denot = c.args.self.now in
     let begins : List ℕ → Transition = λ program. begin old.equipment program old.session (program_line_at program old.session.stored.place) in
-    let begun = subst (λ (r : Reply). CarriesOut g.R.Rig.honest g.R.Rig.trace g.R.Rig.failed g.R.Rig.sectors (Unit {0}) (Unit {0}) (Unit {0}) begins (Ok r) old c.begin.new.self) c.in-Begun.is c.in_ok-reply.ensures in
+    let begun = subst (λ (r : Reply). CarriesOut g.R.Rig.honest g.R.Rig.trace g.R.Rig.failed g.R.Rig.sectors needs_line begins (Ok r) old c.begin.new.self) c.in-Begun.is c.in_ok-reply.ensures in
     let once = carried_planned g.R.Rig.honest g.R.Rig.trace g.R.Rig.failed g.R.Rig.sectors (Unit {0}) (Unit {0}) (Unit {0}) reply.Begun c.in_ok-plan-in-Begun.field-0 begins old c.begin.new.self c.plan.new.self begun c.in_ok-plan-in-Begun.ensures in
     rw (p.1) (carried_unplanned g.R.Rig.honest g.R.Rig.trace g.R.Rig.failed g.R.Rig.sectors p.0 c.in_err-plan-in-Begun-2.field-0.0 old c.plan.new.self c.plan-in-Begun.new.self p.2 c.requires.runs once c.in_err-plan-in-Begun-2.ensures)
 
@@ -29,6 +30,6 @@ pub returns-in_ok-plan-in-Begun-2 : goal.returns-in_ok-plan-in-Begun-2
 returns-in_ok-plan-in-Begun-2 g c =
     let old : ControllerModel g.row.R.Denot = c.args.self.now in
     let begins : List ℕ → Transition = λ program. begin old.equipment program old.session (program_line_at program old.session.stored.place) in
-    let begun = subst (λ (r : Reply). CarriesOut g.R.Rig.honest g.R.Rig.trace g.R.Rig.failed g.R.Rig.sectors (Unit {0}) (Unit {0}) (Unit {0}) begins (Ok r) old c.begin.new.self) c.in-Begun.is c.in_ok-reply.ensures in
+    let begun = subst (λ (r : Reply). CarriesOut g.R.Rig.honest g.R.Rig.trace g.R.Rig.failed g.R.Rig.sectors needs_line begins (Ok r) old c.begin.new.self) c.in-Begun.is c.in_ok-reply.ensures in
     let once = carried_planned g.R.Rig.honest g.R.Rig.trace g.R.Rig.failed g.R.Rig.sectors (Unit {0}) (Unit {0}) (Unit {0}) reply.Begun c.in_ok-plan-in-Begun.field-0 begins old c.begin.new.self c.plan.new.self begun c.in_ok-plan-in-Begun.ensures in
     carried_planned g.R.Rig.honest g.R.Rig.trace g.R.Rig.failed g.R.Rig.sectors (Unit {0}) (Unit {0}) (Unit {0}) reply.Begun c.in_ok-plan-in-Begun-2.field-0 begins old c.plan.new.self c.plan-in-Begun.new.self once c.in_ok-plan-in-Begun-2.ensures

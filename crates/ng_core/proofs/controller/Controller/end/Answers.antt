@@ -4,6 +4,7 @@ use Rattle.ng_text.specs.Programs.{program_line_at}
 use Rattle.ng_session.specs.Entries.{Equipment}
 use Rattle.ng_session.specs.Session.{CurrentBlockModel, end, begin, is_running, has_work, IsBetweenLines}
 use Rattle.ng_core.specs.Model.{ControllerModel}
+use Rattle.ng_core.specs.Needs.{needs_of_work}
 use Rattle.ng_core.specs.Events.{CarriesOut}
 use Rattle.ng_core.proofs.Anyway.{comes_rest}
 use Rattle.ng_core.proofs.Carrying.{carried_to, by_some}
@@ -36,7 +37,7 @@ returns g c =
     let old : ControllerModel g.row.R.Denot = record { journal = c.self.inside.journal; session = c.self.inside.session; lines = c.self.inside.lines; equipment = equipment } in
     let whole = ap (λ (x : ControllerModel g.row.R.Denot). x.journal.broken) c.self.view_is ∙ c.requires in
     let none = by_none _ c.after.result c.if-is_some.ensures c.after.ensures.after in
-    subst (λ (x : ControllerModel g.row.R.Denot). CarriesOut g.R.Rig.honest g.R.Rig.trace g.R.Rig.failed g.R.Rig.sectors (IsBetweenLines x.session) (has_work x.session ≡ true) (IsBetweenLines x.session) (λ (program : List ℕ). end x.equipment program x.session x.session.current) (Ok c.rest.result) x x) c.self.view_is
+    subst (λ (x : ControllerModel g.row.R.Denot). CarriesOut g.R.Rig.honest g.R.Rig.trace g.R.Rig.failed g.R.Rig.sectors (needs_of_work x.session) (λ (program : List ℕ). end x.equipment program x.session x.session.current) (Ok c.rest.result) x x) c.self.view_is
     (record {
       does = does_rest g.R.Rig.honest g.R.Rig.trace c.rest.result old none (sym c.if-is_running.ensures) c.rest.ensures;
       comes = comes_rest (IsBetweenLines old.session) c.rest.result old none (sym c.if-is_running.ensures) c.rest.ensures;
