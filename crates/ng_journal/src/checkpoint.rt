@@ -29,7 +29,8 @@ fn write_snapshot<R: Rig, A: Allocator + Copy + Drop>(
     requires within { first + snapshot_size ≤ least_size }
     requires count { stored.now.entries ≤ greatest_count }
     requires storable { IsStorable stored.now }
-    ensures area { IfHonest (R.seen rig.old) (R.seen rig.new) (WritesArea result first stored.now (R.seen rig.old).trace (R.seen rig.new).trace) }
+    ensures area { IfHonest (R.seen rig.old) (R.seen rig.new)
+        (WritesArea result first stored.now (R.seen rig.old).trace (R.seen rig.new).trace) }
     ensures call { IsCall result (R.seen rig.old) (R.seen rig.new) }
 {
     for part in 0..SNAPSHOT_SIZE {

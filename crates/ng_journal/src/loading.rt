@@ -22,7 +22,8 @@ fn write_program<R: Rig>(rig: &mut R, area: u64, text: &[u8]) -> Result<(), Fail
     requires area { area ≤ greatest_area true }
     requires sectors { program_first area + program_size area ≤ (R.seen rig.old).sectors }
     requires short { length text.now ≤ longest_in area }
-    ensures text { IfHonest (R.seen rig.old) (R.seen rig.new) (WritesText result area text.now (R.seen rig.old).trace (R.seen rig.new).trace) }
+    ensures text { IfHonest (R.seen rig.old) (R.seen rig.new)
+        (WritesText result area text.now (R.seen rig.old).trace (R.seen rig.new).trace) }
     ensures call { IsCall result (R.seen rig.old) (R.seen rig.new) }
 {
     let first = program_first(area);

@@ -236,9 +236,11 @@ pub(crate) fn store_half<R: Rig, A: Allocator + Copy + Drop>(
     ensures stops { IfHonest (R.seen rig.old) (R.seen rig.new)
         ((before : DurableState) → IsAtEnd (R.seen rig.old).trace tip.header before tip.end
         → before.saved ≡ stored.old
-        → StoreRecordSpec result before (record stored.old { half = Some half.now }) (R.seen rig.old).trace (R.seen rig.new).trace) }
+        → StoreRecordSpec result before (record stored.old { half = Some half.now })
+        (R.seen rig.old).trace (R.seen rig.new).trace) }
     ensures stores { IfHonest (R.seen rig.old) (R.seen rig.new)
-        (StoresRecord result (ledger tip stored.old) (record stored.old { half = Some half.now }) (R.seen rig.old).trace (R.seen rig.new).trace) }
+        (StoresRecord result (ledger tip stored.old) (record stored.old { half = Some half.now })
+        (R.seen rig.old).trace (R.seen rig.new).trace) }
     ensures saved { OnOk result (stored.new ≡ record stored.old { half = Some half.now }) }
     // without honesty too
     ensures ledger { let saved = record stored.old { half = Some half.now } in
