@@ -5,9 +5,10 @@ use Rattle.std.specs.declared.io.Error.{Error}
 use Rattle.std.specs.declared.io.Sink.{Sink}
 use Rattle.ng_num.specs.declared.fault.Fault.{Fault}
 use Rattle.ng_num.specs.declared.fault.Fault.TheVariants.{DeviceFailed, NotFormatted}
-use Rattle.ng_rig.specs.Trace.{Began, Trace}
+use Rattle.ng_rig.specs.Device.{Device}
+use Rattle.ng_rig.specs.Trace.{Began}
 use Rattle.ng_rig.specs.Calls.{IfHonest}
-use Rattle.ng_file.specs.FileRig.{failure_count, sector_count}
+use Rattle.ng_file.specs.FileRig.{device_of}
 use Rattle.ng_file.specs.declared.device.NoDevice.{NoDevice}
 use Rattle.ng_file.specs.declared.rig.FileRig.{FileRig}
 use Rattle.ng_layout.specs.Areas.{is_large_size}
@@ -20,21 +21,21 @@ use Rattle.ng_console.specs.Sizes.{wanted_size}
 
 -- The result is that of formatting the device, which the journal defines. A device is refused as too small exactly if
 -- it has too few sectors, and then it stays as it was.
-pub record FormatsRig {R : Type 0} (large : Bool) (sectors failed : R → ℕ) (honest : R → Type 0) (trace : R → Trace) (rig_old rig_new : R) (old new : Option (List ℕ)) (status : ℕ) : Type 0 where
+pub record FormatsRig {R : Type 0} (large : Bool) (seen : R → Device) (rig_old rig_new : R) (old new : Option (List ℕ)) (status : ℕ) : Type 0 where
   pub formatted : Result (Unit {0}) Fault
   pub answers : FaultStatus formatted old new status
-  pub small : IsErrOf formatted NotFormatted ↔ (sectors rig_old < wanted_size large)
+  pub small : IsErrOf formatted NotFormatted ↔ ((seen rig_old).sectors < wanted_size large)
   pub unchanged : IsErrOf formatted NotFormatted → rig_new ≡ rig_old
   pub faults : IfErr formatted (λ fault. (fault ≡ NotFormatted) ⊎ (fault ≡ DeviceFailed))
-  pub formats : wanted_size large ≤ sectors rig_old → IfHonest (honest rig_old) (honest rig_new) (FormatSpec formatted (program_room (is_large_size (sectors rig_old))) (trace rig_old) (trace rig_new))
-  pub tells : CountsFailure formatted (failed rig_old) (failed rig_new)
+  pub formats : wanted_size large ≤ (seen rig_old).sectors → IfHonest (seen rig_old) (seen rig_new) (FormatSpec formatted (program_room (is_large_size (seen rig_old).sectors)) (seen rig_old).trace (seen rig_new).trace)
+  pub tells : CountsFailure formatted (seen rig_old).failed (seen rig_new).failed
 
 -- The same for the device in a file; or its bytes can't be made a device, since their number can't be read, or there is
 -- no memory.
 abbrev pub FormatsDevice : {S : Type 0} → (S → Option (List ℕ)) → Bool → S → Option (List ℕ) → Option (List ℕ) → ℕ → Type 0
 FormatsDevice {S} content large file old new status =
     ((rig : FileRig S Sink Global) × (left : FileRig S Sink Global) × (out : Sink) × IsOver content file out rig
-    × FormatsRig large sector_count failure_count (λ rig. ⊥) (λ rig. Began (λ sector. [])) rig left old new status)
+    × FormatsRig large device_of rig left old new status)
     ⊎ ((error : Error) × RefusesStorage error old new status)
 
 -- The same for a file as it was opened.

@@ -3,9 +3,8 @@
 use Rattle.std.specs.Prelude.{ℕ, ◌⊎◌, List, [], Option, Some, None, Result, Ok, Err}
 use Rattle.std.specs.declared.io.Error.{Error}
 use Rattle.std.specs.declared.alloc.Global.{Global}
-use Rattle.ng_rig.specs.Trace.{Began}
 use Rattle.ng_settings.specs.declared.standard.Settings.{Settings}
-use Rattle.ng_file.specs.FileRig.{failure_count, sector_count}
+use Rattle.ng_file.specs.FileRig.{device_of}
 use Rattle.ng_file.specs.declared.device.NoDevice.{NoDevice}
 use Rattle.ng_file.specs.declared.opened.OpenedFile.{OpenedFile}
 use Rattle.ng_file.specs.declared.rig.FileRig.{FileRig}
@@ -20,7 +19,7 @@ use Rattle.ng_console.specs.declared.settings_file.NoSettings.{NoSettings}
 abbrev pub OperatesDevice : {S O : Type 0} → (S → Option (List ℕ)) → Settings → S → O → Option (List ℕ) → Option (List ℕ) → Option (List ℕ) → ℕ → Type 0
 OperatesDevice {S} {O} content settings device out text old new status =
     ((rig : FileRig S O Global) × (left : FileRig S O Global) × IsOver content device out rig
-    × ConsoleSpec Global sector_count failure_count (λ rig. ⊥) (λ rig. Began (λ sector. [])) settings rig text old new (status, left))
+    × ConsoleSpec Global device_of settings rig text old new (status, left))
     ⊎ ((error : Error) × RefusesStorage error old new status)
 
 -- the same for a file as it was opened

@@ -95,7 +95,7 @@ fn fault_of(error: &io::Error) -> Fault
 /// line of the fault is written. The error is the writer's.
 pub fn format_rig<R: Rig, W: Write>(rig: &mut R, large: bool, writer: &mut W) -> io::Result<u8>
     ensures range { IfOk result (λ status. status ≤ 2) }
-    ensures run { IfOk result (FormatsRig large R.sectors R.failed R.honest R.trace rig.old rig.new (W.contents writer.old) (W.contents writer.new)) }
+    ensures run { IfOk result (FormatsRig large R.seen rig.old rig.new (W.contents writer.old) (W.contents writer.new)) }
 {
     match format_wanted(rig, large) {
         Ok(()) => Ok(DONE),
@@ -109,12 +109,12 @@ pub fn format_rig<R: Rig, W: Write>(rig: &mut R, large: bool, writer: &mut W) ->
 /// Makes a device fresh that has enough sectors, those of a large device if one is wanted. J2 if it has fewer; then it
 /// isn't called.
 fn format_wanted<R: Rig>(rig: &mut R, large: bool) -> Result<(), Fault>
-    ensures formats { let room = program_room (is_large_size (R.sectors rig.old)) in wanted_size large ≤ R.sectors rig.old
-        → IfHonest (R.honest rig.old) (R.honest rig.new) (FormatSpec result room (R.trace rig.old) (R.trace rig.new)) }
-    ensures small { IsErrOf result NotFormatted ↔ (R.sectors rig.old < wanted_size large) }
+    ensures formats { let room = program_room (is_large_size (R.seen rig.old).sectors) in wanted_size large ≤ (R.seen rig.old).sectors
+        → IfHonest (R.seen rig.old) (R.seen rig.new) (FormatSpec result room (R.seen rig.old).trace (R.seen rig.new).trace) }
+    ensures small { IsErrOf result NotFormatted ↔ ((R.seen rig.old).sectors < wanted_size large) }
     ensures unchanged { IsErrOf result NotFormatted → rig.new ≡ rig.old }
     ensures errors { IfErr result (λ e. (e ≡ NotFormatted) ⊎ (e ≡ DeviceFailed)) }
-    ensures failures { CountsFailure result (R.failed rig.old) (R.failed rig.new) }
+    ensures failures { CountsFailure result (R.seen rig.old).failed (R.seen rig.new).failed }
 {
     if rig.size() < wanted_size(large) {
         return Err(Fault::NotFormatted);

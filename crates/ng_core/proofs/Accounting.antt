@@ -6,7 +6,8 @@ use Rattle.std.proofs.lemmas.List.Elements.{Contains-append_left, Contains-appen
 use Rattle.ng_num.specs.declared.fault.Fault.{Fault}
 use Rattle.ng_num.specs.declared.fault.Fault.TheVariants.{DeviceFailed}
 use Rattle.ng_canon.specs.declared.item.Item.{Item}
-use Rattle.ng_rig.specs.Trace.{Image, Trace, items}
+use Rattle.ng_rig.specs.Device.{Device}
+use Rattle.ng_rig.specs.Trace.{Image, items}
 use Rattle.ng_block.specs.Effects.{Done}
 use Rattle.ng_layout.specs.Stored.{HalfModel, StoredModel, DurableState}
 use Rattle.ng_layout.specs.declared.half.Source.{Source}
@@ -146,19 +147,19 @@ accounted {A} equipment x given events answers replies n image handed p =
       stands_for = p.after.stands_for;
     }
 
-from_rest : {A R : Type 0} (trace : R → Trace) (x : DurableState) (events : List (Event A)) (replies : List Reply) (moments : List ℕ) (first now : ControllerModel R)
-    → Leads trace events replies moments first.equipment (session_at_power_on x) (trace first.journal.rig) now → Accounts trace x events replies moments first now
-from_rest trace x events replies moments first now p = record {
-  passes = passed trace events replies moments first.equipment (session_at_power_on x) (trace first.journal.rig) now p;
-  stops = weaker_said (trace first.journal.rig) (trace now.journal.rig) _ _ p.stops
-      (λ t image handed from l. accounted first.equipment x (items (trace first.journal.rig)) events p.answers replies (answered_by t moments) image handed l);
+from_rest : {A R : Type 0} (seen : R → Device) (x : DurableState) (events : List (Event A)) (replies : List Reply) (moments : List ℕ) (first now : ControllerModel R)
+    → Leads seen events replies moments first.equipment (session_at_power_on x) (seen first.journal.rig).trace now → Accounts seen x events replies moments first now
+from_rest seen x events replies moments first now p = record {
+  passes = passed seen events replies moments first.equipment (session_at_power_on x) (seen first.journal.rig).trace now p;
+  stops = weaker_said (seen first.journal.rig).trace (seen now.journal.rig).trace _ _ p.stops
+      (λ t image handed from l. accounted first.equipment x (items (seen first.journal.rig).trace) events p.answers replies (answered_by t moments) image handed l);
 }
 
-pub accounts : {A R : Type 0} (honest : R → Type 0) (trace : R → Trace) (failed sectors : R → ℕ) (x : DurableState) (events : List (Event A)) (replies : List Reply) (moments : List ℕ) (first now : ControllerModel R)
-    → honest first.journal.rig → IsPast honest trace failed sectors x events replies moments first now → Accounts trace x events replies moments first now
-accounts honest trace failed sectors x events replies moments first now h p =
-    let history = (turns_history honest trace failed sectors events replies first now p.turns).holds h x.program (λ _. p.began.rests) in
-    from_rest trace x events replies moments first now
-    (subst (λ (s : SessionModel). Leads trace events replies moments first.equipment (record { program = x.program; session = s }) (trace first.journal.rig) now) p.began.session
-    (leads trace events replies moments x.program first now
-    (subst (λ (l : List ℕ). History trace events replies l x.program first now) (sym p.answered) history) p.began.whole p.began.rests))
+pub accounts : {A R : Type 0} (seen : R → Device) (x : DurableState) (events : List (Event A)) (replies : List Reply) (moments : List ℕ) (first now : ControllerModel R)
+    → (seen first.journal.rig).honest → IsPast seen x events replies moments first now → Accounts seen x events replies moments first now
+accounts seen x events replies moments first now h p =
+    let history = (turns_history seen events replies first now p.turns).holds h x.program (λ _. p.began.rests) in
+    from_rest seen x events replies moments first now
+    (subst (λ (s : SessionModel). Leads seen events replies moments first.equipment (record { program = x.program; session = s }) (seen first.journal.rig).trace now) p.began.session
+    (leads seen events replies moments x.program first now
+    (subst (λ (l : List ℕ). History seen events replies l x.program first now) (sym p.answered) history) p.began.whole p.began.rests))

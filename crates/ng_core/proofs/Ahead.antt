@@ -4,6 +4,7 @@ use Rattle.std.specs.Prelude.{IfOk, IsSome}
 use Rattle.ng_num.specs.declared.fault.Fault.{Fault}
 use Rattle.ng_num.specs.declared.fault.Fault.TheVariants.{DeviceFailed}
 use Rattle.ng_words.specs.declared.start.LineKind.{LineKind}
+use Rattle.ng_rig.specs.Device.{Device}
 use Rattle.ng_rig.specs.Trace.{Trace, items}
 use Rattle.ng_rig.specs.Calls.{IfHonest}
 use Rattle.ng_rig.specs.Continuation.{IsContinuation}
@@ -53,11 +54,11 @@ line_from : {R : Type 0} (answer : Result Reply Fault) (out : List ℕ → Trans
 line_from (Ok r) out old new known a = record { program = a.program; line = a.line; comes = a.comes; ledger = a.ledger }
 line_from (Err fault) out old new known a = tt
 
-module _ {R : Type 0} (honest : R → Type 0) (trace : R → Trace) (failed sectors : R → ℕ) where
+module _ {R : Type 0} (seen : R → Device) where
   -- from a controller that knows less
   pub carried_from : (memory device reads : Type 0) (out : List ℕ → Transition) (answer : Result Reply Fault) (old new : ControllerModel R) (known : KnownModel)
       → ((program : List ℕ) → IsKnownOf program old.lines → IsKnownOf program known)
-      → CarriesOut honest trace failed sectors (needs memory device reads) out answer (with_lines old known) new → CarriesOut honest trace failed sectors (needs memory device reads) out answer old new
+      → CarriesOut seen (needs memory device reads) out answer (with_lines old known) new → CarriesOut seen (needs memory device reads) out answer old new
   carried_from memory device reads out answer old new known still c = record {
     does = meaning c.does (λ f program rests.
         let a = f program (rests.0, still program rests.1) in
@@ -84,7 +85,7 @@ module _ {R : Type 0} (honest : R → Type 0) (trace : R → Trace) (failed sect
       ahead.0
 
   finding_ahead : (old new : KnownModel) (p : PlannedModel) (journal : JournalModel R) → old.ahead ≡ p ∷ new.ahead
-      → FindingBoth honest trace p.first (Some (record { text = p.prepared.block.text; next = p.next })) old p.place journal journal
+      → FindingBoth seen p.first (Some (record { text = p.prepared.block.text; next = p.next })) old p.place journal journal
   finding_ahead old new p journal front = record {
     keeps = λ h. h;
     back = λ h. h;
@@ -95,27 +96,27 @@ module _ {R : Type 0} (honest : R → Type 0) (trace : R → Trace) (failed sect
 
   pub carried_ahead : (told : Reply) (old new : ControllerModel R) → old.journal.broken ≡ false → is_running old.session.activity ≡ true → new.journal ≡ old.journal → new.equipment ≡ old.equipment
       → IsBegunAhead old.equipment told old.session new.session old.lines new.lines
-      → CarriesOut honest trace failed sectors needs_line (λ program. begin old.equipment program old.session (program_line_at program old.session.stored.place)) (Ok told) old new
+      → CarriesOut seen needs_line (λ program. begin old.equipment program old.session (program_line_at program old.session.stored.place)) (Ok told) old new
   carried_ahead told old new whole runs same equipment b =
       let p = b.planned in
       let line : ProgramLineModel = record { text = p.prepared.block.text; next = p.next } in
-      let found : FindingBoth honest trace p.first (Some line) old.lines p.place old.journal new.journal =
-      subst (λ (j : JournalModel R). FindingBoth honest trace p.first (Some line) old.lines p.place old.journal j) (sym same) (finding_ahead old.lines new.lines p old.journal b.front) in
+      let found : FindingBoth seen p.first (Some line) old.lines p.place old.journal new.journal =
+      subst (λ (j : JournalModel R). FindingBoth seen p.first (Some line) old.lines p.place old.journal j) (sym same) (finding_ahead old.lines new.lines p old.journal b.front) in
       record {
-        does = does_begin honest trace told p.first (Some line) p.place old new b.place found (λ program known at kind. still_lines program old.lines new.lines p b.front b.before known) b.told_is b.next;
+        does = does_begin seen told p.first (Some line) p.place old new b.place found (λ program known at kind. still_lines program old.lines new.lines p b.front b.before known) b.told_is b.next;
         comes = λ none. absurd (none tt);
         line = λ read. begun_line told (λ (program : List ℕ). begin old.equipment program old.session (program_line_at program old.session.stored.place)) p.first (Some line) p.place old new runs b.place b.beginning b.told_is b.next
             (ap (λ (j : JournalModel R). ledger_of j) same);
         hindered = tt;
         broken = ap (λ (j : JournalModel R). j.broken) same ∙ whole;
         equipment = equipment;
-        size = ap (λ (j : JournalModel R). sectors j.rig) same;
-        failures = ap (λ (j : JournalModel R). failed j.rig) same;
+        size = ap (λ (j : JournalModel R). (seen j.rig).sectors) same;
+        failures = ap (λ (j : JournalModel R). (seen j.rig).failed) same;
       }
 
   -- ---- lines are planned
 
-  pub plans_none : (c : ControllerModel R) → c.journal.broken ≡ false → PlansAhead honest trace failed sectors (Ok tt) c c
+  pub plans_none : (c : ControllerModel R) → c.journal.broken ≡ false → PlansAhead seen (Ok tt) c c
   plans_none c whole = record {
     does = record { keeps = λ h. h; back = λ h. h; holds = λ h program rests. record { same = refl; rests = rests } };
     session = refl;
@@ -128,10 +129,10 @@ module _ {R : Type 0} (honest : R → Type 0) (trace : R → Trace) (failed sect
   }
 
   -- both were read
-  pub plans_found : (first : LineKind) (line : Option ProgramLineModel) (place : ℕ) (old new : ControllerModel R) → FindingBoth honest trace first line old.lines place old.journal new.journal
+  pub plans_found : (first : LineKind) (line : Option ProgramLineModel) (place : ℕ) (old new : ControllerModel R) → FindingBoth seen first line old.lines place old.journal new.journal
       → ((program : List ℕ) → IsKnownOf program old.lines → line ≡ program_line_at program place → first ≡ first_kind (lines_before program place) → IsKnownOf program new.lines)
       → new.session ≡ old.session → new.equipment ≡ old.equipment → ledger_of new.journal ≡ ledger_of old.journal → new.journal.broken ≡ false
-      → sectors new.journal.rig ≡ sectors old.journal.rig → failed new.journal.rig ≡ failed old.journal.rig → PlansAhead honest trace failed sectors (Ok tt) old new
+      → (seen new.journal.rig).sectors ≡ (seen old.journal.rig).sectors → (seen new.journal.rig).failed ≡ (seen old.journal.rig).failed → PlansAhead seen (Ok tt) old new
   plans_found first line place old new p known same equipment ledger whole size failures = record {
     does = record {
       keeps = p.keeps;
@@ -140,7 +141,7 @@ module _ {R : Type 0} (honest : R → Type 0) (trace : R → Trace) (failed sect
           let f = p.holds h (durable_state_of program old.session) rests.0 rests.1 in
           record {
             same = f.same;
-            rests = (subst (λ (s : SessionModel). IsDurablyAt (trace new.journal.rig) new.journal (durable_state_of program s)) (sym same) f.at, known program rests.1 f.line_is f.first_is);
+            rests = (subst (λ (s : SessionModel). IsDurablyAt (seen new.journal.rig).trace new.journal (durable_state_of program s)) (sym same) f.at, known program rests.1 f.line_is f.first_is);
           };
     };
     session = same;
@@ -154,11 +155,11 @@ module _ {R : Type 0} (honest : R → Type 0) (trace : R → Trace) (failed sect
 
   -- the device failed
   pub plans_lost : (fault e : Fault) (old new : ControllerModel R) → fault ≡ e
-      → IfHonest (honest old.journal.rig) (honest new.journal.rig) ((program : List ℕ) → IsAtRestWith (trace old.journal.rig) old program → trace new.journal.rig ≡ trace old.journal.rig)
+      → IfHonest (seen old.journal.rig) (seen new.journal.rig) ((program : List ℕ) → IsAtRestWith (seen old.journal.rig).trace old program → (seen new.journal.rig).trace ≡ (seen old.journal.rig).trace)
       → e ≡ DeviceFailed → new.session ≡ old.session → new.equipment ≡ old.equipment → ledger_of new.journal ≡ ledger_of old.journal → IsBrokenBy {T = Unit {0}} (Err e) new.journal.broken
-      → sectors new.journal.rig ≡ sectors old.journal.rig → CountsFailure {T = Unit {0}} (Err e) (failed old.journal.rig) (failed new.journal.rig) → PlansAhead honest trace failed sectors (Err fault) old new
+      → (seen new.journal.rig).sectors ≡ (seen old.journal.rig).sectors → CountsFailure {T = Unit {0}} (Err e) (seen old.journal.rig).failed (seen new.journal.rig).failed → PlansAhead seen (Err fault) old new
   plans_lost fault e old new is p lost same equipment ledger broken size failures =
-      subst (λ (f : Fault). PlansAhead honest trace failed sectors (Err f) old new) (sym is) (record {
+      subst (λ (f : Fault). PlansAhead seen (Err f) old new) (sym is) (record {
         does = meaning p (λ f program rests. record { same = f program rests; rests = tt });
         session = same;
         ledger = ledger;
@@ -170,13 +171,13 @@ module _ {R : Type 0} (honest : R → Type 0) (trace : R → Trace) (failed sect
       })
 
   -- in the first read, or in the second
-  pub unread_first : (e : Fault) (place : ℕ) (old : ControllerModel R) (new : JournalModel R) → Finding {E = Fault} honest trace (Err e) old.lines.before place old.journal new
-      → IfHonest (honest old.journal.rig) (honest new.rig) ((program : List ℕ) → IsAtRestWith (trace old.journal.rig) old program → trace new.rig ≡ trace old.journal.rig)
+  pub unread_first : (e : Fault) (place : ℕ) (old : ControllerModel R) (new : JournalModel R) → Finding {E = Fault} seen (Err e) old.lines.before place old.journal new
+      → IfHonest (seen old.journal.rig) (seen new.rig) ((program : List ℕ) → IsAtRestWith (seen old.journal.rig).trace old program → (seen new.rig).trace ≡ (seen old.journal.rig).trace)
   unread_first e place old new p = meaning p (λ f program rests. (f (durable_state_of program old.session) rests.0 rests.1.0).same)
 
-  pub unread_line : (first : LineKind) (e : Fault) (place : ℕ) (old : ControllerModel R) (mid new : JournalModel R) → Finding {E = Fault} honest trace (Ok first) old.lines.before place old.journal mid
-      → Reading {E = Fault} honest trace (Err e) place mid new
-      → IfHonest (honest old.journal.rig) (honest new.rig) ((program : List ℕ) → IsAtRestWith (trace old.journal.rig) old program → trace new.rig ≡ trace old.journal.rig)
+  pub unread_line : (first : LineKind) (e : Fault) (place : ℕ) (old : ControllerModel R) (mid new : JournalModel R) → Finding {E = Fault} seen (Ok first) old.lines.before place old.journal mid
+      → Reading {E = Fault} seen (Err e) place mid new
+      → IfHonest (seen old.journal.rig) (seen new.rig) ((program : List ℕ) → IsAtRestWith (seen old.journal.rig).trace old program → (seen new.rig).trace ≡ (seen old.journal.rig).trace)
   unread_line first e place old mid new p q = record {
     keeps = λ h. q.keeps (p.keeps h);
     back = λ h. p.back (q.back h);
@@ -189,8 +190,8 @@ module _ {R : Type 0} (honest : R → Type 0) (trace : R → Trace) (failed sect
   -- ---- a line is begun, and then more are planned
 
   pub carried_planned : (memory device reads : Type 0) (told : Reply) (v : Unit {0}) (out : List ℕ → Transition) (old mid new : ControllerModel R)
-      → CarriesOut honest trace failed sectors (needs memory device reads) out (Ok told) old mid → PlansAhead honest trace failed sectors (Ok v) mid new
-      → CarriesOut honest trace failed sectors (needs memory device reads) out (Ok told) old new
+      → CarriesOut seen (needs memory device reads) out (Ok told) old mid → PlansAhead seen (Ok v) mid new
+      → CarriesOut seen (needs memory device reads) out (Ok told) old new
   carried_planned memory device reads told v out old mid new c p = record {
     does = record {
       keeps = λ h. p.does.keeps (c.does.keeps h);
@@ -200,7 +201,7 @@ module _ {R : Type 0} (honest : R → Type 0) (trace : R → Trace) (failed sect
           let b = p.does.holds (c.does.keeps h) (out program).program a.leaves.0 in
           record {
             comes = (a.comes.0, p.session ∙ a.comes.1);
-            stops = subst (λ (l : Trace). IsContinuation (trace old.journal.rig) l (IsCrashOfEither (crash_in (program_session_of program old) (items (trace old.journal.rig))) (crash_in (session_of_transition (out program)) (items (trace old.journal.rig) ++ (out program).items)))) (sym b.same) a.stops;
+            stops = subst (λ (l : Trace). IsContinuation (seen old.journal.rig).trace l (IsCrashOfEither (crash_in (program_session_of program old) (items (seen old.journal.rig).trace)) (crash_in (session_of_transition (out program)) (items (seen old.journal.rig).trace ++ (out program).items)))) (sym b.same) a.stops;
             leaves = (b.rests, ap items b.same ∙ a.leaves.1);
             untouched = λ nothing. b.same ∙ a.untouched nothing;
           };
@@ -226,8 +227,8 @@ module _ {R : Type 0} (honest : R → Type 0) (trace : R → Trace) (failed sect
   -- the device failed in that: the line is begun
   pub carried_unplanned : (fault e : Fault) (old mid new : ControllerModel R) → fault ≡ e → is_running old.session.activity ≡ true
       → (let begins : List ℕ → Transition = λ program. begin old.equipment program old.session (program_line_at program old.session.stored.place) in
-      CarriesOut honest trace failed sectors needs_line begins (Ok reply.Begun) old mid → PlansAhead honest trace failed sectors (Err e) mid new
-      → CarriesOut honest trace failed sectors needs_line begins (Err fault) old new)
+      CarriesOut seen needs_line begins (Ok reply.Begun) old mid → PlansAhead seen (Err e) mid new
+      → CarriesOut seen needs_line begins (Err fault) old new)
   carried_unplanned fault e old mid new is runs c p =
       let begins : List ℕ → Transition = λ program. begin old.equipment program old.session (program_line_at program old.session.stored.place) in
       let l = c.line tt in
@@ -243,7 +244,7 @@ module _ {R : Type 0} (honest : R → Type 0) (trace : R → Trace) (failed sect
           holds = λ h program rests.
               let a = c.does.holds h program rests in
               let b = p.does.holds (c.does.keeps h) (begins program).program a.leaves.0 in
-              acts_unread fault (begins program) program old new (trace old.journal.rig) (trace new.journal.rig) lost (b.same ∙ a.untouched tt) status;
+              acts_unread fault (begins program) program old new (seen old.journal.rig).trace (seen new.journal.rig).trace lost (b.same ∙ a.untouched tt) status;
         };
         comes = record { status = status; session = λ other. absurd (other lost); ledger = λ other. absurd (other lost); journal = λ other. absurd (other lost) };
         line = λ read. tt;
@@ -251,8 +252,8 @@ module _ {R : Type 0} (honest : R → Type 0) (trace : R → Trace) (failed sect
         broken = subst (λ (f : Fault). IsBrokenBy {T = Reply} (Err f) new.journal.broken) (sym is) p.broken;
         equipment = p.equipment ∙ c.equipment;
         size = p.size ∙ c.size;
-        failures = subst (λ (f : Fault). CountsFailure {T = Reply} (Err f) (failed old.journal.rig) (failed new.journal.rig)) (sym is)
-            (subst (λ (n : ℕ). CountsFailure {T = Reply} (Err e) n (failed new.journal.rig)) c.failures p.failures);
+        failures = subst (λ (f : Fault). CountsFailure {T = Reply} (Err f) (seen old.journal.rig).failed (seen new.journal.rig).failed) (sym is)
+            (subst (λ (n : ℕ). CountsFailure {T = Reply} (Err e) n (seen new.journal.rig).failed) c.failures p.failures);
       }
 
 -- an event for which what was read ahead is dropped
@@ -266,11 +267,11 @@ still_forgotten e known program of = by (drops_plan e)
 pub forgotten_none : {A : Type 0} (e : Event A) (known : KnownModel) → drops_plan e ≡ true → (forgotten_for e known).ahead ≡ []
 forgotten_none e known drops = ap (λ (b : Bool). (let k : KnownModel = if b then forgotten known else known in k).ahead) drops
 
-module _ {R : Type 0} (honest : R → Type 0) (trace : R → Trace) (failed sectors : R → ℕ) where
+module _ {R : Type 0} (seen : R → Device) where
   pub carried_forgotten : {A : Type 0} (e : Event A) (answer : Result Reply Fault) (old new : ControllerModel R) (known : KnownModel) → known ≡ forgotten_for e old.lines
-      → CarriesOutEvent honest trace failed sectors e answer (with_lines old known) new → CarriesOutEvent honest trace failed sectors e answer old new
+      → CarriesOutEvent seen e answer (with_lines old known) new → CarriesOutEvent seen e answer old new
   carried_forgotten e answer old new known is c =
-      carried_from honest trace failed sectors (TakesMemory old.equipment old.session e) (AsksDevice old.equipment old.session e) (NeedsProgramLine old.equipment old.session e) (λ program. step old.equipment program old.session e)
+      carried_from seen (TakesMemory old.equipment old.session e) (AsksDevice old.equipment old.session e) (NeedsProgramLine old.equipment old.session e) (λ program. step old.equipment program old.session e)
       answer old new known (λ program of. subst (λ (k : KnownModel). IsKnownOf program k) (sym is) (still_forgotten e old.lines program of)) c
 
 -- what stands stays where a line that was read ahead is begun

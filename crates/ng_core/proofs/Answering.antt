@@ -3,7 +3,7 @@ use Rattle.std.proofs.Common.{◌≡◌, ◌⊎◌, ◌↔◌, inl, inr, ℕ, �
 use Rattle.std.specs.Prelude.{IsErrOf}
 use Rattle.ng_num.specs.declared.fault.Fault.{Fault}
 use Rattle.ng_num.specs.declared.fault.Fault.TheVariants.{DeviceFailed, CountersUsed, ProgramTooLong}
-use Rattle.ng_rig.specs.Trace.{Trace}
+use Rattle.ng_rig.specs.Device.{Device}
 use Rattle.ng_rig.specs.Calls.{IfHonest}
 use Rattle.ng_rig.proofs.Promise.{meaning}
 use Rattle.ng_layout.specs.Stored.{StoredModel, DurableState}
@@ -20,47 +20,47 @@ use Rattle.ng_core.proofs.Quiet.{still_step}
 use Rattle.ng_core.proofs.Doing.{does_still, does_moved, does_unmoved, Storing}
 use Rattle.ng_core.proofs.Ticks.{does_on}
 
-pub does_answer : {A R : Type 0} (honest : R → Type 0) (trace : R → Trace) (event : Event A) (r : Reply) (old new : ControllerModel R)
+pub does_answer : {A R : Type 0} (seen : R → Device) (event : Event A) (r : Reply) (old new : ControllerModel R)
     → IsQuiet event → new.journal ≡ old.journal → new.lines ≡ old.lines
     → ((program : List ℕ) → r ≡ (step old.equipment program old.session event).reply) → ((program : List ℕ) → new.session ≡ (step old.equipment program old.session event).next)
-    → IsCarriedOutIfHonest honest trace (Ok r) (λ program. step old.equipment program old.session event) old new
-does_answer honest trace event r old new quiet same lines replied next =
-    does_still honest trace r (λ program. step old.equipment program old.session event) old new (λ program. still_step old.equipment program old.session event quiet) same lines replied next
+    → IsCarriedOutIfHonest seen (Ok r) (λ program. step old.equipment program old.session event) old new
+does_answer seen event r old new quiet same lines replied next =
+    does_still seen r (λ program. step old.equipment program old.session event) old new (λ program. still_step old.equipment program old.session event quiet) same lines replied next
 
 -- ---- a program
 
 -- what `load_program` promises
-abbrev pub StoresProgram : {R T : Type 0} → (R → Type 0) → (R → Trace) → Result T Fault → StoredModel → List ℕ → JournalModel R → JournalModel R → Type 0
-StoresProgram honest trace result saved text old new =
-    IfHonest (honest old.rig) (honest new.rig) ((before : DurableState) → IsDurablyAt (trace old.rig) old before
-    → CommitSpec result new before (record { saved = saved; program = text }) (trace old.rig) (trace new.rig))
+abbrev pub StoresProgram : {R T : Type 0} → (R → Device) → Result T Fault → StoredModel → List ℕ → JournalModel R → JournalModel R → Type 0
+StoresProgram seen result saved text old new =
+    IfHonest (seen old.rig) (seen new.rig) ((before : DurableState) → IsDurablyAt (seen old.rig).trace old before
+    → CommitSpec result new before (record { saved = saved; program = text }) (seen old.rig).trace (seen new.rig).trace)
 
-storing_program : {R T : Type 0} (honest : R → Type 0) (trace : R → Trace) (result : Result T Fault) (saved : StoredModel) (text : List ℕ) (old : ControllerModel R) (journal : JournalModel R)
-    → saved ≡ after_load old.session.stored (length text) → StoresProgram honest trace result saved text old.journal journal
-    → Storing honest trace result (λ program. load_unless program old.session text None) old journal
-storing_program honest trace result saved text old journal is p =
+storing_program : {R T : Type 0} (seen : R → Device) (result : Result T Fault) (saved : StoredModel) (text : List ℕ) (old : ControllerModel R) (journal : JournalModel R)
+    → saved ≡ after_load old.session.stored (length text) → StoresProgram seen result saved text old.journal journal
+    → Storing seen result (λ program. load_unless program old.session text None) old journal
+storing_program seen result saved text old journal is p =
     meaning p (λ f program rests.
-    subst (λ (x : StoredModel). CommitSpec result journal (durable_state_of program old.session) (record { saved = x; program = text }) (trace old.journal.rig) (trace journal.rig)) is
+    subst (λ (x : StoredModel). CommitSpec result journal (durable_state_of program old.session) (record { saved = x; program = text }) (seen old.journal.rig).trace (seen journal.rig).trace) is
     (f (durable_state_of program old.session) rests.0))
 
-pub does_load : {R T : Type 0} (honest : R → Type 0) (trace : R → Trace) (v : T) (r : Reply) (saved : StoredModel) (text : List ℕ) (old new : ControllerModel R)
+pub does_load : {R T : Type 0} (seen : R → Device) (v : T) (r : Reply) (saved : StoredModel) (text : List ℕ) (old new : ControllerModel R)
     → load_refusal old.session text ≡ None → saved ≡ after_load old.session.stored (length text) → r ≡ reply.Done saved.entries → new.session ≡ loaded old.session saved
-    → StoresProgram honest trace (Ok v) saved text old.journal new.journal → IsKnownOf text new.lines
-    → IsCarriedOutIfHonest honest trace (Ok r) (λ program. load program old.session text) old new
-does_load honest trace v r saved text old new free is replied next p known =
-    does_on honest trace (Ok r) (λ program. load_unless program old.session text None) _ old old new refl (λ program. sym (ap (λ (o : Option Fault). load_unless program old.session text o) free))
-    (does_moved honest trace r v (λ program. load_unless program old.session text None) old new (storing_program honest trace (Ok v) saved text old new.journal is p) (λ program before. known)
+    → StoresProgram seen (Ok v) saved text old.journal new.journal → IsKnownOf text new.lines
+    → IsCarriedOutIfHonest seen (Ok r) (λ program. load program old.session text) old new
+does_load seen v r saved text old new free is replied next p known =
+    does_on seen (Ok r) (λ program. load_unless program old.session text None) _ old old new refl (λ program. sym (ap (λ (o : Option Fault). load_unless program old.session text o) free))
+    (does_moved seen r v (λ program. load_unless program old.session text None) old new (storing_program seen (Ok v) saved text old new.journal is p) (λ program before. known)
     (λ program. replied ∙ ap (λ (x : StoredModel). reply.Done x.entries) is) (λ program. next ∙ ap (λ (x : StoredModel). loaded old.session x) is) (λ program. refl)
     (subst (λ (x : Reply). TouchesNothing x → ⊥) (sym replied) (λ z. z)))
 
-pub does_not_load : {R T : Type 0} (honest : R → Type 0) (trace : R → Trace) (fault e : Fault) (saved : StoredModel) (text : List ℕ) (old new : ControllerModel R)
+pub does_not_load : {R T : Type 0} (seen : R → Device) (fault e : Fault) (saved : StoredModel) (text : List ℕ) (old new : ControllerModel R)
     → load_refusal old.session text ≡ None → saved ≡ after_load old.session.stored (length text) → new.session ≡ old.session
     → (fault ≡ CountersUsed) ⊎ (fault ≡ DeviceFailed) → (fault ≡ CountersUsed → new.journal ≡ old.journal)
-    → StoresProgram {T = T} honest trace (Err e) saved text old.journal new.journal → new.lines ≡ old.lines
-    → IsCarriedOutIfHonest honest trace (Err fault) (λ program. load program old.session text) old new
-does_not_load {R} {T} honest trace fault e saved text old new free is same which unchanged p lines =
-    does_on honest trace (Err fault) (λ program. load_unless program old.session text None) _ old old new refl (λ program. sym (ap (λ (o : Option Fault). load_unless program old.session text o) free))
-    (does_unmoved {T = T} honest trace fault e (λ program. load_unless program old.session text None) old new (storing_program {T = T} honest trace (Err e) saved text old new.journal is p) which unchanged lines same (λ program. refl))
+    → StoresProgram {T = T} seen (Err e) saved text old.journal new.journal → new.lines ≡ old.lines
+    → IsCarriedOutIfHonest seen (Err fault) (λ program. load program old.session text) old new
+does_not_load {R} {T} seen fault e saved text old new free is same which unchanged p lines =
+    does_on seen (Err fault) (λ program. load_unless program old.session text None) _ old old new refl (λ program. sym (ap (λ (o : Option Fault). load_unless program old.session text o) free))
+    (does_unmoved {T = T} seen fault e (λ program. load_unless program old.session text None) old new (storing_program {T = T} seen (Err e) saved text old new.journal is p) which unchanged lines same (λ program. refl))
 
 -- a program that isn't too long isn't refused as too long
 pub not_too_long : (T : Type 0) (e : Fault) (room n : ℕ) → n ≤ room → (e ≡ ProgramTooLong) ⊎ ((e ≡ CountersUsed) ⊎ (e ≡ DeviceFailed))

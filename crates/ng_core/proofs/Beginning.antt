@@ -4,6 +4,7 @@ use Rattle.ng_num.specs.declared.fault.Fault.{Fault}
 use Rattle.ng_num.specs.declared.fault.Fault.TheVariants.{DeviceFailed, OutOfMemory}
 use Rattle.ng_words.specs.declared.start.LineKind.{LineKind}
 use Rattle.ng_words.specs.declared.start.LineKind.TheVariants.{Blank}
+use Rattle.ng_rig.specs.Device.{Device}
 use Rattle.ng_rig.specs.Trace.{Trace}
 use Rattle.ng_rig.specs.Calls.{IfHonest}
 use Rattle.ng_rig.proofs.Promise.{meaning}
@@ -25,28 +26,28 @@ use Rattle.ng_core.proofs.AnyLines.{has_kind}
 use Rattle.ng_core.proofs.Quiet.{still_begin}
 
 -- what `first_kind` and `program_line` promise
-abbrev pub Finding : {R E : Type 0} → (R → Type 0) → (R → Trace) → Result LineKind E → LinesBefore → ℕ → JournalModel R → JournalModel R → Type 0
-Finding honest trace result known place old new =
-    IfHonest (honest old.rig) (honest new.rig) ((standing : DurableState) → IsDurablyAt (trace old.rig) old standing → IsTrueOf standing.program known → FirstKindSpec result new standing place (trace old.rig) (trace new.rig))
+abbrev pub Finding : {R E : Type 0} → (R → Device) → Result LineKind E → LinesBefore → ℕ → JournalModel R → JournalModel R → Type 0
+Finding seen result known place old new =
+    IfHonest (seen old.rig) (seen new.rig) ((standing : DurableState) → IsDurablyAt (seen old.rig).trace old standing → IsTrueOf standing.program known → FirstKindSpec result new standing place (seen old.rig).trace (seen new.rig).trace)
 
-abbrev pub Reading : {R E : Type 0} → (R → Type 0) → (R → Trace) → Result (Option ProgramLineModel) E → ℕ → JournalModel R → JournalModel R → Type 0
-Reading honest trace result place old new =
-    IfHonest (honest old.rig) (honest new.rig) ((standing : DurableState) → IsDurablyAt (trace old.rig) old standing → ProgramLineSpec result new standing place (trace old.rig) (trace new.rig))
+abbrev pub Reading : {R E : Type 0} → (R → Device) → Result (Option ProgramLineModel) E → ℕ → JournalModel R → JournalModel R → Type 0
+Reading seen result place old new =
+    IfHonest (seen old.rig) (seen new.rig) ((standing : DurableState) → IsDurablyAt (seen old.rig).trace old standing → ProgramLineSpec result new standing place (seen old.rig).trace (seen new.rig).trace)
 
 -- it is known
-pub finds_known : {R : Type 0} (honest : R → Type 0) (trace : R → Trace) (known : LinesBefore) (kind : LineKind) (place : ℕ) (journal : JournalModel R)
-    → ((program : List ℕ) → IsTrueOf program known → kind ≡ first_kind (lines_before program place)) → Finding {E = Fault} honest trace (Ok kind) known place journal journal
-finds_known honest trace known kind place journal is = record {
+pub finds_known : {R : Type 0} (seen : R → Device) (known : LinesBefore) (kind : LineKind) (place : ℕ) (journal : JournalModel R)
+    → ((program : List ℕ) → IsTrueOf program known → kind ≡ first_kind (lines_before program place)) → Finding {E = Fault} seen (Ok kind) known place journal journal
+finds_known seen known kind place journal is = record {
   keeps = λ h. h;
   back = λ h. h;
   holds = λ h standing rests true_of. record { same = refl; at = rests; kind = is standing.program true_of };
 }
 
 -- it is looked up
-pub finds_asked : {R E : Type 0} (honest : R → Type 0) (trace : R → Trace) (result : Result LineKind E) (known : LinesBefore) (place : ℕ) (old new : JournalModel R)
-    → IfHonest (honest old.rig) (honest new.rig) ((standing : DurableState) → IsDurablyAt (trace old.rig) old standing → FirstKindSpec result new standing place (trace old.rig) (trace new.rig))
-    → Finding {E = E} honest trace result known place old new
-finds_asked honest trace result known place old new p = meaning p (λ f standing rests true_of. f standing rests)
+pub finds_asked : {R E : Type 0} (seen : R → Device) (result : Result LineKind E) (known : LinesBefore) (place : ℕ) (old new : JournalModel R)
+    → IfHonest (seen old.rig) (seen new.rig) ((standing : DurableState) → IsDurablyAt (seen old.rig).trace old standing → FirstKindSpec result new standing place (seen old.rig).trace (seen new.rig).trace)
+    → Finding {E = E} seen result known place old new
+finds_asked seen result known place old new p = meaning p (λ f standing rests true_of. f standing rests)
 
 -- both were read, and nothing is changed
 pub record FindsBoth {R : Type 0} (first : LineKind) (line : Option ProgramLineModel) (journal : JournalModel R) (standing : DurableState) (place : ℕ) (old new : Trace) : Type 0 where
@@ -55,13 +56,13 @@ pub record FindsBoth {R : Type 0} (first : LineKind) (line : Option ProgramLineM
   pub first_is : first ≡ first_kind (lines_before standing.program place)
   pub line_is : line ≡ program_line_at standing.program place
 
-abbrev pub FindingBoth : {R : Type 0} → (R → Type 0) → (R → Trace) → LineKind → Option ProgramLineModel → KnownModel → ℕ → JournalModel R → JournalModel R → Type 0
-FindingBoth honest trace first line known place old new =
-    IfHonest (honest old.rig) (honest new.rig) ((standing : DurableState) → IsDurablyAt (trace old.rig) old standing → IsKnownOf standing.program known → FindsBoth first line new standing place (trace old.rig) (trace new.rig))
+abbrev pub FindingBoth : {R : Type 0} → (R → Device) → LineKind → Option ProgramLineModel → KnownModel → ℕ → JournalModel R → JournalModel R → Type 0
+FindingBoth seen first line known place old new =
+    IfHonest (seen old.rig) (seen new.rig) ((standing : DurableState) → IsDurablyAt (seen old.rig).trace old standing → IsKnownOf standing.program known → FindsBoth first line new standing place (seen old.rig).trace (seen new.rig).trace)
 
-pub finding_both : {R E F : Type 0} (honest : R → Type 0) (trace : R → Trace) (first : LineKind) (line : Option ProgramLineModel) (known : KnownModel) (place : ℕ) (old mid new : JournalModel R)
-    → Finding {E = E} honest trace (Ok first) known.before place old mid → Reading {E = F} honest trace (Ok line) place mid new → FindingBoth honest trace first line known place old new
-finding_both honest trace first line known place old mid new p q = record {
+pub finding_both : {R E F : Type 0} (seen : R → Device) (first : LineKind) (line : Option ProgramLineModel) (known : KnownModel) (place : ℕ) (old mid new : JournalModel R)
+    → Finding {E = E} seen (Ok first) known.before place old mid → Reading {E = F} seen (Ok line) place mid new → FindingBoth seen first line known place old new
+finding_both seen first line known place old mid new p q = record {
   keeps = λ h. q.keeps (p.keeps h);
   back = λ h. p.back (q.back h);
   holds = λ h standing rests true_of.
@@ -73,13 +74,13 @@ finding_both honest trace first line known place old mid new p q = record {
 abbrev begins : {R : Type 0} → ControllerModel R → List ℕ → Transition
 begins c program = begin c.equipment program c.session (program_line_at program c.session.stored.place)
 
-pub does_begin : {R : Type 0} (honest : R → Type 0) (trace : R → Trace) (r : Reply) (first : LineKind) (line : Option ProgramLineModel) (place : ℕ) (old new : ControllerModel R)
-    → place ≡ old.session.stored.place → FindingBoth honest trace first line old.lines place old.journal new.journal
+pub does_begin : {R : Type 0} (seen : R → Device) (r : Reply) (first : LineKind) (line : Option ProgramLineModel) (place : ℕ) (old new : ControllerModel R)
+    → place ≡ old.session.stored.place → FindingBoth seen first line old.lines place old.journal new.journal
     → ((program : List ℕ) → IsKnownOf program old.lines → line ≡ program_line_at program place → first ≡ first_kind (lines_before program place) → IsKnownOf program new.lines)
     → ((program : List ℕ) → first ≡ first_kind (lines_before program old.session.stored.place) → r ≡ (begin old.equipment program old.session line).reply)
     → ((program : List ℕ) → first ≡ first_kind (lines_before program old.session.stored.place) → new.session ≡ (begin old.equipment program old.session line).next)
-    → IsCarriedOutIfHonest honest trace (Ok r) (λ program. begin old.equipment program old.session (program_line_at program old.session.stored.place)) old new
-does_begin honest trace r first line place old new at p known replied next = record {
+    → IsCarriedOutIfHonest seen (Ok r) (λ program. begin old.equipment program old.session (program_line_at program old.session.stored.place)) old new
+does_begin seen r first line place old new at p known replied next = record {
   keeps = p.keeps;
   back = p.back;
   holds = λ h program rests.
@@ -87,7 +88,7 @@ does_begin honest trace r first line place old new at p known replied next = rec
       let kind = f.first_is ∙ ap (λ (n : ℕ). first_kind (lines_before program n)) at in
       let there = f.line_is ∙ ap (λ (n : ℕ). program_line_at program n) at in
       let quiet = still_begin old.equipment program old.session (program_line_at program old.session.stored.place) in
-      acts_read r (begins old program) program old new (trace old.journal.rig) (trace new.journal.rig) f.same f.at
+      acts_read r (begins old program) program old new (seen old.journal.rig).trace (seen new.journal.rig).trace f.same f.at
       (known_as program (begins old program).program new.lines new.lines quiet.program_is refl (known program rests.1 f.line_is f.first_is))
       (replied program kind ∙ ap (λ (l : Option ProgramLineModel). (begin old.equipment program old.session l).reply) there)
       (next program kind ∙ ap (λ (l : Option ProgramLineModel). (begin old.equipment program old.session l).next) there)
@@ -115,39 +116,39 @@ begun_line r out first line place old new runs at beginning replied next ledger 
     }
 
 -- there wasn't enough memory for the state after the line
-pub does_begin_short : {R : Type 0} (honest : R → Type 0) (trace : R → Trace) (fault : Fault) (first : LineKind) (line : Option ProgramLineModel) (place : ℕ) (out : List ℕ → Transition) (old new : ControllerModel R)
-    → FindingBoth honest trace first line old.lines place old.journal new.journal → fault ≡ OutOfMemory → new.session ≡ old.session → new.lines ≡ old.lines
-    → IsCarriedOutIfHonest honest trace (Err fault) out old new
-does_begin_short honest trace fault first line place out old new p is same lines = record {
+pub does_begin_short : {R : Type 0} (seen : R → Device) (fault : Fault) (first : LineKind) (line : Option ProgramLineModel) (place : ℕ) (out : List ℕ → Transition) (old new : ControllerModel R)
+    → FindingBoth seen first line old.lines place old.journal new.journal → fault ≡ OutOfMemory → new.session ≡ old.session → new.lines ≡ old.lines
+    → IsCarriedOutIfHonest seen (Err fault) out old new
+does_begin_short seen fault first line place out old new p is same lines = record {
   keeps = p.keeps;
   back = p.back;
   holds = λ h program rests.
       let f = p.holds h (durable_state_of program old.session) rests.0 rests.1 in
-      acts_aside fault (out program) program old new (trace old.journal.rig) (trace new.journal.rig) (inl is) f.same same f.at (known_as program program old.lines new.lines refl lines rests.1);
+      acts_aside fault (out program) program old new (seen old.journal.rig).trace (seen new.journal.rig).trace (inl is) f.same same f.at (known_as program program old.lines new.lines refl lines rests.1);
 }
 
 -- the device failed in the first read, or in the second
-pub does_begin_unfound : {R E : Type 0} (honest : R → Type 0) (trace : R → Trace) (fault : Fault) (e : E) (place : ℕ) (out : List ℕ → Transition) (old new : ControllerModel R)
-    → Finding honest trace (Err e) old.lines.before place old.journal new.journal → fault ≡ DeviceFailed → new.session ≡ old.session
-    → IsCarriedOutIfHonest honest trace (Err fault) out old new
-does_begin_unfound honest trace fault e place out old new p is same = record {
+pub does_begin_unfound : {R E : Type 0} (seen : R → Device) (fault : Fault) (e : E) (place : ℕ) (out : List ℕ → Transition) (old new : ControllerModel R)
+    → Finding seen (Err e) old.lines.before place old.journal new.journal → fault ≡ DeviceFailed → new.session ≡ old.session
+    → IsCarriedOutIfHonest seen (Err fault) out old new
+does_begin_unfound seen fault e place out old new p is same = record {
   keeps = p.keeps;
   back = p.back;
   holds = λ h program rests.
       let f = p.holds h (durable_state_of program old.session) rests.0 rests.1.0 in
-      acts_unread fault (out program) program old new (trace old.journal.rig) (trace new.journal.rig) is f.same (ap session_status same);
+      acts_unread fault (out program) program old new (seen old.journal.rig).trace (seen new.journal.rig).trace is f.same (ap session_status same);
 }
 
-pub does_begin_unread : {R E F : Type 0} (honest : R → Type 0) (trace : R → Trace) (fault : Fault) (first : LineKind) (e : E) (place : ℕ) (out : List ℕ → Transition) (old new : ControllerModel R) (mid : JournalModel R)
-    → Finding {E = F} honest trace (Ok first) old.lines.before place old.journal mid → Reading honest trace (Err e) place mid new.journal → fault ≡ DeviceFailed → new.session ≡ old.session
-    → IsCarriedOutIfHonest honest trace (Err fault) out old new
-does_begin_unread honest trace fault first e place out old new mid p q is same = record {
+pub does_begin_unread : {R E F : Type 0} (seen : R → Device) (fault : Fault) (first : LineKind) (e : E) (place : ℕ) (out : List ℕ → Transition) (old new : ControllerModel R) (mid : JournalModel R)
+    → Finding {E = F} seen (Ok first) old.lines.before place old.journal mid → Reading seen (Err e) place mid new.journal → fault ≡ DeviceFailed → new.session ≡ old.session
+    → IsCarriedOutIfHonest seen (Err fault) out old new
+does_begin_unread seen fault first e place out old new mid p q is same = record {
   keeps = λ h. q.keeps (p.keeps h);
   back = λ h. p.back (q.back h);
   holds = λ h program rests.
       let f = p.holds h (durable_state_of program old.session) rests.0 rests.1.0 in
       let l = q.holds (p.keeps h) (durable_state_of program old.session) f.at in
-      acts_unread fault (out program) program old new (trace old.journal.rig) (trace new.journal.rig) is (l.same ∙ f.same) (ap session_status same);
+      acts_unread fault (out program) program old new (seen old.journal.rig).trace (seen new.journal.rig).trace is (l.same ∙ f.same) (ap session_status same);
 }
 
 -- what is known after a line

@@ -6,7 +6,7 @@ use Rattle.std.specs.Prelude.{IfOk, IfErr, MatchOption}
 use Rattle.ng_num.specs.declared.fault.Fault.{Fault}
 use Rattle.ng_num.specs.declared.fault.Fault.TheVariants.{DeviceFailed, CountersUsed, OutOfMemory}
 use Rattle.ng_canon.specs.declared.item.Item.{Item}
-use Rattle.ng_rig.specs.Trace.{Trace}
+use Rattle.ng_rig.specs.Device.{Device}
 use Rattle.ng_journal.specs.Journal.{JournalModel, CountsFailure, IsBrokenBy}
 use Rattle.ng_journal.specs.Storing.{Ledger, ledger_of}
 use Rattle.ng_session.specs.Session.{CurrentBlockModel, SessionModel, Transition, IsBetweenLines, has_work, is_running, refuses, tick, open_next, item_of, handed, opening_of, session_status}
@@ -27,22 +27,22 @@ use Rattle.ng_core.proofs.Ticks.{does_on, does_held, tick_item, tick_none}
 abbrev needs_of_tick : SessionModel → Needs
 needs_of_tick s = needs ((s.held ≡ false) × IsBetweenLines s) ((s.held ≡ false) × (has_work s ≡ true)) ((s.held ≡ false) × IsBetweenLines s)
 
-module _ {R : Type 0} (honest : R → Type 0) (trace : R → Trace) (failed sectors : R → ℕ) where
+module _ {R : Type 0} (seen : R → Device) where
   -- ---- the same by other words
 
   -- from an equal controller
   pub carried_as : (memory device reads : ControllerModel R → Type 0) (out : ControllerModel R → List ℕ → Transition) (answer : Result Reply Fault) (old mid new : ControllerModel R)
-      → mid ≡ old → CarriesOut honest trace failed sectors (needs (memory mid) (device mid) (reads mid)) (out mid) answer mid new
-      → CarriesOut honest trace failed sectors (needs (memory old) (device old) (reads old)) (out old) answer old new
+      → mid ≡ old → CarriesOut seen (needs (memory mid) (device mid) (reads mid)) (out mid) answer mid new
+      → CarriesOut seen (needs (memory old) (device old) (reads old)) (out old) answer old new
   carried_as memory device reads out answer old mid new same c =
-      subst (λ (x : ControllerModel R). CarriesOut honest trace failed sectors (needs (memory x) (device x) (reads x)) (out x) answer x new) same c
+      subst (λ (x : ControllerModel R). CarriesOut seen (needs (memory x) (device x) (reads x)) (out x) answer x new) same c
 
   -- of an equal outcome, and where memory is taken and the device is asked in more cases; a line is read in the same
   pub carried_to : (memory m device d reads e : Type 0) (out wanted : List ℕ → Transition) (answer : Result Reply Fault) (old new : ControllerModel R)
       → (memory → m) → (device → d) → (reads → e) → (e → reads) → ((program : List ℕ) → out program ≡ wanted program)
-      → CarriesOut honest trace failed sectors (needs memory device reads) out answer old new → CarriesOut honest trace failed sectors (needs m d e) wanted answer old new
+      → CarriesOut seen (needs memory device reads) out answer old new → CarriesOut seen (needs m d e) wanted answer old new
   carried_to memory m device d reads e out wanted answer old new f g h back equal c = record {
-    does = does_on honest trace answer out wanted old old new refl equal c.does;
+    does = does_on seen answer out wanted old old new refl equal c.does;
     comes = comes_to reads e answer out wanted old new h equal c.comes;
     line = λ read. subst (λ (f : List ℕ → Transition). IfOk answer (λ r. IsAnsweredByLine r f old new)) (λ i program. equal program i) (c.line (back read));
     hindered = IfErr-weaker answer (IsCausedBy memory device (ledger_of old.journal) out) (IsCausedBy m d (ledger_of old.journal) wanted)
@@ -60,22 +60,22 @@ module _ {R : Type 0} (honest : R → Type 0) (trace : R → Trace) (failed sect
       → old.journal.broken ≡ false → (reads → ⊥) → ((program : List ℕ) → IsStill program old.session.stored (out program))
       → new.journal ≡ old.journal → new.lines ≡ old.lines → new.equipment ≡ old.equipment
       → ((program : List ℕ) → r ≡ (out program).reply) → ((program : List ℕ) → new.session ≡ (out program).next)
-      → CarriesOut honest trace failed sectors (needs memory device reads) out (Ok r) old new
+      → CarriesOut seen (needs memory device reads) out (Ok r) old new
   carried_still memory device reads r out old new whole unread quiet same lines equipment replied next = record {
-    does = does_still honest trace r out old new quiet same lines replied next;
+    does = does_still seen r out old new quiet same lines replied next;
     comes = comes_by reads r out old new replied next;
     line = λ read. absurd (unread read);
     hindered = tt;
     broken = ap (λ (j : JournalModel R). j.broken) same ∙ whole;
     equipment = equipment;
-    size = ap (λ (j : JournalModel R). sectors j.rig) same;
-    failures = ap (λ (j : JournalModel R). failed j.rig) same;
+    size = ap (λ (j : JournalModel R). (seen j.rig).sectors) same;
+    failures = ap (λ (j : JournalModel R). (seen j.rig).failed) same;
   }
 
   -- it refused
   pub carried_refused : (memory device reads : Type 0) (fault : Fault) (out : List ℕ → Transition) (c : ControllerModel R)
       → c.journal.broken ≡ false → (reads → ⊥) → ((program : List ℕ) → refuses program fault c.session ≡ out program)
-      → CarriesOut honest trace failed sectors (needs memory device reads) out (Ok (reply.Refused fault)) c c
+      → CarriesOut seen (needs memory device reads) out (Ok (reply.Refused fault)) c c
   carried_refused memory device reads fault out c whole unread equal =
       carried_to memory memory device device reads reads (λ program. refuses program fault c.session) out (Ok (reply.Refused fault)) c c (λ m. m) (λ d. d) (λ e. e) (λ e. e) equal
       (carried_still memory device reads (reply.Refused fault) (λ program. refuses program fault c.session) c c whole unread (λ program. still refl refl refl) refl refl refl (λ program. refl) (λ program. refl))
@@ -84,26 +84,26 @@ module _ {R : Type 0} (honest : R → Type 0) (trace : R → Trace) (failed sect
   pub carried_short : (memory device reads : Type 0) (fault : Fault) (out : List ℕ → Transition) (old new : ControllerModel R)
       → old.journal.broken ≡ false → fault ≡ OutOfMemory → memory
       → new.journal ≡ old.journal → new.lines ≡ old.lines → new.equipment ≡ old.equipment → new.session ≡ old.session
-      → CarriesOut honest trace failed sectors (needs memory device reads) out (Err fault) old new
+      → CarriesOut seen (needs memory device reads) out (Err fault) old new
   carried_short memory device reads fault out old new whole is taken same lines equipment kept =
-      let short : CarriesOut honest trace failed sectors (needs memory device reads) out (Err OutOfMemory) old new = record {
-        does = does_aside honest trace OutOfMemory out old new (inl refl) same lines kept;
+      let short : CarriesOut seen (needs memory device reads) out (Err OutOfMemory) old new = record {
+        does = does_aside seen OutOfMemory out old new (inl refl) same lines kept;
         comes = stays_same reads OutOfMemory old new kept (λ other. same);
         line = λ read. tt;
         hindered = inl (refl, taken);
         broken = ap (λ (j : JournalModel R). j.broken) same ∙ whole;
         equipment = equipment;
-        size = ap (λ (j : JournalModel R). sectors j.rig) same;
-        failures = ap (λ (j : JournalModel R). failed j.rig) same;
+        size = ap (λ (j : JournalModel R). (seen j.rig).sectors) same;
+        failures = ap (λ (j : JournalModel R). (seen j.rig).failed) same;
       } in
-      subst (λ (f : Fault). CarriesOut honest trace failed sectors (needs memory device reads) out (Err f) old new) (sym is) short
+      subst (λ (f : Fault). CarriesOut seen (needs memory device reads) out (Err f) old new) (sym is) short
 
   -- a counter is used up, as was seen before
   pub carried_used : (memory device reads : Type 0) (out : List ℕ → Transition) (c : ControllerModel R)
       → c.journal.broken ≡ false → IsCausedBy memory device (ledger_of c.journal) out CountersUsed
-      → CarriesOut honest trace failed sectors (needs memory device reads) out (Err CountersUsed) c c
+      → CarriesOut seen (needs memory device reads) out (Err CountersUsed) c c
   carried_used memory device reads out c whole hindered = record {
-    does = does_aside honest trace CountersUsed out c c (inr refl) refl refl refl;
+    does = does_aside seen CountersUsed out c c (inr refl) refl refl refl;
     comes = stays_same reads CountersUsed c c refl (λ other. refl);
     line = λ read. tt;
     hindered = hindered;
@@ -117,12 +117,12 @@ module _ {R : Type 0} (honest : R → Type 0) (trace : R → Trace) (failed sect
 
   -- for what is stored: a counter is used up, or it failed
   pub carried_failed : (memory device reads : Type 0) (fault e : Fault) (out : List ℕ → Transition) (old new : ControllerModel R)
-      → fault ≡ e → IsCarriedOutIfHonest honest trace (Err e) out old new → (e ≡ CountersUsed) ⊎ (e ≡ DeviceFailed) → (e ≡ CountersUsed → new.journal ≡ old.journal)
+      → fault ≡ e → IsCarriedOutIfHonest seen (Err e) out old new → (e ≡ CountersUsed) ⊎ (e ≡ DeviceFailed) → (e ≡ CountersUsed → new.journal ≡ old.journal)
       → new.equipment ≡ old.equipment → new.session ≡ old.session → IsCausedBy memory device (ledger_of old.journal) out e
-      → IsBrokenBy {T = Reply} (Err e) new.journal.broken → sectors new.journal.rig ≡ sectors old.journal.rig → CountsFailure {T = Reply} (Err e) (failed old.journal.rig) (failed new.journal.rig)
-      → CarriesOut honest trace failed sectors (needs memory device reads) out (Err fault) old new
+      → IsBrokenBy {T = Reply} (Err e) new.journal.broken → (seen new.journal.rig).sectors ≡ (seen old.journal.rig).sectors → CountsFailure {T = Reply} (Err e) (seen old.journal.rig).failed (seen new.journal.rig).failed
+      → CarriesOut seen (needs memory device reads) out (Err fault) old new
   carried_failed memory device reads fault e out old new is does which unchanged equipment kept hindered broken size failures =
-      let there : CarriesOut honest trace failed sectors (needs memory device reads) out (Err e) old new = record {
+      let there : CarriesOut seen (needs memory device reads) out (Err e) old new = record {
         does = does;
         comes = stays_same reads e old new kept (unless_lost e old.journal new.journal which unchanged);
         line = λ read. tt;
@@ -132,16 +132,16 @@ module _ {R : Type 0} (honest : R → Type 0) (trace : R → Trace) (failed sect
         size = size;
         failures = failures;
       } in
-      subst (λ (f : Fault). CarriesOut honest trace failed sectors (needs memory device reads) out (Err f) old new) (sym is) there
+      subst (λ (f : Fault). CarriesOut seen (needs memory device reads) out (Err f) old new) (sym is) there
 
   -- for what uses up no counter, and it failed
   pub carried_lost : (memory device reads : Type 0) (fault e : Fault) (out : List ℕ → Transition) (old new : ControllerModel R)
-      → fault ≡ e → IsCarriedOutIfHonest honest trace (Err e) out old new → e ≡ DeviceFailed → device → ((program : List ℕ) → UsesUpCounter (ledger_of old.journal) (out program) → ⊥)
+      → fault ≡ e → IsCarriedOutIfHonest seen (Err e) out old new → e ≡ DeviceFailed → device → ((program : List ℕ) → UsesUpCounter (ledger_of old.journal) (out program) → ⊥)
       → new.equipment ≡ old.equipment → new.session ≡ old.session
-      → IsBrokenBy {T = Reply} (Err e) new.journal.broken → sectors new.journal.rig ≡ sectors old.journal.rig → CountsFailure {T = Reply} (Err e) (failed old.journal.rig) (failed new.journal.rig)
-      → CarriesOut honest trace failed sectors (needs memory device reads) out (Err fault) old new
+      → IsBrokenBy {T = Reply} (Err e) new.journal.broken → (seen new.journal.rig).sectors ≡ (seen old.journal.rig).sectors → CountsFailure {T = Reply} (Err e) (seen old.journal.rig).failed (seen new.journal.rig).failed
+      → CarriesOut seen (needs memory device reads) out (Err fault) old new
   carried_lost memory device reads fault e out old new is does lost asked unused equipment kept broken size failures =
-      let there : CarriesOut honest trace failed sectors (needs memory device reads) out (Err e) old new = record {
+      let there : CarriesOut seen (needs memory device reads) out (Err e) old new = record {
         does = does;
         comes = stays_same reads e old new kept (λ other. absurd (other lost));
         line = λ read. tt;
@@ -151,14 +151,14 @@ module _ {R : Type 0} (honest : R → Type 0) (trace : R → Trace) (failed sect
         size = size;
         failures = failures;
       } in
-      subst (λ (f : Fault). CarriesOut honest trace failed sectors (needs memory device reads) out (Err f) old new) (sym is) there
+      subst (λ (f : Fault). CarriesOut seen (needs memory device reads) out (Err f) old new) (sym is) there
 
   -- for a line of the program, and then there wasn't enough memory
   pub carried_read : (memory device reads : Type 0) (fault : Fault) (out : List ℕ → Transition) (old new : ControllerModel R)
-      → fault ≡ OutOfMemory → memory → IsCarriedOutIfHonest honest trace (Err fault) out old new
+      → fault ≡ OutOfMemory → memory → IsCarriedOutIfHonest seen (Err fault) out old new
       → new.equipment ≡ old.equipment → new.session ≡ old.session → ledger_of new.journal ≡ ledger_of old.journal → ((reads → ⊥) → new.journal ≡ old.journal)
-      → new.journal.broken ≡ false → sectors new.journal.rig ≡ sectors old.journal.rig → failed new.journal.rig ≡ failed old.journal.rig
-      → CarriesOut honest trace failed sectors (needs memory device reads) out (Err fault) old new
+      → new.journal.broken ≡ false → (seen new.journal.rig).sectors ≡ (seen old.journal.rig).sectors → (seen new.journal.rig).failed ≡ (seen old.journal.rig).failed
+      → CarriesOut seen (needs memory device reads) out (Err fault) old new
   carried_read memory device reads fault out old new is taken does equipment kept ledger unread whole size failures = record {
     does = does;
     comes = record { status = ap session_status kept; session = λ other. kept; ledger = λ other. ledger; journal = λ other none. unread none };
@@ -167,15 +167,15 @@ module _ {R : Type 0} (honest : R → Type 0) (trace : R → Trace) (failed sect
     broken = subst (λ (f : Fault). IsBrokenBy {T = Reply} (Err f) new.journal.broken) (sym is) whole;
     equipment = equipment;
     size = size;
-    failures = subst (λ (f : Fault). CountsFailure {T = Reply} (Err f) (failed old.journal.rig) (failed new.journal.rig)) (sym is) failures;
+    failures = subst (λ (f : Fault). CountsFailure {T = Reply} (Err f) (seen old.journal.rig).failed (seen new.journal.rig).failed) (sym is) failures;
   }
 
   -- ---- a Tick
 
   pub carried_held : (memory device reads : Type 0) (c : ControllerModel R) → c.journal.broken ≡ false → (reads → ⊥) → c.session.held ≡ true
-      → CarriesOut honest trace failed sectors (needs memory device reads) (λ program. tick c.equipment program c.session) (Ok reply.Held) c c
+      → CarriesOut seen (needs memory device reads) (λ program. tick c.equipment program c.session) (Ok reply.Held) c c
   carried_held memory device reads c whole unread held = record {
-    does = does_held honest trace c held;
+    does = does_held seen c held;
     comes = comes_held reads c held;
     line = λ read. absurd (unread read);
     hindered = tt;
@@ -197,14 +197,14 @@ module _ {R : Type 0} (honest : R → Type 0) (trace : R → Trace) (failed sect
 
   pub carried_item : (answer : Result Reply Fault) (item : Item) (old new : ControllerModel R) (taken : SessionModel)
       → old.session.held ≡ false → Some item ≡ item_of old.session.current → taken ≡ handed old.session
-      → CarriesOut honest trace failed sectors needs_device (λ program. handing item program taken) answer (with_session old taken) new
-      → CarriesOut honest trace failed sectors (needs_of_tick old.session) (λ program. tick old.equipment program old.session) answer old new
+      → CarriesOut seen needs_device (λ program. handing item program taken) answer (with_session old taken) new
+      → CarriesOut seen (needs_of_tick old.session) (λ program. tick old.equipment program old.session) answer old new
   carried_item answer item old new taken held is next c =
       let ledger = ledger_of old.journal in
       let errors : IfErr answer (λ e. e ≡ DeviceFailed) =
       IfErr-weaker answer (IsCausedBy ⊥ (Unit {0}) ledger (λ program. handing item program taken)) (λ e. e ≡ DeviceFailed) (lost_alone ledger item taken) c.hindered in
       record {
-        does = does_item honest trace answer item old new taken held is next errors c.does;
+        does = does_item seen answer item old new taken held is next errors c.does;
         comes = comes_item ((old.session.held ≡ false) × IsBetweenLines old.session) answer item old new taken held is next errors c.comes;
         line = λ read. absurd (busy_unread old.session (some_item old.session.current item is) read.1);
         hindered = IfErr-weaker answer (λ e. e ≡ DeviceFailed)
@@ -222,14 +222,14 @@ module _ {R : Type 0} (honest : R → Type 0) (trace : R → Trace) (failed sect
 
   pub carried_further : (answer : Result Reply Fault) (old new : ControllerModel R) (left : SessionModel)
       → old.session.held ≡ false → None ≡ item_of old.session.current → left ≡ old.session
-      → CarriesOut honest trace failed sectors (needs_of_work left) (λ program. open_next old.equipment program left (opening_of left.current)) answer (with_session old left) new
-      → CarriesOut honest trace failed sectors (needs_of_tick old.session) (λ program. tick old.equipment program old.session) answer old new
+      → CarriesOut seen (needs_of_work left) (λ program. open_next old.equipment program left (opening_of left.current)) answer (with_session old left) new
+      → CarriesOut seen (needs_of_tick old.session) (λ program. tick old.equipment program old.session) answer old new
   carried_further answer old new left held none same c =
       carried_to (IsBetweenLines old.session) ((old.session.held ≡ false) × IsBetweenLines old.session) (has_work old.session ≡ true) ((old.session.held ≡ false) × (has_work old.session ≡ true))
       (IsBetweenLines old.session) ((old.session.held ≡ false) × IsBetweenLines old.session)
       (λ program. open_next old.equipment program old.session (opening_of old.session.current)) (λ program. tick old.equipment program old.session) answer old new
       (λ p. (held, p)) (λ b. (held, b)) (λ p. (held, p)) (λ read. read.1) (λ program. sym (tick_none old.equipment program old.session held (sym none)))
-      (subst (λ (s : SessionModel). CarriesOut honest trace failed sectors (needs_of_work s) (λ program. open_next old.equipment program s (opening_of s.current)) answer (with_session old s) new) same c)
+      (subst (λ (s : SessionModel). CarriesOut seen (needs_of_work s) (λ program. open_next old.equipment program s (opening_of s.current)) answer (with_session old s) new) same c)
 
 -- what holds where there is one
 pub by_some : {T : Type 0} (P : Type 0) (Q : T → Type 0) (o : Option T) → true ≡ is_some o → MatchOption o P Q → (x : T) × Q x

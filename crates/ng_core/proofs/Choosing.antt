@@ -6,6 +6,7 @@ use Rattle.ng_num.specs.declared.fault.Fault.{Fault}
 use Rattle.ng_num.specs.declared.fault.Fault.TheVariants.{DeviceFailed}
 use Rattle.ng_canon.specs.declared.item.Item.{Item}
 use Rattle.ng_canon.specs.declared.segment.Segment.{Segment}
+use Rattle.ng_rig.specs.Device.{Device}
 use Rattle.ng_rig.specs.Trace.{Trace}
 use Rattle.ng_rig.proofs.Promise.{meaning}
 use Rattle.ng_text.specs.Programs.{program_line_at}
@@ -35,20 +36,20 @@ acts_before {R} (Err fault) out program old new trace_old trace_new errors acts 
     let goal : Goal fault = subst Goal (sym errors) lost in
     goal acts
 
-does_before : {R : Type 0} (honest : R → Type 0) (trace : R → Trace) (answer : Result Reply Fault) (out : List ℕ → Transition) (old new : ControllerModel R)
-    → IfErr answer (λ e. e ≡ DeviceFailed) → IsCarriedOutIfHonest honest trace answer out (with_session old (handed old.session)) new → IsCarriedOutIfHonest honest trace answer out old new
-does_before honest trace answer out old new errors does =
-    meaning does (λ f program rests. acts_before answer (out program) program old new (trace old.journal.rig) (trace new.journal.rig) errors (f program rests))
+does_before : {R : Type 0} (seen : R → Device) (answer : Result Reply Fault) (out : List ℕ → Transition) (old new : ControllerModel R)
+    → IfErr answer (λ e. e ≡ DeviceFailed) → IsCarriedOutIfHonest seen answer out (with_session old (handed old.session)) new → IsCarriedOutIfHonest seen answer out old new
+does_before seen answer out old new errors does =
+    meaning does (λ f program rests. acts_before answer (out program) program old new (seen old.journal.rig).trace (seen new.journal.rig).trace errors (f program rests))
 
-pub does_item : {R : Type 0} (honest : R → Type 0) (trace : R → Trace) (answer : Result Reply Fault) (item : Item) (old new : ControllerModel R) (taken : SessionModel)
+pub does_item : {R : Type 0} (seen : R → Device) (answer : Result Reply Fault) (item : Item) (old new : ControllerModel R) (taken : SessionModel)
     → old.session.held ≡ false → Some item ≡ item_of old.session.current → taken ≡ handed old.session → IfErr answer (λ e. e ≡ DeviceFailed)
-    → IsCarriedOutIfHonest honest trace answer (λ program. handing item program taken) (with_session old taken) new
-    → IsCarriedOutIfHonest honest trace answer (λ program. tick old.equipment program old.session) old new
-does_item honest trace answer item old new taken held is next errors does =
-    does_on honest trace answer (λ program. handing item program (handed old.session)) (λ program. tick old.equipment program old.session) old old new refl
+    → IsCarriedOutIfHonest seen answer (λ program. handing item program taken) (with_session old taken) new
+    → IsCarriedOutIfHonest seen answer (λ program. tick old.equipment program old.session) old new
+does_item seen answer item old new taken held is next errors does =
+    does_on seen answer (λ program. handing item program (handed old.session)) (λ program. tick old.equipment program old.session) old old new refl
     (λ program. sym (tick_item old.equipment program old.session item held (sym is)))
-    (does_before honest trace answer (λ program. handing item program (handed old.session)) old new errors
-    (subst (λ (s : SessionModel). IsCarriedOutIfHonest honest trace answer (λ program. handing item program s) (with_session old s) new) next does))
+    (does_before seen answer (λ program. handing item program (handed old.session)) old new errors
+    (subst (λ (s : SessionModel). IsCarriedOutIfHonest seen answer (λ program. handing item program s) (with_session old s) new) next does))
 
 -- ---- none
 

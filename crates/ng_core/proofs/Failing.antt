@@ -3,7 +3,7 @@
 use Rattle.std.proofs.Common.{◌≡◌, inl, inr, ℕ, Bool, true, false, if◌then◌else◌, List, [], Option, Result, Ok, Err, sym, ◌∙◌, ap, subst}
 use Rattle.ng_num.specs.declared.fault.Fault.{Fault}
 use Rattle.ng_num.specs.declared.fault.Fault.TheVariants.{DeviceFailed, CountersUsed, OutOfMemory}
-use Rattle.ng_rig.specs.Trace.{Trace}
+use Rattle.ng_rig.specs.Device.{Device}
 use Rattle.ng_journal.specs.Journal.{CountsFailure}
 use Rattle.ng_journal.specs.Storing.{Ledger, ledger_of}
 use Rattle.ng_text.specs.Programs.{ProgramLineModel}
@@ -51,10 +51,10 @@ told_of memory device ledger out fault before after (inr (inr asked)) counts =
     let one : (let answer : Result Reply Fault = Err DeviceFailed in CountsFailure answer before after) = subst (λ (f : Fault). let answer : Result Reply Fault = Err f in CountsFailure answer before after) asked.0 counts in
     (λ lost. one, λ other. absurd (other (ap (λ (f : Fault). reply.Refused f) asked.0)))
 
-pub tells_failure : {A R : Type 0} (honest : R → Type 0) (trace : R → Trace) (failed sectors : R → ℕ) (event : Event A) (answer : Result Reply Fault) (old new : ControllerModel R)
-    → CarriesOutEvent honest trace failed sectors event answer old new → TellsFailure (reply_to answer) (failed old.journal.rig) (failed new.journal.rig)
-tells_failure honest trace failed sectors event (Ok r) old new c =
+pub tells_failure : {A R : Type 0} (seen : R → Device) (event : Event A) (answer : Result Reply Fault) (old new : ControllerModel R)
+    → CarriesOutEvent seen event answer old new → TellsFailure (reply_to answer) (seen old.journal.rig).failed (seen new.journal.rig).failed
+tells_failure seen event (Ok r) old new c =
     (λ lost. absurd (answers_own (NeedsProgramLine old.equipment old.session event) r event old new c.comes c.line lost), λ other. c.failures)
-tells_failure honest trace failed sectors event (Err fault) old new c =
+tells_failure seen event (Err fault) old new c =
     told_of (TakesMemory old.equipment old.session event) (AsksDevice old.equipment old.session event) (ledger_of old.journal) (λ program. transition_of old program event)
-    fault (failed old.journal.rig) (failed new.journal.rig) c.hindered c.failures
+    fault (seen old.journal.rig).failed (seen new.journal.rig).failed c.hindered c.failures

@@ -5,7 +5,8 @@ use Rattle.std.proofs.lemmas.List.{length-take-le}
 use Rattle.ng_num.specs.declared.fault.Fault.{Fault}
 use Rattle.ng_num.specs.declared.point.Point.{Point}
 use Rattle.ng_canon.specs.declared.item.Item.{Item}
-use Rattle.ng_rig.specs.Trace.{Image, Trace, moment, trace_at, IsStop}
+use Rattle.ng_rig.specs.Device.{Device}
+use Rattle.ng_rig.specs.Trace.{Image, moment, trace_at, IsStop}
 use Rattle.ng_block.specs.Effects.{Done}
 use Rattle.ng_layout.specs.Stands.{stands_beside}
 use Rattle.ng_layout.specs.Stored.{HalfModel, StoredModel, DurableState}
@@ -82,9 +83,9 @@ counted q lines x before executed begun acknowledged image handed tools y p is =
     let taken = length-take-le p.count executed p.within in
     (omega (arith, tail, all, same, p.all, taken), omega (arith, tail, all, same, p.few, taken))
 
-pub counts_acknowledged : {A R : Type 0} (trace : R → Trace) (x : DurableState) (events : List (Event A)) (replies : List Reply) (moments : List ℕ) (first now : ControllerModel R) → Accounts trace x events replies moments first now
-    → CountsAcknowledged trace x replies moments first now
-counts_acknowledged trace x events replies moments first now p t image handed tools y from until stop is =
+pub counts_acknowledged : {A R : Type 0} (seen : R → Device) (x : DurableState) (events : List (Event A)) (replies : List Reply) (moments : List ℕ) (first now : ControllerModel R) → Accounts seen x events replies moments first now
+    → CountsAcknowledged seen x replies moments first now
+counts_acknowledged seen x events replies moments first now p t image handed tools y from until stop is =
     counted first.equipment _ x _ _ _ (dones (take (answered_by t moments) replies)) image handed tools y (p.stops.each t image handed from until stop) is
 
 -- ---- and so a body that takes one away during an event is refused by what `on` says of the past, alone
@@ -101,12 +102,12 @@ answered_before first t m (s ∷ before) last rising late early =
     rising_to a b [] r = r
     rising_to a b (k ∷ ms) r = omega (arith, r.0, rising_to k b ms r.1)
 
-each_answered : {A R : Type 0} (honest : R → Type 0) (trace : R → Trace) (failed sectors : R → ℕ) (events : List (Event A)) (replies : List Reply) (old new : ControllerModel R)
-    → (t : AreAnsweredEvents honest trace failed sectors events replies old new) → length (answered_at honest trace failed sectors events replies old new t) ≡ length replies
-each_answered honest trace failed sectors [] [] old new t = refl
-each_answered honest trace failed sectors [] (r ∷ replies) old new t = absurd t
-each_answered honest trace failed sectors (event ∷ events) [] old new t = absurd t
-each_answered honest trace failed sectors (event ∷ events) (r ∷ replies) old new t = ap (λ (n : ℕ). suc n) (each_answered honest trace failed sectors events replies t.0 new t.1.1)
+each_answered : {A R : Type 0} (seen : R → Device) (events : List (Event A)) (replies : List Reply) (old new : ControllerModel R)
+    → (t : AreAnsweredEvents seen events replies old new) → length (answered_at seen events replies old new t) ≡ length replies
+each_answered seen [] [] old new t = refl
+each_answered seen [] (r ∷ replies) old new t = absurd t
+each_answered seen (event ∷ events) [] old new t = absurd t
+each_answered seen (event ∷ events) (r ∷ replies) old new t = ap (λ (n : ℕ). suc n) (each_answered seen events replies t.0 new t.1.1)
 
 take_told : {X : Type 0} (n : ℕ) (told more : List X) → n ≡ length told → take n (told ++ more) ≡ told
 take_told zero [] more is = refl
@@ -116,21 +117,21 @@ take_told {X} (suc n) (r ∷ told) more is = ap (λ (l : List X). r ∷ l) (take
 
 -- A stop within an event has all entries that were acknowledged before it: by `past` of `on`, and by nothing else that
 -- is said of `on`.
-pub none_taken_away : {A R : Type 0} (honest : R → Type 0) (trace : R → Trace) (failed sectors : R → ℕ) (e : Event A) (r : Reply) (old new : ControllerModel R)
-    → AddsToPast {A = A} honest trace failed sectors (e ∷ []) (r ∷ []) (moment (trace new.journal.rig) ∷ []) old new
-    → (x : DurableState) (events : List (Event A)) (told : List Reply) (before : List ℕ) (first : ControllerModel R) → honest first.journal.rig → IsPast honest trace failed sectors x events told before first old
-    → (t : ℕ) (image : Image) (handed : List Item) (tools : List ℤ) (y : DurableState) → moment (trace old.journal.rig) ≤ t → t < moment (trace new.journal.rig)
-    → IsStop (trace_at t (trace new.journal.rig)) image handed → stands_beside tools image ≡ Ok y → x.saved.entries + dones told ≤ y.saved.entries
-none_taken_away honest trace failed sectors e r old new past x events told before first h is t image handed tools y from until stop left =
-    let m = moment (trace new.journal.rig) in
-    let was = accounts honest trace failed sectors x events told before first old h is in
+pub none_taken_away : {A R : Type 0} (seen : R → Device) (e : Event A) (r : Reply) (old new : ControllerModel R)
+    → AddsToPast {A = A} seen (e ∷ []) (r ∷ []) (moment (seen new.journal.rig).trace ∷ []) old new
+    → (x : DurableState) (events : List (Event A)) (told : List Reply) (before : List ℕ) (first : ControllerModel R) → (seen first.journal.rig).honest → IsPast seen x events told before first old
+    → (t : ℕ) (image : Image) (handed : List Item) (tools : List ℤ) (y : DurableState) → moment (seen old.journal.rig).trace ≤ t → t < moment (seen new.journal.rig).trace
+    → IsStop (trace_at t (seen new.journal.rig).trace) image handed → stands_beside tools image ≡ Ok y → x.saved.entries + dones told ≤ y.saved.entries
+none_taken_away seen e r old new past x events told before first h is t image handed tools y from until stop left =
+    let m = moment (seen new.journal.rig).trace in
+    let was = accounts seen x events told before first old h is in
     let rising = was.passes.rising in
     let n : answered_by t (before ++ m ∷ []) ≡ length before = answered_before _ t m before _ rising from until in
-    let each : length before ≡ length told = ap (λ (l : List ℕ). length l) is.answered ∙ each_answered honest trace failed sectors events told first old is.turns in
+    let each : length before ≡ length told = ap (λ (l : List ℕ). length l) is.answered ∙ each_answered seen events told first old is.turns in
     let some : take (answered_by t (before ++ m ∷ [])) (told ++ r ∷ []) ≡ told = take_told _ told (r ∷ []) (n ∙ each) in
-    let begins : moment (trace first.journal.rig) ≤ t = omega (arith, from, begins_before _ _ before rising) in
+    let begins : moment (seen first.journal.rig).trace ≤ t = omega (arith, from, begins_before _ _ before rising) in
     subst (λ (l : List Reply). x.saved.entries + dones l ≤ y.saved.entries) some
-    (counts_acknowledged trace x (events ++ e ∷ []) (told ++ r ∷ []) (before ++ m ∷ []) first new (past x events told before first is).1 t image handed tools y begins (omega (arith, until)) stop left).0
+    (counts_acknowledged seen x (events ++ e ∷ []) (told ++ r ∷ []) (before ++ m ∷ []) first new (past x events told before first is).1 t image handed tools y begins (omega (arith, until)) stop left).0
   where
     begins_before : (a b : ℕ) (ms : List ℕ) → IsRising a b ms → a ≤ b
     begins_before a b [] r = r

@@ -4,6 +4,7 @@ use Rattle.std.proofs.lemmas.List.{append-nil}
 use Rattle.ng_num.specs.declared.fault.Fault.{Fault}
 use Rattle.ng_num.specs.declared.fault.Fault.TheVariants.{DeviceFailed, CountersUsed, OutOfMemory}
 use Rattle.ng_canon.specs.declared.item.Item.{Item}
+use Rattle.ng_rig.specs.Device.{Device}
 use Rattle.ng_rig.specs.Trace.{Image, Trace, StopSince, items, moment}
 use Rattle.ng_layout.specs.Stored.{DurableState}
 use Rattle.ng_journal.specs.Journal.{StandsFor}
@@ -116,22 +117,22 @@ module _ {A : Type 0} (equipment : Equipment) (scene : ProgramSession) (given : 
 -- ---- what a history leads to
 
 -- What is left at each stop, with how much of it was acknowledged; and what stands now.
-pub record Leads {A R : Type 0} (trace : R → Trace) (events : List (Event A)) (replies : List Reply) (moments : List ℕ) (equipment : Equipment) (scene : ProgramSession) (trace_old : Trace) (new : ControllerModel R) : Type 0 where
+pub record Leads {A R : Type 0} (seen : R → Device) (events : List (Event A)) (replies : List Reply) (moments : List ℕ) (equipment : Equipment) (scene : ProgramSession) (trace_old : Trace) (new : ControllerModel R) : Type 0 where
   pub answers : List (Result Reply Fault)
   pub replies_are : replies ≡ map reply_to answers
   pub told_is : session_replies answers ≡ replies_of equipment scene (answered_events events answers)
   pub each : length moments ≡ length events
-  pub rising : IsRising (moment trace_old) (moment (trace new.journal.rig)) moments
-  pub stops : AtEachStop trace_old (trace new.journal.rig) (λ t. IsLeftBy equipment scene (items trace_old) events answers replies (answered_by t moments))
+  pub rising : IsRising (moment trace_old) (moment (seen new.journal.rig).trace) moments
+  pub stops : AtEachStop trace_old (seen new.journal.rig).trace (λ t. IsLeftBy equipment scene (items trace_old) events answers replies (answered_by t moments))
   pub session_is : new.journal.broken ≡ false → new.session ≡ (session_after equipment scene (answered_events events answers)).session
-  pub rests : new.journal.broken ≡ false → IsAtRestWith (trace new.journal.rig) new (session_after equipment scene (answered_events events answers)).program
-  pub items_are : new.journal.broken ≡ false → items (trace new.journal.rig) ≡ items trace_old ++ items_of equipment scene (answered_events events answers)
+  pub rests : new.journal.broken ≡ false → IsAtRestWith (seen new.journal.rig).trace new (session_after equipment scene (answered_events events answers)).program
+  pub items_are : new.journal.broken ≡ false → items (seen new.journal.rig).trace ≡ items trace_old ++ items_of equipment scene (answered_events events answers)
 
 -- Once the device failed, nothing changes any more, and nothing is acknowledged; so each moment is the same.
-record Idles {A R : Type 0} (trace : R → Trace) (events : List (Event A)) (replies : List Reply) (moments : List ℕ) (old new : ControllerModel R) : Type 0 where
+record Idles {A R : Type 0} (seen : R → Device) (events : List (Event A)) (replies : List Reply) (moments : List ℕ) (old new : ControllerModel R) : Type 0 where
   answers : List (Result Reply Fault)
   replies_are : replies ≡ map reply_to answers
-  moments_are : moments ≡ same_moment (moment (trace old.journal.rig)) events
+  moments_are : moments ≡ same_moment (moment (seen old.journal.rig).trace) events
   none : (n : ℕ) → dones (take n replies) ≡ 0
   same : new ≡ old
 
@@ -143,53 +144,53 @@ none_more : (r : Reply) (replies : List Reply) → done_count r ≡ 0 → ((n : 
 none_more r replies is none zero = refl
 none_more r replies is none (suc n) = let rest = none n in omega (arith, is, rest)
 
-idles_more : {A R : Type 0} (trace : R → Trace) (event : Event A) (events : List (Event A)) (r : Reply) (replies : List Reply) (m : ℕ) (moments : List ℕ) (answer : Result Reply Fault) (program : List ℕ) (old between new : ControllerModel R)
-    → old.journal.broken ≡ true → HonestTurn trace event r m answer program old between → Idles trace events replies moments between new → Idles trace (event ∷ events) (r ∷ replies) (m ∷ moments) old new
-idles_more {A} {R} trace event events r replies m moments answer program old between new broken step rest =
-    let turn : OnSpecAnyState trace true answer event program old between = subst (λ (b : Bool). OnSpecAnyState trace b answer event program old between) broken step.stepping in
-    let here : moment (trace between.journal.rig) ≡ moment (trace old.journal.rig) = ap (λ (c : ControllerModel R). moment (trace c.journal.rig)) turn.1 in
-    let first : m ≡ moment (trace old.journal.rig) = step.moment_is ∙ here in
-    let others : moments ≡ same_moment (moment (trace old.journal.rig)) events = rest.moments_are ∙ ap (λ (k : ℕ). same_moment k events) here in
+idles_more : {A R : Type 0} (seen : R → Device) (event : Event A) (events : List (Event A)) (r : Reply) (replies : List Reply) (m : ℕ) (moments : List ℕ) (answer : Result Reply Fault) (program : List ℕ) (old between new : ControllerModel R)
+    → old.journal.broken ≡ true → HonestTurn seen event r m answer program old between → Idles seen events replies moments between new → Idles seen (event ∷ events) (r ∷ replies) (m ∷ moments) old new
+idles_more {A} {R} seen event events r replies m moments answer program old between new broken step rest =
+    let turn : OnSpecAnyState seen true answer event program old between = subst (λ (b : Bool). OnSpecAnyState seen b answer event program old between) broken step.stepping in
+    let here : moment (seen between.journal.rig).trace ≡ moment (seen old.journal.rig).trace = ap (λ (c : ControllerModel R). moment (seen c.journal.rig).trace) turn.1 in
+    let first : m ≡ moment (seen old.journal.rig).trace = step.moment_is ∙ here in
+    let others : moments ≡ same_moment (moment (seen old.journal.rig).trace) events = rest.moments_are ∙ ap (λ (k : ℕ). same_moment k events) here in
     record {
       answers = answer ∷ rest.answers;
       replies_are = λ i. step.told_is i ∷ rest.replies_are i;
-      moments_are = (λ i. first i ∷ others i) ∙ sym (same_more (moment (trace old.journal.rig)) event events);
+      moments_are = (λ i. first i ∷ others i) ∙ sym (same_more (moment (seen old.journal.rig).trace) event events);
       none = none_more r replies (ap done_count (step.told_is ∙ ap (λ (a : Result Reply Fault). reply_to a) turn.0) ∙ none_done old.session event) rest.none;
       same = rest.same ∙ turn.1;
     }
 
-idles : {A R : Type 0} (trace : R → Trace) (events : List (Event A)) (replies : List Reply) (moments program : List ℕ) (old new : ControllerModel R)
-    → History trace events replies moments program old new → old.journal.broken ≡ true → Idles trace events replies moments old new
-idles {A} trace [] [] [] program old new h broken = record { answers = []; replies_are = refl; moments_are = sym (same_none (Event A) (moment (trace old.journal.rig))); none = none_taken; same = h }
+idles : {A R : Type 0} (seen : R → Device) (events : List (Event A)) (replies : List Reply) (moments program : List ℕ) (old new : ControllerModel R)
+    → History seen events replies moments program old new → old.journal.broken ≡ true → Idles seen events replies moments old new
+idles {A} seen [] [] [] program old new h broken = record { answers = []; replies_are = refl; moments_are = sym (same_none (Event A) (moment (seen old.journal.rig).trace)); none = none_taken; same = h }
   where
     none_taken : (n : ℕ) → dones (take n []) ≡ 0
     none_taken zero = refl
     none_taken (suc n) = refl
-idles trace [] [] (m ∷ moments) program old new h broken = absurd h
-idles trace [] (r ∷ replies) moments program old new h broken = absurd h
-idles trace (event ∷ events) [] moments program old new h broken = absurd h
-idles trace (event ∷ events) (r ∷ replies) [] program old new h broken = absurd h
-idles trace (event ∷ events) (r ∷ replies) (m ∷ moments) program old new h broken =
+idles seen [] [] (m ∷ moments) program old new h broken = absurd h
+idles seen [] (r ∷ replies) moments program old new h broken = absurd h
+idles seen (event ∷ events) [] moments program old new h broken = absurd h
+idles seen (event ∷ events) (r ∷ replies) [] program old new h broken = absurd h
+idles seen (event ∷ events) (r ∷ replies) (m ∷ moments) program old new h broken =
     let answer = h.0 in
     let between = h.1.0 in
-    let turn : OnSpecAnyState trace true answer event program old between = subst (λ (b : Bool). OnSpecAnyState trace b answer event program old between) broken h.1.1.0.stepping in
-    idles_more trace event events r replies m moments answer program old between new broken h.1.1.0
-    (idles trace events replies moments (program_after answer (transition_of old program event) program) between new h.1.1.1 (ap (λ (c : ControllerModel _). c.journal.broken) turn.1 ∙ broken))
+    let turn : OnSpecAnyState seen true answer event program old between = subst (λ (b : Bool). OnSpecAnyState seen b answer event program old between) broken h.1.1.0.stepping in
+    idles_more seen event events r replies m moments answer program old between new broken h.1.1.0
+    (idles seen events replies moments (program_after answer (transition_of old program event) program) between new h.1.1.1 (ap (λ (c : ControllerModel _). c.journal.broken) turn.1 ∙ broken))
 
 -- the rest of a history leads on, from where an answered event left the controller
-led_on : {A R : Type 0} (trace : R → Trace) (event : Event A) (events : List (Event A)) (r v : Reply) (replies : List Reply) (moments program : List ℕ) (old between new : ControllerModel R)
-    → r ≡ v → OnSpecIfHonest trace (Ok v) event program old between → IsAtRestWith (trace old.journal.rig) old program
-    → Leads trace events replies moments between.equipment (program_session_of (transition_of old program event).program between) (trace between.journal.rig) new
-    → Leads trace (event ∷ events) (r ∷ replies) (moment (trace between.journal.rig) ∷ moments) old.equipment (program_session_of program old) (trace old.journal.rig) new
-led_on trace event events r v replies moments program old between new told_is s rests p =
+led_on : {A R : Type 0} (seen : R → Device) (event : Event A) (events : List (Event A)) (r v : Reply) (replies : List Reply) (moments program : List ℕ) (old between new : ControllerModel R)
+    → r ≡ v → OnSpecIfHonest seen (Ok v) event program old between → IsAtRestWith (seen old.journal.rig).trace old program
+    → Leads seen events replies moments between.equipment (program_session_of (transition_of old program event).program between) (seen between.journal.rig).trace new
+    → Leads seen (event ∷ events) (r ∷ replies) (moment (seen between.journal.rig).trace ∷ moments) old.equipment (program_session_of program old) (seen old.journal.rig).trace new
+led_on seen event events r v replies moments program old between new told_is s rests p =
     let out = transition_of old program event in
     let same : program_session_of out.program between ≡ session_of_transition out = λ i. record { program = out.program; session = s.acts.comes.1 i } in
-    let q : Leads trace events replies moments old.equipment (session_of_transition out) (trace between.journal.rig) new =
-    subst (λ (z : ProgramSession). Leads trace events replies moments old.equipment z (trace between.journal.rig) new) same
-    (subst (λ (z : Equipment). Leads trace events replies moments z (program_session_of out.program between) (trace between.journal.rig) new) s.equipment p) in
+    let q : Leads seen events replies moments old.equipment (session_of_transition out) (seen between.journal.rig).trace new =
+    subst (λ (z : ProgramSession). Leads seen events replies moments old.equipment z (seen between.journal.rig).trace new) same
+    (subst (λ (z : Equipment). Leads seen events replies moments z (program_session_of out.program between) (seen between.journal.rig).trace new) s.equipment p) in
     let scene = program_session_of program old in
-    let trace_old = trace old.journal.rig in
-    let mid = trace between.journal.rig in
+    let trace_old = (seen old.journal.rig).trace in
+    let mid = (seen between.journal.rig).trace in
     let given = items trace_old in
     let answers = Ok v ∷ q.answers in
     let Said : ℕ → Image → List Item → Type 0 = λ n image handed. IsLeftBy old.equipment scene given (event ∷ events) answers (r ∷ replies) n image handed in
@@ -199,9 +200,9 @@ led_on trace event events r v replies moments program old between new told_is s 
       told_is = λ i. s.acts.comes.0 i ∷ q.told_is i;
       each = ap (λ (n : ℕ). suc n) q.each;
       rising = (s.acts.stops.later, q.rising);
-      stops = more_calls trace_old mid (trace new.journal.rig) (IsCrashOfEither (crash_in scene given) (crash_in (session_of_transition out) (given ++ out.items)))
+      stops = more_calls trace_old mid (seen new.journal.rig).trace (IsCrashOfEither (crash_in scene given) (crash_in (session_of_transition out) (given ++ out.items)))
           (λ t. IsLeftBy old.equipment (session_of_transition out) (items mid) events q.answers replies (answered_by t moments)) (λ t. Said (answered_by t (moment mid ∷ moments))) s.acts.stops q.stops
-          (λ t image handed early either. subst (λ (n : ℕ). Said n image handed) (sym (none_by t (moment (trace new.journal.rig)) (moment mid) moments early q.rising))
+          (λ t image handed early either. subst (λ (n : ℕ). Said n image handed) (sym (none_by t (moment (seen new.journal.rig).trace) (moment mid) moments early q.rising))
           (one_left old.equipment scene given image handed event (either_left trace_old program old (crash_in (session_of_transition out) (given ++ out.items)) image handed rests either)))
           (λ t image handed late l. subst (λ (n : ℕ). Said n image handed) (sym (one_by t (moment mid) moments late))
           (more_left old.equipment scene given image handed event r _ _ _ (ap done_count (told_is ∙ s.acts.comes.0))
@@ -213,11 +214,11 @@ led_on trace event events r v replies moments program old between new told_is s 
     }
 
 -- an event that was set aside changed nothing
-led_aside : {A R : Type 0} (trace : R → Trace) (event : Event A) (events : List (Event A)) (r : Reply) (replies : List Reply) (moments : List ℕ) (fault : Fault) (equipment : Equipment) (scene : ProgramSession) (trace_old : Trace) (new : ControllerModel R)
+led_aside : {A R : Type 0} (seen : R → Device) (event : Event A) (events : List (Event A)) (r : Reply) (replies : List Reply) (moments : List ℕ) (fault : Fault) (equipment : Equipment) (scene : ProgramSession) (trace_old : Trace) (new : ControllerModel R)
     → ((l : List (Event A)) → answered_events_by (Err fault) event l ≡ l) → ((l : List (Event A)) → tried_events_by (Err fault) event l ≡ l) → ((l : List Reply) → session_replies_by (Err fault) l ≡ l)
-    → r ≡ reply.Refused fault → Leads trace events replies moments equipment scene trace_old new
-    → Leads trace (event ∷ events) (r ∷ replies) (moment trace_old ∷ moments) equipment scene trace_old new
-led_aside trace event events r replies moments fault equipment scene trace_old new no_more no_try no_word told_is p =
+    → r ≡ reply.Refused fault → Leads seen events replies moments equipment scene trace_old new
+    → Leads seen (event ∷ events) (r ∷ replies) (moment trace_old ∷ moments) equipment scene trace_old new
+led_aside seen event events r replies moments fault equipment scene trace_old new no_more no_try no_word told_is p =
     let answers = Err fault ∷ p.answers in
     let none : done_count r ≡ 0 = ap done_count told_is in
     let Said : ℕ → Image → List Item → Type 0 = λ n image handed. IsLeftBy equipment scene (items trace_old) (event ∷ events) answers (r ∷ replies) n image handed in
@@ -227,7 +228,7 @@ led_aside trace event events r replies moments fault equipment scene trace_old n
       told_is = rw (no_more (answered_events events p.answers), no_word (session_replies p.answers)) p.told_is;
       each = ap (λ (n : ℕ). suc n) p.each;
       rising = (omega arith, p.rising);
-      stops = weaker_said trace_old (trace new.journal.rig) (λ t. IsLeftBy equipment scene (items trace_old) events p.answers replies (answered_by t moments)) (λ t. Said (answered_by t (moment trace_old ∷ moments))) p.stops
+      stops = weaker_said trace_old (seen new.journal.rig).trace (λ t. IsLeftBy equipment scene (items trace_old) events p.answers replies (answered_by t moments)) (λ t. Said (answered_by t (moment trace_old ∷ moments))) p.stops
           (λ t image handed from l.
           let n = answered_by t moments in
           subst (λ (k : ℕ). Said k image handed) (sym (one_by t (moment trace_old) moments from))
@@ -247,28 +248,28 @@ lost_left equipment scene given event events answers r replies (suc n) image han
     same_left equipment scene given image handed _ _ _ _ _ _ refl refl none (one_left equipment scene given image handed event p)
 
 -- the device failed in an event
-led_lost : {A R : Type 0} (trace : R → Trace) (event : Event A) (events : List (Event A)) (r : Reply) (replies : List Reply) (moments program : List ℕ) (old between new : ControllerModel R)
-    → r ≡ reply.Refused DeviceFailed → OnSpecIfHonest trace (Err DeviceFailed) event program old between → IsAtRestWith (trace old.journal.rig) old program → Idles trace events replies moments between new
-    → Leads trace (event ∷ events) (r ∷ replies) (moment (trace between.journal.rig) ∷ moments) old.equipment (program_session_of program old) (trace old.journal.rig) new
-led_lost {A} {R} trace event events r replies later program old between new told_is s rests idle =
+led_lost : {A R : Type 0} (seen : R → Device) (event : Event A) (events : List (Event A)) (r : Reply) (replies : List Reply) (moments program : List ℕ) (old between new : ControllerModel R)
+    → r ≡ reply.Refused DeviceFailed → OnSpecIfHonest seen (Err DeviceFailed) event program old between → IsAtRestWith (seen old.journal.rig).trace old program → Idles seen events replies moments between new
+    → Leads seen (event ∷ events) (r ∷ replies) (moment (seen between.journal.rig).trace ∷ moments) old.equipment (program_session_of program old) (seen old.journal.rig).trace new
+led_lost {A} {R} seen event events r replies later program old between new told_is s rests idle =
     let failed : new.journal.broken ≡ true = ap (λ (c : ControllerModel _). c.journal.broken) idle.same ∙ s.broken in
-    let trace_old = trace old.journal.rig in
-    let last = moment (trace between.journal.rig) in
+    let trace_old = (seen old.journal.rig).trace in
+    let last = moment (seen between.journal.rig).trace in
     let moments = last ∷ later in
     let answers = Err DeviceFailed ∷ idle.answers in
     let out = transition_of old program event in
     let after = crash_in (session_of_transition out) (items trace_old ++ out.items) in
-    let rising : IsRising last (moment (trace new.journal.rig)) later =
-    subst (λ (l : List ℕ). IsRising last (moment (trace new.journal.rig)) l) (sym idle.moments_are)
-    (subst (λ (c : ControllerModel R). IsRising last (moment (trace c.journal.rig)) (same_moment last events)) (sym idle.same) (same_rising last events)) in
+    let rising : IsRising last (moment (seen new.journal.rig).trace) later =
+    subst (λ (l : List ℕ). IsRising last (moment (seen new.journal.rig).trace) l) (sym idle.moments_are)
+    (subst (λ (c : ControllerModel R). IsRising last (moment (seen c.journal.rig).trace) (same_moment last events)) (sym idle.same) (same_rising last events)) in
     record {
       answers = answers;
       replies_are = λ i. told_is i ∷ idle.replies_are i;
       told_is = refl;
       each = ap (λ (n : ℕ). suc n) (ap (λ (l : List ℕ). length l) idle.moments_are ∙ same_each last events);
       rising = (s.acts.stops.later, rising);
-      stops = subst (λ (c : ControllerModel R). AtEachStop trace_old (trace c.journal.rig) (λ t. IsLeftBy old.equipment (program_session_of program old) (items trace_old) (event ∷ events) answers (r ∷ replies) (answered_by t moments))) (sym idle.same)
-          (one_call trace_old (trace between.journal.rig) (IsCrashOfEither (crash_in (program_session_of program old) (items trace_old)) after) _ s.acts.stops
+      stops = subst (λ (c : ControllerModel R). AtEachStop trace_old (seen c.journal.rig).trace (λ t. IsLeftBy old.equipment (program_session_of program old) (items trace_old) (event ∷ events) answers (r ∷ replies) (answered_by t moments))) (sym idle.same)
+          (one_call trace_old (seen between.journal.rig).trace (IsCrashOfEither (crash_in (program_session_of program old) (items trace_old)) after) _ s.acts.stops
           (λ t image handed either. lost_left old.equipment (program_session_of program old) (items trace_old) event events idle.answers r replies (answered_by t moments) image handed
           (none_more r replies (ap done_count told_is) idle.none (answered_by t moments)) (either_left trace_old program old after image handed rests either)));
       session_is = λ whole. absurd (let z : true ≡ false = sym failed ∙ whole in cc);
@@ -277,37 +278,37 @@ led_lost {A} {R} trace event events r replies later program old between new told
     }
 
 -- an event of a whole controller, and the rest of its history
-led : {A R : Type 0} (trace : R → Trace) (event : Event A) (events : List (Event A)) (r : Reply) (replies : List Reply) (moments : List ℕ) (answer : Result Reply Fault) (program : List ℕ) (old between new : ControllerModel R)
-    → r ≡ reply_to answer → OnSpecIfHonest trace answer event program old between → old.journal.broken ≡ false → IsAtRestWith (trace old.journal.rig) old program
-    → History trace events replies moments (program_after answer (transition_of old program event) program) between new
-    → ((p : List ℕ) → between.journal.broken ≡ false → IsAtRestWith (trace between.journal.rig) between p → History trace events replies moments p between new → Leads trace events replies moments between.equipment (program_session_of p between) (trace between.journal.rig) new)
-    → Leads trace (event ∷ events) (r ∷ replies) (moment (trace between.journal.rig) ∷ moments) old.equipment (program_session_of program old) (trace old.journal.rig) new
-led trace event events r replies moments (Ok v) program old between new told_is s whole rests h on =
-    led_on trace event events r v replies moments program old between new told_is s rests (on (transition_of old program event).program s.broken s.acts.leaves.0 h)
-led {A} {R} trace event events r replies moments (Err fault) program old between new told_is s whole rests h on =
-    let Leading : ℕ → Type 0 = λ at. Leads trace (event ∷ events) (r ∷ replies) (at ∷ moments) old.equipment (program_session_of program old) (trace old.journal.rig) new in
-    let Goal : Fault → Type 0 = λ f. r ≡ reply.Refused f → OnSpecIfHonest trace (Err f) event program old between → Leading (moment (trace between.journal.rig)) in
-    let unmoved : between.journal.broken ≡ false → between.session ≡ old.session → trace between.journal.rig ≡ trace old.journal.rig → IsAtRestWith (trace between.journal.rig) between program
-    → Leads trace events replies moments old.equipment (program_session_of program old) (trace old.journal.rig) new =
+led : {A R : Type 0} (seen : R → Device) (event : Event A) (events : List (Event A)) (r : Reply) (replies : List Reply) (moments : List ℕ) (answer : Result Reply Fault) (program : List ℕ) (old between new : ControllerModel R)
+    → r ≡ reply_to answer → OnSpecIfHonest seen answer event program old between → old.journal.broken ≡ false → IsAtRestWith (seen old.journal.rig).trace old program
+    → History seen events replies moments (program_after answer (transition_of old program event) program) between new
+    → ((p : List ℕ) → between.journal.broken ≡ false → IsAtRestWith (seen between.journal.rig).trace between p → History seen events replies moments p between new → Leads seen events replies moments between.equipment (program_session_of p between) (seen between.journal.rig).trace new)
+    → Leads seen (event ∷ events) (r ∷ replies) (moment (seen between.journal.rig).trace ∷ moments) old.equipment (program_session_of program old) (seen old.journal.rig).trace new
+led seen event events r replies moments (Ok v) program old between new told_is s whole rests h on =
+    led_on seen event events r v replies moments program old between new told_is s rests (on (transition_of old program event).program s.broken s.acts.leaves.0 h)
+led {A} {R} seen event events r replies moments (Err fault) program old between new told_is s whole rests h on =
+    let Leading : ℕ → Type 0 = λ at. Leads seen (event ∷ events) (r ∷ replies) (at ∷ moments) old.equipment (program_session_of program old) (seen old.journal.rig).trace new in
+    let Goal : Fault → Type 0 = λ f. r ≡ reply.Refused f → OnSpecIfHonest seen (Err f) event program old between → Leading (moment (seen between.journal.rig).trace) in
+    let unmoved : between.journal.broken ≡ false → between.session ≡ old.session → (seen between.journal.rig).trace ≡ (seen old.journal.rig).trace → IsAtRestWith (seen between.journal.rig).trace between program
+    → Leads seen events replies moments old.equipment (program_session_of program old) (seen old.journal.rig).trace new =
     λ unbroken same alive here.
-    subst (λ (l : Trace). Leads trace events replies moments old.equipment (program_session_of program old) l new) alive
-    (subst (λ (x : SessionModel). Leads trace events replies moments old.equipment (record { program = program; session = x }) (trace between.journal.rig) new) same
-    (subst (λ (q : Equipment). Leads trace events replies moments q (program_session_of program between) (trace between.journal.rig) new) s.equipment
+    subst (λ (l : Trace). Leads seen events replies moments old.equipment (program_session_of program old) l new) alive
+    (subst (λ (x : SessionModel). Leads seen events replies moments old.equipment (record { program = program; session = x }) (seen between.journal.rig).trace new) same
+    (subst (λ (q : Equipment). Leads seen events replies moments q (program_session_of program between) (seen between.journal.rig).trace new) s.equipment
     (on program unbroken here h))) in
-    let then : trace between.journal.rig ≡ trace old.journal.rig → Leading (moment (trace old.journal.rig)) → Leading (moment (trace between.journal.rig)) =
+    let then : (seen between.journal.rig).trace ≡ (seen old.journal.rig).trace → Leading (moment (seen old.journal.rig).trace) → Leading (moment (seen between.journal.rig).trace) =
     λ alive p. subst Leading (sym (ap (λ (l : Trace). moment l) alive)) p in
-    let short : Goal OutOfMemory = λ t z. then z.acts.leaves.1 (led_aside trace event events r replies moments OutOfMemory old.equipment (program_session_of program old) (trace old.journal.rig) new (λ l. refl) (λ l. refl) (λ l. refl) t (unmoved z.broken z.acts.comes z.acts.leaves.1 z.acts.leaves.0)) in
-    let used : Goal CountersUsed = λ t z. then z.acts.leaves.1 (led_aside trace event events r replies moments CountersUsed old.equipment (program_session_of program old) (trace old.journal.rig) new (λ l. refl) (λ l. refl) (λ l. refl) t (unmoved z.broken z.acts.comes z.acts.leaves.1 z.acts.leaves.0)) in
-    let lost : Goal DeviceFailed = λ t z. led_lost trace event events r replies moments program old between new t z rests (idles trace events replies moments program between new h z.broken) in
+    let short : Goal OutOfMemory = λ t z. then z.acts.leaves.1 (led_aside seen event events r replies moments OutOfMemory old.equipment (program_session_of program old) (seen old.journal.rig).trace new (λ l. refl) (λ l. refl) (λ l. refl) t (unmoved z.broken z.acts.comes z.acts.leaves.1 z.acts.leaves.0)) in
+    let used : Goal CountersUsed = λ t z. then z.acts.leaves.1 (led_aside seen event events r replies moments CountersUsed old.equipment (program_session_of program old) (seen old.journal.rig).trace new (λ l. refl) (λ l. refl) (λ l. refl) t (unmoved z.broken z.acts.comes z.acts.leaves.1 z.acts.leaves.0)) in
+    let lost : Goal DeviceFailed = λ t z. led_lost seen event events r replies moments program old between new t z rests (idles seen events replies moments program between new h z.broken) in
     let goal : Goal fault = ⊎_elim (λ e. subst Goal (sym e.0) short) (λ o. ⊎_elim (λ e. subst Goal (sym e.0) used) (λ e. subst Goal (sym e.0) lost) o) s.hindered in
     goal told_is s
 
-pub leads : {A R : Type 0} (trace : R → Trace) (events : List (Event A)) (replies : List Reply) (moments program : List ℕ) (old new : ControllerModel R)
-    → History trace events replies moments program old new → old.journal.broken ≡ false → IsAtRestWith (trace old.journal.rig) old program
-    → Leads trace events replies moments old.equipment (program_session_of program old) (trace old.journal.rig) new
-leads {A} {R} trace [] [] [] program old new h whole rests =
-    let trace_old = trace old.journal.rig in
-    subst (λ (c : ControllerModel R). Leads {A = A} trace [] [] [] old.equipment (program_session_of program old) trace_old c) (sym h) (record {
+pub leads : {A R : Type 0} (seen : R → Device) (events : List (Event A)) (replies : List Reply) (moments program : List ℕ) (old new : ControllerModel R)
+    → History seen events replies moments program old new → old.journal.broken ≡ false → IsAtRestWith (seen old.journal.rig).trace old program
+    → Leads seen events replies moments old.equipment (program_session_of program old) (seen old.journal.rig).trace new
+leads {A} {R} seen [] [] [] program old new h whole rests =
+    let trace_old = (seen old.journal.rig).trace in
+    subst (λ (c : ControllerModel R). Leads {A = A} seen [] [] [] old.equipment (program_session_of program old) trace_old c) (sym h) (record {
       answers = [];
       replies_are = refl;
       told_is = refl;
@@ -319,35 +320,35 @@ leads {A} {R} trace [] [] [] program old new h whole rests =
       rests = λ b. rests;
       items_are = λ b. sym (append-nil (items trace_old));
     })
-leads trace [] [] (m ∷ moments) program old new h whole rests = absurd h
-leads trace [] (r ∷ replies) moments program old new h whole rests = absurd h
-leads trace (event ∷ events) [] moments program old new h whole rests = absurd h
-leads trace (event ∷ events) (r ∷ replies) [] program old new h whole rests = absurd h
-leads trace (event ∷ events) (r ∷ replies) (m ∷ moments) program old new h whole rests =
+leads seen [] [] (m ∷ moments) program old new h whole rests = absurd h
+leads seen [] (r ∷ replies) moments program old new h whole rests = absurd h
+leads seen (event ∷ events) [] moments program old new h whole rests = absurd h
+leads seen (event ∷ events) (r ∷ replies) [] program old new h whole rests = absurd h
+leads seen (event ∷ events) (r ∷ replies) (m ∷ moments) program old new h whole rests =
     let answer = h.0 in
     let between = h.1.0 in
-    let turn : OnSpecIfHonest trace answer event program old between = subst (λ (b : Bool). OnSpecAnyState trace b answer event program old between) whole h.1.1.0.stepping in
-    subst (λ (at : ℕ). Leads trace (event ∷ events) (r ∷ replies) (at ∷ moments) old.equipment (program_session_of program old) (trace old.journal.rig) new) (sym h.1.1.0.moment_is)
-    (led trace event events r replies moments answer program old between new h.1.1.0.told_is turn whole rests h.1.1.1
-    (λ p w k g. leads trace events replies moments p between new g w k))
+    let turn : OnSpecIfHonest seen answer event program old between = subst (λ (b : Bool). OnSpecAnyState seen b answer event program old between) whole h.1.1.0.stepping in
+    subst (λ (at : ℕ). Leads seen (event ∷ events) (r ∷ replies) (at ∷ moments) old.equipment (program_session_of program old) (seen old.journal.rig).trace new) (sym h.1.1.0.moment_is)
+    (led seen event events r replies moments answer program old between new h.1.1.0.told_is turn whole rests h.1.1.1
+    (λ p w k g. leads seen events replies moments p between new g w k))
 
-abbrev pub passed : {A R : Type 0} (trace : R → Trace) (events : List (Event A)) (replies : List Reply) (moments : List ℕ) (equipment : Equipment) (scene : ProgramSession) (trace_old : Trace) (new : ControllerModel R)
-    → Leads trace events replies moments equipment scene trace_old new → PassesAsSession trace events replies moments equipment scene trace_old new
-passed trace events replies moments equipment scene trace_old new l = record {
+abbrev pub passed : {A R : Type 0} (seen : R → Device) (events : List (Event A)) (replies : List Reply) (moments : List ℕ) (equipment : Equipment) (scene : ProgramSession) (trace_old : Trace) (new : ControllerModel R)
+    → Leads seen events replies moments equipment scene trace_old new → PassesAsSession seen events replies moments equipment scene trace_old new
+passed seen events replies moments equipment scene trace_old new l = record {
   answers = l.answers;
   replies_are = l.replies_are;
   told_is = l.told_is;
   each = l.each;
   rising = l.rising;
-  stops = weaker_said trace_old (trace new.journal.rig) _ _ l.stops (λ t image handed from is. is.after);
+  stops = weaker_said trace_old (seen new.journal.rig).trace _ _ l.stops (λ t image handed from is. is.after);
   session_is = l.session_is;
   rests = l.rests;
   items_are = l.items_are;
 }
 
 -- Each history passes as the session does.
-pub passes : {A R : Type 0} (trace : R → Trace) (events : List (Event A)) (replies : List Reply) (moments program : List ℕ) (old new : ControllerModel R)
-    → History trace events replies moments program old new → old.journal.broken ≡ false → IsAtRestWith (trace old.journal.rig) old program
-    → PassesAsSession trace events replies moments old.equipment (program_session_of program old) (trace old.journal.rig) new
-passes trace events replies moments program old new h whole rests =
-    passed trace events replies moments old.equipment (program_session_of program old) (trace old.journal.rig) new (leads trace events replies moments program old new h whole rests)
+pub passes : {A R : Type 0} (seen : R → Device) (events : List (Event A)) (replies : List Reply) (moments program : List ℕ) (old new : ControllerModel R)
+    → History seen events replies moments program old new → old.journal.broken ≡ false → IsAtRestWith (seen old.journal.rig).trace old program
+    → PassesAsSession seen events replies moments old.equipment (program_session_of program old) (seen old.journal.rig).trace new
+passes seen events replies moments program old new h whole rests =
+    passed seen events replies moments old.equipment (program_session_of program old) (seen old.journal.rig).trace new (leads seen events replies moments program old new h whole rests)

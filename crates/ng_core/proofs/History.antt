@@ -1,7 +1,8 @@
 -- What a list of events does to a controller over an honest device, one after the other.
 use Rattle.std.proofs.Common.{◌≡◌, ℕ, Bool, true, false, List, [], ◌∷◌, Result, Ok, Err, IfErr}
 use Rattle.ng_num.specs.declared.fault.Fault.{Fault}
-use Rattle.ng_rig.specs.Trace.{Trace, moment}
+use Rattle.ng_rig.specs.Device.{Device}
+use Rattle.ng_rig.specs.Trace.{moment}
 use Rattle.ng_journal.specs.Journal.{IsBrokenBy}
 use Rattle.ng_journal.specs.Storing.{ledger_of}
 use Rattle.ng_session.specs.Session.{Transition, TakesMemory, AsksDevice}
@@ -22,30 +23,30 @@ program_after (Err fault) out program = program
 
 -- An event came to its outcome in a whole controller, or was hindered; the controller is broken then where the device
 -- failed.
-pub record OnSpecIfHonest {A R : Type 0} (trace : R → Trace) (answer : Result Reply Fault) (event : Event A) (program : List ℕ) (old new : ControllerModel R) : Type 0 where
-  pub acts : IsCarriedOut answer (transition_of old program event) program old new (trace old.journal.rig) (trace new.journal.rig)
+pub record OnSpecIfHonest {A R : Type 0} (seen : R → Device) (answer : Result Reply Fault) (event : Event A) (program : List ℕ) (old new : ControllerModel R) : Type 0 where
+  pub acts : IsCarriedOut answer (transition_of old program event) program old new (seen old.journal.rig).trace (seen new.journal.rig).trace
   pub hindered : IfErr answer (HasRefusalCause old event)
   pub broken : IsBrokenBy answer new.journal.broken
   pub equipment : new.equipment ≡ old.equipment
 
 -- what an event does to a controller, broken or whole
-abbrev pub OnSpecAnyState : {A R : Type 0} → (R → Trace) → Bool → Result Reply Fault → Event A → List ℕ → ControllerModel R → ControllerModel R → Type 0
-OnSpecAnyState trace true answer event program old new = (answer ≡ broken_answer old.session event) × (new ≡ old)
-OnSpecAnyState trace false answer event program old new = OnSpecIfHonest trace answer event program old new
+abbrev pub OnSpecAnyState : {A R : Type 0} → (R → Device) → Bool → Result Reply Fault → Event A → List ℕ → ControllerModel R → ControllerModel R → Type 0
+OnSpecAnyState seen true answer event program old new = (answer ≡ broken_answer old.session event) × (new ≡ old)
+OnSpecAnyState seen false answer event program old new = OnSpecIfHonest seen answer event program old new
 
 -- an event with its reply, and the moment at which it was answered
-pub record HonestTurn {A R : Type 0} (trace : R → Trace) (event : Event A) (r : Reply) (at : ℕ) (answer : Result Reply Fault) (program : List ℕ) (old new : ControllerModel R) : Type 0 where
+pub record HonestTurn {A R : Type 0} (seen : R → Device) (event : Event A) (r : Reply) (at : ℕ) (answer : Result Reply Fault) (program : List ℕ) (old new : ControllerModel R) : Type 0 where
   pub told_is : r ≡ reply_to answer
-  pub moment_is : at ≡ moment (trace new.journal.rig)
-  pub stepping : OnSpecAnyState trace old.journal.broken answer event program old new
+  pub moment_is : at ≡ moment (seen new.journal.rig).trace
+  pub stepping : OnSpecAnyState seen old.journal.broken answer event program old new
 
 -- One event after the other, each with its reply and its moment, from where the one before left controller and device.
-abbrev pub History : {A R : Type 0} → (R → Trace) → List (Event A) → List Reply → (moments program : List ℕ) → ControllerModel R → ControllerModel R → Type 0
-History trace [] [] [] program old new = new ≡ old
-History trace [] [] (m ∷ moments) program old new = ⊥
-History trace [] (r ∷ replies) moments program old new = ⊥
-History trace (event ∷ events) [] moments program old new = ⊥
-History trace (event ∷ events) (r ∷ replies) [] program old new = ⊥
-History {A} {R} trace (event ∷ events) (r ∷ replies) (m ∷ moments) program old new =
-    (answer : Result Reply Fault) × ((between : ControllerModel R) × (HonestTurn trace event r m answer program old between
-    × History trace events replies moments (program_after answer (transition_of old program event) program) between new))
+abbrev pub History : {A R : Type 0} → (R → Device) → List (Event A) → List Reply → (moments program : List ℕ) → ControllerModel R → ControllerModel R → Type 0
+History seen [] [] [] program old new = new ≡ old
+History seen [] [] (m ∷ moments) program old new = ⊥
+History seen [] (r ∷ replies) moments program old new = ⊥
+History seen (event ∷ events) [] moments program old new = ⊥
+History seen (event ∷ events) (r ∷ replies) [] program old new = ⊥
+History {A} {R} seen (event ∷ events) (r ∷ replies) (m ∷ moments) program old new =
+    (answer : Result Reply Fault) × ((between : ControllerModel R) × (HonestTurn seen event r m answer program old between
+    × History seen events replies moments (program_after answer (transition_of old program event) program) between new))

@@ -2,6 +2,7 @@
 use Rattle.std.proofs.Common.{◌≡◌, ℕ, ℤ, false, List, ◌++◌, Result, Ok, Err, refl, sym, ◌∙◌, ap, subst}
 use Rattle.std.specs.Prelude.{IfOk}
 use Rattle.ng_num.specs.declared.fault.Fault.{Fault}
+use Rattle.ng_rig.specs.Device.{Device}
 use Rattle.ng_rig.specs.Calls.{IfHonest}
 use Rattle.ng_rig.specs.Trace.{Trace, reads}
 use Rattle.ng_layout.specs.Stands.{stands_beside}
@@ -18,50 +19,50 @@ use Rattle.ng_core.specs.Headline.{IsPoweredOn, IsPast, BeginsPast, AddsToPast, 
 use Rattle.ng_core.proofs.InTurn.{turns_joined_at, turns_ran}
 use Rattle.ng_core.proofs.Accounting.{accounts}
 
-pub adds_to_past : {A R : Type 0} (honest : R → Type 0) (trace : R → Trace) (failed sectors : R → ℕ) (events : List (Event A)) (replies : List Reply) (old new : ControllerModel R)
-    → (t : AreAnsweredEvents honest trace failed sectors events replies old new)
-    → IfHonest (honest old.journal.rig) (honest new.journal.rig) (AddsToPast honest trace failed sectors events replies (answered_at honest trace failed sectors events replies old new t) old new)
-adds_to_past honest trace failed sectors events replies old new t = record {
-  keeps = (turns_ran honest trace failed sectors events replies old new t).keeps;
-  back = (turns_ran honest trace failed sectors events replies old new t).back;
+pub adds_to_past : {A R : Type 0} (seen : R → Device) (events : List (Event A)) (replies : List Reply) (old new : ControllerModel R)
+    → (t : AreAnsweredEvents seen events replies old new)
+    → IfHonest (seen old.journal.rig) (seen new.journal.rig) (AddsToPast seen events replies (answered_at seen events replies old new t) old new)
+adds_to_past seen events replies old new t = record {
+  keeps = (turns_ran seen events replies old new t).keeps;
+  back = (turns_ran seen events replies old new t).back;
   holds = λ h x past told before first is.
-      let moments = answered_at honest trace failed sectors events replies old new t in
-      let joined = turns_joined_at honest trace failed sectors past events told replies first old new is.turns t in
-      let whole : IsPast honest trace failed sectors x (past ++ events) (told ++ replies) (before ++ moments) first new =
+      let moments = answered_at seen events replies old new t in
+      let joined = turns_joined_at seen past events told replies first old new is.turns t in
+      let whole : IsPast seen x (past ++ events) (told ++ replies) (before ++ moments) first new =
       record { began = is.began; turns = joined.0; answered = ap (λ (l : List ℕ). l ++ moments) is.answered ∙ sym joined.1 } in
-      (whole, accounts honest trace failed sectors x (past ++ events) (told ++ replies) (before ++ moments) first new ((turns_ran honest trace failed sectors past told first old is.turns).back h) whole);
+      (whole, accounts seen x (past ++ events) (told ++ replies) (before ++ moments) first new ((turns_ran seen past told first old is.turns).back h) whole);
 }
 
 -- all that is said of events that are answered in turn, by the moments at which they were
-pub are_run : {A R : Type 0} (honest : R → Type 0) (trace : R → Trace) (failed sectors : R → ℕ) (events : List (Event A)) (replies : List Reply) (moments : List ℕ) (old new : ControllerModel R)
-    → (t : AreAnsweredEvents honest trace failed sectors events replies old new) → moments ≡ answered_at honest trace failed sectors events replies old new t
-    → AreRun honest trace failed sectors events replies moments old new
-are_run honest trace failed sectors events replies moments old new t is = record {
+pub are_run : {A R : Type 0} (seen : R → Device) (events : List (Event A)) (replies : List Reply) (moments : List ℕ) (old new : ControllerModel R)
+    → (t : AreAnsweredEvents seen events replies old new) → moments ≡ answered_at seen events replies old new t
+    → AreRun seen events replies moments old new
+are_run seen events replies moments old new t is = record {
   turns = t;
   answered = is;
-  ran = subst (λ (l : List ℕ). IfHonest (honest old.journal.rig) (honest new.journal.rig) (IsRun trace events replies l old new)) (sym is)
-      (turns_ran honest trace failed sectors events replies old new t);
-  past = subst (λ (l : List ℕ). IfHonest (honest old.journal.rig) (honest new.journal.rig) (AddsToPast honest trace failed sectors events replies l old new)) (sym is)
-      (adds_to_past honest trace failed sectors events replies old new t);
+  ran = subst (λ (l : List ℕ). IfHonest (seen old.journal.rig) (seen new.journal.rig) (IsRun seen events replies l old new)) (sym is)
+      (turns_ran seen events replies old new t);
+  past = subst (λ (l : List ℕ). IfHonest (seen old.journal.rig) (seen new.journal.rig) (AddsToPast seen events replies l old new)) (sym is)
+      (adds_to_past seen events replies old new t);
 }
 
-powered_on : {R : Type 0} (tools : List ℤ) (trace : R → Trace) (c : ControllerModel R) (old : Trace) (x : DurableState) → (c.journal.broken ≡ false) × (c.session ≡ resting c.journal.saved)
-    → IsControllerRecovered tools c old (trace c.journal.rig) → recovered_of (stands_beside tools (reads old)) ≡ Ok x → IsPoweredOn trace x c
-powered_on tools trace c old x begun r is =
+powered_on : {R : Type 0} (tools : List ℤ) (seen : R → Device) (c : ControllerModel R) (old : Trace) (x : DurableState) → (c.journal.broken ≡ false) × (c.session ≡ resting c.journal.saved)
+    → IsControllerRecovered tools c old (seen c.journal.rig).trace → recovered_of (stands_beside tools (reads old)) ≡ Ok x → IsPoweredOn seen x c
+powered_on tools seen c old x begun r is =
     let same : record { saved = c.session.stored; program = r.program } ≡ x = ok_same (sym r.is ∙ is) in
     let stored : c.session ≡ resting c.session.stored = begun.1 ∙ ap (λ s. resting s) (sym (ap (λ (s : SessionModel). s.stored) begun.1)) in
     record {
       whole = begun.0;
       session = stored ∙ ap (λ (s : DurableState). resting s.saved) same;
-      rests = subst (λ (s : DurableState). IsAtRestWith (trace c.journal.rig) c s.program) same r.rests;
+      rests = subst (λ (s : DurableState). IsAtRestWith (seen c.journal.rig).trace c s.program) same r.rests;
     }
   where
     ok_same : {s t : DurableState} → (let a : Result DurableState Fault = Ok s in a) ≡ Ok t → s ≡ t
     ok_same e = cc
 
-pub begins_past : {R : Type 0} (A : Type 0) (tools : List ℤ) (honest : R → Type 0) (trace : R → Trace) (failed sectors : R → ℕ) (result : PowerOnResult R) (old new : Trace)
-    → IfOk result (λ c. (new ≡ trace c.journal.rig) × (c.journal.broken ≡ false) × (c.session ≡ resting c.journal.saved))
-    → PowerOnSpecIfHonest tools result old new → BeginsPast A tools honest trace failed sectors result old
-begins_past A tools honest trace failed sectors (Ok c) old new begun p = λ written x is.
-    record { began = powered_on tools trace c old x (begun.1, begun.2) (subst (λ (l : Trace). IsControllerRecovered tools c old l) begun.0 (p.rests written)) is; turns = refl; answered = refl }
-begins_past A tools honest trace failed sectors (Err e) old new begun p = λ written. tt
+pub begins_past : {R : Type 0} (A : Type 0) (tools : List ℤ) (seen : R → Device) (result : PowerOnResult R) (old new : Trace)
+    → IfOk result (λ c. (new ≡ (seen c.journal.rig).trace) × (c.journal.broken ≡ false) × (c.session ≡ resting c.journal.saved))
+    → PowerOnSpecIfHonest tools result old new → BeginsPast A tools seen result old
+begins_past A tools seen (Ok c) old new begun p = λ written x is.
+    record { began = powered_on tools seen c old x (begun.1, begun.2) (subst (λ (l : Trace). IsControllerRecovered tools c old l) begun.0 (p.rests written)) is; turns = refl; answered = refl }
+begins_past A tools seen (Err e) old new begun p = λ written. tt

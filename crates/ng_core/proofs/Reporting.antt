@@ -6,7 +6,7 @@ use Rattle.ng_num.specs.declared.fault.Fault.TheVariants as fault
 use Rattle.ng_num.specs.declared.fault.Fault.{Fault}
 use Rattle.ng_num.specs.declared.fault.Fault.TheVariants.{DeviceFailed, CountersUsed}
 use Rattle.ng_num.specs.declared.point.Point.{Point}
-use Rattle.ng_rig.specs.Trace.{Trace}
+use Rattle.ng_rig.specs.Device.{Device}
 use Rattle.ng_rig.proofs.Promise.{meaning}
 use Rattle.ng_layout.specs.Limits.{greatest_count}
 use Rattle.ng_layout.specs.Stored.{HalfModel, StoredModel}
@@ -20,26 +20,26 @@ use Rattle.ng_core.specs.Events.{IsCarriedOutIfHonest, TouchesNothing}
 use Rattle.ng_core.proofs.Doing.{does_moved, does_unmoved, Storing}
 use Rattle.ng_core.proofs.Ticks.{StoresEntry, kept}
 
-storing : {R T : Type 0} (honest : R → Type 0) (trace : R → Trace) (result : Result T Fault) (saved : StoredModel) (entry : Entry) (next : SessionModel) (old : ControllerModel R) (journal : JournalModel R) → saved ≡ next.stored
-    → StoresEntry honest trace result saved old.journal journal → Storing honest trace result (λ program. commits program entry next) old journal
-storing honest trace result saved entry next old journal is p =
+storing : {R T : Type 0} (seen : R → Device) (result : Result T Fault) (saved : StoredModel) (entry : Entry) (next : SessionModel) (old : ControllerModel R) (journal : JournalModel R) → saved ≡ next.stored
+    → StoresEntry seen result saved old.journal journal → Storing seen result (λ program. commits program entry next) old journal
+storing seen result saved entry next old journal is p =
     meaning p (λ f program rests.
-    subst (λ (x : StoredModel). CommitSpec result journal (durable_state_of program old.session) (record { saved = x; program = program }) (trace old.journal.rig) (trace journal.rig)) is
+    subst (λ (x : StoredModel). CommitSpec result journal (durable_state_of program old.session) (record { saved = x; program = program }) (seen old.journal.rig).trace (seen journal.rig).trace) is
     (f (durable_state_of program old.session) rests.0))
 
-pub keeps : {R T : Type 0} (honest : R → Type 0) (trace : R → Trace) (v : T) (r : Reply) (saved : StoredModel) (entry : Entry) (next : SessionModel) (old new : ControllerModel R)
-    → saved ≡ next.stored → r ≡ reply.Done next.stored.entries → new.session ≡ next → StoresEntry honest trace (Ok v) saved old.journal new.journal → new.lines ≡ old.lines
-    → IsCarriedOutIfHonest honest trace (Ok r) (λ program. commits program entry next) old new
-keeps honest trace v r saved entry next old new is replied there p lines =
-    does_moved honest trace r v (λ program. commits program entry next) old new (storing honest trace (Ok v) saved entry next old new.journal is p) (kept old.lines new.lines lines) (λ program. replied) (λ program. there) (λ program. refl)
+pub keeps : {R T : Type 0} (seen : R → Device) (v : T) (r : Reply) (saved : StoredModel) (entry : Entry) (next : SessionModel) (old new : ControllerModel R)
+    → saved ≡ next.stored → r ≡ reply.Done next.stored.entries → new.session ≡ next → StoresEntry seen (Ok v) saved old.journal new.journal → new.lines ≡ old.lines
+    → IsCarriedOutIfHonest seen (Ok r) (λ program. commits program entry next) old new
+keeps seen v r saved entry next old new is replied there p lines =
+    does_moved seen r v (λ program. commits program entry next) old new (storing seen (Ok v) saved entry next old new.journal is p) (kept old.lines new.lines lines) (λ program. replied) (λ program. there) (λ program. refl)
     (subst (λ (x : Reply). TouchesNothing x → ⊥) (sym replied) (λ z. z))
 
-pub keeps_none : {R T : Type 0} (honest : R → Type 0) (trace : R → Trace) (fault : Fault) (saved : StoredModel) (entry : Entry) (next : SessionModel) (old new : ControllerModel R)
+pub keeps_none : {R T : Type 0} (seen : R → Device) (fault : Fault) (saved : StoredModel) (entry : Entry) (next : SessionModel) (old new : ControllerModel R)
     → saved ≡ next.stored → new.session ≡ old.session → (fault ≡ CountersUsed) ⊎ (fault ≡ DeviceFailed) → (fault ≡ CountersUsed → new.journal ≡ old.journal)
-    → StoresEntry {T = T} honest trace (Err fault) saved old.journal new.journal → new.lines ≡ old.lines
-    → IsCarriedOutIfHonest honest trace (Err fault) (λ program. commits program entry next) old new
-keeps_none {R} {T} honest trace fault saved entry next old new is same which unchanged p lines =
-    does_unmoved {T = T} honest trace fault fault (λ program. commits program entry next) old new (storing {T = T} honest trace (Err fault) saved entry next old new.journal is p) which unchanged lines same (λ program. refl)
+    → StoresEntry {T = T} seen (Err fault) saved old.journal new.journal → new.lines ≡ old.lines
+    → IsCarriedOutIfHonest seen (Err fault) (λ program. commits program entry next) old new
+keeps_none {R} {T} seen fault saved entry next old new is same which unchanged p lines =
+    does_unmoved {T = T} seen fault fault (λ program. commits program entry next) old new (storing {T = T} seen (Err fault) saved entry next old new.journal is p) which unchanged lines same (λ program. refl)
 
 -- ---- where a half-done block may be given up
 

@@ -7,7 +7,7 @@ use Rattle.ng_num.specs.declared.fault.Fault.{Fault}
 use Rattle.ng_num.specs.declared.fault.Fault.TheVariants as fault
 use Rattle.ng_num.specs.declared.fault.Fault.TheVariants.{DeviceFailed, OutOfMemory}
 use Rattle.ng_num.specs.declared.point.Point.{Point}
-use Rattle.ng_rig.specs.Trace.{Trace}
+use Rattle.ng_rig.specs.Device.{Device}
 use Rattle.ng_rig.specs.Calls.{IfHonest}
 use Rattle.ng_rig.proofs.Promise.{meaning}
 use Rattle.ng_block.specs.Effects.{Done}
@@ -38,15 +38,15 @@ next_by program None place next line is = absurd line
 next_by program (Some half) place next line is = is ∙ sym (ap (λ (x : Source). next_place_after program place x) line)
 
 -- what finding the next line leaves
-abbrev pub FindingNext : {R E : Type 0} → (R → Type 0) → (R → Trace) → Result ℕ E → SessionModel → JournalModel R → JournalModel R → Type 0
-FindingNext honest trace result s old new =
-    IfHonest (honest old.rig) (honest new.rig) ((standing : DurableState) → IsDurablyAt (trace old.rig) old standing → NextLineSpec result new standing s (trace old.rig) (trace new.rig))
+abbrev pub FindingNext : {R E : Type 0} → (R → Device) → Result ℕ E → SessionModel → JournalModel R → JournalModel R → Type 0
+FindingNext seen result s old new =
+    IfHonest (seen old.rig) (seen new.rig) ((standing : DurableState) → IsDurablyAt (seen old.rig).trace old standing → NextLineSpec result new standing s (seen old.rig).trace (seen new.rig).trace)
 
 -- the block is a line of the program, and that is read
-pub finds_next : {R E F : Type 0} (honest : R → Type 0) (trace : R → Trace) (line : Option ProgramLineModel) (next : ℕ) (s : SessionModel) (old new : JournalModel R)
+pub finds_next : {R E F : Type 0} (seen : R → Device) (line : Option ProgramLineModel) (next : ℕ) (s : SessionModel) (old new : JournalModel R)
     → IsProgramsLine s.stored.half → ((program : List ℕ) → line ≡ program_line_at program s.stored.place → next ≡ next_line_start program s.stored.place)
-    → Reading {E = E} honest trace (Ok line) s.stored.place old new → FindingNext {E = F} honest trace (Ok next) s old new
-finds_next honest trace line next s old new half later p =
+    → Reading {E = E} seen (Ok line) s.stored.place old new → FindingNext {E = F} seen (Ok next) s old new
+finds_next seen line next s old new half later p =
     meaning p (λ f standing rests.
     let r = f standing rests in
     record { same = r.same; at = r.at; next = next_by standing.program s.stored.half s.stored.place next half (later standing.program r.line) })
@@ -74,13 +74,13 @@ still_resume q P s = by (not (is_at_rest s))
 
 -- ---- it doesn't go on
 
-pub does_not_resume : {R : Type 0} (honest : R → Type 0) (trace : R → Trace) (fault : Fault) (old new : ControllerModel R)
+pub does_not_resume : {R : Type 0} (seen : R → Device) (fault : Fault) (old new : ControllerModel R)
     → Some fault ≡ resume_refusal old.equipment old.session → new.journal ≡ old.journal → new.lines ≡ old.lines → new.session ≡ old.session
-    → IsCarriedOutIfHonest honest trace (Ok (reply.Refused fault)) (λ program. resume old.equipment program old.session) old new
-does_not_resume honest trace fault old new is journal lines same =
-    does_on honest trace (Ok (reply.Refused fault)) (λ program. refuses program fault old.session) (λ program. resume old.equipment program old.session) old old new refl
+    → IsCarriedOutIfHonest seen (Ok (reply.Refused fault)) (λ program. resume old.equipment program old.session) old new
+does_not_resume seen fault old new is journal lines same =
+    does_on seen (Ok (reply.Refused fault)) (λ program. refuses program fault old.session) (λ program. resume old.equipment program old.session) old old new refl
     (λ program. sym (refused_again old.equipment program old.session fault is))
-    (does_still honest trace (reply.Refused fault) (λ program. refuses program fault old.session) old new (λ program. still refl refl refl) journal lines (λ program. refl) (λ program. same))
+    (does_still seen (reply.Refused fault) (λ program. refuses program fault old.session) old new (λ program. still refl refl refl) journal lines (λ program. refl) (λ program. same))
 
 pub comes_not_resumed : {R : Type 0} (reads : Type 0) (fault : Fault) (old new : ControllerModel R) → Some fault ≡ resume_refusal old.equipment old.session → new.session ≡ old.session
     → IsAnsweredAnyway reads (Ok (reply.Refused fault)) (λ program. resume old.equipment program old.session) old new
@@ -95,26 +95,26 @@ comes_not_resumed reads fault old new is same =
 abbrev pub GoesOn : {R : Type 0} → Reply → SessionModel → ControllerModel R → SessionModel → ℕ → Type 0
 GoesOn r next old s place = (program : List ℕ) → IsNextLineAt program s place → (r ≡ (resume old.equipment program s).reply) × (next ≡ (resume old.equipment program s).next)
 
-does_go : {R E : Type 0} (honest : R → Type 0) (trace : R → Trace) (r : Reply) (place : ℕ) (old new : ControllerModel R)
-    → FindingNext {E = E} honest trace (Ok place) old.session old.journal new.journal → new.lines ≡ old.lines → GoesOn r new.session old old.session place
-    → IsCarriedOutIfHonest honest trace (Ok r) (λ program. resume old.equipment program old.session) old new
-does_go honest trace r place old new p lines goes = record {
+does_go : {R E : Type 0} (seen : R → Device) (r : Reply) (place : ℕ) (old new : ControllerModel R)
+    → FindingNext {E = E} seen (Ok place) old.session old.journal new.journal → new.lines ≡ old.lines → GoesOn r new.session old old.session place
+    → IsCarriedOutIfHonest seen (Ok r) (λ program. resume old.equipment program old.session) old new
+does_go seen r place old new p lines goes = record {
   keeps = p.keeps;
   back = p.back;
   holds = λ h program rests.
       let f = p.holds h (durable_state_of program old.session) rests.0 in
       let quiet = still_resume old.equipment program old.session in
       let out : Transition = resume old.equipment program old.session in
-      acts_read r out program old new (trace old.journal.rig) (trace new.journal.rig) f.same f.at (known_as program out.program old.lines new.lines quiet.program_is lines rests.1)
+      acts_read r out program old new (seen old.journal.rig).trace (seen new.journal.rig).trace f.same f.at (known_as program out.program old.lines new.lines quiet.program_is lines rests.1)
       (goes program f.next).0 (goes program f.next).1 quiet.items quiet.program_is quiet.stored_is;
 }
 
-pub does_resume : {R E : Type 0} (honest : R → Type 0) (trace : R → Trace) (r : Reply) (place : ℕ) (old new : ControllerModel R) (s : SessionModel)
-    → s ≡ old.session → FindingNext {E = E} honest trace (Ok place) s old.journal new.journal → new.lines ≡ old.lines → GoesOn r new.session old s place
-    → IsCarriedOutIfHonest honest trace (Ok r) (λ program. resume old.equipment program old.session) old new
-does_resume {R} {E} honest trace r place old new s same p lines goes =
-    subst (λ (x : SessionModel). IsCarriedOutIfHonest honest trace (Ok r) (λ program. resume old.equipment program x) (with_session old x) new) same
-    (does_go {E = E} honest trace r place (with_session old s) new p lines goes)
+pub does_resume : {R E : Type 0} (seen : R → Device) (r : Reply) (place : ℕ) (old new : ControllerModel R) (s : SessionModel)
+    → s ≡ old.session → FindingNext {E = E} seen (Ok place) s old.journal new.journal → new.lines ≡ old.lines → GoesOn r new.session old s place
+    → IsCarriedOutIfHonest seen (Ok r) (λ program. resume old.equipment program old.session) old new
+does_resume {R} {E} seen r place old new s same p lines goes =
+    subst (λ (x : SessionModel). IsCarriedOutIfHonest seen (Ok r) (λ program. resume old.equipment program x) (with_session old x) new) same
+    (does_go {E = E} seen r place (with_session old s) new p lines goes)
 
 pub comes_resume : {R : Type 0} (r : Reply) (place : ℕ) (old new : ControllerModel R) (s : SessionModel)
     → s ≡ old.session → None ≡ resume_refusal old.equipment old.session → ((IsProgramsLine s.stored.half → ⊥) → (program : List ℕ) → IsNextLineAt program s place) → GoesOn r new.session old s place
@@ -159,25 +159,25 @@ resumed_line r place old new s same free line beyond goes ledger =
     }
 
 -- there wasn't enough memory for the states after the block and after its approach
-pub does_resume_short : {R E : Type 0} (honest : R → Type 0) (trace : R → Trace) (fault : Fault) (place : ℕ) (s : SessionModel) (out : List ℕ → Transition) (old new : ControllerModel R)
-    → FindingNext {E = E} honest trace (Ok place) s old.journal new.journal → fault ≡ OutOfMemory → new.session ≡ old.session → new.lines ≡ old.lines
-    → IsCarriedOutIfHonest honest trace (Err fault) out old new
-does_resume_short honest trace fault place s out old new p is same lines = record {
+pub does_resume_short : {R E : Type 0} (seen : R → Device) (fault : Fault) (place : ℕ) (s : SessionModel) (out : List ℕ → Transition) (old new : ControllerModel R)
+    → FindingNext {E = E} seen (Ok place) s old.journal new.journal → fault ≡ OutOfMemory → new.session ≡ old.session → new.lines ≡ old.lines
+    → IsCarriedOutIfHonest seen (Err fault) out old new
+does_resume_short seen fault place s out old new p is same lines = record {
   keeps = p.keeps;
   back = p.back;
   holds = λ h program rests.
       let f = p.holds h (durable_state_of program old.session) rests.0 in
-      acts_aside fault (out program) program old new (trace old.journal.rig) (trace new.journal.rig) (inl is) f.same same f.at (known_as program program old.lines new.lines refl lines rests.1);
+      acts_aside fault (out program) program old new (seen old.journal.rig).trace (seen new.journal.rig).trace (inl is) f.same same f.at (known_as program program old.lines new.lines refl lines rests.1);
 }
 
 -- the device failed in the read
-pub does_resume_unread : {R E : Type 0} (honest : R → Type 0) (trace : R → Trace) (fault : Fault) (e : E) (s : SessionModel) (out : List ℕ → Transition) (old new : ControllerModel R)
-    → FindingNext honest trace (Err e) s old.journal new.journal → fault ≡ DeviceFailed → new.session ≡ old.session
-    → IsCarriedOutIfHonest honest trace (Err fault) out old new
-does_resume_unread honest trace fault e s out old new p is same = record {
+pub does_resume_unread : {R E : Type 0} (seen : R → Device) (fault : Fault) (e : E) (s : SessionModel) (out : List ℕ → Transition) (old new : ControllerModel R)
+    → FindingNext seen (Err e) s old.journal new.journal → fault ≡ DeviceFailed → new.session ≡ old.session
+    → IsCarriedOutIfHonest seen (Err fault) out old new
+does_resume_unread seen fault e s out old new p is same = record {
   keeps = p.keeps;
   back = p.back;
   holds = λ h program rests.
       let f = p.holds h (durable_state_of program old.session) rests.0 in
-      acts_unread fault (out program) program old new (trace old.journal.rig) (trace new.journal.rig) is f.same (ap session_status same);
+      acts_unread fault (out program) program old new (seen old.journal.rig).trace (seen new.journal.rig).trace is f.same (ap session_status same);
 }

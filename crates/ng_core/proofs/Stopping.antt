@@ -2,6 +2,7 @@
 use Rattle.std.proofs.Common.{◌≡◌, ◌≤◌, inl, inr, ⊎_elim, ℕ, ℤ, suc, List, [], ◌∷◌, ◌++◌, take, Ok, refl, sym, ◌∙◌, ap, subst, append_assoc, arith}
 use Rattle.std.proofs.lemmas.List.{append-nil}
 use Rattle.ng_canon.specs.declared.item.Item.{Item}
+use Rattle.ng_rig.specs.Device.{Device}
 use Rattle.ng_rig.specs.Trace.{Image, Trace, reads, items, moment, IsStop}
 use Rattle.ng_rig.specs.Continuation.{IsSynced}
 use Rattle.ng_rig.proofs.Running.{stop_now, one_image, may_hold-reads, trace_now}
@@ -48,8 +49,8 @@ left_synced tools old image handed synced written stop =
     let same : image ≡ reads old = one_image old image handed synced stop in
     record { state = inl (ap (stands_beside tools) same); written = subst IsWritten (sym same) written; handed_is = stop.1 }
 
-pub within_power_on : {R : Type 0} (trace : R → Trace) → SessionsWithinPowerOn trace
-within_power_on trace equipment tools x result old new p state written =
+pub within_power_on : {R : Type 0} (seen : R → Device) → SessionsWithinPowerOn seen
+within_power_on seen equipment tools x result old new p state written =
     let stops = (p.recovers.kept written).stops in
     let left = λ (image : Image) (handed : List Item). left_within equipment tools x old image handed state written in (
       one_call old new _ _ stops (λ t image handed either. ⊎_elim (λ since. inl (stop_now old image handed since)) (λ e. inr (left image handed e)) either),
@@ -85,14 +86,14 @@ left_after equipment tools lines x first before executed begun acknowledged imag
       };
     }
 
-pub after_power_on : {R : Type 0} (A : Type 0) (trace : R → Trace) → SessionsAfterPowerOn A trace
-after_power_on A trace tools image x events replies moments first now p state written =
-    weaker_said (trace first.journal.rig) (trace now.journal.rig) _ _ p.stops
+pub after_power_on : {R : Type 0} (A : Type 0) (seen : R → Device) → SessionsAfterPowerOn A seen
+after_power_on A seen tools image x events replies moments first now p state written =
+    weaker_said (seen first.journal.rig).trace (seen now.journal.rig).trace _ _ p.stops
     (λ t left handed from a.
     let n = answered_by t moments in
     let tried = tried_events (take (suc n) events) p.passes.answers in
     let scene = session_at_power_on (recovered x) in
-    left_after first.equipment tools (lines_given (take (suc n) events)) x image (items (trace first.journal.rig)) (entries_of first.equipment scene tried) (under_way first.equipment scene tried) (dones (take n replies)) left handed state written a)
+    left_after first.equipment tools (lines_given (take (suc n) events)) x image (items (seen first.journal.rig).trace) (entries_of first.equipment scene tried) (under_way first.equipment scene tried) (dones (take n replies)) left handed state written a)
 
 -- ---- power on anew
 
@@ -116,16 +117,16 @@ left_sound equipment tools image s p = elim p.cut [
   | inr after ↦ record { standing = after.left.standing; state = modern-beside tools s.image after.stands_for.modern ∙ after.stands_for.state; written = after.stands_for.written }
 ]
 
-pub anew : {R : Type 0} (A : Type 0) (trace : R → Trace) → SessionsAnew A trace
-anew A trace tools image x events replies moments first now p equipment result new state written powers =
-    let old = trace now.journal.rig in
-    let stops = after_power_on A trace tools image x events replies moments first now p state written in
-    let leaves : (left : Image) (handed : List Item) → IsStop old left handed → LeavesSessionBy trace tools image x events replies moments first now p (moment old) left handed = λ left handed stop.
-    stops.each (moment old) left handed (rising_last (moment (trace first.journal.rig)) (moment old) moments p.passes.rising) (omega arith)
+pub anew : {R : Type 0} (A : Type 0) (seen : R → Device) → SessionsAnew A seen
+anew A seen tools image x events replies moments first now p equipment result new state written powers =
+    let old = (seen now.journal.rig).trace in
+    let stops = after_power_on A seen tools image x events replies moments first now p state written in
+    let leaves : (left : Image) (handed : List Item) → IsStop old left handed → LeavesSessionBy seen tools image x events replies moments first now p (moment old) left handed = λ left handed stop.
+    stops.each (moment old) left handed (rising_last (moment (seen first.journal.rig).trace) (moment old) moments p.passes.rising) (omega arith)
     (subst (λ (l : Trace). IsStop l left handed) (sym (trace_now old)) stop) in
     let here = leaves (reads old) (items old) (λ n. may_hold-reads old n, refl) in
     let begins = left_sound _ tools _ _ here.session in (
       here,
-      weaker_said old new _ _ (within_power_on trace equipment tools begins.standing result old new powers begins.state begins.written).0
+      weaker_said old new _ _ (within_power_on seen equipment tools begins.standing result old new powers begins.state begins.written).0
           (λ t left handed from either. ⊎_elim (λ stop. inl (leaves left handed stop)) (λ e. inr e) either),
     )

@@ -1,27 +1,28 @@
 -- What events do to a controller and to its device, one after the other, over any device (own).
 use Rattle.std.specs.Prelude.{◌≡◌, ℕ, true, false, List, [], ◌∷◌}
-use Rattle.ng_rig.specs.Trace.{Trace, moment}
+use Rattle.ng_rig.specs.Device.{Device}
+use Rattle.ng_rig.specs.Trace.{moment}
 use Rattle.ng_session.specs.declared.event.Event.{Event}
 use Rattle.ng_session.specs.declared.reply.Reply.{Reply}
 use Rattle.ng_core.specs.Events.{Handles, reply_to, broken_answer}
 use Rattle.ng_core.specs.Model.{ControllerModel}
 
 -- An event with its reply: a whole controller serves it, a broken one refuses it.
-pub record IsAnsweredEvent {A R : Type 0} (honest : R → Type 0) (trace : R → Trace) (failed sectors : R → ℕ) (event : Event A) (r : Reply) (old new : ControllerModel R) : Type 0 where
-  pub serves : old.journal.broken ≡ false → Handles honest trace failed sectors event r old new
+pub record IsAnsweredEvent {A R : Type 0} (seen : R → Device) (event : Event A) (r : Reply) (old new : ControllerModel R) : Type 0 where
+  pub serves : old.journal.broken ≡ false → Handles seen event r old new
   pub refuses : old.journal.broken ≡ true → (new ≡ old) × (r ≡ reply_to (broken_answer old.session event))
 
 -- events with their replies, each from where the one before left controller and device
-abbrev pub AreAnsweredEvents : {A R : Type 0} → (R → Type 0) → (R → Trace) → (failed sectors : R → ℕ) → List (Event A) → List Reply → ControllerModel R → ControllerModel R → Type 0
-AreAnsweredEvents honest trace failed sectors [] [] old new = new ≡ old
-AreAnsweredEvents honest trace failed sectors [] (r ∷ replies) old new = ⊥
-AreAnsweredEvents honest trace failed sectors (event ∷ events) [] old new = ⊥
-AreAnsweredEvents {A} {R} honest trace failed sectors (event ∷ events) (r ∷ replies) old new =
-    (between : ControllerModel R) × (IsAnsweredEvent honest trace failed sectors event r old between × AreAnsweredEvents honest trace failed sectors events replies between new)
+abbrev pub AreAnsweredEvents : {A R : Type 0} → (R → Device) → List (Event A) → List Reply → ControllerModel R → ControllerModel R → Type 0
+AreAnsweredEvents seen [] [] old new = new ≡ old
+AreAnsweredEvents seen [] (r ∷ replies) old new = ⊥
+AreAnsweredEvents seen (event ∷ events) [] old new = ⊥
+AreAnsweredEvents {A} {R} seen (event ∷ events) (r ∷ replies) old new =
+    (between : ControllerModel R) × (IsAnsweredEvent seen event r old between × AreAnsweredEvents seen events replies between new)
 
 -- the moments of the device's trace at which they were answered
-abbrev pub answered_at : {A R : Type 0} (honest : R → Type 0) (trace : R → Trace) (failed sectors : R → ℕ) (events : List (Event A)) (replies : List Reply) (old new : ControllerModel R) → AreAnsweredEvents honest trace failed sectors events replies old new → List ℕ
-answered_at honest trace failed sectors [] replies old new turns = []
-answered_at honest trace failed sectors (event ∷ events) [] old new turns = []
-answered_at honest trace failed sectors (event ∷ events) (r ∷ replies) old new turns =
-    moment (trace turns.0.journal.rig) ∷ answered_at honest trace failed sectors events replies turns.0 new turns.1.1
+abbrev pub answered_at : {A R : Type 0} (seen : R → Device) (events : List (Event A)) (replies : List Reply) (old new : ControllerModel R) → AreAnsweredEvents seen events replies old new → List ℕ
+answered_at seen [] replies old new turns = []
+answered_at seen (event ∷ events) [] old new turns = []
+answered_at seen (event ∷ events) (r ∷ replies) old new turns =
+    moment (seen turns.0.journal.rig).trace ∷ answered_at seen events replies turns.0 new turns.1.1

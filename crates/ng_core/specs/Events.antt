@@ -3,6 +3,7 @@ use Rattle.std.specs.Prelude.{◌≡◌, ◌≢◌, ◌⊎◌, ℕ, ◌+◌, ◌
 use Rattle.ng_num.specs.declared.fault.Fault.{Fault}
 use Rattle.ng_num.specs.declared.fault.Fault.TheVariants.{DeviceFailed, Broken}
 use Rattle.ng_canon.specs.declared.item.Item.{Item}
+use Rattle.ng_rig.specs.Device.{Device}
 use Rattle.ng_rig.specs.Trace.{Image, Trace, items}
 use Rattle.ng_rig.specs.Calls.{IfHonest}
 use Rattle.ng_rig.specs.Continuation.{IsContinuation}
@@ -100,10 +101,10 @@ pub record IsCarriedOut {R : Type 0} (answer : Result Reply Fault) (out : Transi
 
 -- An event came to its outcome over an honest device that rests with what the session stored: what it leads to is by
 -- the program of what stands.
-abbrev pub IsCarriedOutIfHonest : {R : Type 0} → (R → Type 0) → (R → Trace) → Result Reply Fault → (List ℕ → Transition) → ControllerModel R → ControllerModel R → Type 0
-IsCarriedOutIfHonest honest trace answer out old new =
-    IfHonest (honest old.journal.rig) (honest new.journal.rig) ((program : List ℕ) → IsAtRestWith (trace old.journal.rig) old program
-    → IsCarriedOut answer (out program) program old new (trace old.journal.rig) (trace new.journal.rig))
+abbrev pub IsCarriedOutIfHonest : {R : Type 0} → (R → Device) → Result Reply Fault → (List ℕ → Transition) → ControllerModel R → ControllerModel R → Type 0
+IsCarriedOutIfHonest seen answer out old new =
+    IfHonest (seen old.journal.rig) (seen new.journal.rig) ((program : List ℕ) → IsAtRestWith (seen old.journal.rig).trace old program
+    → IsCarriedOut answer (out program) program old new (seen old.journal.rig).trace (seen new.journal.rig).trace)
 
 -- an item of the open segment is handed out, which this session took from it
 abbrev pub handing : Item → List ℕ → SessionModel → Transition
@@ -112,26 +113,26 @@ handing item program s = record { reply = reply.Moved; items = item ∷ []; entr
 -- An answer to what leads to this, and what it leaves: of an honest device, and of any; where a line is read for it, it
 -- is that line's. An error has its cause, by what the answer needs. The journal is broken, and the device counted a
 -- failure, exactly where that failed; the device keeps its size.
-pub record CarriesOut {R : Type 0} (honest : R → Type 0) (trace : R → Trace) (failed sectors : R → ℕ) (needs : Needs) (out : List ℕ → Transition) (answer : Result Reply Fault) (old new : ControllerModel R) : Type 0 where
-  pub does : IsCarriedOutIfHonest honest trace answer out old new
+pub record CarriesOut {R : Type 0} (seen : R → Device) (needs : Needs) (out : List ℕ → Transition) (answer : Result Reply Fault) (old new : ControllerModel R) : Type 0 where
+  pub does : IsCarriedOutIfHonest seen answer out old new
   pub comes : IsAnsweredAnyway needs.reads answer out old new
   pub line : needs.reads → IfOk answer (λ r. IsAnsweredByLine r out old new)
   pub hindered : IfErr answer (IsCausedBy needs.memory needs.device (ledger_of old.journal) out)
   pub broken : IsBrokenBy answer new.journal.broken
   pub equipment : new.equipment ≡ old.equipment
-  pub size : sectors new.journal.rig ≡ sectors old.journal.rig
-  pub failures : CountsFailure answer (failed old.journal.rig) (failed new.journal.rig)
+  pub size : (seen new.journal.rig).sectors ≡ (seen old.journal.rig).sectors
+  pub failures : CountsFailure answer (seen old.journal.rig).failed (seen new.journal.rig).failed
 
 -- An answer to an event, by what that leads to and needs.
-abbrev pub CarriesOutEvent : {A R : Type 0} → (R → Type 0) → (R → Trace) → (failed sectors : R → ℕ) → Event A → Result Reply Fault → ControllerModel R → ControllerModel R → Type 0
-CarriesOutEvent honest trace failed sectors event answer old new =
-    CarriesOut honest trace failed sectors (needs_of old.equipment old.session event) (λ program. transition_of old program event) answer old new
+abbrev pub CarriesOutEvent : {A R : Type 0} → (R → Device) → Event A → Result Reply Fault → ControllerModel R → ControllerModel R → Type 0
+CarriesOutEvent seen event answer old new =
+    CarriesOut seen (needs_of old.equipment old.session event) (λ program. transition_of old program event) answer old new
 
 -- A reply to an event, and what became of that.
-pub record Handles {A R : Type 0} (honest : R → Type 0) (trace : R → Trace) (failed sectors : R → ℕ) (event : Event A) (told : Reply) (old new : ControllerModel R) : Type 0 where
+pub record Handles {A R : Type 0} (seen : R → Device) (event : Event A) (told : Reply) (old new : ControllerModel R) : Type 0 where
   pub answer : Result Reply Fault
   pub told_is : told ≡ reply_to answer
-  pub carried : CarriesOutEvent honest trace failed sectors event answer old new
+  pub carried : CarriesOutEvent seen event answer old new
 
 -- The reply tells of a failed device exactly where that counted a failure, one.
 abbrev pub TellsFailure : Reply → ℕ → ℕ → Type 0

@@ -1,6 +1,7 @@
 -- Wherever power is cut since power on, by the plain interpreter alone (own).
 use Rattle.std.specs.Prelude.{◌≡◌, ◌≤◌, ◌+◌, ℕ, ℤ, suc, false, List, [], ◌++◌, length, take, drop, Ok, IfOk}
 use Rattle.ng_canon.specs.declared.item.Item.{Item}
+use Rattle.ng_rig.specs.Device.{Device}
 use Rattle.ng_rig.specs.Calls.{IfHonest}
 use Rattle.ng_rig.specs.Trace.{Image, Trace, reads, items, moment, trace_at, IsStop}
 use Rattle.ng_layout.specs.Stands.{stands_beside, IsWritten}
@@ -22,16 +23,16 @@ use Rattle.ng_core.specs.AnsweredEvents.{AreAnsweredEvents, answered_at}
 -- ---- what came since power on
 
 -- A controller as power on gave it over what stood: whole, at rest, and its device rests with that.
-pub record IsPoweredOn {R : Type 0} (trace : R → Trace) (x : DurableState) (c : ControllerModel R) : Type 0 where
+pub record IsPoweredOn {R : Type 0} (seen : R → Device) (x : DurableState) (c : ControllerModel R) : Type 0 where
   pub whole : c.journal.broken ≡ false
   pub session : c.session ≡ resting x.saved
-  pub rests : IsAtRestWith (trace c.journal.rig) c x.program
+  pub rests : IsAtRestWith (seen c.journal.rig).trace c x.program
 
 -- What came from there until now: these events, each with its reply and with the moment at which it was answered.
-pub record IsPast {A R : Type 0} (honest : R → Type 0) (trace : R → Trace) (failed sectors : R → ℕ) (x : DurableState) (events : List (Event A)) (replies : List Reply) (moments : List ℕ) (first now : ControllerModel R) : Type 0 where
-  pub began : IsPoweredOn trace x first
-  pub turns : AreAnsweredEvents honest trace failed sectors events replies first now
-  pub answered : moments ≡ answered_at honest trace failed sectors events replies first now turns
+pub record IsPast {A R : Type 0} (seen : R → Device) (x : DurableState) (events : List (Event A)) (replies : List Reply) (moments : List ℕ) (first now : ControllerModel R) : Type 0 where
+  pub began : IsPoweredOn seen x first
+  pub turns : AreAnsweredEvents seen events replies first now
+  pub answered : moments ≡ answered_at seen events replies first now turns
 
 -- ---- what a stop leaves of it
 
@@ -51,37 +52,37 @@ pub record IsAccounted (equipment : Equipment) (lines : List (List ℕ)) (x : Du
 -- entries that the session executed for the events answered by then and the one under way, and what is under way after
 -- that, as many as Done was answered by then or one more, and by the lines that these events gave. These are the
 -- moments at which the events were answered.
-pub record Accounts {A R : Type 0} (trace : R → Trace) (x : DurableState) (events : List (Event A)) (replies : List Reply) (moments : List ℕ) (first now : ControllerModel R) : Type 0 where
-  pub passes : PassesAsSession trace events replies moments first.equipment (session_at_power_on x) (trace first.journal.rig) now
-  pub stops : AtEachStop (trace first.journal.rig) (trace now.journal.rig) (λ t. let n = answered_by t moments in let tried = tried_events (take (suc n) events) passes.answers in
-      IsAccounted first.equipment (lines_given (take (suc n) events)) x (items (trace first.journal.rig)) (entries_of first.equipment (session_at_power_on x) tried) (under_way first.equipment (session_at_power_on x) tried) (dones (take n replies)))
+pub record Accounts {A R : Type 0} (seen : R → Device) (x : DurableState) (events : List (Event A)) (replies : List Reply) (moments : List ℕ) (first now : ControllerModel R) : Type 0 where
+  pub passes : PassesAsSession seen events replies moments first.equipment (session_at_power_on x) (seen first.journal.rig).trace now
+  pub stops : AtEachStop (seen first.journal.rig).trace (seen now.journal.rig).trace (λ t. let n = answered_by t moments in let tried = tried_events (take (suc n) events) passes.answers in
+      IsAccounted first.equipment (lines_given (take (suc n) events)) x (items (seen first.journal.rig).trace) (entries_of first.equipment (session_at_power_on x) tried) (under_way first.equipment (session_at_power_on x) tried) (dones (take n replies)))
 
 -- So a stop has, of what stood at power on, as many entries more as Done was answered by its moment, or one more,
 -- whatever table power on reads it beside.
-abbrev pub CountsAcknowledged : {R : Type 0} → (R → Trace) → DurableState → List Reply → (moments : List ℕ) → ControllerModel R → ControllerModel R → Type 0
-CountsAcknowledged trace x replies moments first now = (t : ℕ) (image : Image) (handed : List Item) (tools : List ℤ) (y : DurableState)
-    → moment (trace first.journal.rig) ≤ t → t ≤ moment (trace now.journal.rig) → IsStop (trace_at t (trace now.journal.rig)) image handed → stands_beside tools image ≡ Ok y
+abbrev pub CountsAcknowledged : {R : Type 0} → (R → Device) → DurableState → List Reply → (moments : List ℕ) → ControllerModel R → ControllerModel R → Type 0
+CountsAcknowledged seen x replies moments first now = (t : ℕ) (image : Image) (handed : List Item) (tools : List ℤ) (y : DurableState)
+    → moment (seen first.journal.rig).trace ≤ t → t ≤ moment (seen now.journal.rig).trace → IsStop (trace_at t (seen now.journal.rig).trace) image handed → stands_beside tools image ≡ Ok y
     → let acknowledged = dones (take (answered_by t moments) replies) in (x.saved.entries + acknowledged ≤ y.saved.entries) × (y.saved.entries ≤ x.saved.entries + acknowledged + 1)
 
 -- ---- what the calls promise of it
 
 -- Power on gives the first past, of no event: over the recovered of what stood, beside these tools if it was of format
 -- 1, where only such a controller wrote it.
-abbrev pub BeginsPast : {R : Type 0} → Type 0 → List ℤ → (R → Type 0) → (R → Trace) → (failed sectors : R → ℕ) → PowerOnResult R → Trace → Type 0
-BeginsPast {R} A tools honest trace failed sectors result old =
-    IsWritten (reads old) → IfOk result (λ c. (x : DurableState) → recovered_of (stands_beside tools (reads old)) ≡ Ok x → IsPast {A = A} honest trace failed sectors x [] [] [] c c)
+abbrev pub BeginsPast : {R : Type 0} → Type 0 → List ℤ → (R → Device) → PowerOnResult R → Trace → Type 0
+BeginsPast {R} A tools seen result old =
+    IsWritten (reads old) → IfOk result (λ c. (x : DurableState) → recovered_of (stands_beside tools (reads old)) ≡ Ok x → IsPast {A = A} seen x [] [] [] c c)
 
 -- Each past has these events, replies and moments at its end now, after its own as they were, and all of it is
 -- accounted for.
-abbrev pub AddsToPast : {A R : Type 0} → (R → Type 0) → (R → Trace) → (failed sectors : R → ℕ) → List (Event A) → List Reply → (moments : List ℕ) → ControllerModel R → ControllerModel R → Type 0
-AddsToPast {A} {R} honest trace failed sectors events replies moments old new = (x : DurableState) (past : List (Event A)) (told : List Reply) (before : List ℕ) (first : ControllerModel R)
-    → IsPast honest trace failed sectors x past told before first old
-    → IsPast honest trace failed sectors x (past ++ events) (told ++ replies) (before ++ moments) first new × Accounts trace x (past ++ events) (told ++ replies) (before ++ moments) first new
+abbrev pub AddsToPast : {A R : Type 0} → (R → Device) → List (Event A) → List Reply → (moments : List ℕ) → ControllerModel R → ControllerModel R → Type 0
+AddsToPast {A} {R} seen events replies moments old new = (x : DurableState) (past : List (Event A)) (told : List Reply) (before : List ℕ) (first : ControllerModel R)
+    → IsPast seen x past told before first old
+    → IsPast seen x (past ++ events) (told ++ replies) (before ++ moments) first new × Accounts seen x (past ++ events) (told ++ replies) (before ++ moments) first new
 
 -- What a list of events does, each answered in turn at its moment of the device's trace, one of these: over an honest
 -- device they pass as the session does, and each past has them at its end.
-pub record AreRun {A R : Type 0} (honest : R → Type 0) (trace : R → Trace) (failed sectors : R → ℕ) (events : List (Event A)) (replies : List Reply) (moments : List ℕ) (old new : ControllerModel R) : Type 0 where
-  pub turns : AreAnsweredEvents honest trace failed sectors events replies old new
-  pub answered : moments ≡ answered_at honest trace failed sectors events replies old new turns
-  pub ran : IfHonest (honest old.journal.rig) (honest new.journal.rig) (IsRun trace events replies moments old new)
-  pub past : IfHonest (honest old.journal.rig) (honest new.journal.rig) (AddsToPast honest trace failed sectors events replies moments old new)
+pub record AreRun {A R : Type 0} (seen : R → Device) (events : List (Event A)) (replies : List Reply) (moments : List ℕ) (old new : ControllerModel R) : Type 0 where
+  pub turns : AreAnsweredEvents seen events replies old new
+  pub answered : moments ≡ answered_at seen events replies old new turns
+  pub ran : IfHonest (seen old.journal.rig) (seen new.journal.rig) (IsRun seen events replies moments old new)
+  pub past : IfHonest (seen old.journal.rig) (seen new.journal.rig) (AddsToPast seen events replies moments old new)

@@ -3,6 +3,7 @@
 -- takes from the settings.
 use Rattle.std.specs.Prelude.{◌≡◌, ◌⊎◌, ◌≤◌, ◌+◌, ℕ, ℤ, suc, Option, Some, None, List, [], ◌∷◌, ◌++◌, length, take, drop, Ok}
 use Rattle.ng_canon.specs.declared.item.Item.{Item}
+use Rattle.ng_rig.specs.Device.{Device}
 use Rattle.ng_rig.specs.Trace.{Image, Trace, reads, items, moment, IsStop}
 use Rattle.ng_rig.specs.Continuation.{IsSynced}
 use Rattle.ng_layout.specs.Stands.{stands_beside, recovered, IsWritten}
@@ -126,33 +127,33 @@ pub record LeavesSession (equipment : Equipment) (tools : List ℤ) (image : Ima
 -- Whatever power on answers: each stop since it began is one that the device could have had then, left by what came
 -- before; or it leaves a session from what the device read then, with nothing given and nothing executed. Where the
 -- device was synced then, as after a cut, each leaves such a session.
-abbrev pub SessionsWithinPowerOn : {R : Type 0} → (R → Trace) → Type 0
-SessionsWithinPowerOn {R} trace = (equipment : Equipment) (tools : List ℤ) (x : DurableState) (result : PowerOnResult R) (old new : Trace) → PowerOnSpecIfHonest tools result old new → stands_beside tools (reads old) ≡ Ok x → IsWritten (reads old) →
+abbrev pub SessionsWithinPowerOn : {R : Type 0} → (R → Device) → Type 0
+SessionsWithinPowerOn {R} seen = (equipment : Equipment) (tools : List ℤ) (x : DurableState) (result : PowerOnResult R) (old new : Trace) → PowerOnSpecIfHonest tools result old new → stands_beside tools (reads old) ≡ Ok x → IsWritten (reads old) →
     AtEachStop old new (λ t image handed. IsStop old image handed ⊎ LeavesSession equipment tools (reads old) (items old) [] [] [] 0 image handed)
     × (IsSynced old → AtEachStop old new (λ t. LeavesSession equipment tools (reads old) (items old) [] [] [] 0))
 
 -- A stop at the moment t leaves a session from this image: the entries executed and begun are those of the events
 -- answered by then and of the one under way, as are the lines, and as many were acknowledged as Done was answered by
 -- then.
-abbrev pub LeavesSessionBy : {A R : Type 0} (trace : R → Trace) (tools : List ℤ) (image : Image) (x : DurableState) (events : List (Event A)) (replies : List Reply) (moments : List ℕ) (first now : ControllerModel R)
-    → Accounts trace (recovered x) events replies moments first now → ℕ → Image → List Item → Type 0
-LeavesSessionBy trace tools image x events replies moments first now accounts t =
+abbrev pub LeavesSessionBy : {A R : Type 0} (seen : R → Device) (tools : List ℤ) (image : Image) (x : DurableState) (events : List (Event A)) (replies : List Reply) (moments : List ℕ) (first now : ControllerModel R)
+    → Accounts seen (recovered x) events replies moments first now → ℕ → Image → List Item → Type 0
+LeavesSessionBy seen tools image x events replies moments first now accounts t =
     let n = answered_by t moments in
     let tried = tried_events (take (suc n) events) accounts.passes.answers in
     let scene = session_at_power_on (recovered x) in
-    LeavesSession first.equipment tools image (items (trace first.journal.rig)) (lines_given (take (suc n) events)) (entries_of first.equipment scene tried) (under_way first.equipment scene tried) (dones (take n replies))
+    LeavesSession first.equipment tools image (items (seen first.journal.rig).trace) (lines_given (take (suc n) events)) (entries_of first.equipment scene tried) (under_way first.equipment scene tried) (dones (take n replies))
 
 -- Each stop since power on leaves a session from the image that power on began with.
-abbrev pub SessionsAfterPowerOn : {R : Type 0} → Type 0 → (R → Trace) → Type 0
-SessionsAfterPowerOn {R} A trace = (tools : List ℤ) (image : Image) (x : DurableState) (events : List (Event A)) (replies : List Reply) (moments : List ℕ) (first now : ControllerModel R) (accounts : Accounts trace (recovered x) events replies moments first now)
+abbrev pub SessionsAfterPowerOn : {R : Type 0} → Type 0 → (R → Device) → Type 0
+SessionsAfterPowerOn {R} A seen = (tools : List ℤ) (image : Image) (x : DurableState) (events : List (Event A)) (replies : List Reply) (moments : List ℕ) (first now : ControllerModel R) (accounts : Accounts seen (recovered x) events replies moments first now)
     → stands_beside tools image ≡ Ok x → IsWritten image
-    → AtEachStop (trace first.journal.rig) (trace now.journal.rig) (LeavesSessionBy trace tools image x events replies moments first now accounts)
+    → AtEachStop (seen first.journal.rig).trace (seen now.journal.rig).trace (LeavesSessionBy seen tools image x events replies moments first now accounts)
 
 -- Power on anew with no cut before it: what the device reads then is what a stop of that session leaves, and each stop
 -- since leaves that session as it came to be, or one from what the device reads then.
-abbrev pub SessionsAnew : {R : Type 0} → Type 0 → (R → Trace) → Type 0
-SessionsAnew {R} A trace = (tools : List ℤ) (image : Image) (x : DurableState) (events : List (Event A)) (replies : List Reply) (moments : List ℕ) (first now : ControllerModel R) (accounts : Accounts trace (recovered x) events replies moments first now)
-    (equipment : Equipment) (result : PowerOnResult R) (new : Trace) → stands_beside tools image ≡ Ok x → IsWritten image → PowerOnSpecIfHonest tools result (trace now.journal.rig) new →
-    let old = trace now.journal.rig in let Leaves = LeavesSessionBy trace tools image x events replies moments first now accounts (moment old) in
+abbrev pub SessionsAnew : {R : Type 0} → Type 0 → (R → Device) → Type 0
+SessionsAnew {R} A seen = (tools : List ℤ) (image : Image) (x : DurableState) (events : List (Event A)) (replies : List Reply) (moments : List ℕ) (first now : ControllerModel R) (accounts : Accounts seen (recovered x) events replies moments first now)
+    (equipment : Equipment) (result : PowerOnResult R) (new : Trace) → stands_beside tools image ≡ Ok x → IsWritten image → PowerOnSpecIfHonest tools result (seen now.journal.rig).trace new →
+    let old = (seen now.journal.rig).trace in let Leaves = LeavesSessionBy seen tools image x events replies moments first now accounts (moment old) in
     Leaves (reads old) (items old)
     × AtEachStop old new (λ t left handed. Leaves left handed ⊎ LeavesSession equipment tools (reads old) (items old) [] [] [] 0 left handed)

@@ -2,6 +2,7 @@
 use Rattle.std.specs.Prelude.{◌≡◌, ◌≤◌, ◌<◌, ℕ, ℤ, false, List, Result, Ok, Err, IfOk, IfErr, IsErrAnd}
 use Rattle.ng_num.specs.declared.fault.Fault.{Fault}
 use Rattle.ng_num.specs.declared.fault.Fault.TheVariants.{NotFormatted, OutOfMemory}
+use Rattle.ng_rig.specs.Device.{Device}
 use Rattle.ng_rig.specs.Calls.{IfHonest}
 use Rattle.ng_rig.specs.Trace.{Trace, reads}
 use Rattle.ng_settings.specs.declared.standard.Settings.{Settings}
@@ -45,12 +46,12 @@ pub record PowerOnSpecIfHonest {R : Type 0} (tools : List ℤ) (result : PowerOn
 
 -- What power on gives, of any device: a whole controller at rest with what stands, or a fault and the device. A device
 -- of format 1 is given the tools of the settings; with one of format 2 they aren't looked at.
-pub record PowerOnSpec {R : Type 0} (honest : R → Type 0) (trace : R → Trace) (failed sectors : R → ℕ) (settings : Settings) (rig : R) (answer : PowerOnResult R) : Type 0 where
-  pub powers : least_size ≤ sectors rig → (tools : List ℤ) → IsTableOver settings.tools tools (reads (trace rig)) → IfHonest (honest rig) (honest (power_on_rig answer)) (PowerOnSpecIfHonest tools answer (trace rig) (trace (power_on_rig answer)))
+pub record PowerOnSpec {R : Type 0} (seen : R → Device) (settings : Settings) (rig : R) (answer : PowerOnResult R) : Type 0 where
+  pub powers : least_size ≤ (seen rig).sectors → (tools : List ℤ) → IsTableOver settings.tools tools (reads (seen rig).trace) → IfHonest (seen rig) (seen (power_on_rig answer)) (PowerOnSpecIfHonest tools answer (seen rig).trace (seen (power_on_rig answer)).trace)
   pub rests : IfOk answer (λ c. (c.journal.broken ≡ false) × (c.session ≡ resting c.journal.saved) × IsStorable c.session.stored)
   pub equipment : IfOk answer (λ c. c.equipment ≡ record { geometry = settings.geometry })
-  pub small : sectors rig < least_size → IsErrAnd answer (λ e. (e.0 ≡ NotFormatted) × (e.1 ≡ rig))
+  pub small : (seen rig).sectors < least_size → IsErrAnd answer (λ e. (e.0 ≡ NotFormatted) × (e.1 ≡ rig))
   pub faults : IfErr answer (λ e. IsRecoveryFault e.0)
   pub memory : IfErr answer (λ e. e.0 ≡ OutOfMemory → e.1 ≡ rig)
-  pub size : sectors (power_on_rig answer) ≡ sectors rig
-  pub failures : CountsFailure (power_on_fault answer) (failed rig) (failed (power_on_rig answer))
+  pub size : (seen (power_on_rig answer)).sectors ≡ (seen rig).sectors
+  pub failures : CountsFailure (power_on_fault answer) (seen rig).failed (seen (power_on_rig answer)).failed

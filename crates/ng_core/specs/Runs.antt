@@ -3,6 +3,7 @@ use Rattle.std.specs.Prelude.{◌≡◌, ◌≤◌, ◌+◌, ◌%◌, ◌^◌, �
 use Rattle.ng_num.specs.declared.fault.Fault.{Fault}
 use Rattle.ng_num.specs.declared.fault.Fault.TheVariants.{DeviceFailed}
 use Rattle.ng_canon.specs.declared.item.Item.{Item}
+use Rattle.ng_rig.specs.Device.{Device}
 use Rattle.ng_rig.specs.Trace.{Image, Trace, items, moment}
 use Rattle.ng_journal.specs.Journal.{StandsFor}
 use Rattle.ng_session.specs.Entries.{Equipment}
@@ -57,22 +58,22 @@ pub record IsCrashAfterSome {A : Type 0} (least : ℕ) (equipment : Equipment) (
 -- The replies are the session's to the events that came. Each event was answered at its moment of the device's trace,
 -- one of these, and a stop leaves what stands after those that came of the events answered by then, or after the one
 -- under way too. While the device didn't fail, what stands and was handed out now is the session's.
-pub record PassesAsSession {A R : Type 0} (trace : R → Trace) (events : List (Event A)) (replies : List Reply) (moments : List ℕ) (equipment : Equipment) (scene : ProgramSession) (trace_old : Trace) (new : ControllerModel R) : Type 0 where
+pub record PassesAsSession {A R : Type 0} (seen : R → Device) (events : List (Event A)) (replies : List Reply) (moments : List ℕ) (equipment : Equipment) (scene : ProgramSession) (trace_old : Trace) (new : ControllerModel R) : Type 0 where
   pub answers : List (Result Reply Fault)
   pub replies_are : replies ≡ map reply_to answers
   pub told_is : session_replies answers ≡ replies_of equipment scene (answered_events events answers)
   pub each : length moments ≡ length events
-  pub rising : IsRising (moment trace_old) (moment (trace new.journal.rig)) moments
-  pub stops : AtEachStop trace_old (trace new.journal.rig) (λ t. let n = answered_by t moments in
+  pub rising : IsRising (moment trace_old) (moment (seen new.journal.rig).trace) moments
+  pub stops : AtEachStop trace_old (seen new.journal.rig).trace (λ t. let n = answered_by t moments in
       IsCrashAfterSome (length (answered_events (take n events) answers)) equipment scene (items trace_old) (tried_events (take (suc n) events) answers))
   pub session_is : new.journal.broken ≡ false → new.session ≡ (session_after equipment scene (answered_events events answers)).session
-  pub rests : new.journal.broken ≡ false → IsAtRestWith (trace new.journal.rig) new (session_after equipment scene (answered_events events answers)).program
-  pub items_are : new.journal.broken ≡ false → items (trace new.journal.rig) ≡ items trace_old ++ items_of equipment scene (answered_events events answers)
+  pub rests : new.journal.broken ≡ false → IsAtRestWith (seen new.journal.rig).trace new (session_after equipment scene (answered_events events answers)).program
+  pub items_are : new.journal.broken ≡ false → items (seen new.journal.rig).trace ≡ items trace_old ++ items_of equipment scene (answered_events events answers)
 
 -- whatever program rests there beside the session, they pass as the session does
-abbrev pub IsRun : {A R : Type 0} → (R → Trace) → List (Event A) → List Reply → (moments : List ℕ) → ControllerModel R → ControllerModel R → Type 0
-IsRun trace events replies moments old new = (program : List ℕ) → old.journal.broken ≡ false → IsAtRestWith (trace old.journal.rig) old program
-    → PassesAsSession trace events replies moments old.equipment (program_session_of program old) (trace old.journal.rig) new
+abbrev pub IsRun : {A R : Type 0} → (R → Device) → List (Event A) → List Reply → (moments : List ℕ) → ControllerModel R → ControllerModel R → Type 0
+IsRun seen events replies moments old new = (program : List ℕ) → old.journal.broken ≡ false → IsAtRestWith (seen old.journal.rig).trace old program
+    → PassesAsSession seen events replies moments old.equipment (program_session_of program old) (seen old.journal.rig).trace new
 
 -- The device counted one failure where the controller broke, and else none; once broken it stays so.
 abbrev pub CountsOneFailure : Bool → Bool → ℕ → ℕ → Type 0

@@ -78,16 +78,16 @@ impl<R: Rig, A: Allocator + Copy + Drop> Controller<R, A> {
     /// that came since power on, with this event, is accounted for by the plain interpreter, whenever power is cut.
     pub fn on(&mut self, event: Event<A>) -> Reply
         ensures serves { self.old.journal.broken ≡ false
-            → Handles R.honest R.trace R.failed R.sectors event result self.old self.new }
+            → Handles R.seen event result self.old self.new }
         ensures failures { self.old.journal.broken ≡ false
-            → TellsFailure result (R.failed self.old.journal.rig) (R.failed self.new.journal.rig) }
+            → TellsFailure result (R.seen self.old.journal.rig).failed (R.seen self.new.journal.rig).failed }
         ensures broken { self.old.journal.broken ≡ true
             → (self.new ≡ self.old) × (result ≡ reply_to (broken_answer self.old.session event)) }
         ensures equipment { self.new.equipment ≡ self.old.equipment }
-        ensures size { R.sectors self.new.journal.rig ≡ R.sectors self.old.journal.rig }
-        ensures past { IfHonest (R.honest self.old.journal.rig) (R.honest self.new.journal.rig)
-            (AddsToPast R.honest R.trace R.failed R.sectors (event ∷ []) (result ∷ [])
-            (moment (R.trace self.new.journal.rig) ∷ []) self.old self.new) }
+        ensures size { (R.seen self.new.journal.rig).sectors ≡ (R.seen self.old.journal.rig).sectors }
+        ensures past { IfHonest (R.seen self.old.journal.rig) (R.seen self.new.journal.rig)
+            (AddsToPast R.seen (event ∷ []) (result ∷ [])
+            (moment (R.seen self.new.journal.rig).trace ∷ []) self.old self.new) }
     {
         self.reply(&event)
     }
@@ -95,13 +95,13 @@ impl<R: Rig, A: Allocator + Copy + Drop> Controller<R, A> {
     /// Answers an event that stays the caller's as `on` does: the same is refused, and the same is left.
     pub(crate) fn reply(&mut self, event: &Event<A>) -> Reply
         ensures serves { self.old.journal.broken ≡ false
-            → Handles R.honest R.trace R.failed R.sectors event.now result self.old self.new }
+            → Handles R.seen event.now result self.old self.new }
         ensures failures { self.old.journal.broken ≡ false
-            → TellsFailure result (R.failed self.old.journal.rig) (R.failed self.new.journal.rig) }
+            → TellsFailure result (R.seen self.old.journal.rig).failed (R.seen self.new.journal.rig).failed }
         ensures broken { self.old.journal.broken ≡ true
             → (self.new ≡ self.old) × (result ≡ reply_to (broken_answer self.old.session event.now)) }
         ensures equipment { self.new.equipment ≡ self.old.equipment }
-        ensures size { R.sectors self.new.journal.rig ≡ R.sectors self.old.journal.rig }
+        ensures size { (R.seen self.new.journal.rig).sectors ≡ (R.seen self.old.journal.rig).sectors }
     {
         match self.handle(event) {
             Ok(reply) => reply,
@@ -112,11 +112,11 @@ impl<R: Rig, A: Allocator + Copy + Drop> Controller<R, A> {
     /// What the session answers, or why it doesn't answer: M1, J4, J1 or K5.
     fn handle(&mut self, event: &Event<A>) -> Result<Reply, Fault>
         ensures carried { self.old.journal.broken ≡ false
-            → CarriesOutEvent R.honest R.trace R.failed R.sectors event.now result self.old self.new }
+            → CarriesOutEvent R.seen event.now result self.old self.new }
         ensures broken { self.old.journal.broken ≡ true
             → (self.new ≡ self.old) × (result ≡ broken_answer self.old.session event.now) }
         ensures equipment { self.new.equipment ≡ self.old.equipment }
-        ensures size { R.sectors self.new.journal.rig ≡ R.sectors self.old.journal.rig }
+        ensures size { (R.seen self.new.journal.rig).sectors ≡ (R.seen self.old.journal.rig).sectors }
     {
         if self.broken() {
             return self.answer_broken(event);
@@ -130,7 +130,7 @@ impl<R: Rig, A: Allocator + Copy + Drop> Controller<R, A> {
     fn carry_out(&mut self, event: &Event<A>) -> Result<Reply, Fault>
         requires whole { self.old.journal.broken ≡ false }
         requires alone { drops_plan event.now ≡ true → self.old.lines.ahead ≡ [] }
-        ensures { CarriesOutEvent R.honest R.trace R.failed R.sectors event.now result self.old self.new }
+        ensures { CarriesOutEvent R.seen event.now result self.old self.new }
     {
         match event {
             Event::Load(text) => self.load(text.bytes()),
@@ -177,7 +177,7 @@ impl<R: Rig, A: Allocator + Copy + Drop> Controller<R, A> {
     fn load(&mut self, text: &[u8]) -> Result<Reply, Fault>
         requires whole { self.old.journal.broken ≡ false }
         requires alone { self.old.lines.ahead ≡ [] }
-        ensures { CarriesOutEvent {A = A} R.honest R.trace R.failed R.sectors (Event.Load text.now) result self.old self.new }
+        ensures { CarriesOutEvent {A = A} R.seen (Event.Load text.now) result self.old self.new }
     {
         if let Some(fault) = self.session.load_refusal(text) {
             return Ok(Reply::Refused(fault));
@@ -193,7 +193,7 @@ impl<R: Rig, A: Allocator + Copy + Drop> Controller<R, A> {
         requires whole { self.old.journal.broken ≡ false }
         requires quiet { IsQuiet event.now }
         requires alone { drops_plan event.now ≡ true → self.old.lines.ahead ≡ [] }
-        ensures carried { CarriesOutEvent R.honest R.trace R.failed R.sectors event.now result self.old self.new }
+        ensures carried { CarriesOutEvent R.seen event.now result self.old self.new }
         ensures memory { IfErr result (λ fault. fault ≡ OutOfMemory) }
     {
         Ok(self.session.answer(event, &self.geometry)?)

@@ -27,9 +27,9 @@ fn next_line<R: Rig, A: Allocator + Copy + Drop>(
 ) -> Result<u64, Fault>
     requires whole { journal.old.broken ≡ false }
     requires stored { session.now.stored ≡ journal.old.saved }
-    ensures next { IfHonest (R.honest journal.old.rig) (R.honest journal.new.rig) ((standing : DurableState)
-        → IsDurablyAt (R.trace journal.old.rig) journal.old standing
-        → NextLineSpec result journal.new standing session.now (R.trace journal.old.rig) (R.trace journal.new.rig)) }
+    ensures next { IfHonest (R.seen journal.old.rig) (R.seen journal.new.rig) ((standing : DurableState)
+        → IsDurablyAt (R.seen journal.old.rig).trace journal.old standing
+        → NextLineSpec result journal.new standing session.now (R.seen journal.old.rig).trace (R.seen journal.new.rig).trace) }
     ensures within { IfOk result (λ next. next ≤ session.now.stored.length) }
     // without honesty too
     ensures beyond { IfOk result (λ next. session.now.stored.place ≤ next) }
@@ -38,8 +38,8 @@ fn next_line<R: Rig, A: Allocator + Copy + Drop>(
     ensures ledger { ledger_of journal.new ≡ ledger_of journal.old }
     ensures broken { IsBrokenBy result journal.new.broken }
     ensures errors { IfErr result (λ e. (e ≡ DeviceFailed) × IsProgramsLine session.now.stored.half) }
-    ensures size { R.sectors journal.new.rig ≡ R.sectors journal.old.rig }
-    ensures failures { CountsFailure result (R.failed journal.old.rig) (R.failed journal.new.rig) }
+    ensures size { (R.seen journal.new.rig).sectors ≡ (R.seen journal.old.rig).sectors }
+    ensures failures { CountsFailure result (R.seen journal.old.rig).failed (R.seen journal.new.rig).failed }
 {
     let place = session.place();
     if !session.is_programs_line() {
@@ -68,7 +68,7 @@ impl<R: Rig, A: Allocator + Copy + Drop> Controller<R, A> {
         requires free { self.old.session.current ≡ None }
         requires count { report.entries ≤ greatest_count }
         requires storable { IsStorable (with_decoded_state self.old.session.stored report self.old.session.stored.length) }
-        ensures { (entry : Entry) → IsCommitted entry → CarriesOut R.honest R.trace R.failed R.sectors needs_device
+        ensures { (entry : Entry) → IsCommitted entry → CarriesOut R.seen needs_device
             (λ program. commits program entry (record self.old.session {
               stored = with_decoded_state self.old.session.stored report self.old.session.stored.length;
             }))
@@ -92,7 +92,7 @@ impl<R: Rig, A: Allocator + Copy + Drop> Controller<R, A> {
     pub(crate) fn reference(&mut self, point: &Point) -> Result<Reply, Fault>
         requires whole { self.old.journal.broken ≡ false }
         requires alone { self.old.lines.ahead ≡ [] }
-        ensures { CarriesOutEvent {A = A} R.honest R.trace R.failed R.sectors (event.Reference point.now) result self.old self.new }
+        ensures { CarriesOutEvent {A = A} R.seen (event.Reference point.now) result self.old self.new }
     {
         if let Some(fault) = self.session.reference_refusal(*point, &self.geometry) {
             return Ok(Reply::Refused(fault));
@@ -111,7 +111,7 @@ impl<R: Rig, A: Allocator + Copy + Drop> Controller<R, A> {
     pub(crate) fn abandon(&mut self) -> Result<Reply, Fault>
         requires whole { self.old.journal.broken ≡ false }
         requires alone { self.old.lines.ahead ≡ [] }
-        ensures { CarriesOutEvent {A = A} R.honest R.trace R.failed R.sectors event.Abandon result self.old self.new }
+        ensures { CarriesOutEvent {A = A} R.seen event.Abandon result self.old self.new }
     {
         if let Some(fault) = self.session.abandon_refusal() {
             return Ok(Reply::Refused(fault));
@@ -132,7 +132,7 @@ impl<R: Rig, A: Allocator + Copy + Drop> Controller<R, A> {
     pub(crate) fn resume(&mut self) -> Result<Reply, Fault>
         requires whole { self.old.journal.broken ≡ false }
         requires alone { self.old.lines.ahead ≡ [] }
-        ensures { CarriesOutEvent {A = A} R.honest R.trace R.failed R.sectors event.Resume result self.old self.new }
+        ensures { CarriesOutEvent {A = A} R.seen event.Resume result self.old self.new }
     {
         if let Some(fault) = self.session.resume_refusal(&self.geometry) {
             return Ok(Reply::Refused(fault));

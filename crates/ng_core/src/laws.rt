@@ -22,36 +22,36 @@ use std::alloc::Allocator;
 /// under way too.
 pub fn histories<R: Rig, A: Allocator>()
     ensures { (events : List (Event A)) (replies : List Reply) (program : List ℕ) (old new : ControllerModel R)
-        → R.honest old.journal.rig → (turns : AreAnsweredEvents R.honest R.trace R.failed R.sectors events replies old new)
-        → old.journal.broken ≡ false → IsAtRestWith (R.trace old.journal.rig) old program
-        → PassesAsSession R.trace events replies
-        (answered_at R.honest R.trace R.failed R.sectors events replies old new turns)
-        old.equipment (program_session_of program old) (R.trace old.journal.rig) new }
+        → (R.seen old.journal.rig).honest → (turns : AreAnsweredEvents R.seen events replies old new)
+        → old.journal.broken ≡ false → IsAtRestWith (R.seen old.journal.rig).trace old program
+        → PassesAsSession R.seen events replies
+        (answered_at R.seen events replies old new turns)
+        old.equipment (program_session_of program old) (R.seen old.journal.rig).trace new }
 {}
 
 /// Whenever power of an honest device is cut since power on, the plain interpreter accounts for what is left: by as
 /// many entries as were acknowledged until then, or one more.
 pub fn accounts<R: Rig, A: Allocator>()
     ensures cuts { (x : DurableState) (events : List (Event A)) (replies : List Reply) (moments : List ℕ)
-        (first now : ControllerModel R) → R.honest first.journal.rig
-        → IsPast R.honest R.trace R.failed R.sectors x events replies moments first now
-        → Accounts R.trace x events replies moments first now }
+        (first now : ControllerModel R) → (R.seen first.journal.rig).honest
+        → IsPast R.seen x events replies moments first now
+        → Accounts R.seen x events replies moments first now }
 
     // so what a stop leaves counts them
     ensures counts { (x : DurableState) (events : List (Event A)) (replies : List Reply) (moments : List ℕ)
-        (first now : ControllerModel R) → Accounts R.trace x events replies moments first now
-        → CountsAcknowledged R.trace x replies moments first now }
+        (first now : ControllerModel R) → Accounts R.seen x events replies moments first now
+        → CountsAcknowledged R.seen x replies moments first now }
 
     // and by what `on` adds to a past, that alone, no stop within an event has fewer of them than were acknowledged
     // before it
     ensures keeps { (event : Event A) (r : Reply) (old new : ControllerModel R)
-        → AddsToPast {A = A} R.honest R.trace R.failed R.sectors (event ∷ []) (r ∷ [])
-        (moment (R.trace new.journal.rig) ∷ []) old new
+        → AddsToPast {A = A} R.seen (event ∷ []) (r ∷ [])
+        (moment (R.seen new.journal.rig).trace ∷ []) old new
         → (x : DurableState) (events : List (Event A)) (told : List Reply) (before : List ℕ) (first : ControllerModel R)
-        → R.honest first.journal.rig → IsPast R.honest R.trace R.failed R.sectors x events told before first old
+        → (R.seen first.journal.rig).honest → IsPast R.seen x events told before first old
         → (t : ℕ) (image : Image) (handed : List Item) (tools : List ℤ) (y : DurableState)
-        → moment (R.trace old.journal.rig) ≤ t → t < moment (R.trace new.journal.rig)
-        → IsStop (trace_at t (R.trace new.journal.rig)) image handed → stands_beside tools image ≡ Ok y
+        → moment (R.seen old.journal.rig).trace ≤ t → t < moment (R.seen new.journal.rig).trace
+        → IsStop (trace_at t (R.seen new.journal.rig).trace) image handed → stands_beside tools image ≡ Ok y
         → x.saved.entries + dones told ≤ y.saved.entries }
 {}
 
@@ -70,11 +70,11 @@ pub fn cuts()
 /// Each stop of a device leaves such a session, by what its calls promise.
 pub fn sessions<R: Rig, A: Allocator>()
     // since `power_on` began, whatever it answers, by `PowerOnSpec`
-    ensures within { SessionsWithinPowerOn R.trace }
+    ensures within { SessionsWithinPowerOn R.seen }
 
     // since it ended, by what `on` and `run` promise of all that came, `Accounts`
-    ensures after { SessionsAfterPowerOn A R.trace }
+    ensures after { SessionsAfterPowerOn A R.seen }
 
     // since another began with no cut before it, as after the device failed
-    ensures anew { SessionsAnew A R.trace }
+    ensures anew { SessionsAnew A R.seen }
 {}

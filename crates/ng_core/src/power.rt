@@ -32,10 +32,10 @@ pub fn power_on<R: Rig, A: Allocator + Copy + Drop>(
     rig: R,
     settings: Settings,
 ) -> Result<Controller<R, A>, (Fault, R)>
-    ensures gives { PowerOnSpec R.honest R.trace R.failed R.sectors settings rig result }
-    ensures past { let after = power_on_rig result in least_size ≤ R.sectors rig
-        → (tools : List ℤ) → IsTableOver settings.tools tools (reads (R.trace rig))
-        → IfHonest (R.honest rig) (R.honest after) (BeginsPast A tools R.honest R.trace R.failed R.sectors result (R.trace rig)) }
+    ensures gives { PowerOnSpec R.seen settings rig result }
+    ensures past { let after = power_on_rig result in least_size ≤ (R.seen rig).sectors
+        → (tools : List ℤ) → IsTableOver settings.tools tools (reads (R.seen rig).trace)
+        → IfHonest (R.seen rig) (R.seen after) (BeginsPast A tools R.seen result (R.seen rig).trace) }
 {
     let Settings { geometry, tools } = settings;
     if rig.size() < LEAST_SIZE {

@@ -20,12 +20,12 @@ impl<R: Rig, A: Allocator + Copy + Drop> Controller<R, A> {
     /// in this call and before it, is accounted for by the plain interpreter, whenever power is cut.
     pub fn run(&mut self, events: &[Event<A>]) -> Result<Vec<Reply, A>, Fault>
         ensures runs { IfOk result (λ replies. (moments : List ℕ)
-            × AreRun R.honest R.trace R.failed R.sectors events.now replies.items moments self.old self.new) }
+            × AreRun R.seen events.now replies.items moments self.old self.new) }
         ensures each { IfOk result (λ replies. length replies.items ≡ length events.now) }
         ensures failures { IfOk result (λ replies. CountsOneFailure self.old.journal.broken self.new.journal.broken
-            (R.failed self.old.journal.rig) (R.failed self.new.journal.rig)) }
+            (R.seen self.old.journal.rig).failed (R.seen self.new.journal.rig).failed) }
         ensures equipment { self.new.equipment ≡ self.old.equipment }
-        ensures size { R.sectors self.new.journal.rig ≡ R.sectors self.old.journal.rig }
+        ensures size { (R.seen self.new.journal.rig).sectors ≡ (R.seen self.old.journal.rig).sectors }
         ensures memory { IfErr result (λ fault. (fault ≡ OutOfMemory) × (self.new ≡ self.old)) }
     {
         let mut replies = Vec::with_capacity(self.alloc, events.len())?;

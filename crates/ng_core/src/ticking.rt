@@ -44,16 +44,16 @@ fn first_kind_before<R: Rig, A: Allocator + Copy + Drop>(
 ) -> Result<LineKind, Fault>
     requires whole { journal.old.broken ≡ false }
     requires place { place ≤ journal.old.saved.length }
-    ensures kind { IfHonest (R.honest journal.old.rig) (R.honest journal.new.rig) ((standing : DurableState)
-        → IsDurablyAt (R.trace journal.old.rig) journal.old standing → IsTrueOf standing.program known.now.before
-        → FirstKindSpec result journal.new standing place (R.trace journal.old.rig) (R.trace journal.new.rig)) }
+    ensures kind { IfHonest (R.seen journal.old.rig) (R.seen journal.new.rig) ((standing : DurableState)
+        → IsDurablyAt (R.seen journal.old.rig).trace journal.old standing → IsTrueOf standing.program known.now.before
+        → FirstKindSpec result journal.new standing place (R.seen journal.old.rig).trace (R.seen journal.new.rig).trace) }
     // without honesty too
     ensures beginning { place ≡ 0 → IfOk result (λ kind. kind ≡ LineKind.Blank) }
     ensures ledger { ledger_of journal.new ≡ ledger_of journal.old }
     ensures broken { IsBrokenBy result journal.new.broken }
     ensures errors { IfErr result (λ e. e ≡ DeviceFailed) }
-    ensures size { R.sectors journal.new.rig ≡ R.sectors journal.old.rig }
-    ensures failures { CountsFailure result (R.failed journal.old.rig) (R.failed journal.new.rig) }
+    ensures size { (R.seen journal.new.rig).sectors ≡ (R.seen journal.old.rig).sectors }
+    ensures failures { CountsFailure result (R.seen journal.old.rig).failed (R.seen journal.new.rig).failed }
 {
     match known_before(known.lines_before(), place) {
         Some(kind) => Ok(kind),
@@ -91,7 +91,7 @@ impl<R: Rig, A: Allocator + Copy + Drop> Controller<R, A> {
     /// Does the next thing that is to do, of those above the first that applies.
     pub(crate) fn tick(&mut self) -> Result<Reply, Fault>
         requires { self.old.journal.broken ≡ false }
-        ensures { CarriesOutEvent {A = A} R.honest R.trace R.failed R.sectors event.Tick result self.old self.new }
+        ensures { CarriesOutEvent {A = A} R.seen event.Tick result self.old self.new }
     {
         if self.session.is_held() {
             return Ok(Reply::Held);
@@ -105,7 +105,7 @@ impl<R: Rig, A: Allocator + Copy + Drop> Controller<R, A> {
     /// With no item left: opens the approach or the next segment of the current block, or else ends what is open of it.
     fn go_further(&mut self) -> Result<Reply, Fault>
         requires { self.old.journal.broken ≡ false }
-        ensures { CarriesOut R.honest R.trace R.failed R.sectors (needs_of_work self.old.session)
+        ensures { CarriesOut R.seen (needs_of_work self.old.session)
             (λ program. open_next self.old.equipment program self.old.session (opening_of self.old.session.current))
             result self.old self.new }
     {
@@ -119,7 +119,7 @@ impl<R: Rig, A: Allocator + Copy + Drop> Controller<R, A> {
     /// if it runs.
     fn end(&mut self) -> Result<Reply, Fault>
         requires { self.old.journal.broken ≡ false }
-        ensures { CarriesOut R.honest R.trace R.failed R.sectors (needs_of_work self.old.session)
+        ensures { CarriesOut R.seen (needs_of_work self.old.session)
             (λ program. end self.old.equipment program self.old.session self.old.session.current)
             result self.old self.new }
     {
@@ -135,7 +135,7 @@ impl<R: Rig, A: Allocator + Copy + Drop> Controller<R, A> {
     /// Hands out an item of the open segment, which the session took from it.
     fn hand_out(&mut self, item: Item) -> Result<Reply, Fault>
         requires { self.old.journal.broken ≡ false }
-        ensures { CarriesOut R.honest R.trace R.failed R.sectors needs_device
+        ensures { CarriesOut R.seen needs_device
             (λ program. handing item program self.old.session) result self.old self.new }
     {
         self.journal.hand_out(item)?;
@@ -148,7 +148,7 @@ impl<R: Rig, A: Allocator + Copy + Drop> Controller<R, A> {
         requires half { IsStorableHalf half }
         requires block { IsSome self.old.session.current }
         requires is_open { IsSome half.opened }
-        ensures { CarriesOut R.honest R.trace R.failed R.sectors needs_device
+        ensures { CarriesOut R.seen needs_device
             (λ program. open_part_of self.old.equipment program self.old.session half) result self.old self.new }
     {
         self.journal.open_segment(&half)?;
@@ -159,7 +159,7 @@ impl<R: Rig, A: Allocator + Copy + Drop> Controller<R, A> {
     fn commit(&mut self) -> Result<Reply, Fault>
         requires whole { self.old.journal.broken ≡ false }
         requires block { IsSome self.old.session.current }
-        ensures { CarriesOut R.honest R.trace R.failed R.sectors needs_device
+        ensures { CarriesOut R.seen needs_device
             (λ program. end self.old.equipment program self.old.session self.old.session.current)
             result self.old self.new }
     {
@@ -177,7 +177,7 @@ impl<R: Rig, A: Allocator + Copy + Drop> Controller<R, A> {
         requires whole { self.old.journal.broken ≡ false }
         requires runs { is_running self.old.session.activity ≡ true }
         requires free { self.old.session.current ≡ None }
-        ensures { CarriesOut R.honest R.trace R.failed R.sectors needs_line
+        ensures { CarriesOut R.seen needs_line
             (λ program. begin self.old.equipment program self.old.session
             (program_line_at program self.old.session.stored.place))
             result self.old self.new }
@@ -198,7 +198,7 @@ impl<R: Rig, A: Allocator + Copy + Drop> Controller<R, A> {
         requires whole { self.old.journal.broken ≡ false }
         requires runs { is_running self.old.session.activity ≡ true }
         requires free { self.old.session.current ≡ None }
-        ensures { CarriesOut R.honest R.trace R.failed R.sectors needs_line
+        ensures { CarriesOut R.seen needs_line
             (λ program. begin self.old.equipment program self.old.session
             (program_line_at program self.old.session.stored.place))
             result self.old self.new }
@@ -215,7 +215,7 @@ impl<R: Rig, A: Allocator + Copy + Drop> Controller<R, A> {
         requires whole { self.old.journal.broken ≡ false }
         requires runs { is_running self.old.session.activity ≡ true }
         requires alone { self.old.lines.ahead ≡ [] }
-        ensures { CarriesOut R.honest R.trace R.failed R.sectors needs_line
+        ensures { CarriesOut R.seen needs_line
             (λ program. begin self.old.equipment program self.old.session
             (program_line_at program self.old.session.stored.place))
             result self.old self.new }
@@ -238,7 +238,7 @@ impl<R: Rig, A: Allocator + Copy + Drop> Controller<R, A> {
     /// broken then, and nothing else is changed.
     fn plan(&mut self) -> Result<(), Fault>
         requires whole { self.old.journal.broken ≡ false }
-        ensures { PlansAhead R.honest R.trace R.failed R.sectors result self.old self.new }
+        ensures { PlansAhead R.seen result self.old self.new }
     {
         let Some(place) = self.session.place_ahead(&self.lines) else {
             return Ok(());

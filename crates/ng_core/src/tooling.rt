@@ -28,7 +28,7 @@ impl<R: Rig, A: Allocator + Copy + Drop> Controller<R, A> {
         requires free { self.old.session.current ≡ None }
         requires count { self.old.session.stored.entries < greatest_count }
         requires one { IsOneSlotFrom self.old.session.stored.tools tools }
-        ensures { (entry : Entry) → IsCommitted entry → CarriesOut R.honest R.trace R.failed R.sectors needs_device
+        ensures { (entry : Entry) → IsCommitted entry → CarriesOut R.seen needs_device
             (λ program. commits program entry (record self.old.session {
               stored = record self.old.session.stored { entries = self.old.session.stored.entries + 1; tools = tools };
             }))
@@ -51,7 +51,7 @@ impl<R: Rig, A: Allocator + Copy + Drop> Controller<R, A> {
     pub(crate) fn tool(&mut self, slot: u16, tool_length: Len) -> Result<Reply, Fault>
         requires whole { self.old.journal.broken ≡ false }
         requires alone { self.old.lines.ahead ≡ [] }
-        ensures { CarriesOutEvent {A = A} R.honest R.trace R.failed R.sectors (event.Tool slot tool_length) result self.old self.new }
+        ensures { CarriesOutEvent {A = A} R.seen (event.Tool slot tool_length) result self.old self.new }
     {
         if let Some(fault) = self.session.tool_refusal(slot, tool_length) {
             return Ok(Reply::Refused(fault));

@@ -1,7 +1,8 @@
 -- A history with one more call, and what its events did.
 use Rattle.std.proofs.Common.{◌≡◌, ◌+◌, ℕ, List, [], ◌∷◌, ◌++◌, Option, Some, length, refl, sym, ◌∙◌, ap, subst, arith}
 use Rattle.std.proofs.lemmas.List.{map-append, length-append}
-use Rattle.ng_rig.specs.Trace.{Trace, moment}
+use Rattle.ng_rig.specs.Device.{Device}
+use Rattle.ng_rig.specs.Trace.{moment}
 use Rattle.ng_session.specs.declared.event.Event.{Event}
 use Rattle.ng_session.specs.declared.reply.Reply.{Reply}
 use Rattle.ng_core.specs.Model.{ControllerModel}
@@ -26,44 +27,44 @@ numbered_more number (first ∷ history) call numbered is = (numbered.0, numbere
 
 -- ---- what the events did; all of it follows from their being answered in order
 
-module _ {A R : Type 0} (honest : R → Type 0) (trace : R → Trace) (failed sectors : R → ℕ) where
+module _ {A R : Type 0} (seen : R → Device) where
   run_of : (events : List (Event A)) (replies : List Reply) (moments : List ℕ) (old new : ControllerModel R) → length replies ≡ length events
-      → (turns : AreAnsweredEvents honest trace failed sectors events replies old new) → moments ≡ answered_at honest trace failed sectors events replies old new turns
-      → sectors new.journal.rig ≡ sectors old.journal.rig → IsPromisedRun honest trace failed sectors events replies moments old new
+      → (turns : AreAnsweredEvents seen events replies old new) → moments ≡ answered_at seen events replies old new turns
+      → (seen new.journal.rig).sectors ≡ (seen old.journal.rig).sectors → IsPromisedRun seen events replies moments old new
   run_of events replies moments old new each turns answered size =
       record {
-        runs = are_run honest trace failed sectors events replies moments old new turns answered;
+        runs = are_run seen events replies moments old new turns answered;
         each = each;
-        failures = turns_fail honest trace failed sectors events replies old new turns;
-        equipment = turns_equipment honest trace failed sectors events replies old new turns;
+        failures = turns_fail seen events replies old new turns;
+        equipment = turns_equipment seen events replies old new turns;
         size = size;
       }
 
-  run_more : (events : List (Event A)) (replies : List Reply) (moments : List ℕ) (event : Event A) (reply : Reply) (old mid new : ControllerModel R) → IsPromisedRun honest trace failed sectors events replies moments old mid
-      → IsAnsweredEvent honest trace failed sectors event reply mid new → sectors new.journal.rig ≡ sectors mid.journal.rig
-      → IsPromisedRun honest trace failed sectors (events ++ event ∷ []) (replies ++ reply ∷ []) (moments ++ moment (trace new.journal.rig) ∷ []) old new
+  run_more : (events : List (Event A)) (replies : List Reply) (moments : List ℕ) (event : Event A) (reply : Reply) (old mid new : ControllerModel R) → IsPromisedRun seen events replies moments old mid
+      → IsAnsweredEvent seen event reply mid new → (seen new.journal.rig).sectors ≡ (seen mid.journal.rig).sectors
+      → IsPromisedRun seen (events ++ event ∷ []) (replies ++ reply ∷ []) (moments ++ moment (seen new.journal.rig).trace ∷ []) old new
   run_more events replies moments event reply old mid new run turn size =
-      let at = moment (trace new.journal.rig) in
-      let joined = turns_joined_at honest trace failed sectors events (event ∷ []) replies (reply ∷ []) old mid new run.runs.turns (new, (turn, refl)) in
+      let at = moment (seen new.journal.rig).trace in
+      let joined = turns_joined_at seen events (event ∷ []) replies (reply ∷ []) old mid new run.runs.turns (new, (turn, refl)) in
       run_of (events ++ event ∷ []) (replies ++ reply ∷ []) (moments ++ at ∷ []) old new
       (omega (arith, length-append replies (reply ∷ []), length-append events (event ∷ []), run.each))
       joined.0 (ap (λ (l : List ℕ). l ++ at ∷ []) run.runs.answered ∙ sym joined.1)
       (size ∙ run.size)
 
   -- a history begins
-  pub runs_none : (start : Option (ControllerModel R)) (c : ControllerModel R) → start ≡ Some c → RunsFrom {A = A} honest trace failed sectors start [] [] c
+  pub runs_none : (start : Option (ControllerModel R)) (c : ControllerModel R) → start ≡ Some c → RunsFrom {A = A} seen start [] [] c
   runs_none start c is first from =
-      subst (λ (old : ControllerModel R). IsPromisedRun {A = A} honest trace failed sectors [] [] [] old c) (some_same c first (sym is ∙ from)) (run_of [] [] [] c c refl refl refl refl)
+      subst (λ (old : ControllerModel R). IsPromisedRun {A = A} seen [] [] [] old c) (some_same c first (sym is ∙ from)) (run_of [] [] [] c c refl refl refl refl)
     where
       some_same : (a b : ControllerModel R) → (let s : Option (ControllerModel R) = Some a in s) ≡ Some b → a ≡ b
       some_same a b e = cc
 
   -- and continues
-  pub runs_more : (start : Option (ControllerModel R)) (history : List (Call A)) (moments : List ℕ) (call : Call A) (mid new : ControllerModel R) → RunsFrom honest trace failed sectors start history moments mid
-      → IsAnsweredEvent honest trace failed sectors call.event call.reply mid new → sectors new.journal.rig ≡ sectors mid.journal.rig
-      → RunsFrom honest trace failed sectors start (history ++ call ∷ []) (moments ++ moment (trace new.journal.rig) ∷ []) new
+  pub runs_more : (start : Option (ControllerModel R)) (history : List (Call A)) (moments : List ℕ) (call : Call A) (mid new : ControllerModel R) → RunsFrom seen start history moments mid
+      → IsAnsweredEvent seen call.event call.reply mid new → (seen new.journal.rig).sectors ≡ (seen mid.journal.rig).sectors
+      → RunsFrom seen start (history ++ call ∷ []) (moments ++ moment (seen new.journal.rig).trace ∷ []) new
   runs_more start history moments call mid new runs turn size first from =
-      let now = moments ++ moment (trace new.journal.rig) ∷ [] in
-      subst (λ (es : List (Event A)). IsPromisedRun honest trace failed sectors es (replies_of (history ++ call ∷ [])) now first new) (sym (events_more history call))
-      (subst (λ (rs : List Reply). IsPromisedRun honest trace failed sectors (events_of history ++ call.event ∷ []) rs now first new) (sym (replies_more history call))
+      let now = moments ++ moment (seen new.journal.rig).trace ∷ [] in
+      subst (λ (es : List (Event A)). IsPromisedRun seen es (replies_of (history ++ call ∷ [])) now first new) (sym (events_more history call))
+      (subst (λ (rs : List Reply). IsPromisedRun seen (events_of history ++ call.event ∷ []) rs now first new) (sym (replies_more history call))
       (run_more (events_of history) (replies_of history) moments call.event call.reply first mid new (runs first from) turn size))

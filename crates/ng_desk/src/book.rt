@@ -41,7 +41,7 @@ impl<R: Rig, A: Allocator + Copy + Drop, O: Origin<R>> Model for Book<R, A, O> {
 
     ghost view = { λ b. record { controller = b.controller; history = b.history.items; moments = b.moments } };
 
-    ghost invariant = { λ b. (length b.history.items ≡ b.calls.total) × (b.spare.parts ≡ 0) × NumberedFrom 0 b.history.items × RunsFrom R.honest R.trace R.failed R.sectors O.start b.history.items b.moments b.controller };
+    ghost invariant = { λ b. (length b.history.items ≡ b.calls.total) × (b.spare.parts ≡ 0) × NumberedFrom 0 b.history.items × RunsFrom R.seen O.start b.history.items b.moments b.controller };
 }
 
 impl<R: Rig, A: Allocator + Copy + Drop, O: Origin<R>> Book<R, A, O> {
@@ -81,9 +81,9 @@ impl<R: Rig, A: Allocator + Copy + Drop, O: Origin<R>> Book<R, A, O> {
         requires { 0 < mine.old.parts }
         ensures call { IfOk result (λ call. (call.number ≡ length self.old.history) × (call.event ≡ event.now)) }
         ensures history { IfOk result (λ call. self.new.history ≡ self.old.history ++ call ∷ []) }
-        ensures moments { OnOk result (self.new.moments ≡ self.old.moments ++ moment (R.trace self.new.controller.journal.rig) ∷ []) }
-        ensures turn { IfOk result (λ call. IsAnsweredEvent R.honest R.trace R.failed R.sectors event.now call.reply self.old.controller self.new.controller) }
-        ensures size { R.sectors self.new.controller.journal.rig ≡ R.sectors self.old.controller.journal.rig }
+        ensures moments { OnOk result (self.new.moments ≡ self.old.moments ++ moment (R.seen self.new.controller.journal.rig).trace ∷ []) }
+        ensures turn { IfOk result (λ call. IsAnsweredEvent R.seen event.now call.reply self.old.controller self.new.controller) }
+        ensures size { (R.seen self.new.controller.journal.rig).sectors ≡ (R.seen self.old.controller.journal.rig).sectors }
         ensures counted { OnOk result (mine.new.amount ≡ mine.old.amount + 1) }
         ensures parts { mine.new.parts ≡ mine.old.parts }
         ensures memory { IfErr result (λ fault. (fault ≡ OutOfMemory) × (self.new ≡ self.old) × (mine.new.amount ≡ mine.old.amount)) }
@@ -111,7 +111,7 @@ impl<R: Rig, A: Allocator + Copy + Drop, O: Origin<R>> Book<R, A, O> {
     /// The controller and the history. The history is as long as all shares together have counted.
     pub(crate) fn close(self, all: Share<O>) -> (Controller<R, A>, Vec<Call<A>, A>)
         requires { all.parts ≡ O.parts }
-        ensures runs { RunsFrom R.honest R.trace R.failed R.sectors O.start result.1.items self.moments result.0 }
+        ensures runs { RunsFrom R.seen O.start result.1.items self.moments result.0 }
         ensures numbered { NumberedFrom 0 result.1.items }
         ensures counted { length result.1.items ≡ all.amount }
     {

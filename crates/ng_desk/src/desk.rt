@@ -96,7 +96,7 @@ impl<R: Rig, A: Allocator + Copy + Drop, O: Origin<R>> Desk<R, A, O> {
         Result<(), Fault>,
     )
         requires { (length seats.items ≡ O.parts) × All (λ s. s.parts ≡ 1) seats.items }
-        ensures closed { IsClosed R.honest R.trace R.failed R.sectors O.start seats.items result.0 result.1.items result.2.items }
+        ensures closed { IsClosed R.seen O.start seats.items result.0 result.1.items result.2.items }
         ensures agrees { MatchResult result.3
             (λ _. Agree result.1.items (lists_of seats.items))
             (λ fault. (fault ≡ SeatsDisagree) × (Agree result.1.items (lists_of seats.items) → ⊥)) }

@@ -21,7 +21,7 @@ impl<R: Rig, A: Allocator + Copy + Drop> Model for Moments<R, A> {
 
     ghost Value = { List ℕ };
 
-    ghost view = { λ m. map (λ c. moment (R.trace c.journal.rig)) m.past.values };
+    ghost view = { λ m. map (λ c. moment (R.seen c.journal.rig).trace) m.past.values };
 }
 
 impl<R: Rig, A: Allocator + Copy + Drop> Moments<R, A> {
@@ -36,7 +36,7 @@ impl<R: Rig, A: Allocator + Copy + Drop> Moments<R, A> {
 
     /// One more event was answered, which left this controller.
     pub(crate) fn push(&mut self, controller: &Controller<R, A>)
-        ensures { self.new ≡ self.old ++ moment (R.trace controller.now.journal.rig) ∷ [] }
+        ensures { self.new ≡ self.old ++ moment (R.seen controller.now.journal.rig).trace ∷ [] }
     {
         self.past = self.past.and(controller);
     }

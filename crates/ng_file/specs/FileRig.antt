@@ -1,5 +1,7 @@
 -- A device in a file as its callers see it (own).
-use Rattle.std.specs.Prelude.{ℕ}
+use Rattle.std.specs.Prelude.{ℕ, []}
+use Rattle.ng_rig.specs.Device.{Device}
+use Rattle.ng_rig.specs.Trace.{Began}
 use Rattle.ng_file.specs.declared.rig.FileRig.{FileRig}
 
 -- its number of sectors
@@ -17,3 +19,7 @@ storage rig = rig.file
 -- the writer that it hands out to
 abbrev pub outlet : {S W A : Type 0} → FileRig S W A → W
 outlet rig = rig.out
+
+-- the device as contracts see it, of which nothing is known to be honest
+abbrev pub device_of : {S W A : Type 0} → FileRig S W A → Device
+device_of rig = record { trace = Began (λ sector. []); honest = ⊥; sectors = sector_count rig; failed = failure_count rig }

@@ -112,21 +112,14 @@ impl<S: Storage + Drop, W: Write + Drop, A: Allocator + Copy + Drop> FileRig<S, 
 }
 
 impl<S: Storage + Drop, W: Write + Drop, A: Allocator + Copy + Drop> Rig for FileRig<S, W, A> {
-    ghost use Rattle.std.specs.Prelude.{◌≡◌, ◌+◌, ◌*◌, ◌<◌, ◌≤◌, [], IfSome, OnOk, OnErr, Some, length};
+    ghost use Rattle.std.specs.Prelude.{◌≡◌, ◌+◌, ◌*◌, ◌<◌, ◌≤◌, IfSome, OnOk, OnErr, Some, length};
     ghost use Rattle.std.specs.Io.KnownBytes.{Appends};
-    ghost use Rattle.ng_rig.specs.Calls.{FailureCountSpec};
-    ghost use Rattle.ng_rig.specs.Trace.{Began};
+    ghost use Rattle.ng_rig.specs.Calls.{IsCall};
     ghost use Rattle.ng_file.specs.Bytes.{AppendsBeginning, Put, PutInPart, sector_of};
-    ghost use Rattle.ng_file.specs.FileRig.{failure_count, outlet, sector_count, storage};
+    ghost use Rattle.ng_file.specs.FileRig.{device_of, outlet, sector_count, storage};
     ghost use Rattle.ng_file.specs.Lines.{item_line};
 
-    ghost trace = { λ _. Began (λ _. []) };
-
-    ghost honest = { λ _. ⊥ };
-
-    ghost sectors = { sector_count };
-
-    ghost failed = { failure_count };
+    ghost seen = { device_of };
 
     fn size(&self) -> usize {
         self.sectors
@@ -141,8 +134,7 @@ impl<S: Storage + Drop, W: Write + Drop, A: Allocator + Copy + Drop> Rig for Fil
         requires { sector < sector_count self.old }
         ensures value { OnOk result (IfSome (S.content (storage self.old)) (λ held. into.new ≡ sector_of sector held)) }
         ensures stays { (S.content (storage self.new) ≡ S.content (storage self.old)) × (outlet self.new ≡ outlet self.old) }
-        ensures size { sector_count self.new ≡ sector_count self.old }
-        ensures failures { FailureCountSpec result (failure_count self.old) (failure_count self.new) }
+        ensures call { IsCall result (device_of self.old) (device_of self.new) }
     {
         let read = self.file.read_at(sector as u64 * SECTOR as u64, into);
         self.counted(read)
@@ -155,8 +147,7 @@ impl<S: Storage + Drop, W: Write + Drop, A: Allocator + Copy + Drop> Rig for Fil
         ensures put { OnOk result (Put (512 * sector) bytes.now (S.content (storage self.old)) (S.content (storage self.new))) }
         ensures part { OnErr result (PutInPart (512 * sector) (S.content (storage self.old)) (S.content (storage self.new))) }
         ensures stays { outlet self.new ≡ outlet self.old }
-        ensures size { sector_count self.new ≡ sector_count self.old }
-        ensures failures { FailureCountSpec result (failure_count self.old) (failure_count self.new) }
+        ensures call { IsCall result (device_of self.old) (device_of self.new) }
     {
         let put = self.put(sector, bytes);
         self.counted(put)
@@ -166,8 +157,7 @@ impl<S: Storage + Drop, W: Write + Drop, A: Allocator + Copy + Drop> Rig for Fil
     fn sync(&mut self) -> Result<(), Failed>
         ensures lasts { OnOk result (IfSome (S.lasting (storage self.new)) (λ kept. S.content (storage self.new) ≡ Some kept)) }
         ensures stays { (S.content (storage self.new) ≡ S.content (storage self.old)) × (outlet self.new ≡ outlet self.old) }
-        ensures size { sector_count self.new ≡ sector_count self.old }
-        ensures failures { FailureCountSpec result (failure_count self.old) (failure_count self.new) }
+        ensures call { IsCall result (device_of self.old) (device_of self.new) }
     {
         let synced = self.file.sync();
         self.counted(synced)
@@ -179,8 +169,7 @@ impl<S: Storage + Drop, W: Write + Drop, A: Allocator + Copy + Drop> Rig for Fil
         ensures line { OnOk result (Appends (W.contents (outlet self.old)) (W.contents (outlet self.new)) (item_line item)) }
         ensures part { OnErr result (AppendsBeginning (W.contents (outlet self.old)) (W.contents (outlet self.new)) (item_line item)) }
         ensures stays { storage self.new ≡ storage self.old }
-        ensures size { sector_count self.new ≡ sector_count self.old }
-        ensures failures { FailureCountSpec result (failure_count self.old) (failure_count self.new) }
+        ensures call { IsCall result (device_of self.old) (device_of self.new) }
     {
         let put = self.put_line(item);
         self.counted(put)

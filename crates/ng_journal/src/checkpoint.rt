@@ -2,7 +2,7 @@
 ghost use Rattle.std.specs.Prelude.{ℕ, Bool, ◌≡◌, ◌≤◌, ◌<◌, ◌+◌, ◌%◌, [], Some};
 ghost use Rattle.ng_rig.specs.Trace.{reads};
 ghost use Rattle.ng_layout.specs.declared.header.Format.TheVariants.{One};
-ghost use Rattle.ng_rig.specs.Calls.{IfHonest, FailureCountSpec};
+ghost use Rattle.ng_rig.specs.Calls.{IfHonest, IsCall};
 ghost use Rattle.ng_layout.specs.Limits.{greatest_count};
 ghost use Rattle.ng_layout.specs.Areas.{least_size, snapshot_size, tools_size};
 ghost use Rattle.ng_layout.specs.Storable.{IsStorable};
@@ -25,13 +25,13 @@ fn write_snapshot<R: Rig, A: Allocator + Copy + Drop>(
     first: usize,
     stored: &Stored<A>,
 ) -> Result<(), Failed>
-    requires sectors { least_size ≤ R.sectors rig.old }
+    requires sectors { least_size ≤ (R.seen rig.old).sectors }
     requires within { first + snapshot_size ≤ least_size }
     requires count { stored.now.entries ≤ greatest_count }
     requires storable { IsStorable stored.now }
-    ensures area { IfHonest (R.honest rig.old) (R.honest rig.new) (WritesArea result first stored.now (R.trace rig.old) (R.trace rig.new)) }
-    ensures size { R.sectors rig.new ≡ R.sectors rig.old }
-    ensures failures { FailureCountSpec result (R.failed rig.old) (R.failed rig.new) }
+    ensures area { IfHonest (R.seen rig.old) (R.seen rig.new)
+        (WritesArea result first stored.now (R.seen rig.old).trace (R.seen rig.new).trace) }
+    ensures call { IsCall result (R.seen rig.old) (R.seen rig.new) }
 {
     for part in 0..SNAPSHOT_SIZE {
         rig.write(first + part, &stored.sector(part))?;
@@ -45,12 +45,11 @@ fn write_tools<R: Rig, A: Allocator + Copy + Drop>(
     first: usize,
     stored: &Stored<A>,
 ) -> Result<(), Failed>
-    requires sectors { least_size ≤ R.sectors rig.old }
+    requires sectors { least_size ≤ (R.seen rig.old).sectors }
     requires within { first + tools_size ≤ least_size }
-    ensures tools { IfHonest (R.honest rig.old) (R.honest rig.new)
-        (Overwrites result first tools_size (HoldsToolPart stored.now) (R.trace rig.old) (R.trace rig.new)) }
-    ensures size { R.sectors rig.new ≡ R.sectors rig.old }
-    ensures failures { FailureCountSpec result (R.failed rig.old) (R.failed rig.new) }
+    ensures tools { IfHonest (R.seen rig.old) (R.seen rig.new)
+        (Overwrites result first tools_size (HoldsToolPart stored.now) (R.seen rig.old).trace (R.seen rig.new).trace) }
+    ensures call { IsCall result (R.seen rig.old) (R.seen rig.new) }
 {
     for part in 0..TOOLS_SIZE {
         rig.write(first + part, &stored.tool_sector(part))?;
@@ -64,13 +63,12 @@ fn write_areas<R: Rig, A: Allocator + Copy + Drop>(
     next: Header,
     stored: &Stored<A>,
 ) -> Result<(), Failed>
-    requires sectors { least_size ≤ R.sectors rig.old }
+    requires sectors { least_size ≤ (R.seen rig.old).sectors }
     requires count { stored.now.entries ≤ greatest_count }
     requires storable { IsStorable stored.now }
-    ensures areas { IfHonest (R.honest rig.old) (R.honest rig.new)
-        (WritesAreas result next stored.now (R.trace rig.old) (R.trace rig.new)) }
-    ensures size { R.sectors rig.new ≡ R.sectors rig.old }
-    ensures failures { FailureCountSpec result (R.failed rig.old) (R.failed rig.new) }
+    ensures areas { IfHonest (R.seen rig.old) (R.seen rig.new)
+        (WritesAreas result next stored.now (R.seen rig.old).trace (R.seen rig.new).trace) }
+    ensures call { IsCall result (R.seen rig.old) (R.seen rig.new) }
 {
     write_snapshot(rig, snapshot_first(next.epoch), stored)?;
     match next.format {
@@ -120,21 +118,20 @@ pub(crate) fn checkpoint<R: Rig, A: Allocator + Copy + Drop>(
     next: Header,
     stored: &Stored<A>,
 ) -> Result<(), Failed>
-    requires room { least_size ≤ R.sectors rig.old }
+    requires room { least_size ≤ (R.seen rig.old).sectors }
     requires long { stored.now.length ≡ next.length }
     requires count { stored.now.entries ≤ greatest_count }
     requires storable { IsStorable stored.now }
     requires tools { next.format ≡ One → stored.now.tools ≡ [] }
     // for any room for a program, since none is written
-    ensures stops { IfHonest (R.honest rig.old) (R.honest rig.new)
-        ((room : ℕ) (header : Header) → IsOwnImage (R.trace rig.old) header → next.epoch ≡ header.epoch + 1
-        → MayFollow next header (reads (R.trace rig.old))
-        → FitsDevice (reads (R.trace rig.old)) next (record stored.now { room = room })
-        → CheckpointSpec result header next (record stored.now { room = room }) (R.trace rig.old) (R.trace rig.new)) }
-    ensures stores { IfHonest (R.honest rig.old) (R.honest rig.new)
-        (StoresState result next stored.now (R.trace rig.old) (R.trace rig.new)) }
-    ensures size { R.sectors rig.new ≡ R.sectors rig.old }
-    ensures failures { FailureCountSpec result (R.failed rig.old) (R.failed rig.new) }
+    ensures stops { IfHonest (R.seen rig.old) (R.seen rig.new)
+        ((room : ℕ) (header : Header) → IsOwnImage (R.seen rig.old).trace header → next.epoch ≡ header.epoch + 1
+        → MayFollow next header (reads (R.seen rig.old).trace)
+        → FitsDevice (reads (R.seen rig.old).trace) next (record stored.now { room = room })
+        → CheckpointSpec result header next (record stored.now { room = room }) (R.seen rig.old).trace (R.seen rig.new).trace) }
+    ensures stores { IfHonest (R.seen rig.old) (R.seen rig.new)
+        (StoresState result next stored.now (R.seen rig.old).trace (R.seen rig.new).trace) }
+    ensures call { IsCall result (R.seen rig.old) (R.seen rig.new) }
 {
     write_areas(rig, next, stored)?;
     rig.sync()?;

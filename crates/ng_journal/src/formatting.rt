@@ -1,7 +1,7 @@
 //! A device made fresh: no header is left on it, then it stands for a fresh controller.
 ghost use Rattle.std.specs.Prelude.{ℕ, ◌≡◌, ◌≤◌, ◌<◌, ◌+◌, ◌⊎◌, ◌↔◌, replicate, IsErrOf, IfErr};
 ghost use Rattle.ng_num.specs.declared.fault.Fault.TheVariants.{DeviceFailed, NotFormatted};
-ghost use Rattle.ng_rig.specs.Calls.{IfHonest, FailureCountSpec};
+ghost use Rattle.ng_rig.specs.Calls.{IfHonest, IsCall};
 ghost use Rattle.ng_rig.specs.Trace.{reads};
 ghost use Rattle.ng_layout.specs.Header.{program_room};
 ghost use Rattle.ng_layout.specs.Stands.{is_large};
@@ -30,11 +30,10 @@ fn empty_sector() -> [u8; SECTOR_BYTES]
 
 /// Takes the headers away, one after the other.
 fn clear_headers<R: Rig>(rig: &mut R) -> Result<(), Failed>
-    requires { least_size ≤ R.sectors rig.old }
-    ensures clears { IfHonest (R.honest rig.old) (R.honest rig.new)
-        (Overwrites result 0 header_count IsEmpty (R.trace rig.old) (R.trace rig.new)) }
-    ensures size { R.sectors rig.new ≡ R.sectors rig.old }
-    ensures failures { FailureCountSpec result (R.failed rig.old) (R.failed rig.new) }
+    requires { least_size ≤ (R.seen rig.old).sectors }
+    ensures clears { IfHonest (R.seen rig.old) (R.seen rig.new)
+        (Overwrites result 0 header_count IsEmpty (R.seen rig.old).trace (R.seen rig.new).trace) }
+    ensures call { IsCall result (R.seen rig.old) (R.seen rig.new) }
 {
     for k in 0..HEADERS {
         rig.write(k, &empty_sector())?;
@@ -45,11 +44,10 @@ fn clear_headers<R: Rig>(rig: &mut R) -> Result<(), Failed>
 
 /// Takes all parts of records away.
 fn clear_log<R: Rig>(rig: &mut R) -> Result<(), Failed>
-    requires { least_size ≤ R.sectors rig.old }
-    ensures clears { IfHonest (R.honest rig.old) (R.honest rig.new)
-        (Overwrites result log_first shortest_log IsEmpty (R.trace rig.old) (R.trace rig.new)) }
-    ensures size { R.sectors rig.new ≡ R.sectors rig.old }
-    ensures failures { FailureCountSpec result (R.failed rig.old) (R.failed rig.new) }
+    requires { least_size ≤ (R.seen rig.old).sectors }
+    ensures clears { IfHonest (R.seen rig.old) (R.seen rig.new)
+        (Overwrites result log_first shortest_log IsEmpty (R.seen rig.old).trace (R.seen rig.new).trace) }
+    ensures call { IsCall result (R.seen rig.old) (R.seen rig.new) }
 {
     for n in 0..SHORTEST_LOG {
         rig.write(LOG_FIRST + n, &empty_sector())?;
@@ -59,12 +57,11 @@ fn clear_log<R: Rig>(rig: &mut R) -> Result<(), Failed>
 
 /// Writes the snapshot of a fresh controller.
 fn write_fresh_snapshot<R: Rig>(rig: &mut R, first: usize) -> Result<(), Failed>
-    requires sectors { least_size ≤ R.sectors rig.old }
+    requires sectors { least_size ≤ (R.seen rig.old).sectors }
     requires within { first + snapshot_size ≤ least_size }
-    ensures writes { (room : ℕ) → IfHonest (R.honest rig.old) (R.honest rig.new)
-        (Overwrites result first snapshot_size (HoldsPart (fresh_stored room)) (R.trace rig.old) (R.trace rig.new)) }
-    ensures size { R.sectors rig.new ≡ R.sectors rig.old }
-    ensures failures { FailureCountSpec result (R.failed rig.old) (R.failed rig.new) }
+    ensures writes { (room : ℕ) → IfHonest (R.seen rig.old) (R.seen rig.new)
+        (Overwrites result first snapshot_size (HoldsPart (fresh_stored room)) (R.seen rig.old).trace (R.seen rig.new).trace) }
+    ensures call { IsCall result (R.seen rig.old) (R.seen rig.new) }
 {
     for part in 0..SNAPSHOT_SIZE {
         rig.write(first + part, &fresh_sector(part))?;
@@ -74,12 +71,11 @@ fn write_fresh_snapshot<R: Rig>(rig: &mut R, first: usize) -> Result<(), Failed>
 
 /// Writes a tool area of a fresh controller, which has no slots.
 fn clear_tools<R: Rig>(rig: &mut R, first: usize) -> Result<(), Failed>
-    requires sectors { least_size ≤ R.sectors rig.old }
+    requires sectors { least_size ≤ (R.seen rig.old).sectors }
     requires within { first + tools_size ≤ least_size }
-    ensures clears { IfHonest (R.honest rig.old) (R.honest rig.new)
-        (Overwrites result first tools_size IsEmpty (R.trace rig.old) (R.trace rig.new)) }
-    ensures size { R.sectors rig.new ≡ R.sectors rig.old }
-    ensures failures { FailureCountSpec result (R.failed rig.old) (R.failed rig.new) }
+    ensures clears { IfHonest (R.seen rig.old) (R.seen rig.new)
+        (Overwrites result first tools_size IsEmpty (R.seen rig.old).trace (R.seen rig.new).trace) }
+    ensures call { IsCall result (R.seen rig.old) (R.seen rig.new) }
 {
     for n in 0..TOOLS_SIZE {
         rig.write(first + n, &empty_sector())?;
@@ -89,11 +85,10 @@ fn clear_tools<R: Rig>(rig: &mut R, first: usize) -> Result<(), Failed>
 
 /// Makes a device fresh that is large enough.
 fn make_fresh<R: Rig>(rig: &mut R) -> Result<(), Failed>
-    requires { least_size ≤ R.sectors rig.old }
-    ensures formats { IfHonest (R.honest rig.old) (R.honest rig.new)
-        (FormatSpec result (program_room (is_large (reads (R.trace rig.old)))) (R.trace rig.old) (R.trace rig.new)) }
-    ensures size { R.sectors rig.new ≡ R.sectors rig.old }
-    ensures failures { FailureCountSpec result (R.failed rig.old) (R.failed rig.new) }
+    requires { least_size ≤ (R.seen rig.old).sectors }
+    ensures formats { IfHonest (R.seen rig.old) (R.seen rig.new)
+        (FormatSpec result (program_room (is_large (reads (R.seen rig.old).trace))) (R.seen rig.old).trace (R.seen rig.new).trace) }
+    ensures call { IsCall result (R.seen rig.old) (R.seen rig.new) }
 {
     let header = Header {
         format: Format::Two,
@@ -117,13 +112,13 @@ fn make_fresh<R: Rig>(rig: &mut R) -> Result<(), Failed>
 /// stands for then, nor of a stop before Ok: it is formatted again. Only the headers' sectors, the log's and the first
 /// epoch's snapshot's are written. Nothing is handed out. It takes no memory.
 pub fn format<R: Rig>(rig: &mut R) -> Result<(), Fault>
-    ensures formats { let room = program_room (is_large_size (R.sectors rig.old)) in least_size ≤ R.sectors rig.old
-        → IfHonest (R.honest rig.old) (R.honest rig.new) (FormatSpec result room (R.trace rig.old) (R.trace rig.new)) }
-    ensures small { IsErrOf result NotFormatted ↔ (R.sectors rig.old < least_size) }
+    ensures formats { let room = program_room (is_large_size (R.seen rig.old).sectors) in least_size ≤ (R.seen rig.old).sectors
+        → IfHonest (R.seen rig.old) (R.seen rig.new) (FormatSpec result room (R.seen rig.old).trace (R.seen rig.new).trace) }
+    ensures small { IsErrOf result NotFormatted ↔ ((R.seen rig.old).sectors < least_size) }
     ensures unchanged { IsErrOf result NotFormatted → rig.new ≡ rig.old }
-    ensures size { R.sectors rig.new ≡ R.sectors rig.old }
+    ensures size { (R.seen rig.new).sectors ≡ (R.seen rig.old).sectors }
     ensures errors { IfErr result (λ e. (e ≡ NotFormatted) ⊎ (e ≡ DeviceFailed)) }
-    ensures failures { CountsFailure result (R.failed rig.old) (R.failed rig.new) }
+    ensures failures { CountsFailure result (R.seen rig.old).failed (R.seen rig.new).failed }
 {
     if rig.size() < LEAST_SIZE {
         return Err(Fault::NotFormatted);

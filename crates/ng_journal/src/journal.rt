@@ -48,7 +48,7 @@ impl<R: Rig, A: Allocator + Copy + Drop> Model for Journal<R, A> {
 
     ghost view = { λ j. record { rig = j.rig; header = j.tip.header; end = j.tip.end; saved = j.stored; broken = j.broken } };
 
-    ghost invariant = { λ j. IsSteady (R.sectors j.rig) j.tip.header j.tip.end j.stored };
+    ghost invariant = { λ j. IsSteady (R.seen j.rig).sectors j.tip.header j.tip.end j.stored };
 }
 
 /// Powers on (own): finds what the device stands for, and writes it again under the next epoch with nothing open.
@@ -67,16 +67,16 @@ pub fn recover<R: Rig, A: Allocator + Copy + Drop>(
     mut rig: R,
     tools: &Tools,
 ) -> Result<(Journal<R, A>, Stored<A>), (Fault, R)>
-    ensures recovers { let after = recover_rig result in least_size ≤ R.sectors rig → (table : List ℤ)
-        → IsTableOver tools.now table (reads (R.trace rig))
-        → IfHonest (R.honest rig) (R.honest after) (RecoverSpec table result (R.trace rig) (R.trace after)) }
+    ensures recovers { let after = recover_rig result in least_size ≤ (R.seen rig).sectors → (table : List ℤ)
+        → IsTableOver tools.now table (reads (R.seen rig).trace)
+        → IfHonest (R.seen rig) (R.seen after) (RecoverSpec table result (R.seen rig).trace (R.seen after).trace) }
     ensures journal { IfOk result (λ x. (x.0.broken ≡ false) × (x.0.saved ≡ x.1) × IsStorable x.1) }
     ensures end { IfOk result (λ x. x.0.end ≡ no_records) }
-    ensures small { R.sectors rig < least_size → IsErrAnd result (λ e. (e.0 ≡ NotFormatted) × (e.1 ≡ rig)) }
+    ensures small { (R.seen rig).sectors < least_size → IsErrAnd result (λ e. (e.0 ≡ NotFormatted) × (e.1 ≡ rig)) }
     ensures faults { IfErr result (λ e. IsRecoveryFault e.0) }
     ensures memory { IfErr result (λ e. e.0 ≡ OutOfMemory → e.1 ≡ rig) }
-    ensures size { let after = recover_rig result in R.sectors after ≡ R.sectors rig }
-    ensures failures { let after = recover_rig result in CountsFailure (recover_fault result) (R.failed rig) (R.failed after) }
+    ensures size { let after = recover_rig result in (R.seen after).sectors ≡ (R.seen rig).sectors }
+    ensures failures { let after = recover_rig result in CountsFailure (recover_fault result) (R.seen rig).failed (R.seen after).failed }
 {
     if rig.size() < LEAST_SIZE {
         return Err((Fault::NotFormatted, rig));
@@ -151,13 +151,13 @@ impl<R: Rig, A: Allocator + Copy + Drop> Journal<R, A> {
         requires storable { IsStorable stored.now }
         requires program { stored.now.length ≡ self.old.saved.length }
         requires tools { IsOneSlotFrom self.old.saved.tools stored.now.tools }
-        ensures stops { IfHonest (R.honest self.old.rig) (R.honest self.new.rig)
-            ((before : DurableState) → IsDurablyAt (R.trace self.old.rig) self.old before
+        ensures stops { IfHonest (R.seen self.old.rig) (R.seen self.new.rig)
+            ((before : DurableState) → IsDurablyAt (R.seen self.old.rig).trace self.old before
             → CommitSpec result self.new before (record before { saved = kept_by self.old stored.now })
-            (R.trace self.old.rig) (R.trace self.new.rig)) }
-        ensures stores { IfHonest (R.honest self.old.rig) (R.honest self.new.rig)
+            (R.seen self.old.rig).trace (R.seen self.new.rig).trace) }
+        ensures stores { IfHonest (R.seen self.old.rig) (R.seen self.new.rig)
             (StoresRecord result (ledger_of self.old) (kept_by self.old stored.now)
-            (R.trace self.old.rig) (R.trace self.new.rig)) }
+            (R.seen self.old.rig).trace (R.seen self.new.rig).trace) }
         ensures saved { OnOk result (self.new.saved ≡ kept_by self.old stored.now) }
         ensures ledger { OnOk result (IsLedgerAfter (ledger_of self.old) (kept_by self.old stored.now) (ledger_of self.new)) }
         ensures broken { IsBrokenBy result self.new.broken }
@@ -165,8 +165,8 @@ impl<R: Rig, A: Allocator + Copy + Drop> Journal<R, A> {
         ensures used_up { IsErrOf result CountersUsed ↔ UsesUp (ledger_of self.old) (Commit stored.now) }
         ensures count { OnOk result (stored.now.entries ≤ greatest_count) }
         ensures unchanged { IsErrOf result CountersUsed → self.new ≡ self.old }
-        ensures size { R.sectors self.new.rig ≡ R.sectors self.old.rig }
-        ensures failures { CountsFailure result (R.failed self.old.rig) (R.failed self.new.rig) }
+        ensures size { (R.seen self.new.rig).sectors ≡ (R.seen self.old.rig).sectors }
+        ensures failures { CountsFailure result (R.seen self.old.rig).failed (R.seen self.new.rig).failed }
     {
         let count = changes_between(&self.stored, stored);
         let slot = slot_between(&self.stored, stored);
@@ -196,13 +196,13 @@ impl<R: Rig, A: Allocator + Copy + Drop> Journal<R, A> {
         requires whole { self.old.broken ≡ false }
         requires half { IsStorableHalf half.now }
         requires is_open { IsSome half.now.opened }
-        ensures stops { IfHonest (R.honest self.old.rig) (R.honest self.new.rig)
-            ((before : DurableState) → IsDurablyAt (R.trace self.old.rig) self.old before
+        ensures stops { IfHonest (R.seen self.old.rig) (R.seen self.new.rig)
+            ((before : DurableState) → IsDurablyAt (R.seen self.old.rig).trace self.old before
             → CommitSpec result self.new before (record before { saved = record self.old.saved { half = Some half.now } })
-            (R.trace self.old.rig) (R.trace self.new.rig)) }
-        ensures stores { IfHonest (R.honest self.old.rig) (R.honest self.new.rig)
+            (R.seen self.old.rig).trace (R.seen self.new.rig).trace) }
+        ensures stores { IfHonest (R.seen self.old.rig) (R.seen self.new.rig)
             (StoresRecord result (ledger_of self.old) (record self.old.saved { half = Some half.now })
-            (R.trace self.old.rig) (R.trace self.new.rig)) }
+            (R.seen self.old.rig).trace (R.seen self.new.rig).trace) }
         ensures saved { OnOk result (self.new.saved ≡ record self.old.saved { half = Some half.now }) }
         ensures ledger { let saved = record self.old.saved { half = Some half.now } in
             OnOk result (IsLedgerAfter (ledger_of self.old) saved (ledger_of self.new)) }
@@ -210,8 +210,8 @@ impl<R: Rig, A: Allocator + Copy + Drop> Journal<R, A> {
         ensures errors { IfErr result (λ e. (e ≡ CountersUsed) ⊎ (e ≡ DeviceFailed)) }
         ensures used_up { IsErrOf result CountersUsed ↔ UsesUp (ledger_of self.old) (Open half.now) }
         ensures unchanged { IsErrOf result CountersUsed → self.new ≡ self.old }
-        ensures size { R.sectors self.new.rig ≡ R.sectors self.old.rig }
-        ensures failures { CountsFailure result (R.failed self.old.rig) (R.failed self.new.rig) }
+        ensures size { (R.seen self.new.rig).sectors ≡ (R.seen self.old.rig).sectors }
+        ensures failures { CountsFailure result (R.seen self.old.rig).failed (R.seen self.new.rig).failed }
     {
         if self.is_used_up_by(0) {
             return Err(Fault::CountersUsed);
@@ -243,17 +243,17 @@ impl<R: Rig, A: Allocator + Copy + Drop> Journal<R, A> {
         requires whole { self.old.broken ≡ false }
         requires storable { length text.now ≤ self.old.saved.room → IsStorable stored.now }
         requires long { stored.now.length ≡ length text.now }
-        ensures stops { IfHonest (R.honest self.old.rig) (R.honest self.new.rig)
-            ((before : DurableState) → IsDurablyAt (R.trace self.old.rig) self.old before
+        ensures stops { IfHonest (R.seen self.old.rig) (R.seen self.new.rig)
+            ((before : DurableState) → IsDurablyAt (R.seen self.old.rig).trace self.old before
             → CommitSpec result self.new before (record { saved = kept_by self.old stored.now; program = text.now })
-            (R.trace self.old.rig) (R.trace self.new.rig)) }
-        ensures stores { IfHonest (R.honest self.old.rig) (R.honest self.new.rig)
-            (let area = spare_area (is_large_size (R.sectors self.old.rig)) self.old.header.area in
+            (R.seen self.old.rig).trace (R.seen self.new.rig).trace) }
+        ensures stores { IfHonest (R.seen self.old.rig) (R.seen self.new.rig)
+            (let area = spare_area (is_large_size (R.seen self.old.rig).sectors) self.old.header.area in
             StoresLoad result area self.old.header (record { saved = kept_by self.old stored.now; program = text.now })
-            (R.trace self.old.rig) (R.trace self.new.rig)) }
+            (R.seen self.old.rig).trace (R.seen self.new.rig).trace) }
         ensures saved { OnOk result (self.new.saved ≡ kept_by self.old stored.now) }
         ensures end { OnOk result (self.new.end ≡ no_records) }
-        ensures ledger { let area = spare_area (is_large_size (R.sectors self.old.rig)) self.old.header.area in
+        ensures ledger { let area = spare_area (is_large_size (R.seen self.old.rig).sectors) self.old.header.area in
             OnOk result (ledger_of self.new ≡ with_program area (ledger_of self.old) (kept_by self.old stored.now)) }
         ensures broken { IsBrokenBy result self.new.broken }
         ensures errors { IfErr result (λ e. (e ≡ ProgramTooLong) ⊎ ((e ≡ CountersUsed) ⊎ (e ≡ DeviceFailed))) }
@@ -262,8 +262,8 @@ impl<R: Rig, A: Allocator + Copy + Drop> Journal<R, A> {
             ↔ ((length text.now ≤ self.old.saved.room) × UsesUp (ledger_of self.old) (Load stored.now)) }
         ensures count { OnOk result (stored.now.entries ≤ greatest_count) }
         ensures unchanged { (IsErrOf result CountersUsed ⊎ IsErrOf result ProgramTooLong) → self.new ≡ self.old }
-        ensures size { R.sectors self.new.rig ≡ R.sectors self.old.rig }
-        ensures failures { CountsFailure result (R.failed self.old.rig) (R.failed self.new.rig) }
+        ensures size { (R.seen self.new.rig).sectors ≡ (R.seen self.old.rig).sectors }
+        ensures failures { CountsFailure result (R.seen self.old.rig).failed (R.seen self.new.rig).failed }
     {
         if text.len() as u64 > self.stored.room {
             return Err(Fault::ProgramTooLong);
@@ -291,16 +291,16 @@ impl<R: Rig, A: Allocator + Copy + Drop> Journal<R, A> {
     /// handed out. It takes no memory.
     pub fn hand_out(&mut self, item: Item) -> Result<(), Fault>
         requires whole { self.old.broken ≡ false }
-        ensures hands { IfHonest (R.honest self.old.rig) (R.honest self.new.rig)
-            (HandOutSpec result item (R.trace self.old.rig) (R.trace self.new.rig)) }
-        ensures stops { IfHonest (R.honest self.old.rig) (R.honest self.new.rig)
-            ((standing : DurableState) → IsDurablyAt (R.trace self.old.rig) self.old standing
-            → JournalHandOutSpec result self.new standing item (R.trace self.old.rig) (R.trace self.new.rig)) }
+        ensures hands { IfHonest (R.seen self.old.rig) (R.seen self.new.rig)
+            (HandOutSpec result item (R.seen self.old.rig).trace (R.seen self.new.rig).trace) }
+        ensures stops { IfHonest (R.seen self.old.rig) (R.seen self.new.rig)
+            ((standing : DurableState) → IsDurablyAt (R.seen self.old.rig).trace self.old standing
+            → JournalHandOutSpec result self.new standing item (R.seen self.old.rig).trace (R.seen self.new.rig).trace) }
         ensures ledger { ledger_of self.new ≡ ledger_of self.old }
         ensures broken { IsBrokenBy result self.new.broken }
         ensures errors { IfErr result (λ e. e ≡ DeviceFailed) }
-        ensures size { R.sectors self.new.rig ≡ R.sectors self.old.rig }
-        ensures failures { CountsFailure result (R.failed self.old.rig) (R.failed self.new.rig) }
+        ensures size { (R.seen self.new.rig).sectors ≡ (R.seen self.old.rig).sectors }
+        ensures failures { CountsFailure result (R.seen self.old.rig).failed (R.seen self.new.rig).failed }
     {
         match self.rig.hand_out(item) {
             Ok(()) => Ok(()),

@@ -1,7 +1,7 @@
 //! A line of the program in force, read where it begins.
 ghost use Rattle.std.specs.Prelude.{true, ◌≡◌, ℕ, max, List, [], ◌≤◌, ◌<◌, ◌+◌, ◌*◌, ◌-◌, ◌++◌, take, drop, length, IfOk, IfSome};
 ghost use Rattle.std.specs.Str.Lines.{strip_carriage_return};
-ghost use Rattle.ng_rig.specs.Calls.{IfHonest, FailureCountSpec};
+ghost use Rattle.ng_rig.specs.Calls.{IfHonest, IsCall};
 ghost use Rattle.ng_layout.specs.Limits.{longest_program, sector_size};
 ghost use Rattle.ng_layout.specs.Sectors.{program_text};
 ghost use Rattle.ng_layout.specs.Areas.{program_size, greatest_area, program_first};
@@ -102,17 +102,16 @@ fn find_end<R: Rig>(
     text: &mut ArrayVec<u8, KEPT_LINE>,
 ) -> Result<Option<usize>, Failed>
     requires area { area ≤ greatest_area true }
-    requires sectors { program_first area + program_size area ≤ R.sectors rig.old }
+    requires sectors { program_first area + program_size area ≤ (R.seen rig.old).sectors }
     requires place { place ≤ program_end }
     requires small { program_end ≤ longest_in area }
     requires empty { text.old.items ≡ [] }
-    ensures read { IfHonest (R.honest rig.old) (R.honest rig.new)
+    ensures read { IfHonest (R.seen rig.old) (R.seen rig.new)
         (ReadSpec result (λ image end. let program = program_text program_end (stretch (program_first area) (program_size area) image) in
-        IsEnd (drop place program) text.new.items end) (R.trace rig.old) (R.trace rig.new)) }
+        IsEnd (drop place program) text.new.items end) (R.seen rig.old).trace (R.seen rig.new).trace) }
     // without honesty too
     ensures within { IfOk result (λ end. IfSome end (λ n. place + n < program_end)) }
-    ensures size { R.sectors rig.new ≡ R.sectors rig.old }
-    ensures failures { FailureCountSpec result (R.failed rig.old) (R.failed rig.new) }
+    ensures call { IsCall result (R.seen rig.old) (R.seen rig.new) }
 {
     let first = program_first(area);
     for n in place / SECTOR_BYTES..program_end.div_ceil(SECTOR_BYTES) {
@@ -133,16 +132,15 @@ pub(crate) fn read_line<R: Rig>(
     program_end: usize,
 ) -> Result<Option<ProgramLine>, Failed>
     requires area { area ≤ greatest_area true }
-    requires sectors { program_first area + program_size area ≤ R.sectors rig.old }
+    requires sectors { program_first area + program_size area ≤ (R.seen rig.old).sectors }
     requires place { place ≤ program_end }
     requires small { program_end ≤ longest_in area }
-    ensures read { IfHonest (R.honest rig.old) (R.honest rig.new)
+    ensures read { IfHonest (R.seen rig.old) (R.seen rig.new)
         (ReadSpec result (λ image line. let program = program_text program_end (stretch (program_first area) (program_size area) image) in
-        line ≡ program_line_at program place) (R.trace rig.old) (R.trace rig.new)) }
+        line ≡ program_line_at program place) (R.seen rig.old).trace (R.seen rig.new).trace) }
     // without honesty too
     ensures next { IfOk result (λ line. IfSome line (λ l. (place < l.next) × (l.next ≤ program_end))) }
-    ensures size { R.sectors rig.new ≡ R.sectors rig.old }
-    ensures failures { FailureCountSpec result (R.failed rig.old) (R.failed rig.new) }
+    ensures call { IsCall result (R.seen rig.old) (R.seen rig.new) }
 {
     if place == program_end {
         return Ok(None);

@@ -1,6 +1,6 @@
 //! The kind of the first line before a place of the program in force that isn't blank.
 ghost use Rattle.std.specs.Prelude.{true, ◌≡◌, ◌≤◌, ◌+◌, ℕ};
-ghost use Rattle.ng_rig.specs.Calls.{IfHonest, FailureCountSpec};
+ghost use Rattle.ng_rig.specs.Calls.{IfHonest, IsCall};
 ghost use Rattle.ng_layout.specs.Sectors.{program_text};
 ghost use Rattle.ng_layout.specs.Areas.{program_size, greatest_area, program_first};
 ghost use Rattle.ng_layout.specs.Header.{longest_in};
@@ -23,13 +23,12 @@ pub(crate) fn read_first_kind<R: Rig>(
     place: usize,
 ) -> Result<LineKind, Failed>
     requires area { area ≤ greatest_area true }
-    requires sectors { program_first area + program_size area ≤ R.sectors rig.old }
+    requires sectors { program_first area + program_size area ≤ (R.seen rig.old).sectors }
     requires small { place ≤ longest_in area }
-    ensures read { IfHonest (R.honest rig.old) (R.honest rig.new)
+    ensures read { IfHonest (R.seen rig.old) (R.seen rig.new)
         (ReadSpec result (λ image kind. kind ≡ kind_in (program_text place (stretch (program_first area) (program_size area) image)))
-        (R.trace rig.old) (R.trace rig.new)) }
-    ensures size { R.sectors rig.new ≡ R.sectors rig.old }
-    ensures failures { FailureCountSpec result (R.failed rig.old) (R.failed rig.new) }
+        (R.seen rig.old).trace (R.seen rig.new).trace) }
+    ensures call { IsCall result (R.seen rig.old) (R.seen rig.new) }
 {
     let first = program_first(area);
     let mut seen = FirstLine::Unseen;

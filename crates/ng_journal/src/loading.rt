@@ -1,6 +1,6 @@
 //! A program written to the area that isn't in force, and what is stored with it.
 ghost use Rattle.std.specs.Prelude.{ℕ, true, ◌≡◌, ◌≢◌, ◌≤◌, ◌<◌, ◌+◌, length};
-ghost use Rattle.ng_rig.specs.Calls.{IfHonest, FailureCountSpec};
+ghost use Rattle.ng_rig.specs.Calls.{IfHonest, IsCall};
 ghost use Rattle.ng_layout.specs.Limits.{greatest_count};
 ghost use Rattle.ng_layout.specs.Areas.{program_first, program_size, least_size, greatest_area};
 ghost use Rattle.ng_layout.specs.Header.{longest_in};
@@ -20,11 +20,11 @@ use std::alloc::Allocator;
 /// Writes a program's text to the sectors of the program area of this number.
 fn write_program<R: Rig>(rig: &mut R, area: u64, text: &[u8]) -> Result<(), Failed>
     requires area { area ≤ greatest_area true }
-    requires sectors { program_first area + program_size area ≤ R.sectors rig.old }
+    requires sectors { program_first area + program_size area ≤ (R.seen rig.old).sectors }
     requires short { length text.now ≤ longest_in area }
-    ensures text { IfHonest (R.honest rig.old) (R.honest rig.new) (WritesText result area text.now (R.trace rig.old) (R.trace rig.new)) }
-    ensures size { R.sectors rig.new ≡ R.sectors rig.old }
-    ensures failures { FailureCountSpec result (R.failed rig.old) (R.failed rig.new) }
+    ensures text { IfHonest (R.seen rig.old) (R.seen rig.new)
+        (WritesText result area text.now (R.seen rig.old).trace (R.seen rig.new).trace) }
+    ensures call { IsCall result (R.seen rig.old) (R.seen rig.new) }
 {
     let first = program_first(area);
     for n in 0..text.len().div_ceil(SECTOR_BYTES) {
@@ -41,25 +41,24 @@ pub(crate) fn load<R: Rig, A: Allocator + Copy + Drop>(
     text: &[u8],
     stored: &Stored<A>,
 ) -> Result<(), Failed>
-    requires room { least_size ≤ R.sectors rig.old }
+    requires room { least_size ≤ (R.seen rig.old).sectors }
     requires counted { header.epoch < greatest_count }
     requires area { area ≤ greatest_area true }
     requires apart { area ≢ header.area }
-    requires sectors { program_first area + program_size area ≤ R.sectors rig.old }
+    requires sectors { program_first area + program_size area ≤ (R.seen rig.old).sectors }
     requires short { length text.now ≤ longest_in area }
     requires count { stored.now.entries ≤ greatest_count }
     requires storable { IsStorable stored.now }
     requires long { stored.now.length ≡ length text.now }
     requires format { header.format ≡ Two }
     // for any room for a program, since none is written
-    ensures stops { IfHonest (R.honest rig.old) (R.honest rig.new)
-        ((room : ℕ) → IsOwnImage (R.trace rig.old) header → (let saved = record stored.now { room = room } in
-        FitsDevice (reads (R.trace rig.old)) (next_header header area saved.length) saved
-        → LoadSpec result area header (record { saved = saved; program = text.now }) (R.trace rig.old) (R.trace rig.new))) }
-    ensures stores { IfHonest (R.honest rig.old) (R.honest rig.new)
-        (StoresLoad result area header (record { saved = stored.now; program = text.now }) (R.trace rig.old) (R.trace rig.new)) }
-    ensures size { R.sectors rig.new ≡ R.sectors rig.old }
-    ensures failures { FailureCountSpec result (R.failed rig.old) (R.failed rig.new) }
+    ensures stops { IfHonest (R.seen rig.old) (R.seen rig.new)
+        ((room : ℕ) → IsOwnImage (R.seen rig.old).trace header → (let saved = record stored.now { room = room } in
+        FitsDevice (reads (R.seen rig.old).trace) (next_header header area saved.length) saved
+        → LoadSpec result area header (record { saved = saved; program = text.now }) (R.seen rig.old).trace (R.seen rig.new).trace)) }
+    ensures stores { IfHonest (R.seen rig.old) (R.seen rig.new)
+        (StoresLoad result area header (record { saved = stored.now; program = text.now }) (R.seen rig.old).trace (R.seen rig.new).trace) }
+    ensures call { IsCall result (R.seen rig.old) (R.seen rig.new) }
 {
     write_program(rig, area, text)?;
     rig.sync()?;

@@ -2,7 +2,7 @@
 ghost use Rattle.std.specs.Prelude.{Bool, ◌≡◌, ◌≤◌, ◌<◌, ◌+◌, ◌*◌, ◌%◌, true, [], length, IfOk, IfSome};
 ghost use Rattle.ng_layout.specs.declared.header.Format.TheVariants.{One};
 ghost use Rattle.std.specs.Bool.{OnTrue};
-ghost use Rattle.ng_rig.specs.Calls.{IfHonest, FailureCountSpec};
+ghost use Rattle.ng_rig.specs.Calls.{IfHonest, IsCall};
 ghost use Rattle.ng_layout.specs.Limits.{greatest_count, longest_program};
 ghost use Rattle.ng_params.specs.Numbers.{parameter_count};
 ghost use Rattle.ng_layout.specs.Header.{header_in, IsValidHeader};
@@ -28,13 +28,12 @@ use std::alloc::Allocator;
 
 /// The header that sector `k` holds, on a large device or on any other, where it is valid there.
 fn read_header<R: Rig>(rig: &mut R, large: bool, k: u64) -> Result<Option<Header>, Failed>
-    requires room { least_size ≤ R.sectors rig.old }
+    requires room { least_size ≤ (R.seen rig.old).sectors }
     requires header { k < 2 }
-    ensures read { IfHonest (R.honest rig.old) (R.honest rig.new)
-        (ReadSpec result (λ image header. header ≡ header_in large k (image k)) (R.trace rig.old) (R.trace rig.new)) }
+    ensures read { IfHonest (R.seen rig.old) (R.seen rig.new)
+        (ReadSpec result (λ image header. header ≡ header_in large k (image k)) (R.seen rig.old).trace (R.seen rig.new).trace) }
     ensures valid { IfOk result (λ header. IfSome header (IsValidHeader large)) }
-    ensures size { R.sectors rig.new ≡ R.sectors rig.old }
-    ensures failures { FailureCountSpec result (R.failed rig.old) (R.failed rig.new) }
+    ensures call { IsCall result (R.seen rig.old) (R.seen rig.new) }
 {
     let bytes = read_sector(rig, k as usize)?;
     Ok(Header::read(large, k, &bytes))
@@ -56,13 +55,12 @@ fn newer(a: Option<Header>, b: Option<Header>) -> Option<Header>
 /// The header in force, on a large device or on any other.
 #[tactic(auto, unfolding(ng_layout::specs::Stands::in_force))]
 pub(crate) fn header_in_force<R: Rig>(rig: &mut R, large: bool) -> Result<Option<Header>, Failed>
-    requires sectors { least_size ≤ R.sectors rig.old }
-    requires large { R.honest rig.old → is_large (reads (R.trace rig.old)) ≡ large }
-    ensures read { IfHonest (R.honest rig.old) (R.honest rig.new)
-        (ReadSpec result (λ image header. header ≡ in_force image) (R.trace rig.old) (R.trace rig.new)) }
+    requires sectors { least_size ≤ (R.seen rig.old).sectors }
+    requires large { (R.seen rig.old).honest → is_large (reads (R.seen rig.old).trace) ≡ large }
+    ensures read { IfHonest (R.seen rig.old) (R.seen rig.new)
+        (ReadSpec result (λ image header. header ≡ in_force image) (R.seen rig.old).trace (R.seen rig.new).trace) }
     ensures valid { IfOk result (λ header. IfSome header (IsValidHeader large)) }
-    ensures size { R.sectors rig.new ≡ R.sectors rig.old }
-    ensures failures { FailureCountSpec result (R.failed rig.old) (R.failed rig.new) }
+    ensures call { IsCall result (R.seen rig.old) (R.seen rig.new) }
 {
     let even = read_header(rig, large, 0)?;
     let odd = read_header(rig, large, 1)?;
@@ -85,15 +83,14 @@ fn read_tools<R: Rig>(
     first: &[u8; SECTOR_BYTES],
     tools: &mut Tools,
 ) -> Result<bool, Failed>
-    requires room { least_size ≤ R.sectors rig.old }
+    requires room { least_size ≤ (R.seen rig.old).sectors }
     requires none { tools.old ≡ [] }
-    ensures read { IfHonest (R.honest rig.old) (R.honest rig.new)
-        (ReadSpec result (IsToolsOf header first.now tools.new) (R.trace rig.old) (R.trace rig.new)) }
+    ensures read { IfHonest (R.seen rig.old) (R.seen rig.new)
+        (ReadSpec result (IsToolsOf header first.now tools.new) (R.seen rig.old).trace (R.seen rig.new).trace) }
     // without honesty too
     ensures storable { IfOk result (λ is_whole. OnTrue is_whole (IsStorableTools tools.new)) }
     ensures none { IfOk result (λ is_whole. OnTrue is_whole (header.format ≡ One → tools.new ≡ [])) }
-    ensures size { R.sectors rig.new ≡ R.sectors rig.old }
-    ensures failures { FailureCountSpec result (R.failed rig.old) (R.failed rig.new) }
+    ensures call { IsCall result (R.seen rig.old) (R.seen rig.new) }
 {
     match header.format {
         Format::One => Ok(true),
@@ -112,15 +109,14 @@ fn read_table<R: Rig, A: Allocator + Copy + Drop>(
     first: usize,
     table: &mut Params<A>,
 ) -> Result<bool, Failed>
-    requires sectors { least_size ≤ R.sectors rig.old }
+    requires sectors { least_size ≤ (R.seen rig.old).sectors }
     requires within { first + snapshot_size ≤ least_size }
     requires long { length table.old ≡ parameter_count }
-    ensures read { IfHonest (R.honest rig.old) (R.honest rig.new)
-        (ReadSpec result (IsTableOf first table.new) (R.trace rig.old) (R.trace rig.new)) }
+    ensures read { IfHonest (R.seen rig.old) (R.seen rig.new)
+        (ReadSpec result (IsTableOf first table.new) (R.seen rig.old).trace (R.seen rig.new).trace) }
     // without honesty too
     ensures long { IfOk result (λ is_whole. OnTrue is_whole (length table.new ≡ parameter_count)) }
-    ensures size { R.sectors rig.new ≡ R.sectors rig.old }
-    ensures failures { FailureCountSpec result (R.failed rig.old) (R.failed rig.new) }
+    ensures call { IsCall result (R.seen rig.old) (R.seen rig.new) }
 {
     for n in 0..SNAPSHOT_SIZE - 1 {
         let sector = read_sector(rig, first + 1 + n)?;
@@ -137,21 +133,20 @@ pub(crate) fn read_snapshot<R: Rig, A: Allocator + Copy + Drop>(
     header: Header,
     stored: &mut Stored<A>,
 ) -> Result<bool, Failed>
-    requires room { least_size ≤ R.sectors rig.old }
+    requires room { least_size ≤ (R.seen rig.old).sectors }
     requires program { header.length ≤ stored.old.room }
     requires most { stored.old.room ≤ longest_program }
     requires long { length stored.old.setup.params ≡ parameter_count }
     requires none { stored.old.tools ≡ [] }
-    ensures read { IfHonest (R.honest rig.old) (R.honest rig.new)
-        (ReadSpec result (IsSnapshotOf header stored.new) (R.trace rig.old) (R.trace rig.new)) }
+    ensures read { IfHonest (R.seen rig.old) (R.seen rig.new)
+        (ReadSpec result (IsSnapshotOf header stored.new) (R.seen rig.old).trace (R.seen rig.new).trace) }
     ensures none { IfOk result (λ is_whole. OnTrue is_whole (header.format ≡ One → stored.new.tools ≡ [])) }
     // without honesty too
     ensures storable { IfOk result (λ is_whole. OnTrue is_whole (IsStorable stored.new)) }
     ensures count { IfOk result (λ is_whole. OnTrue is_whole (stored.new.entries ≤ greatest_count)) }
     ensures long { IfOk result (λ is_whole. OnTrue is_whole (stored.new.length ≡ header.length)) }
     ensures limit { stored.new.room ≡ stored.old.room }
-    ensures size { R.sectors rig.new ≡ R.sectors rig.old }
-    ensures failures { FailureCountSpec result (R.failed rig.old) (R.failed rig.new) }
+    ensures call { IsCall result (R.seen rig.old) (R.seen rig.new) }
 {
     let first = snapshot_first(header.epoch);
     let bytes = read_sector(rig, first)?;

@@ -1,7 +1,7 @@
 //! Power on: what the device holds, written again under the next epoch with nothing open, and over format 1 under one
 //! more epoch in format 2.
 ghost use Rattle.std.specs.Prelude.{Bool, ◌≡◌, ◌≤◌, ◌<◌, ◌+◌, ℤ, List, [], length, IfOk, IfErr, OnOk};
-ghost use Rattle.ng_rig.specs.Calls.{IfHonest, FailureCountSpec};
+ghost use Rattle.ng_rig.specs.Calls.{IfHonest, IsCall};
 ghost use Rattle.ng_layout.specs.Limits.{greatest_count};
 ghost use Rattle.ng_params.specs.Numbers.{parameter_count};
 ghost use Rattle.ng_layout.specs.Areas.{least_size};
@@ -31,14 +31,14 @@ fn found<R: Rig, A: Allocator + Copy + Drop>(
     large: bool,
     stored: &mut Stored<A>,
 ) -> Result<Result<Header, Fault>, Failed>
-    requires room { least_size ≤ R.sectors rig.old }
-    requires large { R.honest rig.old → is_large (reads (R.trace rig.old)) ≡ large }
+    requires room { least_size ≤ (R.seen rig.old).sectors }
+    requires large { (R.seen rig.old).honest → is_large (reads (R.seen rig.old).trace) ≡ large }
     requires limit { stored.old.room ≡ program_room large }
     requires long { length stored.old.setup.params ≡ parameter_count }
     requires none { stored.old.tools ≡ [] }
     ensures none { IfOk result (λ answer. IfOk answer (λ header. header.format ≡ One → stored.new.tools ≡ [])) }
-    ensures read { IfHonest (R.honest rig.old) (R.honest rig.new)
-        (ReadSpec result (IsRead stored.new) (R.trace rig.old) (R.trace rig.new)) }
+    ensures read { IfHonest (R.seen rig.old) (R.seen rig.new)
+        (ReadSpec result (IsRead stored.new) (R.seen rig.old).trace (R.seen rig.new).trace) }
     // without honesty too
     ensures valid { IfOk result (λ answer. IfOk answer (IsValidHeader large)) }
     ensures limit { stored.new.room ≡ stored.old.room }
@@ -46,8 +46,7 @@ fn found<R: Rig, A: Allocator + Copy + Drop>(
     ensures count { IfOk result (λ answer. OnOk answer (stored.new.entries ≤ greatest_count)) }
     ensures long { IfOk result (λ answer. IfOk answer (λ header. stored.new.length ≡ header.length)) }
     ensures faults { IfOk result (λ answer. IfErr answer IsRefusal) }
-    ensures size { R.sectors rig.new ≡ R.sectors rig.old }
-    ensures failures { FailureCountSpec result (R.failed rig.old) (R.failed rig.new) }
+    ensures call { IsCall result (R.seen rig.old) (R.seen rig.new) }
 {
     match header_in_force(rig, large)? {
         None => Ok(Err(Fault::NotFormatted)),
@@ -72,19 +71,19 @@ fn modernize<R: Rig, A: Allocator + Copy + Drop>(
     tools: &Tools,
     stored: &mut Stored<A>,
 ) -> Result<Header, Failed>
-    requires room { least_size ≤ R.sectors rig.old }
+    requires room { least_size ≤ (R.seen rig.old).sectors }
     requires epoch { header.format ≡ One → header.epoch < greatest_count }
     requires long { stored.old.length ≡ header.length }
     requires count { stored.old.entries ≤ greatest_count }
     requires storable { IsStorable stored.old }
     requires tools { IsStorableTools tools.now }
-    ensures stops { IfHonest (R.honest rig.old) (R.honest rig.new)
+    ensures stops { IfHonest (R.seen rig.old) (R.seen rig.new)
         ((table : List ℤ) → (header.format ≡ One → table ≡ tools.now) → (standing : DurableState)
-        → IsBegun (R.trace rig.old) header standing → standing.saved ≡ stored.old
-        → ModernizeSpec table result header standing (R.trace rig.old) (R.trace rig.new)) }
-    ensures stores { IfHonest (R.honest rig.old) (R.honest rig.new)
+        → IsBegun (R.seen rig.old).trace header standing → standing.saved ≡ stored.old
+        → ModernizeSpec table result header standing (R.seen rig.old).trace (R.seen rig.new).trace) }
+    ensures stores { IfHonest (R.seen rig.old) (R.seen rig.new)
         ((table : List ℤ) → (header.format ≡ One → table ≡ tools.now)
-        → StoresModern table result header stored.old (R.trace rig.old) (R.trace rig.new)) }
+        → StoresModern table result header stored.old (R.seen rig.old).trace (R.seen rig.new).trace) }
     ensures header { IfOk result (λ last. last ≡ modern_by header.format header) }
     ensures saved { (table : List ℤ) → (header.format ≡ One → table ≡ tools.now)
         → OnOk result (stored.new ≡ saved_beside table header.format stored.old) }
@@ -95,8 +94,7 @@ fn modernize<R: Rig, A: Allocator + Copy + Drop>(
     ensures storable { OnOk result (IsStorable stored.new) }
     ensures count { OnOk result (stored.new.entries ≡ stored.old.entries) }
     ensures same { IfOk result (λ last. (last.length ≡ header.length) × (stored.new.length ≡ stored.old.length)) }
-    ensures size { R.sectors rig.new ≡ R.sectors rig.old }
-    ensures failures { FailureCountSpec result (R.failed rig.old) (R.failed rig.new) }
+    ensures call { IsCall result (R.seen rig.old) (R.seen rig.new) }
 {
     match header.format {
         Format::Two => Ok(header),
@@ -129,16 +127,16 @@ pub(crate) fn restore<R: Rig, A: Allocator + Copy + Drop>(
     tools: &Tools,
     stored: &mut Stored<A>,
 ) -> Result<Result<Header, Fault>, Failed>
-    requires room { least_size ≤ R.sectors rig.old }
+    requires room { least_size ≤ (R.seen rig.old).sectors }
     requires long { length stored.old.setup.params ≡ parameter_count }
     requires none { stored.old.tools ≡ [] }
     requires tools { IsStorableTools tools.now }
-    requires large { R.honest rig.old → is_large (reads (R.trace rig.old)) ≡ large }
+    requires large { (R.seen rig.old).honest → is_large (reads (R.seen rig.old).trace) ≡ large }
     requires limit { stored.old.room ≡ program_room large }
     ensures format { IfOk result (λ answer. IfOk answer (λ header. header.format ≡ Two)) }
-    ensures restores { IfHonest (R.honest rig.old) (R.honest rig.new)
-        ((table : List ℤ) → IsTableOver tools.now table (reads (R.trace rig.old))
-        → RestoreSpec table result stored.new (R.trace rig.old) (R.trace rig.new)) }
+    ensures restores { IfHonest (R.seen rig.old) (R.seen rig.new)
+        ((table : List ℤ) → IsTableOver tools.now table (reads (R.seen rig.old).trace)
+        → RestoreSpec table result stored.new (R.seen rig.old).trace (R.seen rig.new).trace) }
     // without honesty too
     ensures valid { IfOk result (λ answer. IfOk answer (IsValidHeader large)) }
     ensures limit { stored.new.room ≡ stored.old.room }
@@ -146,8 +144,7 @@ pub(crate) fn restore<R: Rig, A: Allocator + Copy + Drop>(
     ensures count { IfOk result (λ answer. OnOk answer (stored.new.entries ≤ greatest_count)) }
     ensures long { IfOk result (λ answer. IfOk answer (λ header. stored.new.length ≡ header.length)) }
     ensures faults { IfOk result (λ answer. IfErr answer IsRefusal) }
-    ensures size { R.sectors rig.new ≡ R.sectors rig.old }
-    ensures failures { FailureCountSpec result (R.failed rig.old) (R.failed rig.new) }
+    ensures call { IsCall result (R.seen rig.old) (R.seen rig.new) }
 {
     rig.sync()?;
     match found(rig, large, stored)? {

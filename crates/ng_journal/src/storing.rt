@@ -1,6 +1,6 @@
 //! What is stored, as a record; where the log has no room for it, what stands is checkpointed first.
 ghost use Rattle.std.specs.Prelude.{◌≡◌, ◌≤◌, ◌<◌, ◌+◌, ◌⊎◌, ◌↔◌, true, Some, length, OnOk, IfOk};
-ghost use Rattle.ng_rig.specs.Calls.{IfHonest, FailureCountSpec};
+ghost use Rattle.ng_rig.specs.Calls.{IfHonest, IsCall};
 ghost use Rattle.ng_layout.specs.Limits.{greatest_count};
 ghost use Rattle.ng_params.specs.Numbers.{parameter_count};
 ghost use Rattle.ng_layout.specs.Areas.{log_size_of, least_size};
@@ -109,22 +109,21 @@ fn make_room<R: Rig, A: Allocator + Copy + Drop>(
     stored: &Stored<A>,
     count: usize,
 ) -> Result<Tip, Failed>
-    requires sectors { least_size ≤ R.sectors rig.old }
+    requires sectors { least_size ≤ (R.seen rig.old).sectors }
     requires tip { IsTip stored.now.length tip.header tip.end }
     requires few { count ≤ parameter_count }
     requires epoch { IsFullFor tip.header tip.end count → tip.header.epoch < greatest_count }
     requires entries { stored.now.entries ≤ greatest_count }
     requires storable { IsStorable stored.now }
-    ensures makes { IfHonest (R.honest rig.old) (R.honest rig.new)
-        ((before : DurableState) → IsAtEnd (R.trace rig.old) tip.header before tip.end
-        → before.saved ≡ stored.now → MakeRoomSpec result before (R.trace rig.old) (R.trace rig.new)) }
-    ensures stores { IfHonest (R.honest rig.old) (R.honest rig.new)
-        (StoresRoom result (ledger tip stored.now) count (R.trace rig.old) (R.trace rig.new)) }
+    ensures makes { IfHonest (R.seen rig.old) (R.seen rig.new)
+        ((before : DurableState) → IsAtEnd (R.seen rig.old).trace tip.header before tip.end
+        → before.saved ≡ stored.now → MakeRoomSpec result before (R.seen rig.old).trace (R.seen rig.new).trace) }
+    ensures stores { IfHonest (R.seen rig.old) (R.seen rig.new)
+        (StoresRoom result (ledger tip stored.now) count (R.seen rig.old).trace (R.seen rig.new).trace) }
     ensures room { IfOk result (IsRoom (ledger tip stored.now) count) }
     // without honesty too
     ensures tip { IfOk result (λ t. IsTip stored.now.length t.header t.end) }
-    ensures size { R.sectors rig.new ≡ R.sectors rig.old }
-    ensures failures { FailureCountSpec result (R.failed rig.old) (R.failed rig.new) }
+    ensures call { IsCall result (R.seen rig.old) (R.seen rig.new) }
 {
     if !tip.is_full_for(count) {
         return Ok(tip);
@@ -143,7 +142,7 @@ fn append_to<R: Rig, A: Allocator + Copy + Drop>(
     count: usize,
     slot: Option<SlotChange>,
 ) -> Result<Tip, Failed>
-    requires sectors { least_size ≤ R.sectors rig.old }
+    requires sectors { least_size ≤ (R.seen rig.old).sectors }
     requires tip { IsTip stored.now.length tip.header tip.end }
     requires slot { slot ≡ first_change old.now.tools stored.now.tools }
     requires one { IsOneSlotFrom old.now.tools stored.now.tools }
@@ -153,20 +152,19 @@ fn append_to<R: Rig, A: Allocator + Copy + Drop>(
     requires room { HasRoomFor tip.header tip.end count }
     requires entries { stored.now.entries ≤ greatest_count }
     requires storable { IsStorable stored.now }
-    ensures appends { IfHonest (R.honest rig.old) (R.honest rig.new)
-        ((before : DurableState) → IsAtEnd (R.trace rig.old) tip.header before tip.end
+    ensures appends { IfHonest (R.seen rig.old) (R.seen rig.new)
+        ((before : DurableState) → IsAtEnd (R.seen rig.old).trace tip.header before tip.end
         → before.saved.setup.params ≡ old.now.setup.params → before.saved.tools ≡ old.now.tools
         → before.saved.room ≡ old.now.room
-        → StoreRecordSpec result before (record stored.now { room = old.now.room }) (R.trace rig.old) (R.trace rig.new)) }
-    ensures writes { IfHonest (R.honest rig.old) (R.honest rig.new)
+        → StoreRecordSpec result before (record stored.now { room = old.now.room }) (R.seen rig.old).trace (R.seen rig.new).trace) }
+    ensures writes { IfHonest (R.seen rig.old) (R.seen rig.new)
         (WritesRecord result (record_of (ledger tip old.now) (record stored.now { room = old.now.room }))
-        (R.trace rig.old) (R.trace rig.new)) }
+        (R.seen rig.old).trace (R.seen rig.new).trace) }
     // without honesty too
     ensures end { let saved = record stored.now { room = old.now.room } in
         IfOk result (λ t. t ≡ tip_of (with_record (ledger tip old.now) saved)) }
     ensures tip { IfOk result (λ t. IsTip stored.now.length t.header t.end) }
-    ensures size { R.sectors rig.new ≡ R.sectors rig.old }
-    ensures failures { FailureCountSpec result (R.failed rig.old) (R.failed rig.new) }
+    ensures call { IsCall result (R.seen rig.old) (R.seen rig.new) }
 {
     let end = append(
         rig,
@@ -193,7 +191,7 @@ pub(crate) fn store<R: Rig, A: Allocator + Copy + Drop>(
     count: usize,
     slot: Option<SlotChange>,
 ) -> Result<Tip, Failed>
-    requires sectors { least_size ≤ R.sectors rig.old }
+    requires sectors { least_size ≤ (R.seen rig.old).sectors }
     requires tip { IsTip old.now.length tip.header tip.end }
     requires slot { slot ≡ first_change old.now.tools stored.now.tools }
     requires one { IsOneSlotFrom old.now.tools stored.now.tools }
@@ -205,19 +203,18 @@ pub(crate) fn store<R: Rig, A: Allocator + Copy + Drop>(
     requires entries { stored.now.entries ≤ greatest_count }
     requires storable { IsStorable stored.now }
     requires long { stored.now.length ≡ old.now.length }
-    ensures stops { IfHonest (R.honest rig.old) (R.honest rig.new)
-        ((before : DurableState) → IsAtEnd (R.trace rig.old) tip.header before tip.end
+    ensures stops { IfHonest (R.seen rig.old) (R.seen rig.new)
+        ((before : DurableState) → IsAtEnd (R.seen rig.old).trace tip.header before tip.end
         → before.saved ≡ old.now
-        → StoreRecordSpec result before (record stored.now { room = old.now.room }) (R.trace rig.old) (R.trace rig.new)) }
-    ensures stores { IfHonest (R.honest rig.old) (R.honest rig.new)
+        → StoreRecordSpec result before (record stored.now { room = old.now.room }) (R.seen rig.old).trace (R.seen rig.new).trace) }
+    ensures stores { IfHonest (R.seen rig.old) (R.seen rig.new)
         (StoresRecord result (ledger tip old.now) (record stored.now { room = old.now.room })
-        (R.trace rig.old) (R.trace rig.new)) }
+        (R.seen rig.old).trace (R.seen rig.new).trace) }
     // without honesty too
     ensures ledger { let saved = record stored.now { room = old.now.room } in
         IfOk result (λ t. IsLedgerAfter (ledger tip old.now) saved (ledger t saved)) }
     ensures tip { IfOk result (λ t. IsTip stored.now.length t.header t.end) }
-    ensures size { R.sectors rig.new ≡ R.sectors rig.old }
-    ensures failures { FailureCountSpec result (R.failed rig.old) (R.failed rig.new) }
+    ensures call { IsCall result (R.seen rig.old) (R.seen rig.new) }
 {
     let tip = make_room(rig, tip, old, count)?;
     append_to(rig, tip, old, stored, count, slot)
@@ -230,18 +227,20 @@ pub(crate) fn store_half<R: Rig, A: Allocator + Copy + Drop>(
     stored: &mut Stored<A>,
     half: &Half,
 ) -> Result<Tip, Failed>
-    requires sectors { least_size ≤ R.sectors rig.old }
+    requires sectors { least_size ≤ (R.seen rig.old).sectors }
     requires tip { IsTip stored.old.length tip.header tip.end }
     requires epoch { IsFullFor tip.header tip.end 0 → tip.header.epoch < greatest_count }
     requires entries { stored.old.entries ≤ greatest_count }
     requires storable { IsStorable stored.old }
     requires half { IsStorableHalf half.now }
-    ensures stops { IfHonest (R.honest rig.old) (R.honest rig.new)
-        ((before : DurableState) → IsAtEnd (R.trace rig.old) tip.header before tip.end
+    ensures stops { IfHonest (R.seen rig.old) (R.seen rig.new)
+        ((before : DurableState) → IsAtEnd (R.seen rig.old).trace tip.header before tip.end
         → before.saved ≡ stored.old
-        → StoreRecordSpec result before (record stored.old { half = Some half.now }) (R.trace rig.old) (R.trace rig.new)) }
-    ensures stores { IfHonest (R.honest rig.old) (R.honest rig.new)
-        (StoresRecord result (ledger tip stored.old) (record stored.old { half = Some half.now }) (R.trace rig.old) (R.trace rig.new)) }
+        → StoreRecordSpec result before (record stored.old { half = Some half.now })
+        (R.seen rig.old).trace (R.seen rig.new).trace) }
+    ensures stores { IfHonest (R.seen rig.old) (R.seen rig.new)
+        (StoresRecord result (ledger tip stored.old) (record stored.old { half = Some half.now })
+        (R.seen rig.old).trace (R.seen rig.new).trace) }
     ensures saved { OnOk result (stored.new ≡ record stored.old { half = Some half.now }) }
     // without honesty too
     ensures ledger { let saved = record stored.old { half = Some half.now } in
@@ -252,8 +251,7 @@ pub(crate) fn store_half<R: Rig, A: Allocator + Copy + Drop>(
     ensures length { stored.new.length ≡ stored.old.length }
     ensures limit { stored.new.room ≡ stored.old.room }
     ensures tip { IfOk result (λ t. IsTip stored.old.length t.header t.end) }
-    ensures size { R.sectors rig.new ≡ R.sectors rig.old }
-    ensures failures { FailureCountSpec result (R.failed rig.old) (R.failed rig.new) }
+    ensures call { IsCall result (R.seen rig.old) (R.seen rig.new) }
 {
     let tip = make_room(rig, tip, stored, 0)?;
     stored.take_half(half);

@@ -4,7 +4,7 @@
 //! in what is stored.
 ghost use Rattle.std.specs.Prelude.{◌≡◌, ◌≤◌, ◌<◌, ◌+◌, length, IfOk, IfSome};
 ghost use Rattle.std.specs.Bool.{OnTrue};
-ghost use Rattle.ng_rig.specs.Calls.{IfHonest, FailureCountSpec};
+ghost use Rattle.ng_rig.specs.Calls.{IfHonest, IsCall};
 ghost use Rattle.ng_layout.specs.Limits.{greatest_count, longest_program, record_changes};
 ghost use Rattle.ng_params.specs.Numbers.{parameter_count};
 ghost use Rattle.ng_layout.specs.declared.header.Format.TheVariants.{One};
@@ -51,12 +51,11 @@ fn begins_record(first: PartLabel, header: Header, end: LogEnd) -> bool
 
 /// Whether the later parts of a record are there. The first one is in this sector of the log.
 fn later_parts_stand<R: Rig>(rig: &mut R, at: usize, first: PartLabel) -> Result<bool, Failed>
-    requires sectors { least_size ≤ R.sectors rig.old }
+    requires sectors { least_size ≤ (R.seen rig.old).sectors }
     requires room { at + first.parts ≤ longest_log }
-    ensures read { IfHonest (R.honest rig.old) (R.honest rig.new)
-        (ReadSpec result (LaterPartsStand at (label_of first)) (R.trace rig.old) (R.trace rig.new)) }
-    ensures size { R.sectors rig.new ≡ R.sectors rig.old }
-    ensures failures { FailureCountSpec result (R.failed rig.old) (R.failed rig.new) }
+    ensures read { IfHonest (R.seen rig.old) (R.seen rig.new)
+        (ReadSpec result (LaterPartsStand at (label_of first)) (R.seen rig.old).trace (R.seen rig.new).trace) }
+    ensures call { IsCall result (R.seen rig.old) (R.seen rig.new) }
 {
     for part in 1..first.parts {
         let sector = read_sector(rig, LOG_FIRST + at + part as usize)?;
@@ -75,16 +74,15 @@ fn take_all_changes<R: Rig, A: Allocator + Copy + Drop>(
     changes: usize,
     table: &mut Params<A>,
 ) -> Result<bool, Failed>
-    requires sectors { least_size ≤ R.sectors rig.old }
+    requires sectors { least_size ≤ (R.seen rig.old).sectors }
     requires few { changes ≤ record_changes }
     requires room { at + parts_for changes ≤ longest_log }
     requires long { length table.old ≡ parameter_count }
-    ensures read { IfHonest (R.honest rig.old) (R.honest rig.new)
-        (ReadSpec result (MakesAllOrDamaged at changes table.old table.new) (R.trace rig.old) (R.trace rig.new)) }
+    ensures read { IfHonest (R.seen rig.old) (R.seen rig.new)
+        (ReadSpec result (MakesAllOrDamaged at changes table.old table.new) (R.seen rig.old).trace (R.seen rig.new).trace) }
     // also if the device isn't honest
     ensures long { IfOk result (λ whole. OnTrue whole (length table.new ≡ parameter_count)) }
-    ensures size { R.sectors rig.new ≡ R.sectors rig.old }
-    ensures failures { FailureCountSpec result (R.failed rig.old) (R.failed rig.new) }
+    ensures call { IsCall result (R.seen rig.old) (R.seen rig.new) }
 {
     for i in 0..parts_for(changes) - 1 {
         let sector = read_sector(rig, LOG_FIRST + at + 1 + i)?;
@@ -106,24 +104,23 @@ fn take_record<R: Rig, A: Allocator + Copy + Drop>(
     header: Header,
     stored: &mut Stored<A>,
 ) -> Result<bool, Failed>
-    requires sectors { least_size ≤ R.sectors rig.old }
+    requires sectors { least_size ≤ (R.seen rig.old).sectors }
     requires few { changes ≤ record_changes }
     requires room { at + parts_for changes ≤ longest_log }
     requires program { header.length ≤ stored.old.room }
     requires most { stored.old.room ≤ longest_program }
     requires tools { IsStorableTools stored.old.tools }
     requires long { length stored.old.setup.params ≡ parameter_count }
-    ensures read { IfHonest (R.honest rig.old) (R.honest rig.new)
+    ensures read { IfHonest (R.seen rig.old) (R.seen rig.new)
         (ReadSpec result (TakesRecord header.format header.length first.now at changes stored.old stored.new)
-        (R.trace rig.old) (R.trace rig.new)) }
+        (R.seen rig.old).trace (R.seen rig.new).trace) }
     // also if the device isn't honest
     ensures storable { IfOk result (λ whole. OnTrue whole (IsStorable stored.new)) }
     ensures count { IfOk result (λ whole. OnTrue whole (stored.new.entries ≤ greatest_count)) }
     ensures long { IfOk result (λ whole. OnTrue whole (stored.new.length ≡ header.length)) }
     ensures none { IfOk result (λ whole. OnTrue whole (header.format ≡ One → stored.new.tools ≡ stored.old.tools)) }
     ensures limit { stored.new.room ≡ stored.old.room }
-    ensures size { R.sectors rig.new ≡ R.sectors rig.old }
-    ensures failures { FailureCountSpec result (R.failed rig.old) (R.failed rig.new) }
+    ensures call { IsCall result (R.seen rig.old) (R.seen rig.new) }
 {
     match decoded_state_of_part(first, header.length) {
         None => Ok(false),
@@ -147,14 +144,14 @@ fn next_record<R: Rig, A: Allocator + Copy + Drop>(
     end: LogEnd,
     stored: &mut Stored<A>,
 ) -> Result<Next, Failed>
-    requires sectors { least_size ≤ R.sectors rig.old }
+    requires sectors { least_size ≤ (R.seen rig.old).sectors }
     requires room { end.sector ≤ log_size_of header }
     requires number { end.number ≤ end.sector }
     requires storable { IsStorable stored.old }
     requires count { stored.old.entries ≤ greatest_count }
     requires long { stored.old.length ≡ header.length }
-    ensures read { IfHonest (R.honest rig.old) (R.honest rig.new)
-        (ReadSpec result (IsNextOf header end stored.old stored.new) (R.trace rig.old) (R.trace rig.new)) }
+    ensures read { IfHonest (R.seen rig.old) (R.seen rig.new)
+        (ReadSpec result (IsNextOf header end stored.old stored.new) (R.seen rig.old).trace (R.seen rig.new).trace) }
     // also if the device isn't honest
     ensures on { IfOk result (IsOn header end) }
     ensures storable { IfOk result (λ next. Goes next (IsStorable stored.new)) }
@@ -162,8 +159,7 @@ fn next_record<R: Rig, A: Allocator + Copy + Drop>(
     ensures long { IfOk result (λ next. Goes next (stored.new.length ≡ header.length)) }
     ensures none { IfOk result (λ next. Goes next (header.format ≡ One → stored.new.tools ≡ stored.old.tools)) }
     ensures limit { stored.new.room ≡ stored.old.room }
-    ensures size { R.sectors rig.new ≡ R.sectors rig.old }
-    ensures failures { FailureCountSpec result (R.failed rig.old) (R.failed rig.new) }
+    ensures call { IsCall result (R.seen rig.old) (R.seen rig.new) }
 {
     if end.sector == header.log_size() {
         return Ok(Next::Last);
@@ -204,12 +200,12 @@ pub fn read_log<R: Rig, A: Allocator + Copy + Drop>(
     header: Header,
     stored: &mut Stored<A>,
 ) -> Result<Option<LogEnd>, Failed>
-    requires sectors { least_size ≤ R.sectors rig.old }
+    requires sectors { least_size ≤ (R.seen rig.old).sectors }
     requires storable { IsStorable stored.old }
     requires count { stored.old.entries ≤ greatest_count }
     requires long { stored.old.length ≡ header.length }
-    ensures read { IfHonest (R.honest rig.old) (R.honest rig.new)
-        (ReadSpec result (IsRunOf header stored.old stored.new) (R.trace rig.old) (R.trace rig.new)) }
+    ensures read { IfHonest (R.seen rig.old) (R.seen rig.new)
+        (ReadSpec result (IsRunOf header stored.old stored.new) (R.seen rig.old).trace (R.seen rig.new).trace) }
     // also if the device isn't honest
     ensures room { IfOk result (λ end. IfSome end (λ e. e.sector ≤ log_size_of header)) }
     ensures number { IfOk result (λ end. IfSome end (λ e. e.number ≤ e.sector)) }
@@ -218,8 +214,7 @@ pub fn read_log<R: Rig, A: Allocator + Copy + Drop>(
     ensures long { IfOk result (λ end. IfSome end (λ e. stored.new.length ≡ header.length)) }
     ensures none { IfOk result (λ end. IfSome end (λ e. header.format ≡ One → stored.new.tools ≡ stored.old.tools)) }
     ensures limit { stored.new.room ≡ stored.old.room }
-    ensures size { R.sectors rig.new ≡ R.sectors rig.old }
-    ensures failures { FailureCountSpec result (R.failed rig.old) (R.failed rig.new) }
+    ensures call { IsCall result (R.seen rig.old) (R.seen rig.new) }
 {
     let mut reached = LogEnd::START;
     'records: for _ in 0..header.log_size() {

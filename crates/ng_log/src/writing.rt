@@ -1,6 +1,6 @@
 //! Writing a record after the last one.
 ghost use Rattle.std.specs.Prelude.{◌≡◌, ◌≤◌, ◌+◌, length, IfOk, IfSome};
-ghost use Rattle.ng_rig.specs.Calls.{IfHonest, FailureCountSpec};
+ghost use Rattle.ng_rig.specs.Calls.{IfHonest, IsCall};
 ghost use Rattle.ng_layout.specs.Limits.{greatest_count, part_changes};
 ghost use Rattle.ng_params.specs.Numbers.{parameter_count};
 ghost use Rattle.ng_layout.specs.Areas.{log_size_of, least_size, longest_log};
@@ -47,16 +47,15 @@ fn write_parts<R: Rig, A: Allocator + Copy + Drop>(
     count: usize,
     slot: Option<SlotChange>,
 ) -> Result<(), Failed>
-    requires sectors { least_size ≤ R.sectors rig.old }
+    requires sectors { least_size ≤ (R.seen rig.old).sectors }
     requires count { count ≡ length (differences old.now stored.now.setup.params) }
     requires few { count ≤ parameter_count }
     requires room { end.sector + parts_for count ≤ longest_log }
     requires entries { stored.now.entries ≤ greatest_count }
     requires storable { IsStorable stored.now }
-    ensures writes { IfHonest (R.honest rig.old) (R.honest rig.new)
-        (WritesParts result (record_from epoch end old.now slot stored.now) (R.trace rig.old) (R.trace rig.new)) }
-    ensures size { R.sectors rig.new ≡ R.sectors rig.old }
-    ensures failures { FailureCountSpec result (R.failed rig.old) (R.failed rig.new) }
+    ensures writes { IfHonest (R.seen rig.old) (R.seen rig.new)
+        (WritesParts result (record_from epoch end old.now slot stored.now) (R.seen rig.old).trace (R.seen rig.new).trace) }
+    ensures call { IsCall result (R.seen rig.old) (R.seen rig.new) }
 {
     let parts = parts_for(count);
     let first = PartLabel {
@@ -99,7 +98,7 @@ pub fn append<R: Rig, A: Allocator + Copy + Drop>(
     count: usize,
     slot: Option<SlotChange>,
 ) -> Result<LogEnd, Failed>
-    requires sectors { least_size ≤ R.sectors rig.old }
+    requires sectors { least_size ≤ (R.seen rig.old).sectors }
     requires table { length old.now ≡ parameter_count }
     requires count { count ≡ length (differences old.now stored.now.setup.params) }
     requires few { count ≤ parameter_count }
@@ -109,16 +108,15 @@ pub fn append<R: Rig, A: Allocator + Copy + Drop>(
     requires storable { IsStorable stored.now }
     requires long { stored.now.length ≡ header.length }
     requires format { header.format ≡ Two }
-    ensures appends { IfHonest (R.honest rig.old) (R.honest rig.new) ((before : DurableState) → IsAtEnd (R.trace rig.old) header before end
+    ensures appends { IfHonest (R.seen rig.old) (R.seen rig.new) ((before : DurableState) → IsAtEnd (R.seen rig.old).trace header before end
         → before.saved.setup.params ≡ old.now → IfSome slot (IsStorableChange before.saved.tools)
         → with_change slot before.saved.tools ≡ stored.now.tools → before.saved.room ≡ stored.now.room
-        → AppendSpec result header before stored.now (R.trace rig.old) (R.trace rig.new)) }
+        → AppendSpec result header before stored.now (R.seen rig.old).trace (R.seen rig.new).trace) }
     // whatever is on the device
-    ensures writes { IfHonest (R.honest rig.old) (R.honest rig.new)
-        (WritesRecord result (record_from header.epoch end old.now slot stored.now) (R.trace rig.old) (R.trace rig.new)) }
+    ensures writes { IfHonest (R.seen rig.old) (R.seen rig.new)
+        (WritesRecord result (record_from header.epoch end old.now slot stored.now) (R.seen rig.old).trace (R.seen rig.new).trace) }
     ensures end { IfOk result (λ after. after ≡ end_after end count) }
-    ensures size { R.sectors rig.new ≡ R.sectors rig.old }
-    ensures failures { FailureCountSpec result (R.failed rig.old) (R.failed rig.new) }
+    ensures call { IsCall result (R.seen rig.old) (R.seen rig.new) }
 {
     write_parts(rig, header.epoch, end, old, stored, count, slot)?;
     rig.sync()?;

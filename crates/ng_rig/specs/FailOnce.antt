@@ -1,5 +1,6 @@
 -- A device that fails one call once (own).
 use Rattle.std.specs.Prelude.{◌≡◌, ◌+◌, ◌-◌, ◌==◌, if◌then◌else◌, ℕ, Option, Some, None, Result, IsErr}
+use Rattle.ng_rig.specs.Device.{Device}
 use Rattle.ng_rig.specs.Calls.{FailureCountSpec}
 use Rattle.ng_rig.specs.declared.fail.FailRig.{FailRig}
 
@@ -11,6 +12,10 @@ inner rig = rig.rig
 abbrev pub failure_count : {R : Type 0} → FailRig R → ℕ
 failure_count rig = rig.failures
 
+-- the device as contracts see it: the one that calls are passed on to, but for the failures
+abbrev pub device_of : {R : Type 0} → (R → Device) → FailRig R → Device
+device_of seen rig = record (seen (inner rig)) { failed = failure_count rig }
+
 -- how many calls are passed on before the one that fails; None if that one has failed
 abbrev pub calls_before : {R : Type 0} → FailRig R → Option ℕ
 calls_before rig = rig.before
@@ -21,7 +26,7 @@ after_one None = None
 after_one (Some n) = if n == 0 then None else Some (n - 1)
 
 -- One call fails without effect; every other call is passed on, and fails exactly if the inner device fails.
-pub record FailRigSpec {R T E : Type 0} (result : Result T E) (failed : R → ℕ) (old new : FailRig R) : Type 0 where
-  pub sooner : (n : ℕ) → calls_before old ≡ Some (n + 1) → (calls_before new ≡ Some n) × FailureCountSpec result (failed (inner old)) (failed (inner new))
+pub record FailRigSpec {R T E : Type 0} (result : Result T E) (seen : R → Device) (old new : FailRig R) : Type 0 where
+  pub sooner : (n : ℕ) → calls_before old ≡ Some (n + 1) → (calls_before new ≡ Some n) × FailureCountSpec result (seen (inner old)).failed (seen (inner new)).failed
   pub failing : calls_before old ≡ Some 0 → (calls_before new ≡ None) × IsErr result × (inner new ≡ inner old)
-  pub later : calls_before old ≡ None → (calls_before new ≡ None) × FailureCountSpec result (failed (inner old)) (failed (inner new))
+  pub later : calls_before old ≡ None → (calls_before new ≡ None) × FailureCountSpec result (seen (inner old)).failed (seen (inner new)).failed

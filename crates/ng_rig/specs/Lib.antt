@@ -1,4 +1,5 @@
 pub mod Calls
+pub mod Device
 pub mod Extent
 pub mod FailOnce
 pub mod Fuse

@@ -22,7 +22,7 @@ impl<R: Rig> FuseRig<R> {
     pub fn new(rig: R, calls: u64) -> Self
         ensures inner { inner result ≡ rig }
         ensures calls { calls_left result ≡ calls }
-        ensures failures { failure_count result ≡ R.failed rig }
+        ensures failures { failure_count result ≡ (R.seen rig).failed }
     {
         let failures = rig.failures();
         FuseRig {
@@ -81,16 +81,10 @@ impl<R> FuseRig<R> {
 impl<R: Rig> Rig for FuseRig<R> {
     ghost use Rattle.std.specs.Prelude.{◌≡◌, ◌<◌, OnOk};
     ghost use Rattle.ng_rig.specs.Trace.{reads};
-    ghost use Rattle.ng_rig.specs.Calls.{IfHonest, WriteSpec, SyncSpec, HandOutSpec, FailureCountSpec};
-    ghost use Rattle.ng_rig.specs.Fuse.{inner, failure_count, calls_left, FuseRigSpec};
+    ghost use Rattle.ng_rig.specs.Calls.{IfHonest, WriteSpec, SyncSpec, HandOutSpec, IsCall};
+    ghost use Rattle.ng_rig.specs.Fuse.{inner, calls_left, device_of, FuseRigSpec};
 
-    ghost trace = { λ rig. R.trace (inner rig) };
-
-    ghost honest = { λ rig. R.honest (inner rig) };
-
-    ghost sectors = { λ rig. R.sectors (inner rig) };
-
-    ghost failed = { failure_count };
+    ghost seen = { device_of R.seen };
 
     fn size(&self) -> usize {
         self.rig.size()
@@ -101,14 +95,13 @@ impl<R: Rig> Rig for FuseRig<R> {
     }
 
     fn read(&mut self, sector: usize, into: &mut [u8; 512]) -> Result<(), Failed>
-        requires { sector < R.sectors (inner self.old) }
-        ensures bytes { R.honest (inner self.old) → OnOk result (into.new ≡ reads (R.trace (inner self.old)) sector) }
+        requires { sector < (R.seen (inner self.old)).sectors }
+        ensures bytes { (R.seen (inner self.old)).honest → OnOk result (into.new ≡ reads (R.seen (inner self.old)).trace sector) }
         ensures untouched { calls_left self.old ≡ 0 → into.new ≡ into.old }
-        ensures trace { IfHonest (R.honest (inner self.old)) (R.honest (inner self.new))
-            (R.trace (inner self.new) ≡ R.trace (inner self.old)) }
-        ensures size { R.sectors (inner self.new) ≡ R.sectors (inner self.old) }
-        ensures failures { FailureCountSpec result (failure_count self.old) (failure_count self.new) }
-        ensures fuse { FuseRigSpec result R.failed self.old self.new }
+        ensures trace { IfHonest (device_of R.seen self.old) (device_of R.seen self.new)
+            ((R.seen (inner self.new)).trace ≡ (R.seen (inner self.old)).trace) }
+        ensures call { IsCall result (device_of R.seen self.old) (device_of R.seen self.new) }
+        ensures fuse { FuseRigSpec result R.seen self.old self.new }
     {
         let read = if self.passes() {
             self.rig.read(sector, into)
@@ -119,12 +112,11 @@ impl<R: Rig> Rig for FuseRig<R> {
     }
 
     fn write(&mut self, sector: usize, bytes: &[u8; 512]) -> Result<(), Failed>
-        requires { sector < R.sectors (inner self.old) }
-        ensures trace { IfHonest (R.honest (inner self.old)) (R.honest (inner self.new))
-            (WriteSpec result sector bytes.now (R.trace (inner self.old)) (R.trace (inner self.new))) }
-        ensures size { R.sectors (inner self.new) ≡ R.sectors (inner self.old) }
-        ensures failures { FailureCountSpec result (failure_count self.old) (failure_count self.new) }
-        ensures fuse { FuseRigSpec result R.failed self.old self.new }
+        requires { sector < (R.seen (inner self.old)).sectors }
+        ensures trace { IfHonest (device_of R.seen self.old) (device_of R.seen self.new)
+            (WriteSpec result sector bytes.now (R.seen (inner self.old)).trace (R.seen (inner self.new)).trace) }
+        ensures call { IsCall result (device_of R.seen self.old) (device_of R.seen self.new) }
+        ensures fuse { FuseRigSpec result R.seen self.old self.new }
     {
         let written = if self.passes() {
             self.rig.write(sector, bytes)
@@ -135,11 +127,10 @@ impl<R: Rig> Rig for FuseRig<R> {
     }
 
     fn sync(&mut self) -> Result<(), Failed>
-        ensures trace { IfHonest (R.honest (inner self.old)) (R.honest (inner self.new))
-            (SyncSpec result (R.trace (inner self.old)) (R.trace (inner self.new))) }
-        ensures size { R.sectors (inner self.new) ≡ R.sectors (inner self.old) }
-        ensures failures { FailureCountSpec result (failure_count self.old) (failure_count self.new) }
-        ensures fuse { FuseRigSpec result R.failed self.old self.new }
+        ensures trace { IfHonest (device_of R.seen self.old) (device_of R.seen self.new)
+            (SyncSpec result (R.seen (inner self.old)).trace (R.seen (inner self.new)).trace) }
+        ensures call { IsCall result (device_of R.seen self.old) (device_of R.seen self.new) }
+        ensures fuse { FuseRigSpec result R.seen self.old self.new }
     {
         let synced = if self.passes() {
             self.rig.sync()
@@ -150,11 +141,10 @@ impl<R: Rig> Rig for FuseRig<R> {
     }
 
     fn hand_out(&mut self, item: Item) -> Result<(), Failed>
-        ensures trace { IfHonest (R.honest (inner self.old)) (R.honest (inner self.new))
-            (HandOutSpec result item (R.trace (inner self.old)) (R.trace (inner self.new))) }
-        ensures size { R.sectors (inner self.new) ≡ R.sectors (inner self.old) }
-        ensures failures { FailureCountSpec result (failure_count self.old) (failure_count self.new) }
-        ensures fuse { FuseRigSpec result R.failed self.old self.new }
+        ensures trace { IfHonest (device_of R.seen self.old) (device_of R.seen self.new)
+            (HandOutSpec result item (R.seen (inner self.old)).trace (R.seen (inner self.new)).trace) }
+        ensures call { IsCall result (device_of R.seen self.old) (device_of R.seen self.new) }
+        ensures fuse { FuseRigSpec result R.seen self.old self.new }
     {
         let handed = if self.passes() {
             self.rig.hand_out(item)

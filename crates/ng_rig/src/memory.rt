@@ -119,16 +119,10 @@ impl<A: Allocator + Copy + Drop> MemoryRig<A> {
 impl<A: Allocator + Copy + Drop> Rig for MemoryRig<A> {
     ghost use Rattle.std.specs.Prelude.{◌≡◌, ◌<◌, IsOk};
     ghost use Rattle.ng_rig.specs.Trace.{Wrote, Synced, Handed, reads};
-    ghost use Rattle.ng_rig.specs.Calls.{FailureCountSpec, KeepsOrNot};
-    ghost use Rattle.ng_rig.specs.MemoryRig.{trace_of, sector_count, failure_count};
+    ghost use Rattle.ng_rig.specs.Calls.{IsCall, KeepsOrNot};
+    ghost use Rattle.ng_rig.specs.MemoryRig.{trace_of, sector_count, failure_count, device_of};
 
-    ghost trace = { trace_of };
-
-    ghost honest = { λ _. Unit {0} };
-
-    ghost sectors = { sector_count };
-
-    ghost failed = { failure_count };
+    ghost seen = { device_of };
 
     fn size(&self) -> usize {
         self.first.len()
@@ -154,8 +148,7 @@ impl<A: Allocator + Copy + Drop> Rig for MemoryRig<A> {
     fn write(&mut self, sector: usize, bytes: &[u8; 512]) -> Result<(), Failed>
         requires { sector < sector_count self.old }
         ensures trace { KeepsOrNot result (Wrote sector bytes.now (trace_of self.old)) (trace_of self.old) (trace_of self.new) }
-        ensures size { sector_count self.new ≡ sector_count self.old }
-        ensures failures { FailureCountSpec result (failure_count self.old) (failure_count self.new) }
+        ensures call { IsCall result (device_of self.old) (device_of self.new) }
     {
         match self.calls.push(Call::Write(sector, *bytes)) {
             Ok(()) => {
@@ -168,8 +161,7 @@ impl<A: Allocator + Copy + Drop> Rig for MemoryRig<A> {
 
     fn sync(&mut self) -> Result<(), Failed>
         ensures trace { KeepsOrNot result (Synced (trace_of self.old)) (trace_of self.old) (trace_of self.new) }
-        ensures size { sector_count self.new ≡ sector_count self.old }
-        ensures failures { FailureCountSpec result (failure_count self.old) (failure_count self.new) }
+        ensures call { IsCall result (device_of self.old) (device_of self.new) }
     {
         match self.calls.push(Call::Sync) {
             Ok(()) => Ok(()),
@@ -179,8 +171,7 @@ impl<A: Allocator + Copy + Drop> Rig for MemoryRig<A> {
 
     fn hand_out(&mut self, item: Item) -> Result<(), Failed>
         ensures trace { KeepsOrNot result (Handed item (trace_of self.old)) (trace_of self.old) (trace_of self.new) }
-        ensures size { sector_count self.new ≡ sector_count self.old }
-        ensures failures { FailureCountSpec result (failure_count self.old) (failure_count self.new) }
+        ensures call { IsCall result (device_of self.old) (device_of self.new) }
     {
         match self.calls.push(Call::Hand(item)) {
             Ok(()) => Ok(()),

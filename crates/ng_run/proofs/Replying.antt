@@ -3,7 +3,7 @@ use Rattle.std.proofs.Common.{ℕ, List, [], ◌∷◌, ◌++◌, take, Option, 
 use Rattle.std.specs.Io.KnownBytes.{Appends}
 use Rattle.ng_text.proofs.Streams.{Appends-nil, Appends-trans}
 use Rattle.ng_num.specs.declared.fault.Fault.{Fault}
-use Rattle.ng_rig.specs.Trace.{Trace}
+use Rattle.ng_rig.specs.Device.{Device}
 use Rattle.ng_commands.specs.Replies.{refused_line, reply_line, ticks_line}
 use Rattle.ng_session.specs.declared.event.Event.{Event}
 use Rattle.ng_session.specs.declared.reply.Reply.{Reply}
@@ -25,36 +25,36 @@ told_after x (Err fault) old mid new answered p q =
     let line = take q.0 (last_line x.order x.replies) in
     (lines ++ line, inl (answered, (q.0, refl)), Appends-trans old mid new lines line p q.1)
 
-pub answers_event : {A R T : Type 0} (honest : R → Type 0) (trace : R → Trace) (failed sectors : R → ℕ) (event : Event A) (r : Reply) (result : Result T OutputError) (old new : Option (List ℕ)) (before after : ControllerModel R)
-    → IsAnsweredEvent honest trace failed sectors event r before after → Sends old new (reply_line r) result → AnswerSpec honest trace failed sectors (Give event) result old new before after
-answers_event {A} honest trace failed sectors event r result old new before after t p = record {
+pub answers_event : {A R T : Type 0} (seen : R → Device) (event : Event A) (r : Reply) (result : Result T OutputError) (old new : Option (List ℕ)) (before after : ControllerModel R)
+    → IsAnsweredEvent seen event r before after → Sends old new (reply_line r) result → AnswerSpec seen (Give event) result old new before after
+answers_event {A} seen event r result old new before after t p = record {
   replies = r ∷ [];
-  given = turns_one honest trace failed sectors event r before after t;
+  given = turns_one seen event r before after t;
   tells = told_after {A = A} (record { order = Give event; replies = r ∷ [] }) result old old new refl (Appends-nil old)
       (subst (λ (l : List ℕ). Sends old new l result) (sym (append-nil (reply_line r))) p);
 }
 
-pub answers_refusal : {A R T : Type 0} (honest : R → Type 0) (trace : R → Trace) (failed sectors : R → ℕ) (fault : Fault) (result : Result T OutputError) (old new : Option (List ℕ)) (c : ControllerModel R)
-    → Sends old new (refused_line fault) result → AnswerSpec {A = A} honest trace failed sectors (Refuse fault) result old new c c
-answers_refusal {A} honest trace failed sectors fault result old new c p = record {
+pub answers_refusal : {A R T : Type 0} (seen : R → Device) (fault : Fault) (result : Result T OutputError) (old new : Option (List ℕ)) (c : ControllerModel R)
+    → Sends old new (refused_line fault) result → AnswerSpec {A = A} seen (Refuse fault) result old new c c
+answers_refusal {A} seen fault result old new c p = record {
   replies = [];
   given = refl;
   tells = told_after {A = A} (record { order = Refuse fault; replies = [] }) result old old new refl (Appends-nil old) p;
 }
 
 -- after the lines of ticks, how many were made
-pub answers_ticks : {A R T : Type 0} (honest : R → Type 0) (trace : R → Trace) (failed sectors : R → ℕ) (most made : ℕ) (result : Result T OutputError) (old mid new : Option (List ℕ)) (before after : ControllerModel R)
-    → TickOnSpec A honest trace failed sectors most (Ok made) old mid before after → Sends mid new (ticks_line made) result → AnswerSpec {A = A} honest trace failed sectors (Ticks most) result old new before after
-answers_ticks {A} honest trace failed sectors most made result old mid new before after p q = record {
+pub answers_ticks : {A R T : Type 0} (seen : R → Device) (most made : ℕ) (result : Result T OutputError) (old mid new : Option (List ℕ)) (before after : ControllerModel R)
+    → TickOnSpec A seen most (Ok made) old mid before after → Sends mid new (ticks_line made) result → AnswerSpec {A = A} seen (Ticks most) result old new before after
+answers_ticks {A} seen most made result old mid new before after p q = record {
   replies = p.replies;
   given = p.given;
   tells = told_after {A = A} (record { order = Ticks most; replies = p.replies }) result old mid new p.makes.0 p.makes.2
       (subst (λ (n : ℕ). Sends mid new (ticks_line n) result) p.makes.1 q);
 }
 
-pub answers_ticks_broken : {A R T : Type 0} (honest : R → Type 0) (trace : R → Trace) (failed sectors : R → ℕ) (most : ℕ) (fault told : OutputError) (old new : Option (List ℕ)) (before after : ControllerModel R)
-    → TickOnSpec A honest trace failed sectors most (Err fault) old new before after → AnswerSpec {A = A} {T = T} honest trace failed sectors (Ticks most) (Err told) old new before after
-answers_ticks_broken {A} honest trace failed sectors most fault told old new before after p = record {
+pub answers_ticks_broken : {A R T : Type 0} (seen : R → Device) (most : ℕ) (fault told : OutputError) (old new : Option (List ℕ)) (before after : ControllerModel R)
+    → TickOnSpec A seen most (Err fault) old new before after → AnswerSpec {A = A} {T = T} seen (Ticks most) (Err told) old new before after
+answers_ticks_broken {A} seen most fault told old new before after p = record {
   replies = p.replies;
   given = p.given;
   tells = (p.makes.0, inr (most, refl, p.makes.1), p.makes.2);

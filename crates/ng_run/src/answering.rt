@@ -16,7 +16,7 @@ pub(crate) fn answer<W: Write, R: Rig, A: Allocator + Copy + Drop>(
     controller: &mut Controller<R, A>,
     order: Order<A>,
 ) -> Result<(), OutputError>
-    ensures { AnswerSpec R.honest R.trace R.failed R.sectors order result (W.contents writer.old) (W.contents writer.new) controller.old controller.new }
+    ensures { AnswerSpec R.seen order result (W.contents writer.old) (W.contents writer.new) controller.old controller.new }
 {
     match order {
         Order::Give(event) => {
@@ -39,7 +39,7 @@ fn tick_on<W: Write, R: Rig, A: Allocator + Copy + Drop>(
     controller: &mut Controller<R, A>,
     most: u32,
 ) -> Result<u32, OutputError>
-    ensures { TickOnSpec A R.honest R.trace R.failed R.sectors most result (W.contents writer.old) (W.contents writer.new) controller.old controller.new }
+    ensures { TickOnSpec A R.seen most result (W.contents writer.old) (W.contents writer.new) controller.old controller.new }
 {
     for made in 0..most {
         let reply = controller.on(Event::Tick);

@@ -29,7 +29,7 @@ pub fn console<I: Read, W: Write, R: Rig, A: Allocator + Copy + Drop>(
     settings: Settings,
 ) -> (u8, R)
     ensures range { result.0 ≤ 2 }
-    ensures console { ConsoleSpec A R.sectors R.failed R.honest R.trace settings rig (I.remaining reader.old) (W.contents writer.old) (W.contents writer.new) result }
+    ensures console { ConsoleSpec A R.seen settings rig (I.remaining reader.old) (W.contents writer.old) (W.contents writer.new) result }
 {
     let (ended, rig) = run(alloc, reader, writer, rig, settings);
     (status(&ended), rig)
@@ -43,7 +43,7 @@ fn run<I: Read, W: Write, R: Rig, A: Allocator + Copy + Drop>(
     rig: R,
     settings: Settings,
 ) -> (Result<ConsoleEnd, ConsoleAbort>, R)
-    ensures { ConsoleRunSpec A R.sectors R.failed R.honest R.trace settings rig (I.remaining reader.old) (W.contents writer.old) (W.contents writer.new) result }
+    ensures { ConsoleRunSpec A R.seen settings rig (I.remaining reader.old) (W.contents writer.old) (W.contents writer.new) result }
 {
     match power_on(alloc, rig, settings) {
         Ok(controller) => {

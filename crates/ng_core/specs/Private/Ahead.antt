@@ -2,6 +2,7 @@
 use Rattle.std.specs.Prelude.{◌≡◌, ℕ, List, Result, IfOk, IfErr}
 use Rattle.ng_num.specs.declared.fault.Fault.{Fault}
 use Rattle.ng_num.specs.declared.fault.Fault.TheVariants.{DeviceFailed}
+use Rattle.ng_rig.specs.Device.{Device}
 use Rattle.ng_rig.specs.Trace.{Trace}
 use Rattle.ng_rig.specs.Calls.{IfHonest}
 use Rattle.ng_journal.specs.Journal.{IsBrokenBy, CountsFailure}
@@ -14,13 +15,13 @@ pub record StaysAtRest {R : Type 0} (answer : Result Unit Fault) (program : List
   pub rests : IfOk answer (λ _. IsAtRestWith trace_new new program)
 
 -- The session stays as it is; what was read is the program's. An error is the device's.
-pub record PlansAhead {R : Type 0} (honest : R → Type 0) (trace : R → Trace) (failed sectors : R → ℕ) (answer : Result Unit Fault) (old new : ControllerModel R) : Type 0 where
-  pub does : IfHonest (honest old.journal.rig) (honest new.journal.rig) ((program : List ℕ) → IsAtRestWith (trace old.journal.rig) old program
-      → StaysAtRest answer program new (trace old.journal.rig) (trace new.journal.rig))
+pub record PlansAhead {R : Type 0} (seen : R → Device) (answer : Result Unit Fault) (old new : ControllerModel R) : Type 0 where
+  pub does : IfHonest (seen old.journal.rig) (seen new.journal.rig) ((program : List ℕ) → IsAtRestWith (seen old.journal.rig).trace old program
+      → StaysAtRest answer program new (seen old.journal.rig).trace (seen new.journal.rig).trace)
   pub session : new.session ≡ old.session
   pub ledger : ledger_of new.journal ≡ ledger_of old.journal
   pub errors : IfErr answer (λ e. e ≡ DeviceFailed)
   pub broken : IsBrokenBy answer new.journal.broken
   pub equipment : new.equipment ≡ old.equipment
-  pub size : sectors new.journal.rig ≡ sectors old.journal.rig
-  pub failures : CountsFailure answer (failed old.journal.rig) (failed new.journal.rig)
+  pub size : (seen new.journal.rig).sectors ≡ (seen old.journal.rig).sectors
+  pub failures : CountsFailure answer (seen old.journal.rig).failed (seen new.journal.rig).failed

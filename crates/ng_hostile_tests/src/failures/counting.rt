@@ -28,15 +28,9 @@ impl<'a> Counting<'a> {
 }
 
 impl Rig for Counting<'_> {
-    ghost use Rattle.ng_rig.specs.MemoryRig.{trace_of, sector_count, failure_count};
+    ghost use Rattle.ng_rig.specs.MemoryRig.{device_of};
 
-    ghost trace = { λ counting. trace_of counting.rig };
-
-    ghost honest = { λ _. Unit {0} };
-
-    ghost sectors = { λ counting. sector_count counting.rig };
-
-    ghost failed = { λ counting. failure_count counting.rig };
+    ghost seen = { λ counting. device_of counting.rig };
 
     fn size(&self) -> usize {
         self.rig.size()

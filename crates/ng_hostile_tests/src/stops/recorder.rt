@@ -116,13 +116,7 @@ impl<R> Recorder<R> {
 }
 
 impl<R: Rig> Rig for Recorder<R> {
-    ghost trace = { λ recorder. R.trace recorder.rig };
-
-    ghost honest = { λ recorder. R.honest recorder.rig };
-
-    ghost sectors = { λ recorder. R.sectors recorder.rig };
-
-    ghost failed = { λ recorder. R.failed recorder.rig };
+    ghost seen = { λ recorder. R.seen recorder.rig };
 
     fn size(&self) -> usize {
         self.rig.size()

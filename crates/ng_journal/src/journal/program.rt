@@ -29,17 +29,17 @@ impl<R: Rig, A: Allocator + Copy + Drop> Journal<R, A> {
     pub fn first_kind(&mut self, place: u64) -> Result<LineKind, Fault>
         requires whole { self.old.broken ≡ false }
         requires place { place ≤ self.old.saved.length }
-        ensures reads { IfHonest (R.honest self.old.rig) (R.honest self.new.rig)
+        ensures reads { IfHonest (R.seen self.old.rig) (R.seen self.new.rig)
             (ReadSpec result (λ image kind. kind ≡ first_kind (lines_before (program_under self.old.header image) place))
-            (R.trace self.old.rig) (R.trace self.new.rig)) }
-        ensures kind { IfHonest (R.honest self.old.rig) (R.honest self.new.rig)
-            ((standing : DurableState) → IsDurablyAt (R.trace self.old.rig) self.old standing
-            → FirstKindSpec result self.new standing place (R.trace self.old.rig) (R.trace self.new.rig)) }
+            (R.seen self.old.rig).trace (R.seen self.new.rig).trace) }
+        ensures kind { IfHonest (R.seen self.old.rig) (R.seen self.new.rig)
+            ((standing : DurableState) → IsDurablyAt (R.seen self.old.rig).trace self.old standing
+            → FirstKindSpec result self.new standing place (R.seen self.old.rig).trace (R.seen self.new.rig).trace) }
         ensures ledger { ledger_of self.new ≡ ledger_of self.old }
         ensures broken { IsBrokenBy result self.new.broken }
         ensures errors { IfErr result (λ e. e ≡ DeviceFailed) }
-        ensures size { R.sectors self.new.rig ≡ R.sectors self.old.rig }
-        ensures failures { CountsFailure result (R.failed self.old.rig) (R.failed self.new.rig) }
+        ensures size { (R.seen self.new.rig).sectors ≡ (R.seen self.old.rig).sectors }
+        ensures failures { CountsFailure result (R.seen self.old.rig).failed (R.seen self.new.rig).failed }
     {
         let header = self.tip.header;
         match read_first_kind(&mut self.rig, header.area, place as usize) {
@@ -58,18 +58,18 @@ impl<R: Rig, A: Allocator + Copy + Drop> Journal<R, A> {
     pub fn program_line(&mut self, place: u64) -> Result<Option<ProgramLine>, Fault>
         requires whole { self.old.broken ≡ false }
         requires place { place ≤ self.old.saved.length }
-        ensures reads { IfHonest (R.honest self.old.rig) (R.honest self.new.rig)
+        ensures reads { IfHonest (R.seen self.old.rig) (R.seen self.new.rig)
             (ReadSpec result (λ image line. line ≡ program_line_at (program_under self.old.header image) place)
-            (R.trace self.old.rig) (R.trace self.new.rig)) }
-        ensures line { IfHonest (R.honest self.old.rig) (R.honest self.new.rig)
-            ((standing : DurableState) → IsDurablyAt (R.trace self.old.rig) self.old standing
-            → ProgramLineSpec result self.new standing place (R.trace self.old.rig) (R.trace self.new.rig)) }
+            (R.seen self.old.rig).trace (R.seen self.new.rig).trace) }
+        ensures line { IfHonest (R.seen self.old.rig) (R.seen self.new.rig)
+            ((standing : DurableState) → IsDurablyAt (R.seen self.old.rig).trace self.old standing
+            → ProgramLineSpec result self.new standing place (R.seen self.old.rig).trace (R.seen self.new.rig).trace) }
         ensures next { IfOk result (λ line. IfSome line (λ l. (place < l.next) × (l.next ≤ self.old.saved.length))) }
         ensures ledger { ledger_of self.new ≡ ledger_of self.old }
         ensures broken { IsBrokenBy result self.new.broken }
         ensures errors { IfErr result (λ e. e ≡ DeviceFailed) }
-        ensures size { R.sectors self.new.rig ≡ R.sectors self.old.rig }
-        ensures failures { CountsFailure result (R.failed self.old.rig) (R.failed self.new.rig) }
+        ensures size { (R.seen self.new.rig).sectors ≡ (R.seen self.old.rig).sectors }
+        ensures failures { CountsFailure result (R.seen self.old.rig).failed (R.seen self.new.rig).failed }
     {
         let header = self.tip.header;
         let program_end = header.length as usize;

@@ -17,13 +17,7 @@ impl Worn {
 }
 
 impl Rig for Worn {
-    ghost trace = { λ _. Began (λ _. []) };
-
-    ghost honest = { λ _. ⊥ };
-
-    ghost sectors = { λ _. 1 };
-
-    ghost failed = { λ worn. worn.failures };
+    ghost seen = { λ worn. record { trace = Began (λ sector. []); honest = ⊥; sectors = 1; failed = worn.failures } };
 
     fn size(&self) -> usize {
         1

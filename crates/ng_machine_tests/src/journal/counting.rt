@@ -33,13 +33,7 @@ impl<R> Counting<R> {
 }
 
 impl<R: Rig> Rig for Counting<R> {
-    ghost trace = { λ counting. R.trace counting.rig };
-
-    ghost honest = { λ counting. R.honest counting.rig };
-
-    ghost sectors = { λ counting. R.sectors counting.rig };
-
-    ghost failed = { λ counting. R.failed counting.rig };
+    ghost seen = { λ counting. R.seen counting.rig };
 
     fn size(&self) -> usize {
         self.rig.size()

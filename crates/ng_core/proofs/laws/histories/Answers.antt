@@ -2,4 +2,4 @@ use Rattle.ng_core.proofs.InTurn.{turns_lead}
 use Rattle.ng_core.proofs.laws.histories.Goals as goal
 
 pub returns : goal.returns
-returns g c = turns_lead g.R.Rig.honest g.R.Rig.trace g.R.Rig.failed g.R.Rig.sectors
+returns g c = turns_lead g.R.Rig.seen

@@ -1,6 +1,7 @@
 use Rattle.std.proofs.Common.{◌≡◌, ℕ, ℤ, List, Ok, Err, refl, sym, ◌∙◌, ap, subst}
 use Rattle.std.specs.Result.{IsErrAnd}
 use Rattle.ng_num.specs.declared.fault.Fault.{Fault}
+use Rattle.ng_rig.specs.Device.{Device}
 use Rattle.ng_rig.specs.Trace.{Trace}
 use Rattle.ng_settings.specs.declared.standard.Settings.{Settings}
 use Rattle.ng_core.specs.Headline.{BeginsPast}
@@ -31,16 +32,16 @@ returns-clause-gives g c =
     }
 
 -- what is told of a fault is told of the answer that gives it
-gave : {R : Type 0} (honest : R → Type 0) (trace : R → Trace) (failed sectors : R → ℕ) (settings : Settings) (rig : R) (e : Fault × R) (answer : PowerOnResult R)
-    → IsErrAnd answer (λ f. f ≡ e) → (let err : PowerOnResult R = Err e in PowerOnSpec honest trace failed sectors settings rig err) → PowerOnSpec honest trace failed sectors settings rig answer
-gave honest trace failed sectors settings rig e (Ok c) is spec = absurd is
-gave {R} honest trace failed sectors settings rig e (Err f) is spec =
-    subst (λ (x : Fault × R). let err : PowerOnResult R = Err x in PowerOnSpec honest trace failed sectors settings rig err) (sym is) spec
+gave : {R : Type 0} (seen : R → Device) (settings : Settings) (rig : R) (e : Fault × R) (answer : PowerOnResult R)
+    → IsErrAnd answer (λ f. f ≡ e) → (let err : PowerOnResult R = Err e in PowerOnSpec seen settings rig err) → PowerOnSpec seen settings rig answer
+gave seen settings rig e (Ok c) is spec = absurd is
+gave {R} seen settings rig e (Err f) is spec =
+    subst (λ (x : Fault × R). let err : PowerOnResult R = Err x in PowerOnSpec seen settings rig err) (sym is) spec
 
 pub returns-in_err-journal-clause-gives : goal.returns-in_err-journal-clause-gives
 returns-in_err-journal-clause-gives g c =
     let told = c.in_err-journal.ensures in
-    gave g.R.Rig.honest g.R.Rig.trace g.R.Rig.failed g.R.Rig.sectors c.args.settings c.args.rig c.in_err-journal.field-0.0 c.from_residual.result c.from_residual.ensures.1 (record {
+    gave g.R.Rig.seen c.args.settings c.args.rig c.in_err-journal.field-0.0 c.from_residual.result c.from_residual.ensures.1 (record {
       powers = λ room tools table. meaning (told.recovers room tools table) (λ r. record { recovers = r; rests = λ written. tt });
       rests = tt;
       equipment = tt;
@@ -55,15 +56,15 @@ pub returns-clause-past : goal.returns-clause-past
 returns-clause-past g c = λ room tools table.
     let journal = c.in_ok-journal.ensures.journal in
     meaning ((returns-clause-gives g c).powers room tools table)
-    (λ p. begins_past _ tools g.R.Rig.honest g.R.Rig.trace g.R.Rig.failed g.R.Rig.sectors _ (g.R.Rig.trace c.args.rig) _ (refl, journal.0, c.new.ensures ∙ ap (λ x. resting x) (sym journal.1)) p)
+    (λ p. begins_past _ tools g.R.Rig.seen _ (g.R.Rig.seen c.args.rig).trace _ (refl, journal.0, c.new.ensures ∙ ap (λ x. resting x) (sym journal.1)) p)
 
 -- a fault begins no past
-none_begun : {R : Type 0} (A : Type 0) (tools : List ℤ) (honest : R → Type 0) (trace : R → Trace) (failed sectors : R → ℕ) (e : Fault × R) (answer : PowerOnResult R) (old : Trace)
-    → IsErrAnd answer (λ f. f ≡ e) → BeginsPast A tools honest trace failed sectors answer old
-none_begun A tools honest trace failed sectors e (Ok c) old is = absurd is
-none_begun A tools honest trace failed sectors e (Err f) old is = λ written. tt
+none_begun : {R : Type 0} (A : Type 0) (tools : List ℤ) (seen : R → Device) (e : Fault × R) (answer : PowerOnResult R) (old : Trace)
+    → IsErrAnd answer (λ f. f ≡ e) → BeginsPast A tools seen answer old
+none_begun A tools seen e (Ok c) old is = absurd is
+none_begun A tools seen e (Err f) old is = λ written. tt
 
 pub returns-in_err-journal-clause-past : goal.returns-in_err-journal-clause-past
 returns-in_err-journal-clause-past g c = λ room tools table.
     meaning ((returns-in_err-journal-clause-gives g c).powers room tools table)
-    (λ p. none_begun _ tools g.R.Rig.honest g.R.Rig.trace g.R.Rig.failed g.R.Rig.sectors c.in_err-journal.field-0.0 c.from_residual.result (g.R.Rig.trace c.args.rig) c.from_residual.ensures.1)
+    (λ p. none_begun _ tools g.R.Rig.seen c.in_err-journal.field-0.0 c.from_residual.result (g.R.Rig.seen c.args.rig).trace c.from_residual.ensures.1)

@@ -4,8 +4,8 @@ use Rattle.ng_core.proofs.Beginning.{finds_known, finds_asked}
 use Rattle.ng_core.proofs.ticking.first_kind_before.Goals as goal
 
 pub returns-in-Some-clause-kind : goal.returns-in-Some-clause-kind
-returns-in-Some-clause-kind g c = finds_known g.R.Rig.honest g.R.Rig.trace c.args.known.now.before c.in-Some.kind c.args.place c.args.journal.now
+returns-in-Some-clause-kind g c = finds_known g.R.Rig.seen c.args.known.now.before c.in-Some.kind c.args.place c.args.journal.now
     (λ program known. c.in-Some.ensures.holds program (subst (λ k. IsTrueOf program k) (sym c.lines_before.ensures) known))
 
 pub returns-in-None-clause-kind : goal.returns-in-None-clause-kind
-returns-in-None-clause-kind g c = finds_asked g.R.Rig.honest g.R.Rig.trace c.first_kind.result c.args.known.now.before c.args.place c.args.journal.now c.first_kind.new.self c.first_kind.ensures.kind
+returns-in-None-clause-kind g c = finds_asked g.R.Rig.seen c.first_kind.result c.args.known.now.before c.args.place c.args.journal.now c.first_kind.new.self c.first_kind.ensures.kind

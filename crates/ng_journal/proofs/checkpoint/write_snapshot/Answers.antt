@@ -24,6 +24,6 @@ loop-part-preserved g c =
         back = λ h. before.back (write.back h);
         holds = λ h. area_more c.loop-part.part c.args.first c.args.stored.now c.sector.result _ _ _ c.loop-part-test.true c.sector.ensures (before.holds h) (write.holds (before.keeps h));
       };
-      size = c.in_ok-write.ensures.size ∙ c.loop-part.invariant.size;
-      failures = c.in_ok-write.ensures.failures ∙ c.loop-part.invariant.failures;
+      size = c.in_ok-write.ensures.call.size ∙ c.loop-part.invariant.size;
+      failures = c.in_ok-write.ensures.call.failures ∙ c.loop-part.invariant.failures;
     }

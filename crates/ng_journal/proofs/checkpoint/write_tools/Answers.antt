@@ -26,6 +26,6 @@ loop-part-preserved g c =
         back = λ h. before.back (write.back h);
         holds = λ h. written c.loop-part.part (c.args.first + c.loop-part.part) c.args.first tools_size (HoldsToolPart c.args.stored.now) c.tool_sector.result _ _ c.loop-part-test.true refl c.tool_sector.ensures (before.holds h) _ (write.holds (before.keeps h));
       };
-      size = c.in_ok-write.ensures.size ∙ c.loop-part.invariant.size;
-      failures = c.in_ok-write.ensures.failures ∙ c.loop-part.invariant.failures;
+      size = c.in_ok-write.ensures.call.size ∙ c.loop-part.invariant.size;
+      failures = c.in_ok-write.ensures.call.failures ∙ c.loop-part.invariant.failures;
     }

@@ -44,6 +44,6 @@ loop-k-preserved g c =
             let one = written c.loop-k.k c.loop-k.k 0 2 IsEmpty c.empty_sector.result _ _ c.loop-k-test.true (omega arith) c.empty_sector.ensures (before.holds h) _ (write.holds h1) in
             written_on (c.loop-k.k + 1) 0 2 IsEmpty _ _ _ one (sync.holds (write.keeps h1));
       };
-      size = c.in_ok-sync.ensures.size ∙ c.in_ok-write.ensures.size ∙ c.loop-k.invariant.size;
-      failures = c.in_ok-sync.ensures.failures ∙ c.in_ok-write.ensures.failures ∙ c.loop-k.invariant.failures;
+      size = c.in_ok-sync.ensures.call.size ∙ c.in_ok-write.ensures.call.size ∙ c.loop-k.invariant.size;
+      failures = c.in_ok-sync.ensures.call.failures ∙ c.in_ok-write.ensures.call.failures ∙ c.loop-k.invariant.failures;
     }

@@ -26,6 +26,6 @@ loop-n-preserved g c =
         back = λ h. before.back (write.back h);
         holds = λ h. written c.loop-n.n (c.args.first + c.loop-n.n) c.args.first tools_size IsEmpty c.empty_sector.result _ _ c.loop-n-test.true refl c.empty_sector.ensures (before.holds h) _ (write.holds (before.keeps h));
       };
-      size = c.in_ok-write.ensures.size ∙ c.loop-n.invariant.size;
-      failures = c.in_ok-write.ensures.failures ∙ c.loop-n.invariant.failures;
+      size = c.in_ok-write.ensures.call.size ∙ c.loop-n.invariant.size;
+      failures = c.in_ok-write.ensures.call.failures ∙ c.loop-n.invariant.failures;
     }

@@ -27,8 +27,8 @@ loop-part-preserved g c =
         back = λ h. before.back (write.back h);
         holds = λ h. written c.loop-part.part (c.args.first + c.loop-part.part) c.args.first snapshot_size (HoldsPart (fresh_stored room)) c.fresh_sector.result _ _ c.loop-part-test.true refl (c.fresh_sector.ensures room) (before.holds h) _ (write.holds (before.keeps h));
       };
-      size = c.in_ok-write.ensures.size ∙ c.loop-part.invariant.size;
-      failures = c.in_ok-write.ensures.failures ∙ c.loop-part.invariant.failures;
+      size = c.in_ok-write.ensures.call.size ∙ c.loop-part.invariant.size;
+      failures = c.in_ok-write.ensures.call.failures ∙ c.loop-part.invariant.failures;
     }
 
 pub returns-clause-writes : goal.returns-clause-writes

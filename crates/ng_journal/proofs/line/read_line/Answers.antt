@@ -10,12 +10,12 @@ use Rattle.ng_journal.proofs.line.read_line.Goals as goal
 
 pub returns-then-place-program_end-clause-read : goal.returns-then-place-program_end-clause-read
 returns-then-place-program_end-clause-read g c =
-    let program : List _ = program_text c.args.program_end (stretch (program_first c.args.area) (program_size c.args.area) (reads (g.R.Rig.trace c.args.rig.now))) in
+    let program : List _ = program_text c.args.program_end (stretch (program_first c.args.area) (program_size c.args.area) (reads (g.R.Rig.seen c.args.rig.now).trace)) in
     promised (record { same = refl; right = no_line program c.args.place c.args.program_end (length-text c.args.program_end _) c.if-place-program_end.true })
 
 pub returns-after-end-le-KEPT_LINE-clause-read : goal.returns-after-end-le-KEPT_LINE-clause-read
 returns-after-end-le-KEPT_LINE-clause-read g c =
-    let program : List _ = program_text c.args.program_end (stretch (program_first c.args.area) (program_size c.args.area) (reads (g.R.Rig.trace c.args.rig.now))) in
+    let program : List _ = program_text c.args.program_end (stretch (program_first c.args.area) (program_size c.args.area) (reads (g.R.Rig.seen c.args.rig.now).trace)) in
     meaning c.in_ok-end.ensures.read (λ p.
     let e = end_some (drop c.args.place program) _ c.in_ok-end.field-0 c.in-Some.end c.in-Some.is p.right in
     record {
@@ -28,7 +28,7 @@ returns-after-end-le-KEPT_LINE-clause-read g c =
 
 pub returns-in-None-clause-read : goal.returns-in-None-clause-read
 returns-in-None-clause-read g c =
-    let program : List _ = program_text c.args.program_end (stretch (program_first c.args.area) (program_size c.args.area) (reads (g.R.Rig.trace c.args.rig.now))) in
+    let program : List _ = program_text c.args.program_end (stretch (program_first c.args.area) (program_size c.args.area) (reads (g.R.Rig.seen c.args.rig.now).trace)) in
     let before : c.args.place < c.args.program_end = omega (arith, c.requires.place, c.if-place-program_end.false) in
     meaning c.in_ok-end.ensures.read (λ p. record {
       same = p.same;

@@ -18,7 +18,7 @@ loop-n-init g c = record {
 
 pub returns-in-Some-clause-read : goal.returns-in-Some-clause-read
 returns-in-Some-clause-read g c =
-    let begun = g.R.Rig.trace c.args.rig.now in
+    let begun = (g.R.Rig.seen c.args.rig.now).trace in
     let row = stretch (program_first c.args.area) (program_size c.args.area) (reads begun) in
     let few : c.loop-n.n < program_size c.args.area = omega (arith, c.loop-n-test.true, c.div_ceil-n-end.ensures, c.requires.small) in
     onto _ c.loop-n.invariant.read c.in_ok-sector.ensures.read (λ p q. record {
@@ -30,7 +30,7 @@ returns-in-Some-clause-read g c =
 
 pub loop-n-preserved : goal.loop-n-preserved
 loop-n-preserved g c =
-    let begun = g.R.Rig.trace c.args.rig.now in
+    let begun = (g.R.Rig.seen c.args.rig.now).trace in
     let row = stretch (program_first c.args.area) (program_size c.args.area) (reads begun) in
     let few : c.loop-n.n < program_size c.args.area = omega (arith, c.loop-n-test.true, c.div_ceil-n-end.ensures, c.requires.small) in
     record {
@@ -38,12 +38,12 @@ loop-n-preserved g c =
         q.same ∙ p.0,
         decides_part (program_text c.args.place row) _ c.loop-n.n _ _ (c.part_of.ensures.part row (sector_at c.args.area c.program_first-first.result c.loop-n.n begun _ _ c.program_first-first.ensures.is few p.0 q.right)) p.1 c.after_all-seen.ensures,
       ));
-      size = c.in_ok-sector.ensures.size ∙ c.loop-n.invariant.size;
-      failures = c.in_ok-sector.ensures.failures ∙ c.loop-n.invariant.failures;
+      size = c.in_ok-sector.ensures.call.size ∙ c.loop-n.invariant.size;
+      failures = c.in_ok-sector.ensures.call.failures ∙ c.loop-n.invariant.failures;
     }
 
 pub returns-clause-read : goal.returns-clause-read
 returns-clause-read g c =
-    let row = stretch (program_first c.args.area) (program_size c.args.area) (reads (g.R.Rig.trace c.args.rig.now)) in
+    let row = stretch (program_first c.args.area) (program_size c.args.area) (reads (g.R.Rig.seen c.args.rig.now).trace) in
     let all : length (program_text c.args.place row) ≤ 512 * c.loop-n.n = omega (arith, c.loop-n-test.false, c.div_ceil-n-end.ensures, length-text c.args.place row) in
     meaning c.loop-n.invariant.read (λ p. record { same = p.0; right = all_in (program_text c.args.place row) _ _ _ all p.1 c.kind.ensures })

@@ -27,6 +27,6 @@ loop-n-preserved g c =
         back = λ h. before.back (write.back h);
         holds = λ h. text_more c.loop-n.n c.program_first-first.result c.args.area c.args.text.now c.text_sector.result _ _ _ c.program_first-first.ensures.is lt c.text_sector.ensures (before.holds h) (write.holds (before.keeps h));
       };
-      size = c.in_ok-write.ensures.size ∙ c.loop-n.invariant.size;
-      failures = c.in_ok-write.ensures.failures ∙ c.loop-n.invariant.failures;
+      size = c.in_ok-write.ensures.call.size ∙ c.loop-n.invariant.size;
+      failures = c.in_ok-write.ensures.call.failures ∙ c.loop-n.invariant.failures;
     }

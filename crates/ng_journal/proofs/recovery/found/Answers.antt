@@ -14,7 +14,7 @@ returns-in-None-clause-read g c = meaning c.in_ok-header_in_force.ensures.read (
 
 pub returns-then-not-is_whole-clause-read : goal.returns-then-not-is_whole-clause-read
 returns-then-not-is_whole-clause-read g c =
-    let old = g.R.Rig.trace c.args.rig.now in
+    let old = (g.R.Rig.seen c.args.rig.now).trace in
     let header = c.in-Some.header in
     let whole = c.in_ok-is_whole-in-Some.is_whole in
     let snap = c.read_snapshot.new.stored in
@@ -24,13 +24,13 @@ returns-then-not-is_whole-clause-read g c =
 
 pub returns-in-None-2-clause-read : goal.returns-in-None-2-clause-read
 returns-in-None-2-clause-read g c =
-    let old = g.R.Rig.trace c.args.rig.now in
+    let old = (g.R.Rig.seen c.args.rig.now).trace in
     let header = c.in-Some.header in
     let whole = c.in_ok-is_whole-in-Some.is_whole in
     let snap = c.read_snapshot.new.stored in
     let saved = c.read_log.new.stored in
     let answer = c.in_ok-read_log-in-Some.field-0 in
-    let Heads = (g.R.Rig.trace c.read_snapshot.new.rig ≡ old) × Snapped (reads old) header snap in
+    let Heads = ((g.R.Rig.seen c.read_snapshot.new.rig).trace ≡ old) × Snapped (reads old) header snap in
     let heads = onto Heads c.in_ok-header_in_force.ensures.read c.in_ok-is_whole-in-Some.ensures.read (λ p q.
     let here = subst (λ (l : Trace). IsSnapshotOf header snap (reads l) whole) p.same q.right in
     (q.same ∙ p.same, snapped (reads old) c.in_ok-header_in_force.field-0 header whole snap p.right c.in-Some.is here c.if-not-is_whole.false)) in
@@ -40,7 +40,7 @@ returns-in-None-2-clause-read g c =
 
 pub returns-in-Some-2-clause-read : goal.returns-in-Some-2-clause-read
 returns-in-Some-2-clause-read g c =
-    let old = g.R.Rig.trace c.args.rig.now in
+    let old = (g.R.Rig.seen c.args.rig.now).trace in
     let header = c.in-Some.header in
     let whole = c.in_ok-is_whole-in-Some.is_whole in
     let snap = c.read_snapshot.new.stored in
@@ -49,9 +49,9 @@ returns-in-Some-2-clause-read g c =
     let room = rw c.in-Some-2.is at c.in_ok-read_log-in-Some.ensures.room in
     let stays = c.in_ok-read_log-in-Some.ensures.limit ∙ c.in_ok-is_whole-in-Some.ensures.limit ∙ c.requires.limit in
     let force = c.in_ok-header_in_force.ensures.read in
-    let Known = (g.R.Rig.trace c.header_in_force.new.rig ≡ old) × (c.in_ok-header_in_force.field-0 ≡ in_force (reads old)) × (is_large (reads old) ≡ c.args.large) in
-    let known : IfHonest (g.R.Rig.honest c.args.rig.now) (g.R.Rig.honest c.header_in_force.new.rig) Known = record { keeps = force.keeps; back = force.back; holds = λ h. ((force.holds h).same, (force.holds h).right, c.requires.large h) } in
-    let Heads = (g.R.Rig.trace c.read_snapshot.new.rig ≡ old) × Snapped (reads old) header snap × (is_large (reads old) ≡ c.args.large) in
+    let Known = ((g.R.Rig.seen c.header_in_force.new.rig).trace ≡ old) × (c.in_ok-header_in_force.field-0 ≡ in_force (reads old)) × (is_large (reads old) ≡ c.args.large) in
+    let known : IfHonest (g.R.Rig.seen c.args.rig.now) (g.R.Rig.seen c.header_in_force.new.rig) Known = record { keeps = force.keeps; back = force.back; holds = λ h. ((force.holds h).same, (force.holds h).right, c.requires.large h) } in
+    let Heads = ((g.R.Rig.seen c.read_snapshot.new.rig).trace ≡ old) × Snapped (reads old) header snap × (is_large (reads old) ≡ c.args.large) in
     let heads = onto Heads known c.in_ok-is_whole-in-Some.ensures.read (λ p q.
     let here = subst (λ (l : Trace). IsSnapshotOf header snap (reads l) whole) p.0 q.right in
     (q.same ∙ p.0, snapped (reads old) c.in_ok-header_in_force.field-0 header whole snap p.1 c.in-Some.is here c.if-not-is_whole.false, p.2)) in

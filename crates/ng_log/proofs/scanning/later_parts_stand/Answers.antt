@@ -8,14 +8,14 @@ use Rattle.ng_log.proofs.scanning.later_parts_stand.Goals as goal
 
 pub loop-part-init : goal.loop-part-init
 loop-part-init g c = record {
-  read = promised (refl, stand_none c.args.at (label_of c.args.first) (reads (g.R.Rig.trace c.args.rig.now)));
+  read = promised (refl, stand_none c.args.at (label_of c.args.first) (reads (g.R.Rig.seen c.args.rig.now).trace));
   size = refl;
   failures = refl;
 }
 
 pub returns-then-not-is_of-clause-read : goal.returns-then-not-is_of-clause-read
 returns-then-not-is_of-clause-read g c =
-    let old = g.R.Rig.trace c.args.rig.now in
+    let old = (g.R.Rig.seen c.args.rig.now).trace in
     onto _ c.loop-part.invariant.read c.in_ok-sector.ensures.read (λ p q. record {
       same = q.same ∙ p.0;
       right =
@@ -25,7 +25,7 @@ returns-then-not-is_of-clause-read g c =
 
 pub loop-part-preserved : goal.loop-part-preserved
 loop-part-preserved g c =
-    let old = g.R.Rig.trace c.args.rig.now in
+    let old = (g.R.Rig.seen c.args.rig.now).trace in
     let inv = c.loop-part.invariant in
     record {
       read = onto _ inv.read c.in_ok-sector.ensures.read (λ p q. (
@@ -33,8 +33,8 @@ loop-part-preserved g c =
         (let s = sector_here old _ _ (c.args.at + c.loop-part.part) c.in_ok-sector.sector (omega arith) p.0 q.right in
             stand_more c.loop-part.part c.args.at (label_of c.args.first) (reads old) c.in_ok-sector.sector c.is_of.result s c.is_of.ensures c.if-not-is_of.false p.1),
       ));
-      size = c.in_ok-sector.ensures.size ∙ inv.size;
-      failures = c.in_ok-sector.ensures.failures ∙ inv.failures;
+      size = c.in_ok-sector.ensures.call.size ∙ inv.size;
+      failures = c.in_ok-sector.ensures.call.failures ∙ inv.failures;
     }
 
 pub returns-clause-read : goal.returns-clause-read

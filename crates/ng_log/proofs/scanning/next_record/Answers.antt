@@ -8,11 +8,11 @@ use Rattle.ng_log.proofs.NextRead.{begun, says_read, none_at_end, none_of_first,
 use Rattle.ng_log.proofs.scanning.next_record.Goals as goal
 
 pub returns-then-end-log_size-clause-read : goal.returns-then-end-log_size-clause-read
-returns-then-end-log_size-clause-read g c = promised (record { same = refl; right = (none_at_end c.args.header c.args.end c.args.stored.now (reads (g.R.Rig.trace c.args.rig.now)) (c.if-end-log_size.true ∙ c.log_size.ensures.value), refl) })
+returns-then-end-log_size-clause-read g c = promised (record { same = refl; right = (none_at_end c.args.header c.args.end c.args.stored.now (reads (g.R.Rig.seen c.args.rig.now).trace) (c.if-end-log_size.true ∙ c.log_size.ensures.value), refl) })
 
 pub returns-then-not-begins_record-clause-read : goal.returns-then-not-begins_record-clause-read
 returns-then-not-begins_record-clause-read g c =
-    let old = g.R.Rig.trace c.args.rig.now in
+    let old = (g.R.Rig.seen c.args.rig.now).trace in
     let first = label_of c.read-first.result in
     let lt : c.args.end.sector < log_size_of c.args.header = omega arith in
     meaning c.in_ok-sector.ensures.read (λ p. record {
@@ -22,7 +22,7 @@ returns-then-not-begins_record-clause-read g c =
 
 pub returns-then-not-stand-clause-read : goal.returns-then-not-stand-clause-read
 returns-then-not-stand-clause-read g c =
-    let old = g.R.Rig.trace c.args.rig.now in
+    let old = (g.R.Rig.seen c.args.rig.now).trace in
     let first = label_of c.read-first.result in
     let lt : c.args.end.sector < log_size_of c.args.header = omega arith in
     let b = begun first c.args.header c.args.end (sym c.begins_record.ensures ∙ c.if-not-begins_record.false) in
@@ -35,11 +35,11 @@ returns-then-not-stand-clause-read g c =
 
 pub returns-then-not-is_whole-clause-read : goal.returns-then-not-is_whole-clause-read
 returns-then-not-is_whole-clause-read g c =
-    let old = g.R.Rig.trace c.args.rig.now in
+    let old = (g.R.Rig.seen c.args.rig.now).trace in
     let first = label_of c.read-first.result in
     let lt : c.args.end.sector < log_size_of c.args.header = omega arith in
     let b = begun first c.args.header c.args.end (sym c.begins_record.ensures ∙ c.if-not-begins_record.false) in
-    let Both = (g.R.Rig.trace c.later_parts_stand.new.rig ≡ old) × (c.in_ok-sector.sector ≡ from_log (reads old) c.args.end.sector) × LaterPartsStand c.args.end.sector first (reads old) true in
+    let Both = ((g.R.Rig.seen c.later_parts_stand.new.rig).trace ≡ old) × (c.in_ok-sector.sector ≡ from_log (reads old) c.args.end.sector) × LaterPartsStand c.args.end.sector first (reads old) true in
     onto _ (onto Both c.in_ok-sector.ensures.read c.in_ok-stand.ensures.read (λ p q. (
       q.same ∙ p.same,
       p.right,
@@ -53,11 +53,11 @@ returns-then-not-is_whole-clause-read g c =
 
 pub returns-clause-read : goal.returns-clause-read
 returns-clause-read g c =
-    let old = g.R.Rig.trace c.args.rig.now in
+    let old = (g.R.Rig.seen c.args.rig.now).trace in
     let first = label_of c.read-first.result in
     let lt : c.args.end.sector < log_size_of c.args.header = omega arith in
     let b = begun first c.args.header c.args.end (sym c.begins_record.ensures ∙ c.if-not-begins_record.false) in
-    let Both = (g.R.Rig.trace c.later_parts_stand.new.rig ≡ old) × (c.in_ok-sector.sector ≡ from_log (reads old) c.args.end.sector) × LaterPartsStand c.args.end.sector first (reads old) true in
+    let Both = ((g.R.Rig.seen c.later_parts_stand.new.rig).trace ≡ old) × (c.in_ok-sector.sector ≡ from_log (reads old) c.args.end.sector) × LaterPartsStand c.args.end.sector first (reads old) true in
     onto _ (onto Both c.in_ok-sector.ensures.read c.in_ok-stand.ensures.read (λ p q. (
       q.same ∙ p.same,
       p.right,

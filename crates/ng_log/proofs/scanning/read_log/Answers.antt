@@ -14,7 +14,7 @@ use Rattle.ng_log.proofs.scanning.read_log.Goals as goal
 
 pub returns-in-Damaged-clause-read : goal.returns-in-Damaged-clause-read
 returns-in-Damaged-clause-read g c =
-    let old = g.R.Rig.trace c.args.rig.now in
+    let old = (g.R.Rig.seen c.args.rig.now).trace in
     let h = c.args.header in
     onto _ c.records.invariant.run c.in_ok-next_record.ensures.read (λ p q. record {
       same = q.same ∙ p.0;
@@ -23,7 +23,7 @@ returns-in-Damaged-clause-read g c =
 
 pub records-preserved : goal.records-preserved
 records-preserved g c =
-    let old = g.R.Rig.trace c.args.rig.now in
+    let old = (g.R.Rig.seen c.args.rig.now).trace in
     let h = c.args.header in
     let inv = c.records.invariant in
     let e = c.in_ok-next_record.ensures in
@@ -44,13 +44,13 @@ records-preserved g c =
         q.same ∙ p.0,
         runs_more h.format h.length (log_of h (reads old)) h.epoch _ _ (position_of after c.next_record.new.stored) p.1 (next_is h c.records.reached c.records.stored c.next_record.new.stored old _ c.in_ok-next_record.field-0 (After after) p.0 c.in-After.is q.right).0,
       ));
-      size = e.size ∙ inv.size;
-      failures = e.failures ∙ inv.failures;
+      size = e.call.size ∙ inv.size;
+      failures = e.call.failures ∙ inv.failures;
     }
 
 pub returns-in-Last-clause-read : goal.returns-in-Last-clause-read
 returns-in-Last-clause-read g c =
-    let old = g.R.Rig.trace c.args.rig.now in
+    let old = (g.R.Rig.seen c.args.rig.now).trace in
     let h = c.args.header in
     onto _ c.records.invariant.run c.in_ok-next_record.ensures.read (λ p q.
     let n = next_is h c.records.reached c.records.stored c.next_record.new.stored old _ c.in_ok-next_record.field-0 Last p.0 c.in-Last.is q.right in
@@ -61,7 +61,7 @@ returns-in-Last-clause-read g c =
 
 pub returns-clause-read : goal.returns-clause-read
 returns-clause-read g c =
-    let old = g.R.Rig.trace c.args.rig.now in
+    let old = (g.R.Rig.seen c.args.rig.now).trace in
     let h = c.args.header in
     let inv = c.records.invariant in
     let room = inv.room in

@@ -7,7 +7,7 @@ use Rattle.ng_log.proofs.scanning.take_all_changes.Goals as goal
 
 pub loop-i-init : goal.loop-i-init
 loop-i-init g c = record {
-  read = promised (refl, makes_no_changes (from_log (reads (g.R.Rig.trace c.args.rig.now))) c.args.at c.args.changes c.args.table.now);
+  read = promised (refl, makes_no_changes (from_log (reads (g.R.Rig.seen c.args.rig.now).trace)) c.args.at c.args.changes c.args.table.now);
   long = c.requires.long;
   size = refl;
   failures = refl;
@@ -15,7 +15,7 @@ loop-i-init g c = record {
 
 pub returns-then-not-take_changes-clause-read : goal.returns-then-not-take_changes-clause-read
 returns-then-not-take_changes-clause-read g c =
-    let old = g.R.Rig.trace c.args.rig.now in
+    let old = (g.R.Rig.seen c.args.rig.now).trace in
     let few : 48 * c.loop-i.i < c.args.changes = omega (arith, c.loop-i-test.true, c.parts_for-i-end.ensures.value) in
     onto _ c.loop-i.invariant.read c.in_ok-sector.ensures.read (λ p q. record {
       same = q.same ∙ p.0;
@@ -26,7 +26,7 @@ returns-then-not-take_changes-clause-read g c =
 
 pub loop-i-preserved : goal.loop-i-preserved
 loop-i-preserved g c =
-    let old = g.R.Rig.trace c.args.rig.now in
+    let old = (g.R.Rig.seen c.args.rig.now).trace in
     let inv = c.loop-i.invariant in
     let few : 48 * c.loop-i.i < c.args.changes = omega (arith, c.loop-i-test.true, c.parts_for-i-end.ensures.value) in
     let m = c.if-not-take_changes.ensures in
@@ -37,6 +37,6 @@ loop-i-preserved g c =
             makes_part (from_log (reads old)) c.args.at c.loop-i.i c.min-count.result c.args.changes c.in_ok-sector.sector _ _ _ p.1 few c.min-count.ensures s m),
       ));
       long = ap length m.is ∙ with_long c.loop-i.table m.changes ∙ inv.long;
-      size = c.in_ok-sector.ensures.size ∙ inv.size;
-      failures = c.in_ok-sector.ensures.failures ∙ inv.failures;
+      size = c.in_ok-sector.ensures.call.size ∙ inv.size;
+      failures = c.in_ok-sector.ensures.call.failures ∙ inv.failures;
     }

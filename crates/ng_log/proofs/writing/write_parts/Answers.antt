@@ -30,8 +30,8 @@ loop-part-init g c =
       parts = meaning c.in_ok-write.ensures.trace (λ w. record_more 0 e _ _ _ _ bytes (omega arith) right (record_none e _) w);
       from = ap length (none_yet c.args.old.now c.args.stored.now.setup.params) ∙ sym (least c.args.count);
       within = omega arith;
-      size = c.in_ok-write.ensures.size;
-      failures = c.in_ok-write.ensures.failures;
+      size = c.in_ok-write.ensures.call.size;
+      failures = c.in_ok-write.ensures.call.failures;
     }
 
 pub returns-in_err-write-2-clause-writes : goal.returns-in_err-write-2-clause-writes
@@ -71,8 +71,8 @@ loop-part-preserved g c =
       parts = onto _ inv.parts w.trace (λ r trace. record_more k e _ _ _ _ c.changes_part.result (omega arith) right r trace);
       from = taken-next old new c.loop-part.from c.next_changes-changes.result.1 c.next_changes-changes.result.0.items t (k - 1) counted ∙ (λ i. min (48 * on i) (sym c.requires.count i));
       within = t.within;
-      size = w.size ∙ inv.size;
-      failures = w.failures ∙ inv.failures;
+      size = w.call.size ∙ inv.size;
+      failures = w.call.failures ∙ inv.failures;
     }
 
 pub returns-clause-writes : goal.returns-clause-writes

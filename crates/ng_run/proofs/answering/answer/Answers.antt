@@ -4,18 +4,18 @@ use Rattle.ng_run.proofs.answering.answer.Goals as goal
 
 pub returns-in-Give : goal.returns-in-Give
 returns-in-Give g c =
-    let turn : IsAnsweredEvent g.R.Rig.honest g.R.Rig.trace g.R.Rig.failed g.R.Rig.sectors c.in-Give.event c.on-reply.result c.args.controller.now c.on-reply.new.self =
+    let turn : IsAnsweredEvent g.R.Rig.seen c.in-Give.event c.on-reply.result c.args.controller.now c.on-reply.new.self =
     record { serves = c.on-reply.ensures.serves; refuses = c.on-reply.ensures.broken } in
-    rw (c.in-Give.is) (answers_event g.R.Rig.honest g.R.Rig.trace g.R.Rig.failed g.R.Rig.sectors c.in-Give.event c.on-reply.result c.tell_reply.result _ _ _ _ turn c.tell_reply.ensures)
+    rw (c.in-Give.is) (answers_event g.R.Rig.seen c.in-Give.event c.on-reply.result c.tell_reply.result _ _ _ _ turn c.tell_reply.ensures)
 
 pub returns-in-Ok : goal.returns-in-Ok
 returns-in-Ok g c =
-    rw (c.in-Ticks.is) (answers_ticks g.R.Rig.honest g.R.Rig.trace g.R.Rig.failed g.R.Rig.sectors c.in-Ticks.most c.in-Ok.made c.tell_ticks.result _ _ _ _ _ c.in-Ok.ensures c.tell_ticks.ensures)
+    rw (c.in-Ticks.is) (answers_ticks g.R.Rig.seen c.in-Ticks.most c.in-Ok.made c.tell_ticks.result _ _ _ _ _ c.in-Ok.ensures c.tell_ticks.ensures)
 
 pub returns-in-Err : goal.returns-in-Err
 returns-in-Err g c =
-    rw (c.in-Ticks.is) (answers_ticks_broken {T = Unit {0}} g.R.Rig.honest g.R.Rig.trace g.R.Rig.failed g.R.Rig.sectors c.in-Ticks.most c.in-Err.fault c.in-Err.fault _ _ _ _ c.in-Err.ensures)
+    rw (c.in-Ticks.is) (answers_ticks_broken {T = Unit {0}} g.R.Rig.seen c.in-Ticks.most c.in-Err.fault c.in-Err.fault _ _ _ _ c.in-Err.ensures)
 
 pub returns-in-Refuse : goal.returns-in-Refuse
 returns-in-Refuse g c =
-    rw (c.in-Refuse.is) (answers_refusal g.R.Rig.honest g.R.Rig.trace g.R.Rig.failed g.R.Rig.sectors c.in-Refuse.fault c.tell_refusal.result _ _ c.args.controller.now c.tell_refusal.ensures)
+    rw (c.in-Refuse.is) (answers_refusal g.R.Rig.seen c.in-Refuse.fault c.tell_refusal.result _ _ c.args.controller.now c.tell_refusal.ensures)

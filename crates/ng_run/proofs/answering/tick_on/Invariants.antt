@@ -4,4 +4,4 @@ use Rattle.ng_run.proofs.answering.tick_on.Given as goal
 -- the ticks that were made, all of which continue
 abbrev pub invariant-loop-made : goal.invariant-loop-made
 invariant-loop-made g l =
-    Ticked g.row.A.Denot g.R.Rig.honest g.R.Rig.trace g.R.Rig.failed g.R.Rig.sectors l.made (g.W.Write.contents l.fn.writer) (g.W.Write.contents l.writer) l.fn.controller l.controller
+    Ticked g.row.A.Denot g.R.Rig.seen l.made (g.W.Write.contents l.fn.writer) (g.W.Write.contents l.writer) l.fn.controller l.controller

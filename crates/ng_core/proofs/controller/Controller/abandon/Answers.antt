@@ -32,7 +32,7 @@ pub returns-in-Some : goal.returns-in-Some
 returns-in-Some g c =
     let old : ControllerModel g.row.R.Denot = c.args.self.now in
     let refused : Some c.in-Some.fault ≡ abandon_refusal old.session = subst (λ (x : ControllerModel g.row.R.Denot). Some c.in-Some.fault ≡ abandon_refusal x.session) c.self.view_is c.in-Some.ensures in
-    carried_refused g.R.Rig.honest g.R.Rig.trace g.R.Rig.failed g.R.Rig.sectors ⊥ (abandon_refusal old.session ≡ None) ⊥ c.in-Some.fault (λ (program : List ℕ). abandon program old.session) old c.requires.whole (λ none. none)
+    carried_refused g.R.Rig.seen ⊥ (abandon_refusal old.session ≡ None) ⊥ c.in-Some.fault (λ (program : List ℕ). abandon program old.session) old c.requires.whole (λ none. none)
     (λ program. ap (λ (o : Option Fault). abandon_unless program old.session o) refused)
 
 pub returns-then-is_count_used_up : goal.returns-then-is_count_used_up
@@ -42,7 +42,7 @@ returns-then-is_count_used_up g c =
     let ledger = ledger_of c.self.inside.journal in
     let saved = after_abandon session.stored in
     let free : abandon_refusal session ≡ None = sym c.in_default.ensures in
-    carried_used g.R.Rig.honest g.R.Rig.trace g.R.Rig.failed g.R.Rig.sectors ⊥ (abandon_refusal old.session ≡ None) ⊥ (λ (program : List ℕ). abandon program old.session) old c.requires.whole
+    carried_used g.R.Rig.seen ⊥ (abandon_refusal old.session ≡ None) ⊥ (λ (program : List ℕ). abandon program old.session) old c.requires.whole
     (subst (λ (x : ControllerModel g.row.R.Denot). IsCausedBy ⊥ (abandon_refusal x.session ≡ None) (ledger_of x.journal) (λ (program : List ℕ). abandon program x.session) CountersUsed) c.self.view_is
     (hindered_count ledger (λ program. abandon program session) saved (abandon_refusal session ≡ None)
     (c.counters.ensures.past ledger saved (past_abandoned session.stored (has_half session free) c.if-is_count_used_up.ensures)) (λ program. stored_abandon program session free)))
@@ -53,7 +53,7 @@ returns-in-Some-abandoned g c =
     let none : abandon_refusal old.session ≡ None = subst (λ (x : ControllerModel g.row.R.Denot). abandon_refusal x.session ≡ None) c.self.view_is (sym c.in_default.ensures) in
     let is : with_decoded_state old.session.stored c.in-Some-abandoned.report old.session.stored.length ≡ after_abandon old.session.stored =
     subst (λ (x : ControllerModel g.row.R.Denot). with_decoded_state x.session.stored c.in-Some-abandoned.report x.session.stored.length ≡ after_abandon x.session.stored) c.self.view_is c.in-Some-abandoned.ensures.value in
-    carried_to g.R.Rig.honest g.R.Rig.trace g.R.Rig.failed g.R.Rig.sectors ⊥ ⊥ (Unit {0}) (abandon_refusal old.session ≡ None) ⊥ ⊥
+    carried_to g.R.Rig.seen ⊥ ⊥ (Unit {0}) (abandon_refusal old.session ≡ None) ⊥ ⊥
     (λ (program : List ℕ). commits program Abandoned (record old.session { stored = with_decoded_state old.session.stored c.in-Some-abandoned.report old.session.stored.length })) (λ (program : List ℕ). abandon program old.session)
     c.keep.result old c.keep.new.self (λ m. m) (λ u. none) (λ e. e) (λ e. e)
     (λ program. ap (λ (y : StoredModel). commits program Abandoned (let s : SessionModel = record old.session { stored = y } in s)) is ∙ sym (ap (λ (o : Option Fault). abandon_unless program old.session o) none))

@@ -27,8 +27,8 @@ returns-in_err-answer-clause-carried g c =
     let old : ControllerModel g.row.R.Denot = record { journal = c.self.inside.journal; session = c.self.inside.session; lines = c.self.inside.lines; equipment = equipment } in
     let new : ControllerModel g.row.R.Denot = record { journal = c.self.inside.journal; session = c.answer.new.self; lines = c.self.inside.lines; equipment = equipment } in
     let whole = ap (λ (x : ControllerModel g.row.R.Denot). x.journal.broken) c.self.view_is ∙ c.requires.whole in
-    rw (p.1) (subst (λ (x : ControllerModel g.row.R.Denot). CarriesOutEvent g.R.Rig.honest g.R.Rig.trace g.R.Rig.failed g.R.Rig.sectors c.args.event.now (Err p.0) x new) c.self.view_is
-    (carried_short g.R.Rig.honest g.R.Rig.trace g.R.Rig.failed g.R.Rig.sectors (TakesMemory equipment old.session c.args.event.now) (AsksDevice equipment old.session c.args.event.now) (NeedsProgramLine equipment old.session c.args.event.now)
+    rw (p.1) (subst (λ (x : ControllerModel g.row.R.Denot). CarriesOutEvent g.R.Rig.seen c.args.event.now (Err p.0) x new) c.self.view_is
+    (carried_short g.R.Rig.seen (TakesMemory equipment old.session c.args.event.now) (AsksDevice equipment old.session c.args.event.now) (NeedsProgramLine equipment old.session c.args.event.now)
     p.0 (λ (program : List ℕ). step equipment program old.session c.args.event.now) old new whole p.2 c.in_err-answer.ensures.memory refl refl refl c.in_err-answer.ensures.err))
 
 pub returns-clause-carried : goal.returns-clause-carried
@@ -37,7 +37,7 @@ returns-clause-carried g c =
     let old : ControllerModel g.row.R.Denot = record { journal = c.self.inside.journal; session = c.self.inside.session; lines = c.self.inside.lines; equipment = equipment } in
     let new : ControllerModel g.row.R.Denot = record { journal = c.self.inside.journal; session = c.answer.new.self; lines = c.self.inside.lines; equipment = equipment } in
     let whole = ap (λ (x : ControllerModel g.row.R.Denot). x.journal.broken) c.self.view_is ∙ c.requires.whole in
-    subst (λ (x : ControllerModel g.row.R.Denot). CarriesOutEvent g.R.Rig.honest g.R.Rig.trace g.R.Rig.failed g.R.Rig.sectors c.args.event.now (Ok c.in_ok-answer.field-0) x new) c.self.view_is
-    (carried_still g.R.Rig.honest g.R.Rig.trace g.R.Rig.failed g.R.Rig.sectors (TakesMemory equipment old.session c.args.event.now) (AsksDevice equipment old.session c.args.event.now) (NeedsProgramLine equipment old.session c.args.event.now)
+    subst (λ (x : ControllerModel g.row.R.Denot). CarriesOutEvent g.R.Rig.seen c.args.event.now (Ok c.in_ok-answer.field-0) x new) c.self.view_is
+    (carried_still g.R.Rig.seen (TakesMemory equipment old.session c.args.event.now) (AsksDevice equipment old.session c.args.event.now) (NeedsProgramLine equipment old.session c.args.event.now)
     c.in_ok-answer.field-0 (λ (program : List ℕ). step equipment program old.session c.args.event.now) old new whole (quiet_unread equipment old.session c.args.event.now c.requires.quiet)
     (λ program. still_step equipment program old.session c.args.event.now c.requires.quiet) refl refl refl c.in_ok-answer.ensures.reply c.in_ok-answer.ensures.next)

@@ -25,8 +25,8 @@ returns-in-Some g c =
     let whole = ap (λ (x : ControllerModel g.row.R.Denot). x.journal.broken) c.self.view_is ∙ c.requires.whole in
     let runs = ap (λ (x : ControllerModel g.row.R.Denot). is_running x.session.activity) c.self.view_is ∙ c.requires.runs in
     let begun : IsBegunAhead equipment c.in-Some.reply old.session new.session old.lines new.lines = c.in-Some.ensures.begun equipment c.self.invariant.plan in
-    carried_as g.R.Rig.honest g.R.Rig.trace g.R.Rig.failed g.R.Rig.sectors (λ (x : ControllerModel g.row.R.Denot). Unit {0}) (λ (x : ControllerModel g.row.R.Denot). Unit {0}) (λ (x : ControllerModel g.row.R.Denot). Unit {0}) (λ (x : ControllerModel g.row.R.Denot) (program : List ℕ). begin x.equipment program x.session (program_line_at program x.session.stored.place)) (Ok c.in-Some.reply) c.args.self.now old new c.self.view_is
-    (carried_ahead g.R.Rig.honest g.R.Rig.trace g.R.Rig.failed g.R.Rig.sectors c.in-Some.reply old new whole runs refl refl begun)
+    carried_as g.R.Rig.seen (λ (x : ControllerModel g.row.R.Denot). Unit {0}) (λ (x : ControllerModel g.row.R.Denot). Unit {0}) (λ (x : ControllerModel g.row.R.Denot). Unit {0}) (λ (x : ControllerModel g.row.R.Denot) (program : List ℕ). begin x.equipment program x.session (program_line_at program x.session.stored.place)) (Ok c.in-Some.reply) c.args.self.now old new c.self.view_is
+    (carried_ahead g.R.Rig.seen c.in-Some.reply old new whole runs refl refl begun)
 
 pub returns-in-None : goal.returns-in-None
 returns-in-None g c =
@@ -34,4 +34,4 @@ returns-in-None g c =
     let none = c.in-None.ensures.none refl in
     let mid : ControllerModel g.row.R.Denot = record { journal = c.self.inside.journal; session = c.begin_ahead.new.self; lines = c.begin_ahead.new.lines; equipment = equipment } in
     let same : mid ≡ c.args.self.now = (λ i. record { journal = c.self.inside.journal; session = none.0 i; lines = none.1 i; equipment = equipment }) ∙ c.self.view_is in
-    carried_as g.R.Rig.honest g.R.Rig.trace g.R.Rig.failed g.R.Rig.sectors (λ (x : ControllerModel g.row.R.Denot). Unit {0}) (λ (x : ControllerModel g.row.R.Denot). Unit {0}) (λ (x : ControllerModel g.row.R.Denot). Unit {0}) (λ (x : ControllerModel g.row.R.Denot) (program : List ℕ). begin x.equipment program x.session (program_line_at program x.session.stored.place)) c.begin_read.result c.args.self.now mid c.begin_read.new.self same c.begin_read.ensures
+    carried_as g.R.Rig.seen (λ (x : ControllerModel g.row.R.Denot). Unit {0}) (λ (x : ControllerModel g.row.R.Denot). Unit {0}) (λ (x : ControllerModel g.row.R.Denot). Unit {0}) (λ (x : ControllerModel g.row.R.Denot) (program : List ℕ). begin x.equipment program x.session (program_line_at program x.session.stored.place)) c.begin_read.result c.args.self.now mid c.begin_read.new.self same c.begin_read.ensures

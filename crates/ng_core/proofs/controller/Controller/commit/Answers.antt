@@ -41,9 +41,9 @@ returns-in_err-commit g c =
     let kept = kept_whole old.journal c.in-Some.after.now old.session.stored (c.self.invariant.saved whole) c.in-Some.ensures.next.room in
     let due_kept : IsDue old.session (kept_by old.journal c.in-Some.after.now) = record { block = block.0; current = block.1; after = kept ∙ block.2 } in
     let unchanged : e ≡ CountersUsed → new.journal ≡ old.journal = λ used. c.in_err-commit.ensures.unchanged (ap (λ (f : Fault). Err f) used) in
-    rw (p.1) (carried_as g.R.Rig.honest g.R.Rig.trace g.R.Rig.failed g.R.Rig.sectors (λ (x : ControllerModel g.row.R.Denot). ⊥) (λ (x : ControllerModel g.row.R.Denot). Unit {0}) (λ (x : ControllerModel g.row.R.Denot). ⊥) (λ (x : ControllerModel g.row.R.Denot) (program : List ℕ). end x.equipment program x.session x.session.current) (Err p.0) c.args.self.now old new c.self.view_is
-    (carried_failed g.R.Rig.honest g.R.Rig.trace g.R.Rig.failed g.R.Rig.sectors ⊥ (Unit {0}) ⊥ p.0 e (λ (program : List ℕ). end equipment program old.session old.session.current) old new p.2
-    (does_not_commit g.R.Rig.honest g.R.Rig.trace e e (kept_by old.journal c.in-Some.after.now) old new due_kept refl c.in_err-commit.ensures.errors unchanged c.in_err-commit.ensures.stops refl)
+    rw (p.1) (carried_as g.R.Rig.seen (λ (x : ControllerModel g.row.R.Denot). ⊥) (λ (x : ControllerModel g.row.R.Denot). Unit {0}) (λ (x : ControllerModel g.row.R.Denot). ⊥) (λ (x : ControllerModel g.row.R.Denot) (program : List ℕ). end x.equipment program x.session x.session.current) (Err p.0) c.args.self.now old new c.self.view_is
+    (carried_failed g.R.Rig.seen ⊥ (Unit {0}) ⊥ p.0 e (λ (program : List ℕ). end equipment program old.session old.session.current) old new p.2
+    (does_not_commit g.R.Rig.seen e e (kept_by old.journal c.in-Some.after.now) old new due_kept refl c.in_err-commit.ensures.errors unchanged c.in_err-commit.ensures.stops refl)
     c.in_err-commit.ensures.errors unchanged refl refl
     (hindered_entry (Unit {0}) e equipment old.session (ledger_of old.journal) c.in-Some.after.now due c.in_err-commit.ensures.errors c.in_err-commit.ensures.used_up)
     c.in_err-commit.ensures.broken c.in_err-commit.ensures.size c.in_err-commit.ensures.failures))
@@ -58,8 +58,8 @@ returns g c =
     let whole = ap (λ (x : ControllerModel g.row.R.Denot). x.journal.broken) c.self.view_is ∙ c.requires.whole in
     let kept = kept_whole old.journal c.in-Some.after.now old.session.stored (c.self.invariant.saved whole) c.in-Some.ensures.next.room in
     let due_kept : IsDue old.session (kept_by old.journal c.in-Some.after.now) = record { block = block.0; current = block.1; after = kept ∙ block.2 } in
-    carried_as g.R.Rig.honest g.R.Rig.trace g.R.Rig.failed g.R.Rig.sectors (λ (x : ControllerModel g.row.R.Denot). ⊥) (λ (x : ControllerModel g.row.R.Denot). Unit {0}) (λ (x : ControllerModel g.row.R.Denot). ⊥) (λ (x : ControllerModel g.row.R.Denot) (program : List ℕ). end x.equipment program x.session x.session.current) (Ok c.commit-2.result) c.args.self.now old new c.self.view_is (record {
-      does = does_commit g.R.Rig.honest g.R.Rig.trace c.in_ok-commit.field-0 c.commit-2.result (kept_by old.journal c.in-Some.after.now) old new due_kept
+    carried_as g.R.Rig.seen (λ (x : ControllerModel g.row.R.Denot). ⊥) (λ (x : ControllerModel g.row.R.Denot). Unit {0}) (λ (x : ControllerModel g.row.R.Denot). ⊥) (λ (x : ControllerModel g.row.R.Denot) (program : List ℕ). end x.equipment program x.session x.session.current) (Ok c.commit-2.result) c.args.self.now old new c.self.view_is (record {
+      does = does_commit g.R.Rig.seen c.in_ok-commit.field-0 c.commit-2.result (kept_by old.journal c.in-Some.after.now) old new due_kept
           (c.commit-2.ensures.reply block.0 block.1) (c.commit-2.ensures.next block.0 block.1) c.in_ok-commit.ensures.stops refl;
       comes = comes_commit ⊥ c.commit-2.result c.in-Some.after.now old new due (c.commit-2.ensures.reply block.0 block.1) (c.commit-2.ensures.next block.0 block.1);
       line = λ none. absurd none;

@@ -16,9 +16,9 @@ returns-in_err-hand_out g c =
     let equipment : Equipment = record { geometry = c.self.inside.geometry } in
     let old : ControllerModel g.row.R.Denot = record { journal = c.self.inside.journal; session = c.self.inside.session; lines = c.self.inside.lines; equipment = equipment } in
     let new : ControllerModel g.row.R.Denot = record { journal = c.hand_out.new.self; session = c.self.inside.session; lines = c.self.inside.lines; equipment = equipment } in
-    rw (p.1) (carried_as g.R.Rig.honest g.R.Rig.trace g.R.Rig.failed g.R.Rig.sectors (λ (x : ControllerModel g.row.R.Denot). ⊥) (λ (x : ControllerModel g.row.R.Denot). Unit {0}) (λ (x : ControllerModel g.row.R.Denot). ⊥) (λ (x : ControllerModel g.row.R.Denot) (program : List ℕ). handing c.args.item program x.session) (Err p.0) c.args.self.now old new c.self.view_is
-    (carried_lost g.R.Rig.honest g.R.Rig.trace g.R.Rig.failed g.R.Rig.sectors ⊥ (Unit {0}) ⊥ p.0 e (λ (program : List ℕ). handing c.args.item program old.session) old new p.2
-    (hands_none g.R.Rig.honest g.R.Rig.trace e e c.args.item old new refl c.in_err-hand_out.ensures.errors c.in_err-hand_out.ensures.stops)
+    rw (p.1) (carried_as g.R.Rig.seen (λ (x : ControllerModel g.row.R.Denot). ⊥) (λ (x : ControllerModel g.row.R.Denot). Unit {0}) (λ (x : ControllerModel g.row.R.Denot). ⊥) (λ (x : ControllerModel g.row.R.Denot) (program : List ℕ). handing c.args.item program x.session) (Err p.0) c.args.self.now old new c.self.view_is
+    (carried_lost g.R.Rig.seen ⊥ (Unit {0}) ⊥ p.0 e (λ (program : List ℕ). handing c.args.item program old.session) old new p.2
+    (hands_none g.R.Rig.seen e e c.args.item old new refl c.in_err-hand_out.ensures.errors c.in_err-hand_out.ensures.stops)
     c.in_err-hand_out.ensures.errors tt (λ program used. used) refl refl c.in_err-hand_out.ensures.broken c.in_err-hand_out.ensures.size c.in_err-hand_out.ensures.failures))
 
 pub returns : goal.returns
@@ -26,8 +26,8 @@ returns g c =
     let equipment : Equipment = record { geometry = c.self.inside.geometry } in
     let old : ControllerModel g.row.R.Denot = record { journal = c.self.inside.journal; session = c.self.inside.session; lines = c.self.inside.lines; equipment = equipment } in
     let new : ControllerModel g.row.R.Denot = record { journal = c.hand_out.new.self; session = c.self.inside.session; lines = c.self.inside.lines; equipment = equipment } in
-    carried_as g.R.Rig.honest g.R.Rig.trace g.R.Rig.failed g.R.Rig.sectors (λ (x : ControllerModel g.row.R.Denot). ⊥) (λ (x : ControllerModel g.row.R.Denot). Unit {0}) (λ (x : ControllerModel g.row.R.Denot). ⊥) (λ (x : ControllerModel g.row.R.Denot) (program : List ℕ). handing c.args.item program x.session) (Ok reply.Moved) c.args.self.now old new c.self.view_is (record {
-      does = hands_item g.R.Rig.honest g.R.Rig.trace c.in_ok-hand_out.field-0 c.args.item old new refl c.in_ok-hand_out.ensures.stops refl;
+    carried_as g.R.Rig.seen (λ (x : ControllerModel g.row.R.Denot). ⊥) (λ (x : ControllerModel g.row.R.Denot). Unit {0}) (λ (x : ControllerModel g.row.R.Denot). ⊥) (λ (x : ControllerModel g.row.R.Denot) (program : List ℕ). handing c.args.item program x.session) (Ok reply.Moved) c.args.self.now old new c.self.view_is (record {
+      does = hands_item g.R.Rig.seen c.in_ok-hand_out.field-0 c.args.item old new refl c.in_ok-hand_out.ensures.stops refl;
       comes = comes_by ⊥ reply.Moved (λ program. handing c.args.item program old.session) old new (λ program. refl) (λ program. refl);
       line = λ none. absurd none;
       hindered = tt;

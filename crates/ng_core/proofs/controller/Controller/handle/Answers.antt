@@ -13,5 +13,5 @@ pub returns-clause-carried : goal.returns-clause-carried
 returns-clause-carried g c = λ whole.
     let equipment : Equipment = record { geometry = c.self.inside.geometry } in
     let old : ControllerModel g.row.R.Denot = record { journal = c.self.inside.journal; session = c.self.inside.session; lines = c.self.inside.lines; equipment = equipment } in
-    subst (λ (x : ControllerModel g.row.R.Denot). CarriesOutEvent g.R.Rig.honest g.R.Rig.trace g.R.Rig.failed g.R.Rig.sectors c.args.event.now c.carry_out.result x c.carry_out.new.self) c.self.view_is
-    (carried_forgotten g.R.Rig.honest g.R.Rig.trace g.R.Rig.failed g.R.Rig.sectors c.args.event.now c.carry_out.result old c.carry_out.new.self c.forget_for.new.self c.forget_for.ensures c.carry_out.ensures)
+    subst (λ (x : ControllerModel g.row.R.Denot). CarriesOutEvent g.R.Rig.seen c.args.event.now c.carry_out.result x c.carry_out.new.self) c.self.view_is
+    (carried_forgotten g.R.Rig.seen c.args.event.now c.carry_out.result old c.carry_out.new.self c.forget_for.new.self c.forget_for.ensures c.carry_out.ensures)

@@ -33,9 +33,9 @@ returns-in-Ok g c = λ entry committed.
     let kept = kept_whole old.journal c.stored-2.result.now old.session.stored (c.self.invariant.saved whole) (ap (λ (x : StoredModel). x.room) stored) in
     let counted : reply.Done c.behind-self-in-Ok.inside.entries ≡ reply.Done next.stored.entries =
     ap (λ (x : StoredModel). reply.Done x.entries) (c.behind-self-in-Ok.view_is ∙ c.stored-in-Ok.ensures.value ∙ ap (λ (s : SessionModel). s.stored) there) in
-    carried_as g.R.Rig.honest g.R.Rig.trace g.R.Rig.failed g.R.Rig.sectors (λ (x : ControllerModel g.row.R.Denot). ⊥) (λ (x : ControllerModel g.row.R.Denot). Unit {0}) (λ (x : ControllerModel g.row.R.Denot). ⊥)
+    carried_as g.R.Rig.seen (λ (x : ControllerModel g.row.R.Denot). ⊥) (λ (x : ControllerModel g.row.R.Denot). Unit {0}) (λ (x : ControllerModel g.row.R.Denot). ⊥)
     (λ (x : ControllerModel g.row.R.Denot) (program : List ℕ). commits program entry (with_table x.session c.args.tools)) (Ok (reply.Done c.behind-self-in-Ok.inside.entries)) c.args.self.now old new c.self.view_is (record {
-      does = keeps g.R.Rig.honest g.R.Rig.trace c.in-Ok.field-0 (reply.Done c.behind-self-in-Ok.inside.entries) (kept_by old.journal c.stored-2.result.now) entry next old new (kept ∙ stored) counted there c.in-Ok.ensures.stops refl;
+      does = keeps g.R.Rig.seen c.in-Ok.field-0 (reply.Done c.behind-self-in-Ok.inside.entries) (kept_by old.journal c.stored-2.result.now) entry next old new (kept ∙ stored) counted there c.in-Ok.ensures.stops refl;
       comes = comes_by ⊥ (reply.Done c.behind-self-in-Ok.inside.entries) (λ program. commits program entry next) old new (λ program. counted) (λ program. there);
       line = λ none. absurd none;
       hindered = tt;
@@ -60,10 +60,10 @@ returns-in-Err g c = λ entry committed.
     let same : c.exchange_tools.new.self ≡ old.session = c.exchange_tools.ensures.next
     ∙ (λ i. let s : SessionModel = record (c.exchange_tools-before.ensures.next i) { stored = record (c.exchange_tools-before.ensures.next i).stored { entries = count i; tools = c.exchange_tools-before.ensures.before i } } in s) in
     let unchanged : c.in-Err.fault ≡ CountersUsed → new.journal ≡ old.journal = λ used. c.in-Err.ensures.unchanged (ap (λ (f : Fault). Err f) used) in
-    carried_as g.R.Rig.honest g.R.Rig.trace g.R.Rig.failed g.R.Rig.sectors (λ (x : ControllerModel g.row.R.Denot). ⊥) (λ (x : ControllerModel g.row.R.Denot). Unit {0}) (λ (x : ControllerModel g.row.R.Denot). ⊥)
+    carried_as g.R.Rig.seen (λ (x : ControllerModel g.row.R.Denot). ⊥) (λ (x : ControllerModel g.row.R.Denot). Unit {0}) (λ (x : ControllerModel g.row.R.Denot). ⊥)
     (λ (x : ControllerModel g.row.R.Denot) (program : List ℕ). commits program entry (with_table x.session c.args.tools)) (Err c.in-Err.fault) c.args.self.now old new c.self.view_is
-    (carried_failed g.R.Rig.honest g.R.Rig.trace g.R.Rig.failed g.R.Rig.sectors ⊥ (Unit {0}) ⊥ c.in-Err.fault c.in-Err.fault (λ (program : List ℕ). commits program entry next) old new refl
-    (keeps_none g.R.Rig.honest g.R.Rig.trace c.in-Err.fault (kept_by old.journal c.stored-2.result.now) entry next old new (kept ∙ stored) same c.in-Err.ensures.errors unchanged c.in-Err.ensures.stops refl)
+    (carried_failed g.R.Rig.seen ⊥ (Unit {0}) ⊥ c.in-Err.fault c.in-Err.fault (λ (program : List ℕ). commits program entry next) old new refl
+    (keeps_none g.R.Rig.seen c.in-Err.fault (kept_by old.journal c.stored-2.result.now) entry next old new (kept ∙ stored) same c.in-Err.ensures.errors unchanged c.in-Err.ensures.stops refl)
     c.in-Err.ensures.errors unchanged refl same
     (hindered_storing (Unit {0}) c.in-Err.fault (ledger_of old.journal) (λ (program : List ℕ). commits program entry next) (Commit c.stored-2.result.now) c.in-Err.ensures.errors c.in-Err.ensures.used_up
     (λ program. ap (λ (x : Storing). Some x) (committed next.stored) ∙ ap (λ (x : StoredModel). Some (Commit x)) (sym stored)))

@@ -40,7 +40,7 @@ returns-in-Some g c =
     let old : ControllerModel g.row.R.Denot = c.args.self.now in
     let refused : Some c.in-Some.fault ≡ load_refusal old.session c.args.text.now =
     subst (λ (x : ControllerModel g.row.R.Denot). Some c.in-Some.fault ≡ load_refusal x.session c.args.text.now) c.self.view_is c.in-Some.ensures.value in
-    carried_refused g.R.Rig.honest g.R.Rig.trace g.R.Rig.failed g.R.Rig.sectors (load_refusal old.session c.args.text.now ≡ None) (load_refusal old.session c.args.text.now ≡ None) ⊥ c.in-Some.fault
+    carried_refused g.R.Rig.seen (load_refusal old.session c.args.text.now ≡ None) (load_refusal old.session c.args.text.now ≡ None) ⊥ c.in-Some.fault
     (λ (program : List ℕ). load program old.session c.args.text.now) old c.requires.whole (λ none. none) (λ program. ap (λ (o : Option Fault). load_unless program old.session c.args.text.now o) refused)
 
 pub returns-in_err-stored : goal.returns-in_err-stored
@@ -48,7 +48,7 @@ returns-in_err-stored g c =
     let p = err_from_is_err_and c.from_residual.result c.from_residual.ensures.1 in
     let old : ControllerModel g.row.R.Denot = c.args.self.now in
     let free : load_refusal old.session c.args.text.now ≡ None = subst (λ (x : ControllerModel g.row.R.Denot). load_refusal x.session c.args.text.now ≡ None) c.self.view_is (sym c.in_default.ensures.value) in
-    rw (p.1) (carried_short g.R.Rig.honest g.R.Rig.trace g.R.Rig.failed g.R.Rig.sectors (load_refusal old.session c.args.text.now ≡ None) (load_refusal old.session c.args.text.now ≡ None) ⊥ p.0
+    rw (p.1) (carried_short g.R.Rig.seen (load_refusal old.session c.args.text.now ≡ None) (load_refusal old.session c.args.text.now ≡ None) ⊥ p.0
     (λ (program : List ℕ). load program old.session c.args.text.now) old old c.requires.whole p.2 free refl refl refl refl)
 
 pub returns-in_err-load_program : goal.returns-in_err-load_program
@@ -64,10 +64,10 @@ returns-in_err-load_program g c =
     let which : (e ≡ CountersUsed) ⊎ (e ≡ DeviceFailed) = not_too_long (Unit {0}) e c.self.inside.journal.saved.room (length c.args.text.now) small c.in_err-load_program.ensures.errors c.in_err-load_program.ensures.too_long in
     let kept = kept_whole old.journal c.in_ok-stored.stored old.session.stored (c.self.invariant.saved whole) (ap (λ (x : StoredModel). x.room) c.in_ok-stored.ensures.value) in
     let unchanged : e ≡ CountersUsed → new.journal ≡ old.journal = λ used. c.in_err-load_program.ensures.unchanged (inl (ap (λ (f : Fault). Err f) used)) in
-    rw (p.1) (carried_as g.R.Rig.honest g.R.Rig.trace g.R.Rig.failed g.R.Rig.sectors (λ (x : ControllerModel g.row.R.Denot). load_refusal x.session c.args.text.now ≡ None) (λ (x : ControllerModel g.row.R.Denot). load_refusal x.session c.args.text.now ≡ None) (λ (x : ControllerModel g.row.R.Denot). ⊥) (λ (x : ControllerModel g.row.R.Denot) (program : List ℕ). load program x.session c.args.text.now) (Err p.0) c.args.self.now old new c.self.view_is
-    (carried_failed g.R.Rig.honest g.R.Rig.trace g.R.Rig.failed g.R.Rig.sectors (load_refusal old.session c.args.text.now ≡ None) (load_refusal old.session c.args.text.now ≡ None) ⊥ p.0 e
+    rw (p.1) (carried_as g.R.Rig.seen (λ (x : ControllerModel g.row.R.Denot). load_refusal x.session c.args.text.now ≡ None) (λ (x : ControllerModel g.row.R.Denot). load_refusal x.session c.args.text.now ≡ None) (λ (x : ControllerModel g.row.R.Denot). ⊥) (λ (x : ControllerModel g.row.R.Denot) (program : List ℕ). load program x.session c.args.text.now) (Err p.0) c.args.self.now old new c.self.view_is
+    (carried_failed g.R.Rig.seen (load_refusal old.session c.args.text.now ≡ None) (load_refusal old.session c.args.text.now ≡ None) ⊥ p.0 e
     (λ (program : List ℕ). load program old.session c.args.text.now) old new p.2
-    (does_not_load g.R.Rig.honest g.R.Rig.trace e e (kept_by old.journal c.in_ok-stored.stored) c.args.text.now old new free (kept ∙ c.in_ok-stored.ensures.value) refl which unchanged c.in_err-load_program.ensures.stops refl)
+    (does_not_load g.R.Rig.seen e e (kept_by old.journal c.in_ok-stored.stored) c.args.text.now old new free (kept ∙ c.in_ok-stored.ensures.value) refl which unchanged c.in_err-load_program.ensures.stops refl)
     which unchanged refl refl
     (hindered_load (Unit {0}) e c.self.inside.journal.saved.room old.session c.in_ok-stored.stored c.args.text.now (ledger_of old.journal) free small c.in_ok-stored.ensures.value which c.in_err-load_program.ensures.used_up)
     c.in_err-load_program.ensures.broken c.in_err-load_program.ensures.size c.in_err-load_program.ensures.failures))
@@ -80,8 +80,8 @@ returns g c =
     let free : load_refusal old.session c.args.text.now ≡ None = sym c.in_default.ensures.value in
     let whole = ap (λ (x : ControllerModel g.row.R.Denot). x.journal.broken) c.self.view_is ∙ c.requires.whole in
     let kept = kept_whole old.journal c.in_ok-stored.stored old.session.stored (c.self.invariant.saved whole) (ap (λ (x : StoredModel). x.room) c.in_ok-stored.ensures.value) in
-    carried_as g.R.Rig.honest g.R.Rig.trace g.R.Rig.failed g.R.Rig.sectors (λ (x : ControllerModel g.row.R.Denot). load_refusal x.session c.args.text.now ≡ None) (λ (x : ControllerModel g.row.R.Denot). load_refusal x.session c.args.text.now ≡ None) (λ (x : ControllerModel g.row.R.Denot). ⊥) (λ (x : ControllerModel g.row.R.Denot) (program : List ℕ). load program x.session c.args.text.now) (Ok c.load.result) c.args.self.now old new c.self.view_is (record {
-      does = does_load g.R.Rig.honest g.R.Rig.trace c.in_ok-load_program.field-0 c.load.result (kept_by old.journal c.in_ok-stored.stored) c.args.text.now old new free (kept ∙ c.in_ok-stored.ensures.value)
+    carried_as g.R.Rig.seen (λ (x : ControllerModel g.row.R.Denot). load_refusal x.session c.args.text.now ≡ None) (λ (x : ControllerModel g.row.R.Denot). load_refusal x.session c.args.text.now ≡ None) (λ (x : ControllerModel g.row.R.Denot). ⊥) (λ (x : ControllerModel g.row.R.Denot) (program : List ℕ). load program x.session c.args.text.now) (Ok c.load.result) c.args.self.now old new c.self.view_is (record {
+      does = does_load g.R.Rig.seen c.in_ok-load_program.field-0 c.load.result (kept_by old.journal c.in_ok-stored.stored) c.args.text.now old new free (kept ∙ c.in_ok-stored.ensures.value)
           c.load.ensures.reply (c.load.ensures.next ∙ ap (loaded old.session) (sym kept)) c.in_ok-load_program.ensures.stops (c.forget.ensures.holds c.args.text.now);
       comes = comes_load ⊥ c.load.result c.in_ok-stored.stored c.args.text.now old new free c.in_ok-stored.ensures.value c.load.ensures.reply c.load.ensures.next;
       line = λ none. absurd none;

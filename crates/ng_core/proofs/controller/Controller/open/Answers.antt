@@ -26,9 +26,9 @@ returns-in_err-open_segment g c =
     let new : ControllerModel g.row.R.Denot = record { journal = c.open_segment.new.self; session = c.self.inside.session; lines = c.self.inside.lines; equipment = equipment } in
     let whole = ap (λ (x : ControllerModel g.row.R.Denot). x.journal.broken) c.self.view_is ∙ c.requires.whole in
     let unchanged : e ≡ CountersUsed → new.journal ≡ old.journal = λ used. c.in_err-open_segment.ensures.unchanged (ap (λ (f : Fault). Err f) used) in
-    rw (p.1) (carried_as g.R.Rig.honest g.R.Rig.trace g.R.Rig.failed g.R.Rig.sectors (λ (x : ControllerModel g.row.R.Denot). ⊥) (λ (x : ControllerModel g.row.R.Denot). Unit {0}) (λ (x : ControllerModel g.row.R.Denot). ⊥) (λ (x : ControllerModel g.row.R.Denot) (program : List ℕ). opening c.args.half program x.equipment x.session) (Err p.0) c.args.self.now old new c.self.view_is
-    (carried_failed g.R.Rig.honest g.R.Rig.trace g.R.Rig.failed g.R.Rig.sectors ⊥ (Unit {0}) ⊥ p.0 e (λ (program : List ℕ). opening c.args.half program equipment old.session) old new p.2
-    (opens_none g.R.Rig.honest g.R.Rig.trace e e c.args.half old new refl (c.self.invariant.saved whole) c.in_err-open_segment.ensures.errors unchanged c.in_err-open_segment.ensures.stops refl)
+    rw (p.1) (carried_as g.R.Rig.seen (λ (x : ControllerModel g.row.R.Denot). ⊥) (λ (x : ControllerModel g.row.R.Denot). Unit {0}) (λ (x : ControllerModel g.row.R.Denot). ⊥) (λ (x : ControllerModel g.row.R.Denot) (program : List ℕ). opening c.args.half program x.equipment x.session) (Err p.0) c.args.self.now old new c.self.view_is
+    (carried_failed g.R.Rig.seen ⊥ (Unit {0}) ⊥ p.0 e (λ (program : List ℕ). opening c.args.half program equipment old.session) old new p.2
+    (opens_none g.R.Rig.seen e e c.args.half old new refl (c.self.invariant.saved whole) c.in_err-open_segment.ensures.errors unchanged c.in_err-open_segment.ensures.stops refl)
     c.in_err-open_segment.ensures.errors unchanged refl refl
     (hindered_opening (Unit {0}) e equipment old.session (ledger_of old.journal) c.args.half c.in_err-open_segment.ensures.errors c.in_err-open_segment.ensures.used_up)
     c.in_err-open_segment.ensures.broken c.in_err-open_segment.ensures.size c.in_err-open_segment.ensures.failures))
@@ -39,8 +39,8 @@ returns g c =
     let old : ControllerModel g.row.R.Denot = record { journal = c.self.inside.journal; session = c.self.inside.session; lines = c.self.inside.lines; equipment = equipment } in
     let new : ControllerModel g.row.R.Denot = record { journal = c.open_segment.new.self; session = c.open.new.self; lines = c.self.inside.lines; equipment = equipment } in
     let whole = ap (λ (x : ControllerModel g.row.R.Denot). x.journal.broken) c.self.view_is ∙ c.requires.whole in
-    carried_as g.R.Rig.honest g.R.Rig.trace g.R.Rig.failed g.R.Rig.sectors (λ (x : ControllerModel g.row.R.Denot). ⊥) (λ (x : ControllerModel g.row.R.Denot). Unit {0}) (λ (x : ControllerModel g.row.R.Denot). ⊥) (λ (x : ControllerModel g.row.R.Denot) (program : List ℕ). opening c.args.half program x.equipment x.session) (Ok c.open.result) c.args.self.now old new c.self.view_is (record {
-      does = opens g.R.Rig.honest g.R.Rig.trace c.in_ok-open_segment.field-0 c.open.result c.args.half old new c.open.ensures.reply c.open.ensures.next (c.self.invariant.saved whole) c.in_ok-open_segment.ensures.stops refl;
+    carried_as g.R.Rig.seen (λ (x : ControllerModel g.row.R.Denot). ⊥) (λ (x : ControllerModel g.row.R.Denot). Unit {0}) (λ (x : ControllerModel g.row.R.Denot). ⊥) (λ (x : ControllerModel g.row.R.Denot) (program : List ℕ). opening c.args.half program x.equipment x.session) (Ok c.open.result) c.args.self.now old new c.self.view_is (record {
+      does = opens g.R.Rig.seen c.in_ok-open_segment.field-0 c.open.result c.args.half old new c.open.ensures.reply c.open.ensures.next (c.self.invariant.saved whole) c.in_ok-open_segment.ensures.stops refl;
       comes = comes_by ⊥ c.open.result (λ program. opening c.args.half program equipment old.session) old new (λ program. c.open.ensures.reply) (λ program. c.open.ensures.next);
       line = λ none. absurd none;
       hindered = tt;

@@ -20,8 +20,8 @@ returns-in_err-first g c =
     let equipment : Equipment = record { geometry = c.self.inside.geometry } in
     let old : ControllerModel g.row.R.Denot = record { journal = c.self.inside.journal; session = c.self.inside.session; lines = c.self.inside.lines; equipment = equipment } in
     let new : ControllerModel g.row.R.Denot = record { journal = c.first_kind_before.new.journal; session = c.self.inside.session; lines = c.self.inside.lines; equipment = equipment } in
-    rw (p.1) (subst (λ (x : ControllerModel g.row.R.Denot). PlansAhead g.R.Rig.honest g.R.Rig.trace g.R.Rig.failed g.R.Rig.sectors (Err p.0) x new) c.self.view_is
-    (plans_lost g.R.Rig.honest g.R.Rig.trace g.R.Rig.failed g.R.Rig.sectors p.0 e old new p.2 (unread_first g.R.Rig.honest g.R.Rig.trace g.R.Rig.failed g.R.Rig.sectors e c.in-Some.place old new.journal c.in_err-first.ensures.kind) c.in_err-first.ensures.errors refl refl c.in_err-first.ensures.ledger
+    rw (p.1) (subst (λ (x : ControllerModel g.row.R.Denot). PlansAhead g.R.Rig.seen (Err p.0) x new) c.self.view_is
+    (plans_lost g.R.Rig.seen p.0 e old new p.2 (unread_first g.R.Rig.seen e c.in-Some.place old new.journal c.in_err-first.ensures.kind) c.in_err-first.ensures.errors refl refl c.in_err-first.ensures.ledger
     c.in_err-first.ensures.broken c.in_err-first.ensures.size c.in_err-first.ensures.failures))
 
 pub returns-in_err-line : goal.returns-in_err-line
@@ -31,11 +31,11 @@ returns-in_err-line g c =
     let equipment : Equipment = record { geometry = c.self.inside.geometry } in
     let old : ControllerModel g.row.R.Denot = record { journal = c.self.inside.journal; session = c.self.inside.session; lines = c.self.inside.lines; equipment = equipment } in
     let new : ControllerModel g.row.R.Denot = record { journal = c.program_line.new.self; session = c.self.inside.session; lines = c.self.inside.lines; equipment = equipment } in
-    rw (p.1) (subst (λ (x : ControllerModel g.row.R.Denot). PlansAhead g.R.Rig.honest g.R.Rig.trace g.R.Rig.failed g.R.Rig.sectors (Err p.0) x new) c.self.view_is
-    (plans_lost g.R.Rig.honest g.R.Rig.trace g.R.Rig.failed g.R.Rig.sectors p.0 e old new p.2 (unread_line g.R.Rig.honest g.R.Rig.trace g.R.Rig.failed g.R.Rig.sectors c.in_ok-first.first e c.in-Some.place old c.first_kind_before.new.journal new.journal c.in_ok-first.ensures.kind c.in_err-line.ensures.line)
+    rw (p.1) (subst (λ (x : ControllerModel g.row.R.Denot). PlansAhead g.R.Rig.seen (Err p.0) x new) c.self.view_is
+    (plans_lost g.R.Rig.seen p.0 e old new p.2 (unread_line g.R.Rig.seen c.in_ok-first.first e c.in-Some.place old c.first_kind_before.new.journal new.journal c.in_ok-first.ensures.kind c.in_err-line.ensures.line)
     c.in_err-line.ensures.errors refl refl (c.in_err-line.ensures.ledger ∙ c.in_ok-first.ensures.ledger)
     c.in_err-line.ensures.broken (c.in_err-line.ensures.size ∙ c.in_ok-first.ensures.size)
-    (subst (λ (n : ℕ). CountsFailure {T = Unit {0}} (Err e) n (g.R.Rig.failed c.program_line.new.self.rig)) c.in_ok-first.ensures.failures c.in_err-line.ensures.failures)))
+    (subst (λ (n : ℕ). CountsFailure {T = Unit {0}} (Err e) n (g.R.Rig.seen c.program_line.new.self.rig).failed) c.in_ok-first.ensures.failures c.in_err-line.ensures.failures)))
 
 pub returns-in-Some-2 : goal.returns-in-Some-2
 returns-in-Some-2 g c =
@@ -44,11 +44,11 @@ returns-in-Some-2 g c =
     let new : ControllerModel g.row.R.Denot = record { journal = c.program_line.new.self; session = c.plan.new.self; lines = c.set_before.new.self; equipment = equipment } in
     let line : ProgramLineModel = record { text = c.as_slice-text.result.now; next = c.line.inside.next } in
     let read : line ≡ c.in-Some-2.line = (λ i. record { text = c.as_slice-text.ensures.value i; next = c.line.inside.next }) ∙ c.line.view_is in
-    let reading = subst (λ (l : Option ProgramLineModel). Reading {E = Fault} g.R.Rig.honest g.R.Rig.trace (Ok l) c.in-Some.place c.first_kind_before.new.journal c.program_line.new.self)
+    let reading = subst (λ (l : Option ProgramLineModel). Reading {E = Fault} g.R.Rig.seen (Ok l) c.in-Some.place c.first_kind_before.new.journal c.program_line.new.self)
     (c.in-Some-2.is ∙ ap (λ (l : ProgramLineModel). Some l) (sym read)) c.in_ok-line.ensures.line in
-    subst (λ (x : ControllerModel g.row.R.Denot). PlansAhead g.R.Rig.honest g.R.Rig.trace g.R.Rig.failed g.R.Rig.sectors (Ok tt) x new) c.self.view_is
-    (plans_found g.R.Rig.honest g.R.Rig.trace g.R.Rig.failed g.R.Rig.sectors c.in_ok-first.first (Some line) c.in-Some.place old new
-    (finding_both {E = Fault} {F = Fault} g.R.Rig.honest g.R.Rig.trace c.in_ok-first.first (Some line) c.self.inside.lines c.in-Some.place c.self.inside.journal c.first_kind_before.new.journal c.program_line.new.self
+    subst (λ (x : ControllerModel g.row.R.Denot). PlansAhead g.R.Rig.seen (Ok tt) x new) c.self.view_is
+    (plans_found g.R.Rig.seen c.in_ok-first.first (Some line) c.in-Some.place old new
+    (finding_both {E = Fault} {F = Fault} g.R.Rig.seen c.in_ok-first.first (Some line) c.self.inside.lines c.in-Some.place c.self.inside.journal c.first_kind_before.new.journal c.program_line.new.self
     c.in_ok-first.ensures.kind reading)
     (λ program known at kind.
     let between : IsLineBetween program c.in-Some.place c.in_ok-first.first line.text line.next = record { line = sym at; kind = kind } in
@@ -63,10 +63,10 @@ returns-in-None g c =
     let equipment : Equipment = record { geometry = c.self.inside.geometry } in
     let old : ControllerModel g.row.R.Denot = record { journal = c.self.inside.journal; session = c.self.inside.session; lines = c.self.inside.lines; equipment = equipment } in
     let new : ControllerModel g.row.R.Denot = record { journal = c.program_line.new.self; session = c.self.inside.session; lines = c.end.new.self; equipment = equipment } in
-    let reading = subst (λ (l : Option ProgramLineModel). Reading {E = Fault} g.R.Rig.honest g.R.Rig.trace (Ok l) c.in-Some.place c.first_kind_before.new.journal c.program_line.new.self) c.in-None.is c.in_ok-line.ensures.line in
-    subst (λ (x : ControllerModel g.row.R.Denot). PlansAhead g.R.Rig.honest g.R.Rig.trace g.R.Rig.failed g.R.Rig.sectors (Ok tt) x new) c.self.view_is
-    (plans_found g.R.Rig.honest g.R.Rig.trace g.R.Rig.failed g.R.Rig.sectors c.in_ok-first.first None c.in-Some.place old new
-    (finding_both {E = Fault} {F = Fault} g.R.Rig.honest g.R.Rig.trace c.in_ok-first.first None c.self.inside.lines c.in-Some.place c.self.inside.journal c.first_kind_before.new.journal c.program_line.new.self
+    let reading = subst (λ (l : Option ProgramLineModel). Reading {E = Fault} g.R.Rig.seen (Ok l) c.in-Some.place c.first_kind_before.new.journal c.program_line.new.self) c.in-None.is c.in_ok-line.ensures.line in
+    subst (λ (x : ControllerModel g.row.R.Denot). PlansAhead g.R.Rig.seen (Ok tt) x new) c.self.view_is
+    (plans_found g.R.Rig.seen c.in_ok-first.first None c.in-Some.place old new
+    (finding_both {E = Fault} {F = Fault} g.R.Rig.seen c.in_ok-first.first None c.self.inside.lines c.in-Some.place c.self.inside.journal c.first_kind_before.new.journal c.program_line.new.self
     c.in_ok-first.ensures.kind reading)
     (λ program known at kind. subst (λ (k : KnownModel). IsKnownOf program k) (sym c.end.ensures) known)
     refl refl (c.in_ok-line.ensures.ledger ∙ c.in_ok-first.ensures.ledger) c.in_ok-line.ensures.broken

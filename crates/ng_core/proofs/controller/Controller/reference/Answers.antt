@@ -17,7 +17,7 @@ returns-in-Some g c =
     let old : ControllerModel g.row.R.Denot = c.args.self.now in
     let refused : Some c.in-Some.fault ≡ reference_refusal old.equipment.geometry old.session c.args.point.now =
     subst (λ (x : ControllerModel g.row.R.Denot). Some c.in-Some.fault ≡ reference_refusal x.equipment.geometry x.session c.args.point.now) c.self.view_is c.in-Some.ensures in
-    carried_refused g.R.Rig.honest g.R.Rig.trace g.R.Rig.failed g.R.Rig.sectors ⊥ (reference_refusal old.equipment.geometry old.session c.args.point.now ≡ None) ⊥ c.in-Some.fault (λ (program : List ℕ). reference old.equipment program old.session c.args.point.now) old c.requires.whole (λ none. none)
+    carried_refused g.R.Rig.seen ⊥ (reference_refusal old.equipment.geometry old.session c.args.point.now ≡ None) ⊥ c.in-Some.fault (λ (program : List ℕ). reference old.equipment program old.session c.args.point.now) old c.requires.whole (λ none. none)
     (λ program. ap (λ (o : Option Fault). reference_unless program old.session c.args.point.now o) refused)
 
 pub returns-then-is_count_used_up : goal.returns-then-is_count_used_up
@@ -28,7 +28,7 @@ returns-then-is_count_used_up g c =
     let ledger = ledger_of c.self.inside.journal in
     let saved = after_reference session.stored c.args.point.now in
     let free : reference_refusal equipment.geometry session c.args.point.now ≡ None = sym c.in_default.ensures in
-    carried_used g.R.Rig.honest g.R.Rig.trace g.R.Rig.failed g.R.Rig.sectors ⊥ (reference_refusal old.equipment.geometry old.session c.args.point.now ≡ None) ⊥ (λ (program : List ℕ). reference old.equipment program old.session c.args.point.now) old c.requires.whole
+    carried_used g.R.Rig.seen ⊥ (reference_refusal old.equipment.geometry old.session c.args.point.now ≡ None) ⊥ (λ (program : List ℕ). reference old.equipment program old.session c.args.point.now) old c.requires.whole
     (subst (λ (x : ControllerModel g.row.R.Denot). IsCausedBy ⊥ (reference_refusal x.equipment.geometry x.session c.args.point.now ≡ None) (ledger_of x.journal) (λ (program : List ℕ). reference x.equipment program x.session c.args.point.now) CountersUsed) c.self.view_is
     (hindered_count ledger (λ program. reference equipment program session c.args.point.now) saved (reference_refusal equipment.geometry session c.args.point.now ≡ None)
     (c.counters.ensures.past ledger saved (past_referenced session.stored c.args.point.now c.if-is_count_used_up.ensures))
@@ -41,7 +41,7 @@ returns g c =
     subst (λ (x : ControllerModel g.row.R.Denot). reference_refusal x.equipment.geometry x.session c.args.point.now ≡ None) c.self.view_is (sym c.in_default.ensures) in
     let is : with_decoded_state old.session.stored c.referenced-report.result old.session.stored.length ≡ after_reference old.session.stored c.args.point.now =
     subst (λ (x : ControllerModel g.row.R.Denot). with_decoded_state x.session.stored c.referenced-report.result x.session.stored.length ≡ after_reference x.session.stored c.args.point.now) c.self.view_is c.referenced-report.ensures.value in
-    carried_to g.R.Rig.honest g.R.Rig.trace g.R.Rig.failed g.R.Rig.sectors ⊥ ⊥ (Unit {0}) (reference_refusal old.equipment.geometry old.session c.args.point.now ≡ None) ⊥ ⊥
+    carried_to g.R.Rig.seen ⊥ ⊥ (Unit {0}) (reference_refusal old.equipment.geometry old.session c.args.point.now ≡ None) ⊥ ⊥
     (λ (program : List ℕ). commits program (Referenced c.args.point.now) (record old.session { stored = with_decoded_state old.session.stored c.referenced-report.result old.session.stored.length })) (λ (program : List ℕ). reference old.equipment program old.session c.args.point.now)
     c.keep.result old c.keep.new.self (λ m. m) (λ u. none) (λ e. e) (λ e. e)
     (λ program. ap (λ (y : StoredModel). commits program (Referenced c.args.point.now) (let s : SessionModel = record old.session { stored = y } in s)) is ∙ sym (ap (λ (o : Option Fault). reference_unless program old.session c.args.point.now o) none))

@@ -12,8 +12,8 @@ returns-in-Err-clause-serves g c =
 
 pub returns-in-Ok-clause-failures : goal.returns-in-Ok-clause-failures
 returns-in-Ok-clause-failures g c =
-    λ whole. tells_failure g.R.Rig.honest g.R.Rig.trace g.R.Rig.failed g.R.Rig.sectors c.args.event.now (Ok c.in-Ok.reply) c.args.self.now c.handle.new.self (c.in-Ok.ensures.carried whole)
+    λ whole. tells_failure g.R.Rig.seen c.args.event.now (Ok c.in-Ok.reply) c.args.self.now c.handle.new.self (c.in-Ok.ensures.carried whole)
 
 pub returns-in-Err-clause-failures : goal.returns-in-Err-clause-failures
 returns-in-Err-clause-failures g c =
-    λ whole. tells_failure g.R.Rig.honest g.R.Rig.trace g.R.Rig.failed g.R.Rig.sectors c.args.event.now (Err c.in-Err.fault) c.args.self.now c.handle.new.self (c.in-Err.ensures.carried whole)
+    λ whole. tells_failure g.R.Rig.seen c.args.event.now (Err c.in-Err.fault) c.args.self.now c.handle.new.self (c.in-Err.ensures.carried whole)

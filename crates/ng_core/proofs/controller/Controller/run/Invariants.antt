@@ -7,6 +7,6 @@ abbrev pub invariant-loop-event : goal.invariant-loop-event
 invariant-loop-event g l = record {
   room : length l.events ≤ vec_capacity l.replies;
   count : vec_len l.replies ≡ l.event-index;
-  size : g.R.Rig.sectors l.self.journal.rig ≡ g.R.Rig.sectors l.fn.self.journal.rig;
-  turns : AreAnsweredEvents g.R.Rig.honest g.R.Rig.trace g.R.Rig.failed g.R.Rig.sectors (take l.event-index l.events) l.replies.items l.fn.self l.self;
+  size : (g.R.Rig.seen l.self.journal.rig).sectors ≡ (g.R.Rig.seen l.fn.self.journal.rig).sectors;
+  turns : AreAnsweredEvents g.R.Rig.seen (take l.event-index l.events) l.replies.items l.fn.self l.self;
 }

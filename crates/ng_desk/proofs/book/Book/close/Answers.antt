@@ -4,5 +4,5 @@ use Rattle.ng_desk.proofs.book.Book.close.Goals as goal
 
 pub returns-clause-runs : goal.returns-clause-runs
 returns-clause-runs g c =
-    subst (λ (l : List ℕ). RunsFrom g.R.Rig.honest g.R.Rig.trace g.R.Rig.failed g.R.Rig.sectors g.O.Origin.start c.self.inside.history.items l c.self.inside.controller)
+    subst (λ (l : List ℕ). RunsFrom g.R.Rig.seen g.O.Origin.start c.self.inside.history.items l c.self.inside.controller)
     (ap (λ (b : Booked g.row.R.Denot g.row.A.Denot). b.moments) c.self.view_is) c.self.invariant.3

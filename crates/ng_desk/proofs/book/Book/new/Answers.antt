@@ -11,7 +11,7 @@ invariant_of-result g c =
       ap (λ (l : List (Call g.row.A.Denot)). length l) none ∙ sym c.requires.none,
       c.empty.ensures.parts,
       subst (λ (l : List (Call g.row.A.Denot)). NumberedFrom 0 l) (sym none) tt,
-      subst (λ (m : List ℕ). RunsFrom g.R.Rig.honest g.R.Rig.trace g.R.Rig.failed g.R.Rig.sectors g.O.Origin.start c.new.result.items m c.args.controller) (sym c.none.ensures)
-          (subst (λ (l : List (Call g.row.A.Denot)). RunsFrom g.R.Rig.honest g.R.Rig.trace g.R.Rig.failed g.R.Rig.sectors g.O.Origin.start l [] c.args.controller) (sym none)
-          (runs_none g.R.Rig.honest g.R.Rig.trace g.R.Rig.failed g.R.Rig.sectors g.O.Origin.start c.args.controller c.requires.start)),
+      subst (λ (m : List ℕ). RunsFrom g.R.Rig.seen g.O.Origin.start c.new.result.items m c.args.controller) (sym c.none.ensures)
+          (subst (λ (l : List (Call g.row.A.Denot)). RunsFrom g.R.Rig.seen g.O.Origin.start l [] c.args.controller) (sym none)
+          (runs_none g.R.Rig.seen g.O.Origin.start c.args.controller c.requires.start)),
     )

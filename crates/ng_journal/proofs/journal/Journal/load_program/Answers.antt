@@ -57,7 +57,7 @@ returns-in-Ok-clause-stores g c =
     let inside = c.self.inside in
     let header = inside.tip.header in
     let area = c.spare_area-area.result in
-    let area_is : area ≡ spare_area (is_large_size (g.R.Rig.sectors inside.rig)) header.area = c.spare_area-area.ensures.is ∙ ap (λ (n : ℕ). spare_area (is_large_size n) header.area) c.size.ensures.value in
+    let area_is : area ≡ spare_area (is_large_size (g.R.Rig.seen inside.rig).sectors) header.area = c.spare_area-area.ensures.is ∙ ap (λ (n : ℕ). spare_area (is_large_size n) header.area) c.size.ensures.value in
     rw (← c.self.view_is) (meaning c.in-Ok.ensures.stores (λ s. loaded_as area _ header _ _ _ area_is (load_kept inside.stored.room _ area header c.args.stored.now c.args.text.now _ _ s)))
 
 pub returns-in-Err-clause-stores : goal.returns-in-Err-clause-stores
@@ -65,7 +65,7 @@ returns-in-Err-clause-stores g c =
     let inside = c.self.inside in
     let header = inside.tip.header in
     let area = c.spare_area-area.result in
-    let area_is : area ≡ spare_area (is_large_size (g.R.Rig.sectors inside.rig)) header.area = c.spare_area-area.ensures.is ∙ ap (λ (n : ℕ). spare_area (is_large_size n) header.area) c.size.ensures.value in
+    let area_is : area ≡ spare_area (is_large_size (g.R.Rig.seen inside.rig).sectors) header.area = c.spare_area-area.ensures.is ∙ ap (λ (n : ℕ). spare_area (is_large_size n) header.area) c.size.ensures.value in
     rw (← c.self.view_is) (meaning c.load.ensures.stores (λ s. not_loaded_as area _ _ c.load.result header _ _ _ area_is (load_kept inside.stored.room c.load.result area header c.args.stored.now c.args.text.now _ _ s)))
 
 pub returns-in-Ok-clause-ledger : goal.returns-in-Ok-clause-ledger
@@ -73,9 +73,9 @@ returns-in-Ok-clause-ledger g c =
     let inside = c.self.inside in
     let header = inside.tip.header in
     let area = c.spare_area-area.result in
-    let area_is : area ≡ spare_area (is_large_size (g.R.Rig.sectors inside.rig)) header.area = c.spare_area-area.ensures.is ∙ ap (λ (n : ℕ). spare_area (is_large_size n) header.area) c.size.ensures.value in
+    let area_is : area ≡ spare_area (is_large_size (g.R.Rig.seen inside.rig).sectors) header.area = c.spare_area-area.ensures.is ∙ ap (λ (n : ℕ). spare_area (is_large_size n) header.area) c.size.ensures.value in
     let next_is = c.next_header-next.ensures ∙ (λ i. next_header header (area_is i) (c.stored.view_is i).length) in
-    let ledger_is : ◌≡◌ {A = Ledger} (record { header = c.beginning-self-inside.result.header; end = c.beginning-self-inside.result.end; saved = c.take_state.new.stored }) (with_program (spare_area (is_large_size (g.R.Rig.sectors inside.rig)) header.area) (ledger inside.tip inside.stored) (with_room inside.stored.room c.args.stored.now)) = λ i. record { header = ((c.beginning-self-inside.ensures ∙ ap (λ (h : Header). (let t : Tip = record { header = h; end = no_records } in t)) next_is) i).header; end = (c.beginning-self-inside.ensures i).end; saved = c.take_state.ensures i } in
+    let ledger_is : ◌≡◌ {A = Ledger} (record { header = c.beginning-self-inside.result.header; end = c.beginning-self-inside.result.end; saved = c.take_state.new.stored }) (with_program (spare_area (is_large_size (g.R.Rig.seen inside.rig).sectors) header.area) (ledger inside.tip inside.stored) (with_room inside.stored.room c.args.stored.now)) = λ i. record { header = ((c.beginning-self-inside.ensures ∙ ap (λ (h : Header). (let t : Tip = record { header = h; end = no_records } in t)) next_is) i).header; end = (c.beginning-self-inside.ensures i).end; saved = c.take_state.ensures i } in
     rw (← c.self.view_is) ledger_is
 
 pub invariant_of-self : goal.invariant_of-self
@@ -92,5 +92,5 @@ invariant_of-self g c =
     let next_is = c.next_header-next.ensures ∙ (λ i. next_header header area (c.stored.view_is i).length) in
     let now_is = ap (λ (v : JournalModel g.row.R.Denot). v.saved.room) c.self.view_is in
     let storable = storable_kept inside.stored c.args.stored.now c.self.invariant.storable (c.requires.storable (omega (arith, c.if-text-self.false, room_is, now_is))) short in
-    let steady = steady_loaded _ _ area header c.next_header-next.result inside.tip.end inside.stored (with_room inside.stored.room c.args.stored.now) c.self.invariant c.in-Ok.ensures.size more.0 has longest short refl storable (subst (λ (s : StoredModel). s.entries ≤ greatest_count) c.stored.view_is more.1) next_is in
-    rw c.beginning-self-inside.ensures (subst (λ (x : StoredModel). IsSteady (g.R.Rig.sectors c.load.new.rig) c.next_header-next.result no_records x) (sym c.take_state.ensures) steady)
+    let steady = steady_loaded _ _ area header c.next_header-next.result inside.tip.end inside.stored (with_room inside.stored.room c.args.stored.now) c.self.invariant c.in-Ok.ensures.call.size more.0 has longest short refl storable (subst (λ (s : StoredModel). s.entries ≤ greatest_count) c.stored.view_is more.1) next_is in
+    rw c.beginning-self-inside.ensures (subst (λ (x : StoredModel). IsSteady (g.R.Rig.seen c.load.new.rig).sectors c.next_header-next.result no_records x) (sym c.take_state.ensures) steady)

@@ -27,9 +27,9 @@ returns-in-Err-clause-stores g c = rw (← c.self.view_is) (meaning c.store_half
 pub invariant_of-self : goal.invariant_of-self
 invariant_of-self g c =
     let used = subst (λ (v : JournalModel g.row.R.Denot). (c.is_used_up_by.result ≡ true) ↔ ((greatest_count ≤ v.header.epoch) × IsFullFor v.header v.end 0)) (sym c.self.view_is) c.is_used_up_by.ensures in
-    steady_opened _ _ c.self.inside.tip c.in-Ok.tip c.self.inside.stored c.store_half.new.stored c.args.half.now c.is_used_up_by.result c.self.invariant c.in-Ok.ensures.size used c.if-is_used_up_by.false c.in-Ok.ensures.saved c.in-Ok.ensures.ledger c.in-Ok.ensures.tip c.in-Ok.ensures.storable
+    steady_opened _ _ c.self.inside.tip c.in-Ok.tip c.self.inside.stored c.store_half.new.stored c.args.half.now c.is_used_up_by.result c.self.invariant c.in-Ok.ensures.call.size used c.if-is_used_up_by.false c.in-Ok.ensures.saved c.in-Ok.ensures.ledger c.in-Ok.ensures.tip c.in-Ok.ensures.storable
 
 pub invariant_of-self-in-Err : goal.invariant_of-self-in-Err
 invariant_of-self-in-Err g c =
     let e = c.in-Err.ensures in
-    steady_still _ _ c.self.inside.tip.header c.self.inside.tip.end c.self.inside.stored c.store_half.new.stored c.self.invariant e.size e.length e.limit e.entries e.storable
+    steady_still _ _ c.self.inside.tip.header c.self.inside.tip.end c.self.inside.stored c.store_half.new.stored c.self.invariant e.call.size e.length e.limit e.entries e.storable

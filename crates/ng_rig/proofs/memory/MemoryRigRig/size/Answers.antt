@@ -1,9 +1,5 @@
-use Rattle.std.proofs.Common.{rules, ◌≡◌, ◌<◌, ◌≤◌, ℕ, List, length, [], ap, subst, sym, ◌∙◌, arith}
+use Rattle.std.proofs.Common.{◌<◌, ℕ, List, length, [], ap, subst, sym, ◌∙◌, arith}
 use Rattle.std.proofs.lemmas.List.{get_or_past}
-use Rattle.ng_rig.specs.Extent.{HasExtent}
-use Rattle.ng_rig.specs.Trace.{reads}
-use Rattle.ng_rig.specs.Kept.{contents, IsWhole}
-use Rattle.ng_rig.specs.MemoryRig.{trace_of, sector_count}
 use Rattle.ng_rig.proofs.memory.MemoryRigRig.size.Goals as goal
 
 pub returns-clause-extent : goal.returns-clause-extent
