@@ -1,16 +1,11 @@
 //! What a line does in a state: one way for all lines, through places that serve one after the other.
-ghost use Rattle.std.specs.Prelude.{◌≡◌, ◌≤◌, length, MatchResult, Ok, Err, IfSome};
-ghost use Rattle.std.specs.Option.{option_map};
-ghost use Rattle.ng_words.specs.Kept.{pieces_by};
-ghost use Rattle.ng_expr.specs.Settle.{settled_of};
+ghost use Rattle.std.specs.Prelude.{◌≡◌, MatchResult, Ok, Err};
 ghost use Rattle.ng_num.specs.Causes.{NoneHolds, IsFirstFault};
 ghost use Rattle.ng_block.specs.Causes.{causes};
-ghost use Rattle.ng_block.specs.Effects.{executed, executed_pieces, executed_values, in_state};
-ghost use Rattle.ng_block.specs.Remarks.{remark_of};
+ghost use Rattle.ng_block.specs.Effects.{executed, in_state};
 ghost use Rattle.ng_block.specs.Program.{deleted, executed_unless_deleted, executed_after};
 
 use crate::effect::{Effect, ProgramFlow};
-use crate::faults::path_fault;
 use crate::percent::percent_at;
 use crate::terms::Terms;
 use ng_canon::Geometry;
@@ -32,58 +27,6 @@ pub struct Scratch {
     /// What the last line did that was lawful; after a fault it may hold anything, so it is handed out with an answer
     /// alone.
     effect: Effect,
-}
-
-/// What the values of a line do in a state, put into an effect; or the first fault that refuses them.
-#[tactic(auto, unfolding(crate::specs::Effects::executed_values))]
-fn execute_values<A: Allocator + Copy + Drop>(
-    state: &State<A>,
-    comment: Option<&[u8]>,
-    values: &Values,
-    tools: &Tools,
-    geometry: &Geometry,
-    sorted: &mut Sorted,
-    effect: &mut Effect,
-) -> Result<(), Fault>
-    requires short { IfSome comment (λ text. length text.now ≤ 256) }
-    ensures { MatchResult result (λ _. executed_values state.now (remark_of (option_map (λ text. text.now) comment.entry)) (settled_of values.now) tools.now geometry.now ≡ Ok (in_state state.now effect.new)) (λ f. executed_values state.now (remark_of (option_map (λ text. text.now) comment.entry)) (settled_of values.now) tools.now geometry.now ≡ Err f) }
-{
-    sorted.check(values, &state.machine.modes, tools.slots() as u8)?;
-    let block = &sorted.block;
-    effect.find_goal(state, block, values.settings.as_slice(), tools, geometry)?;
-    if let Some(fault) = path_fault(&effect.plan.path, geometry) {
-        return Err(fault);
-    }
-    effect.take_block(state, block, comment);
-    Ok(())
-}
-
-/// What the pieces of a line do in a state, their values found in places of their own; or the first fault that refuses
-/// them.
-#[tactic(auto, unfolding(crate::specs::Effects::executed_pieces))]
-fn execute_pieces<A: Allocator + Copy + Drop>(
-    state: &State<A>,
-    line: &Line,
-    tools: &Tools,
-    geometry: &Geometry,
-    values: &mut Values,
-    sorted: &mut Sorted,
-    effect: &mut Effect,
-) -> Result<(), Fault>
-    ensures { MatchResult result (λ _. executed_pieces state.now (pieces_by line.now.places) tools.now geometry.now ≡ Ok (in_state state.now effect.new)) (λ f. executed_pieces state.now (pieces_by line.now.places) tools.now geometry.now ≡ Err f) }
-{
-    match values.evaluate_into(line, &state.params) {
-        Ok(()) => execute_values(
-            state,
-            line.last_comment(),
-            values,
-            tools,
-            geometry,
-            sorted,
-            effect,
-        ),
-        Err(fault) => Err(fault),
-    }
 }
 
 /// A deleted line does nothing; its length alone is looked at.
@@ -120,7 +63,7 @@ impl Scratch {
 
     /// Puts what a line does in a state into the effect, or finds the first fault that refuses it.
     #[inline]
-    #[tactic(auto, unfolding(crate::specs::Effects::executed), using(crate::proofs::CauseLemmas::first_of))]
+    #[tactic(auto, unfolding(crate::specs::Effects::executed, crate::specs::Effects::executed_pieces, crate::specs::Effects::executed_values), using(crate::proofs::CauseLemmas::first_of))]
     fn take_line<A: Allocator + Copy + Drop>(
         &mut self,
         state: &State<A>,
@@ -131,18 +74,16 @@ impl Scratch {
         ensures does { MatchResult result (λ _. executed state.now tools.now geometry.now text.now ≡ Ok (in_state state.now self.new.effect)) (λ f. executed state.now tools.now geometry.now text.now ≡ Err f) }
         ensures first { MatchResult result (λ _. NoneHolds (causes state.now tools.now geometry.now text.now)) (λ f. IsFirstFault (causes state.now tools.now geometry.now text.now) f) }
     {
-        match self.line.read(text) {
-            Ok(()) => execute_pieces(
-                state,
-                &self.line,
-                tools,
-                geometry,
-                &mut self.values,
-                &mut self.sorted,
-                &mut self.effect,
-            ),
-            Err(fault) => Err(fault),
-        }
+        self.line.read(text)?;
+        self.values.evaluate_into(&self.line, &state.params)?;
+        self.sorted
+            .check(&self.values, &state.machine.modes, tools.slots() as u8)?;
+        let block = &self.sorted.block;
+        let settings = self.values.settings.as_slice();
+        self.effect
+            .find_goal(state, block, settings, tools, geometry)?;
+        self.effect
+            .finish(state, block, self.line.last_comment(), geometry)
     }
 
     /// What a line does in a state, or the first fault that refuses it, in the order of docs/LANGUAGE.md; the state
