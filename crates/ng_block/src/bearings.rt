@@ -13,7 +13,8 @@ use crate::goal::{
 };
 use crate::path::Path;
 use crate::shifts::{keeps_offsets, shift_of};
-use ng_canon::{Feed, Geometry, Pace, StraightMove};
+use crate::terms::Terms;
+use ng_canon::{Feed, Pace, StraightMove};
 use ng_modal::Block;
 use ng_num::{Fault, Point};
 use ng_offsets::{Offsets, Tools};
@@ -93,22 +94,28 @@ impl Effect {
     #[inline(never)]
     fn find_path<A: Allocator + Copy + Drop>(
         &mut self,
+        terms: &Terms<'_>,
         state: &State<A>,
         block: &Block,
         settings: &[Change],
-        tools: &Tools,
         feed_per_min: Feed,
-        geometry: &Geometry,
     ) -> Result<(), Fault>
         requires short { length settings.now ≤ 128 }
         requires settings { self.old.changes.items ≡ settings.now }
-        requires slot { IsSlot block.now.values.h (length tools.now) }
-        ensures value { MatchResult result (λ _. path_after_bearings block.now settings.now state.now tools.now feed_per_min geometry.now ≡ Ok (path_with_bearings self.new)) (λ fault. path_after_bearings block.now settings.now state.now tools.now feed_per_min geometry.now ≡ Err fault) }
+        requires slot { IsSlot block.now.values.h (length terms.now.tools) }
+        ensures value { MatchResult result (λ _. path_after_bearings block.now settings.now state.now terms.now.tools feed_per_min terms.now.geometry ≡ Ok (path_with_bearings self.new)) (λ fault. path_after_bearings block.now settings.now state.now terms.now.tools feed_per_min terms.now.geometry ≡ Err fault) }
         ensures room { OnOk result (length self.new.changes.items ≤ 132) }
     {
-        self.find_bearings(state, block, settings, tools)?;
+        self.find_bearings(state, block, settings, terms.tools)?;
         let offsets = &self.machine.offsets;
-        self.plan.path = path_of(block, state, settings, offsets, feed_per_min, geometry)?;
+        self.plan.path = path_of(
+            block,
+            state,
+            settings,
+            offsets,
+            feed_per_min,
+            terms.geometry,
+        )?;
         Ok(())
     }
 
@@ -117,28 +124,27 @@ impl Effect {
     #[tactic(auto, using(crate::proofs::WayLemmas::way_kept))]
     fn find_any_path<A: Allocator + Copy + Drop>(
         &mut self,
+        terms: &Terms<'_>,
         state: &State<A>,
         block: &Block,
         settings: &[Change],
-        tools: &Tools,
         feed_per_min: Feed,
-        geometry: &Geometry,
     ) -> Result<(), Fault>
         requires short { length settings.now ≤ 128 }
-        requires slot { IsSlot block.now.values.h (length tools.now) }
-        ensures value { MatchResult result (λ _. path_after_bearings block.now settings.now state.now tools.now feed_per_min geometry.now ≡ Ok (path_with_bearings self.new)) (λ fault. path_after_bearings block.now settings.now state.now tools.now feed_per_min geometry.now ≡ Err fault) }
+        requires slot { IsSlot block.now.values.h (length terms.now.tools) }
+        ensures value { MatchResult result (λ _. path_after_bearings block.now settings.now state.now terms.now.tools feed_per_min terms.now.geometry ≡ Ok (path_with_bearings self.new)) (λ fault. path_after_bearings block.now settings.now state.now terms.now.tools feed_per_min terms.now.geometry ≡ Err fault) }
         ensures room { OnOk result (length self.new.changes.items ≤ 132) }
     {
         self.changes.clear();
         put_changes(settings, &mut self.changes);
         if !keeps_offsets(block) {
-            return self.find_path(state, block, settings, tools, feed_per_min, geometry);
+            return self.find_path(terms, state, block, settings, feed_per_min);
         }
         self.machine.offsets = state.machine.offsets;
         self.plan.shown = None;
         let machine = &state.machine;
         if !is_straight(block.motion) {
-            self.plan.path = turning_path_of(block, machine, feed_per_min, geometry)?;
+            self.plan.path = turning_path_of(block, machine, feed_per_min, terms.geometry)?;
             return Ok(());
         }
         let end = end_of(block, machine, &machine.offsets)?;
@@ -168,18 +174,17 @@ impl Effect {
     /// else C1 to C4 where its arc is none, and Y1 to Y8, X1, X2 where its cycle is.
     pub(crate) fn find_goal<A: Allocator + Copy + Drop>(
         &mut self,
+        terms: &Terms<'_>,
         state: &State<A>,
         block: &Block,
         settings: &[Change],
-        tools: &Tools,
-        geometry: &Geometry,
     ) -> Result<(), Fault>
         requires short { length settings.now ≤ 128 }
-        requires slot { IsSlot block.now.values.h (length tools.now) }
-        ensures { MatchResult result (λ _. goal_of block.now settings.now state.now tools.now geometry.now ≡ Ok (goal_by self.new)) (λ fault. goal_of block.now settings.now state.now tools.now geometry.now ≡ Err fault) }
+        requires slot { IsSlot block.now.values.h (length terms.now.tools) }
+        ensures { MatchResult result (λ _. goal_of block.now settings.now state.now terms.now.tools terms.now.geometry ≡ Ok (goal_by self.new)) (λ fault. goal_of block.now settings.now state.now terms.now.tools terms.now.geometry ≡ Err fault) }
     {
         let feed_per_min = feed_of(block, &state.machine)?;
-        self.find_any_path(state, block, settings, tools, feed_per_min, geometry)?;
+        self.find_any_path(terms, state, block, settings, feed_per_min)?;
         if ends(block.m.stop) {
             self.end_bearings(&state.params);
         }

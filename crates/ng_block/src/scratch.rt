@@ -29,21 +29,6 @@ pub struct Scratch {
     effect: Effect,
 }
 
-/// A deleted line does nothing; its length alone is looked at.
-fn delete<A: Allocator + Copy + Drop>(
-    state: &State<A>,
-    text: &[u8],
-    effect: &mut Effect,
-) -> Result<(), Fault>
-    ensures { MatchResult result (λ _. deleted state.now text.now ≡ Ok (in_state state.now effect.new)) (λ f. deleted state.now text.now ≡ Err f) }
-{
-    if is_too_long(text) {
-        return Err(Fault::LineTooLong);
-    }
-    effect.leave(state, ProgramFlow::GoesOn);
-    Ok(())
-}
-
 impl Scratch {
     ghost use Rattle.ng_block.specs.Effects.{commands_by, segments_by};
     ghost use Rattle.std.specs.Prelude.{[]};
@@ -66,45 +51,69 @@ impl Scratch {
     #[tactic(auto, unfolding(crate::specs::Effects::executed, crate::specs::Effects::executed_pieces, crate::specs::Effects::executed_values), using(crate::proofs::CauseLemmas::first_of))]
     fn take_line<A: Allocator + Copy + Drop>(
         &mut self,
+        terms: &Terms<'_>,
         state: &State<A>,
         text: &[u8],
-        tools: &Tools,
-        geometry: &Geometry,
     ) -> Result<(), Fault>
-        ensures does { MatchResult result (λ _. executed state.now tools.now geometry.now text.now ≡ Ok (in_state state.now self.new.effect)) (λ f. executed state.now tools.now geometry.now text.now ≡ Err f) }
-        ensures first { MatchResult result (λ _. NoneHolds (causes state.now tools.now geometry.now text.now)) (λ f. IsFirstFault (causes state.now tools.now geometry.now text.now) f) }
+        ensures does { MatchResult result
+            (λ _. executed state.now terms.now.tools terms.now.geometry text.now ≡ Ok (in_state state.now self.new.effect))
+            (λ f. executed state.now terms.now.tools terms.now.geometry text.now ≡ Err f) }
+        ensures first { MatchResult result
+            (λ _. NoneHolds (causes state.now terms.now.tools terms.now.geometry text.now))
+            (λ f. IsFirstFault (causes state.now terms.now.tools terms.now.geometry text.now) f) }
     {
         self.line.read(text)?;
         self.values.evaluate_into(&self.line, &state.params)?;
-        self.sorted
-            .check(&self.values, &state.machine.modes, tools.slots() as u8)?;
+        self.sorted.check(
+            &self.values,
+            &state.machine.modes,
+            terms.tools.slots() as u8,
+        )?;
         let block = &self.sorted.block;
         let settings = self.values.settings.as_slice();
+        self.effect.find_goal(terms, state, block, settings)?;
         self.effect
-            .find_goal(state, block, settings, tools, geometry)?;
-        self.effect
-            .finish(state, block, self.line.last_comment(), geometry)
+            .finish(state, block, self.line.last_comment(), terms.geometry)
     }
 
-    /// What a line does in a state, or the first fault that refuses it, in the order of docs/LANGUAGE.md; the state
-    /// stays as it is. What it does lies in these places until the next line comes; after a fault there is nothing to
-    /// be had. A dry run and the controller run this for each line. Source: NISTIR 6556, 3.8, and own.
-    #[inline(always)]
-    pub fn execute<A: Allocator + Copy + Drop>(
+    /// Puts into the effect that a deleted line does nothing. E2 where it is too long: nothing else of it is looked at.
+    fn delete_line<A: Allocator + Copy + Drop>(
         &mut self,
         state: &State<A>,
         text: &[u8],
-        tools: &Tools,
-        geometry: &Geometry,
-    ) -> Result<&Effect, Fault>
-        ensures does { MatchResult result (λ e. executed state.now tools.now geometry.now text.now ≡ Ok (in_state state.now e.now)) (λ f. executed state.now tools.now geometry.now text.now ≡ Err f) }
-        ensures first { MatchResult result (λ _. NoneHolds (causes state.now tools.now geometry.now text.now)) (λ f. IsFirstFault (causes state.now tools.now geometry.now text.now) f) }
+    ) -> Result<(), Fault>
+        ensures { MatchResult result (λ _. deleted state.now text.now ≡ Ok (in_state state.now self.new.effect)) (λ f. deleted state.now text.now ≡ Err f) }
     {
-        self.take_line(state, text, tools, geometry)?;
+        if is_too_long(text) {
+            return Err(Fault::LineTooLong);
+        }
+        self.effect.leave(state, ProgramFlow::GoesOn);
+        Ok(())
+    }
+
+    /// What a line does in a state, or the first fault that refuses it, in the order of docs/LANGUAGE.md, whether lines
+    /// are deleted or not; the state stays as it is. What it does lies in these places until the next line comes; after
+    /// a fault there is nothing to be had. A dry run and the controller run this for each line. Source: NISTIR 6556,
+    /// 3.8, and own.
+    #[inline(always)]
+    pub fn execute<A: Allocator + Copy + Drop>(
+        &mut self,
+        terms: &Terms<'_>,
+        state: &State<A>,
+        text: &[u8],
+    ) -> Result<&Effect, Fault>
+        ensures does { MatchResult result
+            (λ e. executed state.now terms.now.tools terms.now.geometry text.now ≡ Ok (in_state state.now e.now))
+            (λ f. executed state.now terms.now.tools terms.now.geometry text.now ≡ Err f) }
+        ensures first { MatchResult result
+            (λ _. NoneHolds (causes state.now terms.now.tools terms.now.geometry text.now))
+            (λ f. IsFirstFault (causes state.now terms.now.tools terms.now.geometry text.now) f) }
+    {
+        self.take_line(terms, state, text)?;
         Ok(&self.effect)
     }
 
-    /// The same, unless the line is deleted.
+    /// What a line does in a state, or the first fault that refuses it: nothing, where it is deleted.
     #[inline(always)]
     pub fn execute_unless_deleted<A: Allocator + Copy + Drop>(
         &mut self,
@@ -112,16 +121,19 @@ impl Scratch {
         state: &State<A>,
         text: &[u8],
     ) -> Result<&Effect, Fault>
-        ensures { MatchResult result (λ e. executed_unless_deleted terms.now state.now text.now ≡ Ok (in_state state.now e.now)) (λ f. executed_unless_deleted terms.now state.now text.now ≡ Err f) }
+        ensures { MatchResult result
+            (λ e. executed_unless_deleted terms.now state.now text.now ≡ Ok (in_state state.now e.now))
+            (λ f. executed_unless_deleted terms.now state.now text.now ≡ Err f) }
     {
         if terms.block_delete && is_deletable(text) {
-            delete(state, text, &mut self.effect)?;
+            self.delete_line(state, text)?;
             return Ok(&self.effect);
         }
-        self.execute(state, text, terms.tools, terms.geometry)
+        self.execute(terms, state, text)
     }
 
-    /// The same after lines before it, whose first that isn't blank is of a kind: it may be a percent line.
+    /// What a line does in a state, or the first fault that refuses it, after lines before it, whose first that isn't
+    /// blank is of a kind: so it may be a percent line, or deleted.
     #[inline(always)]
     pub fn execute_after<A: Allocator + Copy + Drop>(
         &mut self,
@@ -130,7 +142,9 @@ impl Scratch {
         state: &State<A>,
         text: &[u8],
     ) -> Result<&Effect, Fault>
-        ensures { MatchResult result (λ e. executed_after terms.now first state.now text.now ≡ Ok (in_state state.now e.now)) (λ f. executed_after terms.now first state.now text.now ≡ Err f) }
+        ensures { MatchResult result
+            (λ e. executed_after terms.now first state.now text.now ≡ Ok (in_state state.now e.now))
+            (λ f. executed_after terms.now first state.now text.now ≡ Err f) }
     {
         match percent_at(first, text) {
             Some(stop) => {
@@ -149,11 +163,20 @@ pub fn execute<A: Allocator + Copy + Drop>(
     tools: &Tools,
     geometry: &Geometry,
 ) -> Result<Effect, Fault>
-    ensures does { MatchResult result (λ e. executed state.now tools.now geometry.now text.now ≡ Ok (in_state state.now e)) (λ f. executed state.now tools.now geometry.now text.now ≡ Err f) }
-    ensures first { MatchResult result (λ _. NoneHolds (causes state.now tools.now geometry.now text.now)) (λ f. IsFirstFault (causes state.now tools.now geometry.now text.now) f) }
+    ensures does { MatchResult result
+        (λ e. executed state.now tools.now geometry.now text.now ≡ Ok (in_state state.now e))
+        (λ f. executed state.now tools.now geometry.now text.now ≡ Err f) }
+    ensures first { MatchResult result
+        (λ _. NoneHolds (causes state.now tools.now geometry.now text.now))
+        (λ f. IsFirstFault (causes state.now tools.now geometry.now text.now) f) }
 {
+    let terms = Terms {
+        block_delete: false,
+        tools,
+        geometry,
+    };
     let mut places = Scratch::new(state.machine);
-    match places.take_line(state, text, tools, geometry) {
+    match places.take_line(&terms, state, text) {
         Ok(()) => Ok(places.effect),
         Err(fault) => Err(fault),
     }
