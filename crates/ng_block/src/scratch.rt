@@ -2,7 +2,11 @@
 ghost use Rattle.std.specs.Prelude.{◌≡◌, MatchResult, Ok, Err};
 ghost use Rattle.ng_num.specs.Causes.{NoneHolds, IsFirstFault};
 ghost use Rattle.ng_block.specs.Causes.{causes};
-ghost use Rattle.ng_block.specs.Effects.{executed, in_state};
+ghost use Rattle.ng_words.specs.Kept.{pieces_by};
+ghost use Rattle.ng_words.specs.Lines.{last_comment};
+ghost use Rattle.ng_expr.specs.Settle.{settled_of};
+ghost use Rattle.ng_block.specs.Effects.{executed, executed_values, in_state};
+ghost use Rattle.ng_block.specs.Remarks.{remark_of};
 ghost use Rattle.ng_block.specs.Program.{deleted, executed_unless_deleted, executed_after};
 
 use crate::effect::{Effect, ProgramFlow};
@@ -46,9 +50,32 @@ impl Scratch {
         }
     }
 
-    /// Puts what a line does in a state into the effect, or finds the first fault that refuses it.
+    /// Puts what the values of a line do in a state into the effect, or finds the first fault that refuses them: B1 to
+    /// B19, E3, C1 to C4, Y1 to Y8, X1, X2.
+    #[tactic(auto, unfolding(crate::specs::Effects::executed_values))]
+    fn take_values<A: Allocator + Copy + Drop>(
+        &mut self,
+        terms: &Terms<'_>,
+        state: &State<A>,
+    ) -> Result<(), Fault>
+        ensures { let remark = remark_of (last_comment (pieces_by self.old.line.places)) in
+            let done = executed_values state.now remark (settled_of self.old.values) terms.now.tools terms.now.geometry in
+            MatchResult result (λ _. done ≡ Ok (in_state state.now self.new.effect)) (λ f. done ≡ Err f) }
+    {
+        let comment = self.line.last_comment();
+        let slots = terms.tools.slots() as u8;
+        self.sorted
+            .check(&self.values, &state.machine.modes, slots)?;
+        let block = &self.sorted.block;
+        let settings = self.values.settings.as_slice();
+        self.effect.find_goal(terms, state, block, settings)?;
+        self.effect.finish(state, block, comment, terms.geometry)
+    }
+
+    /// Puts what a line does in a state into the effect, or finds the first fault that refuses it: E1 to E5, then those
+    /// of its values.
     #[inline]
-    #[tactic(auto, unfolding(crate::specs::Effects::executed, crate::specs::Effects::executed_pieces, crate::specs::Effects::executed_values), using(crate::proofs::CauseLemmas::first_of))]
+    #[tactic(auto, unfolding(crate::specs::Effects::executed, crate::specs::Effects::executed_pieces), using(crate::proofs::CauseLemmas::first_of))]
     fn take_line<A: Allocator + Copy + Drop>(
         &mut self,
         terms: &Terms<'_>,
@@ -64,16 +91,7 @@ impl Scratch {
     {
         self.line.read(text)?;
         self.values.evaluate_into(&self.line, &state.params)?;
-        self.sorted.check(
-            &self.values,
-            &state.machine.modes,
-            terms.tools.slots() as u8,
-        )?;
-        let block = &self.sorted.block;
-        let settings = self.values.settings.as_slice();
-        self.effect.find_goal(terms, state, block, settings)?;
-        self.effect
-            .finish(state, block, self.line.last_comment(), terms.geometry)
+        self.take_values(terms, state)
     }
 
     /// Puts into the effect that a deleted line does nothing. E2 where it is too long: nothing else of it is looked at.
@@ -82,7 +100,9 @@ impl Scratch {
         state: &State<A>,
         text: &[u8],
     ) -> Result<(), Fault>
-        ensures { MatchResult result (λ _. deleted state.now text.now ≡ Ok (in_state state.now self.new.effect)) (λ f. deleted state.now text.now ≡ Err f) }
+        ensures { MatchResult result
+            (λ _. deleted state.now text.now ≡ Ok (in_state state.now self.new.effect))
+            (λ f. deleted state.now text.now ≡ Err f) }
     {
         if is_too_long(text) {
             return Err(Fault::LineTooLong);
