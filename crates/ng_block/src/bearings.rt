@@ -67,7 +67,9 @@ impl Effect {
         requires short { length settings.now ≤ 128 }
         requires settings { self.old.changes.items ≡ settings.now }
         requires slot { IsSlot block.now.values.h (length tools.now) }
-        ensures value { MatchResult result (λ _. bearings_of block.now settings.now state.now tools.now ≡ Ok (bearings_by self.new)) (λ fault. bearings_of block.now settings.now state.now tools.now ≡ Err fault) }
+        ensures value { MatchResult result
+            (λ _. bearings_of block.now settings.now state.now tools.now ≡ Ok (bearings_by self.new))
+            (λ fault. bearings_of block.now settings.now state.now tools.now ≡ Err fault) }
         ensures room { OnOk result (length self.new.changes.items ≤ 132) }
     {
         let at = shift_of(block, &state.machine, &state.params, settings, tools)?;
@@ -103,7 +105,8 @@ impl Effect {
         requires short { length settings.now ≤ 128 }
         requires settings { self.old.changes.items ≡ settings.now }
         requires slot { IsSlot block.now.values.h (length terms.now.tools) }
-        ensures value { MatchResult result (λ _. path_after_bearings block.now settings.now state.now terms.now.tools feed_per_min terms.now.geometry ≡ Ok (path_with_bearings self.new)) (λ fault. path_after_bearings block.now settings.now state.now terms.now.tools feed_per_min terms.now.geometry ≡ Err fault) }
+        ensures value { let way = path_after_bearings block.now settings.now state.now terms.now.tools feed_per_min terms.now.geometry in
+            MatchResult result (λ _. way ≡ Ok (path_with_bearings self.new)) (λ fault. way ≡ Err fault) }
         ensures room { OnOk result (length self.new.changes.items ≤ 132) }
     {
         self.find_bearings(state, block, settings, terms.tools)?;
@@ -119,7 +122,7 @@ impl Effect {
         Ok(())
     }
 
-    /// The same of any block. Most lines leave the offsets as they are, so this is looked at first.
+    /// Finds the offsets and the path of a block. Most lines leave the offsets as they are, so this is looked at first.
     #[inline]
     #[tactic(auto, using(crate::proofs::WayLemmas::way_kept))]
     fn find_any_path<A: Allocator + Copy + Drop>(
@@ -132,7 +135,8 @@ impl Effect {
     ) -> Result<(), Fault>
         requires short { length settings.now ≤ 128 }
         requires slot { IsSlot block.now.values.h (length terms.now.tools) }
-        ensures value { MatchResult result (λ _. path_after_bearings block.now settings.now state.now terms.now.tools feed_per_min terms.now.geometry ≡ Ok (path_with_bearings self.new)) (λ fault. path_after_bearings block.now settings.now state.now terms.now.tools feed_per_min terms.now.geometry ≡ Err fault) }
+        ensures value { let way = path_after_bearings block.now settings.now state.now terms.now.tools feed_per_min terms.now.geometry in
+            MatchResult result (λ _. way ≡ Ok (path_with_bearings self.new)) (λ fault. way ≡ Err fault) }
         ensures room { OnOk result (length self.new.changes.items ≤ 132) }
     {
         self.changes.clear();
@@ -171,7 +175,7 @@ impl Effect {
 
     /// Finds all lengths that a block's words come to in a state: the feed and the offsets after it, the parameters
     /// that it sets, its path, and the words that a cycle keeps after it. E3 where one of them is beyond the range;
-    /// else C1 to C4 where its arc is none, and Y1 to Y8, X1, X2 where its cycle is.
+    /// else C1 to C4 of an arc, and Y1 to Y8, X1, X2 of a cycle.
     pub(crate) fn find_goal<A: Allocator + Copy + Drop>(
         &mut self,
         terms: &Terms<'_>,
@@ -181,7 +185,9 @@ impl Effect {
     ) -> Result<(), Fault>
         requires short { length settings.now ≤ 128 }
         requires slot { IsSlot block.now.values.h (length terms.now.tools) }
-        ensures { MatchResult result (λ _. goal_of block.now settings.now state.now terms.now.tools terms.now.geometry ≡ Ok (goal_by self.new)) (λ fault. goal_of block.now settings.now state.now terms.now.tools terms.now.geometry ≡ Err fault) }
+        ensures { MatchResult result
+            (λ _. goal_of block.now settings.now state.now terms.now.tools terms.now.geometry ≡ Ok (goal_by self.new))
+            (λ fault. goal_of block.now settings.now state.now terms.now.tools terms.now.geometry ≡ Err fault) }
     {
         let feed_per_min = feed_of(block, &state.machine)?;
         self.find_any_path(terms, state, block, settings, feed_per_min)?;

@@ -81,11 +81,12 @@ impl Effect {
         }
     }
 
-    /// The one move of a block that only goes straight, after the feed that it sets, if any; none of any other block.
+    /// The one move of a block that only goes straight, after the feed that it sets, if any; `None` of another block.
     /// So the commands of nearly every line are had without a cursor.
     #[inline]
     pub fn only_move(&self) -> Option<(Option<Feed>, &StraightMove)>
-        ensures { IfSome result (λ x. commands_by self.now ≡ map numeric (command_for CanonicalCommand.FeedRate x.0 ++ pace_command x.1.now.pace x.1.now.end ∷ [])) }
+        ensures { IfSome result (λ x. commands_by self.now
+            ≡ map numeric (command_for CanonicalCommand.FeedRate x.0 ++ pace_command x.1.now.pace x.1.now.end ∷ [])) }
     {
         let plan = &self.plan;
         if plan.tasks.is_some() | plan.shown.is_some() | plan.remark.manner.is_some() {
@@ -124,7 +125,8 @@ impl Effect {
         comment: Option<&[u8]>,
     )
         requires { IfSome comment (λ text. length text.now ≤ 256) }
-        ensures { in_state state.now self.new ≡ block_done block.now (goal_by self.old) (remark_of (option_map (λ text. text.now) comment.entry)) state.now }
+        ensures { let remark = remark_of (option_map (λ text. text.now) comment.entry) in
+            in_state state.now self.new ≡ block_done block.now (goal_by self.old) remark state.now }
     {
         let machine = &state.machine;
         let mode = feed_mode_after(block, &machine.modes);

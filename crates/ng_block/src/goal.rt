@@ -108,7 +108,7 @@ fn fed_pace(mode: FeedMode, feed_per_min: Feed, word: Option<Num>) -> Option<Pac
     }
 }
 
-/// How fast a line's move goes; none where its feed or its time is missing.
+/// How fast a line's move goes; `None` where its feed or its time is missing.
 #[inline]
 pub fn pace_by(
     motion: Option<Motion>,
@@ -271,7 +271,8 @@ pub fn path_of<A: Allocator + Copy + Drop>(
     feed_per_min: Feed,
     geometry: &Geometry,
 ) -> Result<Path, Fault>
-    ensures { result ≡ path_of block.now state.now.machine offsets.now (with_changes state.now.params settings.now) feed_per_min geometry.now }
+    ensures { let table = with_changes state.now.params settings.now in
+        result ≡ path_of block.now state.now.machine offsets.now table feed_per_min geometry.now }
 {
     let machine = &state.machine;
     if is_arc(block.motion) {
