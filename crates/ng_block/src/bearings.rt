@@ -9,7 +9,7 @@ use crate::cycles::{kept_beside, kept_in, kind_of};
 use crate::effect::{CHANGES, Changes, Effect};
 use crate::ends::ends;
 use crate::goal::{
-    end_of, feed_mode_after, feed_of, is_straight, pace_by, path_of, turning_path_of,
+    end_of, feed_mode_after, feed_of, is_straight, pace_by, path_of, path_unless_straight,
 };
 use crate::path::Path;
 use crate::shifts::{keeps_offsets, shift_of};
@@ -124,7 +124,7 @@ impl Effect {
 
     /// Finds the offsets and the path of a block. Most lines leave the offsets as they are, so this is looked at first.
     #[inline]
-    #[tactic(auto, using(crate::proofs::WayLemmas::way_kept))]
+    #[tactic(auto, using(crate::proofs::BearingLemmas::bearings_kept, crate::proofs::BearingLemmas::end_kept))]
     fn find_any_path<A: Allocator + Copy + Drop>(
         &mut self,
         terms: &Terms<'_>,
@@ -148,7 +148,14 @@ impl Effect {
         self.plan.shown = None;
         let machine = &state.machine;
         if !is_straight(block.motion) {
-            self.plan.path = turning_path_of(block, machine, feed_per_min, terms.geometry)?;
+            self.plan.path = path_unless_straight(
+                block,
+                state,
+                settings,
+                &machine.offsets,
+                feed_per_min,
+                terms.geometry,
+            )?;
             return Ok(());
         }
         let end = end_of(block, machine, &machine.offsets)?;
