@@ -350,10 +350,9 @@ none_of s tools geometry text done e = none_holds _ (sym (line_first s tools geo
 pub first_of : (s : StateModel) (tools : List ℤ) (geometry : Geometry) (text : List ℕ) (fault : Fault) → executed s tools geometry text ≡ Err fault → IsFirstFault (causes s tools geometry text) fault
 first_of s tools geometry text fault e = is_first _ fault (sym (line_first s tools geometry text) ∙ ap result_err e)
 
--- the same of a line that was read, and of an answer whose effect stands elsewhere
-pub of_pieces : (s : StateModel) (tools : List ℤ) (geometry : Geometry) (text : List ℕ) (line : ParsedLine) (done : Done) (r : Result (Unit {0}) Fault) → read text ≡ Ok line →
-    MatchResult r (λ _. executed_pieces s line.pieces tools geometry ≡ Ok done) (λ fault. executed_pieces s line.pieces tools geometry ≡ Err fault) →
+-- both, of an answer whose effect stands elsewhere
+pub of_executed : (s : StateModel) (tools : List ℤ) (geometry : Geometry) (text : List ℕ) (done : Done) (r : Result (Unit {0}) Fault) →
+    MatchResult r (λ _. executed s tools geometry text ≡ Ok done) (λ fault. executed s tools geometry text ≡ Err fault) →
     MatchResult r (λ _. NoneHolds (causes s tools geometry text)) (λ fault. IsFirstFault (causes s tools geometry text) fault)
-unfolding executed
-of_pieces s tools geometry text line done (Ok _) e h = none_of s tools geometry text done (ap (λ (r : Result ParsedLine Fault). and_then r (λ line. executed_pieces s line.pieces tools geometry)) e ∙ h)
-of_pieces s tools geometry text line done (Err fault) e h = first_of s tools geometry text fault (ap (λ (r : Result ParsedLine Fault). and_then r (λ line. executed_pieces s line.pieces tools geometry)) e ∙ h)
+of_executed s tools geometry text done (Ok _) h = none_of s tools geometry text done h
+of_executed s tools geometry text done (Err fault) h = first_of s tools geometry text fault h

@@ -1,7 +1,7 @@
 pub mod LineLemmas
 pub mod TaskLemmas
 pub mod ModeLemmas
-pub mod WayLemmas
+pub mod BearingLemmas
 pub mod LaterLemmas
 pub mod RangeLemmas
 pub mod CauseLemmas

@@ -27,7 +27,7 @@ use Rattle.ng_block.specs.declared.path.Path.TheVariants.{Still, WithoutFeed, Ro
 use Rattle.ng_block.specs.AxisData.{unit_after}
 use Rattle.ng_block.specs.Blocks.{feed_mode_after, pace_by, end_of}
 
--- the way round that a motion goes; none where it is no arc
+-- the way round that a motion goes; none where it isn't an arc
 abbrev pub turn_of : Option Motion → Option ArcDirection
 turn_of (Some ClockwiseArc) = Some Clockwise
 turn_of (Some CounterclockwiseArc) = Some Counterclockwise
@@ -70,7 +70,7 @@ turned b m o pace turn =
     and_then (checked (asked_by b m turn end offsets pace)) (λ arc.
     Ok (turning_at pace arc))))
 
--- the same of a line's motion, with the feed after the line; still where it is no arc
+-- where a line's motion goes round, with the feed after the line; still where it isn't an arc
 abbrev pub turned_where : Option ArcDirection → Block → Machine → Offsets → ℤ → Result Path Fault
 turned_where None b m o feed = Ok Still
 turned_where (Some turn) b m o feed = turned b m o (pace_by b.motion (feed_mode_after b m.modes) feed b.values.f) turn

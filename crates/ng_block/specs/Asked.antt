@@ -31,7 +31,7 @@ use Rattle.ng_block.specs.Shifts.{shift_of}
 
 -- ---- its values
 
--- what is written on a text, however long it is; nothing where it is no line
+-- what is written on a text, however long it is; nothing where it isn't a line
 abbrev pub written_on : List ℕ → Option ParsedLine
 written_on text = parse_line (plain false text)
 

@@ -33,7 +33,7 @@ use Rattle.ng_block.specs.Order.{outputs_after}
 use Rattle.ng_block.specs.Steps.{before_motion}
 use Rattle.ng_block.specs.Tasks.{tasks_of}
 
--- the kind of cycle that a motion is; none where it is no cycle
+-- the kind of cycle that a motion is; none where it isn't a cycle
 abbrev pub kind_of : Option Motion → Option CycleKind
 kind_of (Some motion.Drilling) = Some Drilling
 kind_of (Some motion.DrillingWithDwell) = Some DrillingWithDwell
@@ -126,7 +126,7 @@ cycle_of b m o feed geometry kind =
     and_then (canned_of words (setting_of b m o feed (kept_for kind m)) geometry) (λ drill.
     Ok (Cycle drill))))
 
--- the same of a line's motion; still where it is no cycle
+-- where a line's motion goes in a cycle; still where it isn't a cycle
 abbrev pub cycle_where : Option CycleKind → Block → Machine → Offsets → ℤ → Geometry → Result Path Fault
 cycle_where None b m o feed geometry = Ok Still
 cycle_where (Some kind) b m o feed geometry = cycle_of b m o feed geometry kind

@@ -69,14 +69,17 @@ block_done b goal remark s =
     let plan = plan_of remark (feed_set b mode goal.feed_per_min) tasks goal s.machine in
     record { setup = changed s (machine_after b goal tasks s.machine) goal.changes; before = plan.before; segments = segments_of plan; commands = commands_of plan; stop = stop_of b.m.stop }
 
+-- what a block with a goal does; or why its move is refused (X1, X2)
+abbrev pub finished : Block → Goal → List CanonModel → StateModel → Geometry → Result Done Fault
+finished b goal remark s geometry = lawful (first_fault (path_faults goal.path geometry)) (Ok (block_done b goal remark s))
+
 -- what the values of a line do. It is refused by B1 to B19 of its words, then for a computed length or offset (E3),
 -- then for the shape of its arc (C1 to C4) or for its cycle (Y1 to Y8), then for its move (X1, X2); of each of these by
 -- the first whose cause holds
 unfoldable pub executed_values : StateModel → List CanonModel → Settled → List ℤ → Geometry → Result Done Fault
 executed_values s remark values tools geometry =
     and_then (checked values.words s.machine.modes (length tools)) (λ b.
-    and_then (goal_of b values.settings s tools geometry) (λ goal.
-    lawful (first_fault (path_faults goal.path geometry)) (Ok (block_done b goal remark s))))
+    and_then (goal_of b values.settings s tools geometry) (λ goal. finished b goal remark s geometry))
 
 -- what the pieces of a line do: the faults of their values come first
 unfoldable pub executed_pieces : StateModel → List Piece → List ℤ → Geometry → Result Done Fault

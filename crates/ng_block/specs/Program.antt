@@ -29,7 +29,7 @@ idle setup stop = record { setup = setup; before = setup.machine.outputs; segmen
 abbrev pub deleted : StateModel → List ℕ → Result Done Fault
 deleted setup line = if is_too_long line then Err LineTooLong else Ok (idle setup GoesOn)
 
--- what a line of the program does that is no percent line
+-- what a line of the program does that isn't a percent line
 abbrev pub executed_unless_deleted : TermsModel → StateModel → List ℕ → Result Done Fault
 executed_unless_deleted terms setup line =
     if terms.block_delete && is_deletable line then deleted setup line
@@ -40,7 +40,7 @@ abbrev pub stop_after : PercentLine → ProgramFlow
 stop_after Opens = GoesOn
 stop_after Closes = Ends
 
--- how the program goes on after a percent line, by the lines before it; nothing, where the line is none
+-- how the program goes on after a percent line, by the lines before it; nothing, where the line isn't one
 abbrev pub percent_at : List (List ℕ) → List ℕ → Option ProgramFlow
 percent_at lines_before line = option_map stop_after (percent_line_at lines_before line)
 

@@ -12,7 +12,7 @@ use ng_num::{Fault, Point};
 use ng_offsets::{Named, Offsets};
 use ng_state::{Machine, Modes, Motion};
 
-/// The way round that a motion goes; none where it is no arc.
+/// The way round that a motion goes; `None` where it isn't an arc.
 fn turn_of(motion: Option<Motion>) -> Option<ArcDirection>
     ensures { result ≡ turn_of motion }
 {
@@ -93,9 +93,9 @@ fn turned(
     }
 }
 
-/// Where a line's motion goes round under offsets, with the feed after the line; still, where it is no arc. E3 where a
-/// coordinate of its end or its centre is beyond the range, else C1 to C4: an arc without an end or without an offset
-/// in its plane, with radii that differ, or with none.
+/// Where a line's motion goes round under offsets, with the feed after the line; still, where it isn't an arc. E3 where
+/// a coordinate of its end or its centre is beyond the range, else C1 to C4: an arc without an end or without an offset
+/// in its plane, with radii that differ, or without a radius.
 #[inline(never)]
 #[tactic(auto, unfolding(crate::specs::Arcs::path_along_arc))]
 pub fn path_along_arc(

@@ -9,11 +9,12 @@ use crate::cycles::{kept_beside, kept_in, kind_of};
 use crate::effect::{CHANGES, Changes, Effect};
 use crate::ends::ends;
 use crate::goal::{
-    end_of, feed_mode_after, feed_of, is_straight, pace_by, path_of, turning_path_of,
+    end_of, feed_mode_after, feed_of, is_straight, pace_by, path_of, path_unless_straight,
 };
 use crate::path::Path;
 use crate::shifts::{keeps_offsets, shift_of};
-use ng_canon::{Feed, Geometry, Pace, StraightMove};
+use crate::terms::Terms;
+use ng_canon::{Feed, Pace, StraightMove};
 use ng_modal::Block;
 use ng_num::{Fault, Point};
 use ng_offsets::{Offsets, Tools};
@@ -66,7 +67,9 @@ impl Effect {
         requires short { length settings.now ≤ 128 }
         requires settings { self.old.changes.items ≡ settings.now }
         requires slot { IsSlot block.now.values.h (length tools.now) }
-        ensures value { MatchResult result (λ _. bearings_of block.now settings.now state.now tools.now ≡ Ok (bearings_by self.new)) (λ fault. bearings_of block.now settings.now state.now tools.now ≡ Err fault) }
+        ensures value { MatchResult result
+            (λ _. bearings_of block.now settings.now state.now tools.now ≡ Ok (bearings_by self.new))
+            (λ fault. bearings_of block.now settings.now state.now tools.now ≡ Err fault) }
         ensures room { OnOk result (length self.new.changes.items ≤ 132) }
     {
         let at = shift_of(block, &state.machine, &state.params, settings, tools)?;
@@ -93,52 +96,66 @@ impl Effect {
     #[inline(never)]
     fn find_path<A: Allocator + Copy + Drop>(
         &mut self,
+        terms: &Terms<'_>,
         state: &State<A>,
         block: &Block,
         settings: &[Change],
-        tools: &Tools,
         feed_per_min: Feed,
-        geometry: &Geometry,
     ) -> Result<(), Fault>
         requires short { length settings.now ≤ 128 }
         requires settings { self.old.changes.items ≡ settings.now }
-        requires slot { IsSlot block.now.values.h (length tools.now) }
-        ensures value { MatchResult result (λ _. path_after_bearings block.now settings.now state.now tools.now feed_per_min geometry.now ≡ Ok (path_with_bearings self.new)) (λ fault. path_after_bearings block.now settings.now state.now tools.now feed_per_min geometry.now ≡ Err fault) }
+        requires slot { IsSlot block.now.values.h (length terms.now.tools) }
+        ensures value { let way = path_after_bearings block.now settings.now state.now terms.now.tools feed_per_min terms.now.geometry in
+            MatchResult result (λ _. way ≡ Ok (path_with_bearings self.new)) (λ fault. way ≡ Err fault) }
         ensures room { OnOk result (length self.new.changes.items ≤ 132) }
     {
-        self.find_bearings(state, block, settings, tools)?;
+        self.find_bearings(state, block, settings, terms.tools)?;
         let offsets = &self.machine.offsets;
-        self.plan.path = path_of(block, state, settings, offsets, feed_per_min, geometry)?;
+        self.plan.path = path_of(
+            block,
+            state,
+            settings,
+            offsets,
+            feed_per_min,
+            terms.geometry,
+        )?;
         Ok(())
     }
 
-    /// The same of any block. Most lines leave the offsets as they are, so this is looked at first.
+    /// Finds the offsets and the path of a block. Most lines leave the offsets as they are, so this is looked at first.
     #[inline]
-    #[tactic(auto, using(crate::proofs::WayLemmas::way_kept))]
+    #[tactic(auto, using(crate::proofs::BearingLemmas::bearings_kept, crate::proofs::BearingLemmas::end_kept))]
     fn find_any_path<A: Allocator + Copy + Drop>(
         &mut self,
+        terms: &Terms<'_>,
         state: &State<A>,
         block: &Block,
         settings: &[Change],
-        tools: &Tools,
         feed_per_min: Feed,
-        geometry: &Geometry,
     ) -> Result<(), Fault>
         requires short { length settings.now ≤ 128 }
-        requires slot { IsSlot block.now.values.h (length tools.now) }
-        ensures value { MatchResult result (λ _. path_after_bearings block.now settings.now state.now tools.now feed_per_min geometry.now ≡ Ok (path_with_bearings self.new)) (λ fault. path_after_bearings block.now settings.now state.now tools.now feed_per_min geometry.now ≡ Err fault) }
+        requires slot { IsSlot block.now.values.h (length terms.now.tools) }
+        ensures value { let way = path_after_bearings block.now settings.now state.now terms.now.tools feed_per_min terms.now.geometry in
+            MatchResult result (λ _. way ≡ Ok (path_with_bearings self.new)) (λ fault. way ≡ Err fault) }
         ensures room { OnOk result (length self.new.changes.items ≤ 132) }
     {
         self.changes.clear();
         put_changes(settings, &mut self.changes);
         if !keeps_offsets(block) {
-            return self.find_path(state, block, settings, tools, feed_per_min, geometry);
+            return self.find_path(terms, state, block, settings, feed_per_min);
         }
         self.machine.offsets = state.machine.offsets;
         self.plan.shown = None;
         let machine = &state.machine;
         if !is_straight(block.motion) {
-            self.plan.path = turning_path_of(block, machine, feed_per_min, geometry)?;
+            self.plan.path = path_unless_straight(
+                block,
+                state,
+                settings,
+                &machine.offsets,
+                feed_per_min,
+                terms.geometry,
+            )?;
             return Ok(());
         }
         let end = end_of(block, machine, &machine.offsets)?;
@@ -165,21 +182,22 @@ impl Effect {
 
     /// Finds all lengths that a block's words come to in a state: the feed and the offsets after it, the parameters
     /// that it sets, its path, and the words that a cycle keeps after it. E3 where one of them is beyond the range;
-    /// else C1 to C4 where its arc is none, and Y1 to Y8, X1, X2 where its cycle is.
+    /// else C1 to C4 of an arc, and Y1 to Y8, X1, X2 of a cycle.
     pub(crate) fn find_goal<A: Allocator + Copy + Drop>(
         &mut self,
+        terms: &Terms<'_>,
         state: &State<A>,
         block: &Block,
         settings: &[Change],
-        tools: &Tools,
-        geometry: &Geometry,
     ) -> Result<(), Fault>
         requires short { length settings.now ≤ 128 }
-        requires slot { IsSlot block.now.values.h (length tools.now) }
-        ensures { MatchResult result (λ _. goal_of block.now settings.now state.now tools.now geometry.now ≡ Ok (goal_by self.new)) (λ fault. goal_of block.now settings.now state.now tools.now geometry.now ≡ Err fault) }
+        requires slot { IsSlot block.now.values.h (length terms.now.tools) }
+        ensures { MatchResult result
+            (λ _. goal_of block.now settings.now state.now terms.now.tools terms.now.geometry ≡ Ok (goal_by self.new))
+            (λ fault. goal_of block.now settings.now state.now terms.now.tools terms.now.geometry ≡ Err fault) }
     {
         let feed_per_min = feed_of(block, &state.machine)?;
-        self.find_any_path(state, block, settings, tools, feed_per_min, geometry)?;
+        self.find_any_path(terms, state, block, settings, feed_per_min)?;
         if ends(block.m.stop) {
             self.end_bearings(&state.params);
         }

@@ -80,7 +80,9 @@ impl BlockSegmentsLeft {
         ensures path { self.new.path ≡ self.old.path }
         ensures steps { self.new.steps ≡ self.old.steps }
         ensures outputs { self.new.outputs ≡ outputs_through (tasks_in self.old.tasks) self.old.outputs step }
-        ensures next { MatchOption result ((segments_at (plan_of self.old) self.new.outputs step ≡ []) × (self.new.moves ≡ [])) (λ segment. segments_at (plan_of self.old) self.new.outputs step ≡ segment ∷ self.new.moves) }
+        ensures next { MatchOption result
+            ((segments_at (plan_of self.old) self.new.outputs step ≡ []) × (self.new.moves ≡ []))
+            (λ segment. segments_at (plan_of self.old) self.new.outputs step ≡ segment ∷ self.new.moves) }
     {
         self.outputs = outputs_through(&self.tasks, self.outputs, step);
         match step {
@@ -94,7 +96,9 @@ impl BlockSegmentsLeft {
 
     /// The next segment.
     fn next(&mut self) -> Option<Segment>
-        ensures { MatchOption result ((rest_of self.old ≡ []) × (rest_of self.new ≡ [])) (λ segment. rest_of self.old ≡ segment ∷ rest_of self.new) }
+        ensures { MatchOption result
+            ((rest_of self.old ≡ []) × (rest_of self.new ≡ []))
+            (λ segment. rest_of self.old ≡ segment ∷ rest_of self.new) }
     {
         if let Some(segment) = self.moves.next() {
             return Some(segment);

@@ -105,7 +105,8 @@ fn put_coolant(coolant: Option<Coolant>, commands: &mut OfStep)
 /// The commands of the program's end, but for its shuttle and its last one.
 fn put_end(origin: Point, commands: &mut OfStep)
     requires { commands.old.items ≡ [] }
-    ensures { commands.new.items ≡ CanonicalCommand.OriginOffsets origin ∷ CanonicalCommand.SelectPlane Plane.Xy ∷ CanonicalCommand.StopSpindle ∷ CanonicalCommand.MistOff ∷ CanonicalCommand.FloodOff ∷ [] }
+    ensures { commands.new.items ≡ CanonicalCommand.OriginOffsets origin ∷ CanonicalCommand.SelectPlane Plane.Xy
+        ∷ CanonicalCommand.StopSpindle ∷ CanonicalCommand.MistOff ∷ CanonicalCommand.FloodOff ∷ [] }
 {
     commands.push(CanonicalCommand::OriginOffsets(origin));
     commands.push(CanonicalCommand::SelectPlane(Plane::Xy));
@@ -204,7 +205,9 @@ impl<'a> CommandsLeft<'a> {
     fn next_begun(&mut self) -> Option<CanonicalCommand>
         ensures effect { self.new.effect ≡ self.old.effect }
         ensures steps { self.new.steps ≡ self.old.steps }
-        ensures next { MatchOption result ((begun_commands self.old ≡ []) × (begun_commands self.new ≡ []) × (self.new.moves ≡ [])) (λ command. begun_commands self.old ≡ command ∷ begun_commands self.new) }
+        ensures next { MatchOption result
+            ((begun_commands self.old ≡ []) × (begun_commands self.new ≡ []) × (self.new.moves ≡ []))
+            (λ command. begun_commands self.old ≡ command ∷ begun_commands self.new) }
     {
         if self.taken < self.waiting.len() {
             let command = self.waiting.as_slice()[self.taken];
@@ -246,7 +249,9 @@ impl<'a> CommandsLeft<'a> {
         requires moves { self.old.moves ≡ [] }
         ensures effect { self.new.effect ≡ self.old.effect }
         ensures steps { self.new.steps ≡ self.old.steps }
-        ensures next { MatchOption result ((commands_at (plan_by self.old.effect.now) step ≡ []) × (begun_commands self.new ≡ []) × (self.new.moves ≡ [])) (λ canon. commands_at (plan_by self.old.effect.now) step ≡ canonical canon ∷ map numeric (begun_commands self.new)) }
+        ensures next { MatchOption result
+            ((commands_at (plan_by self.old.effect.now) step ≡ []) × (begun_commands self.new ≡ []) × (self.new.moves ≡ []))
+            (λ canon. commands_at (plan_by self.old.effect.now) step ≡ canonical canon ∷ map numeric (begun_commands self.new)) }
     {
         if let BlockStep::Remark = step {
             return self.effect.plan.remark.command();
@@ -260,7 +265,9 @@ impl<'a> CommandsLeft<'a> {
 
     /// The next command.
     fn next(&mut self) -> Option<Canon<'a>>
-        ensures { MatchOption result ((rest_commands self.old ≡ []) × (rest_commands self.new ≡ [])) (λ canon. rest_commands self.old ≡ canonical canon ∷ rest_commands self.new) }
+        ensures { MatchOption result
+            ((rest_commands self.old ≡ []) × (rest_commands self.new ≡ []))
+            (λ canon. rest_commands self.old ≡ canonical canon ∷ rest_commands self.new) }
     {
         if let Some(command) = self.next_begun() {
             return Some(Canon::Command(command));

@@ -16,7 +16,7 @@ use ng_num::{Fault, Len, Num, Unit, nm_of};
 use ng_offsets::Offsets;
 use ng_state::{Distance, KeptWords, Machine, Modes, Motion, Retract};
 
-/// The kind of cycle that a motion is; none where it is no cycle.
+/// The kind of cycle that a motion is; `None` where it isn't a cycle.
 #[inline]
 pub fn kind_of(motion: Option<Motion>) -> Option<CycleKind>
     ensures { result ≡ kind_of motion }
@@ -73,7 +73,7 @@ fn own_words(block: &Block, modes: &Modes) -> Result<KeptWords, Fault>
     })
 }
 
-/// The words that were kept for a cycle: none where the motion mode before the line is another.
+/// The words that were kept for a cycle; empty where the motion mode before the line is another.
 fn kept_for(kind: CycleKind, machine: &Machine) -> KeptWords
     ensures { result ≡ kept_for kind machine.now }
 {
@@ -183,7 +183,7 @@ fn setting_of(
     }
 }
 
-/// The canned cycle of a line's motion under offsets, with the feed after the line; still, where it is no cycle. E3
+/// The canned cycle of a line's motion under offsets, with the feed after the line; still, where it isn't a cycle. E3
 /// where a length that it computes is beyond the range, else the first of Y1 to Y8, X1 and X2: the extreme coordinates
 /// decide it, and neither repeats nor pecks are walked.
 #[inline(never)]

@@ -4,7 +4,7 @@ ghost use Rattle.std.specs.Prelude.{◌≡◌, ◌≤◌, ◌∷◌, ◌++◌, [
 ghost use Rattle.ng_canon.specs.Text.{numeric};
 ghost use Rattle.std.specs.Option.{option_map};
 ghost use Rattle.ng_block.specs.Goals.{goal_by};
-ghost use Rattle.ng_block.specs.Effects.{block_done, segments_by, commands_by, in_state};
+ghost use Rattle.ng_block.specs.Effects.{block_done, finished, segments_by, commands_by, in_state};
 ghost use Rattle.ng_block.specs.Order.{command_for};
 ghost use Rattle.ng_block.specs.Paths.{pace_command};
 ghost use Rattle.ng_block.specs.Remarks.{remark_of};
@@ -13,6 +13,7 @@ ghost use Rattle.ng_block.specs.declared.effect.ProgramFlow.TheVariants.{GoesOn}
 
 use crate::after::put_modes_after;
 use crate::ends::{ends, stop_of};
+use crate::faults::path_fault;
 use crate::goal::feed_mode_after;
 use crate::path::Path;
 use crate::plan::Plan;
@@ -20,8 +21,9 @@ use crate::remark::Remark;
 use crate::switches::put_outputs_after;
 use crate::tasks::{feed_set, put_tasks};
 use arrayvec::ArrayVec;
-use ng_canon::{CanonicalCommand, Feed, StraightMove};
+use ng_canon::{CanonicalCommand, Feed, Geometry, StraightMove};
 use ng_modal::Block;
+use ng_num::Fault;
 use ng_params::Change;
 use ng_state::{Machine, State};
 use std::alloc::Allocator;
@@ -79,11 +81,12 @@ impl Effect {
         }
     }
 
-    /// The one move of a block that only goes straight, after the feed that it sets, if any; none of any other block.
+    /// The one move of a block that only goes straight, after the feed that it sets, if any; `None` of another block.
     /// So the commands of nearly every line are had without a cursor.
     #[inline]
     pub fn only_move(&self) -> Option<(Option<Feed>, &StraightMove)>
-        ensures { IfSome result (λ x. commands_by self.now ≡ map numeric (command_for CanonicalCommand.FeedRate x.0 ++ pace_command x.1.now.pace x.1.now.end ∷ [])) }
+        ensures { IfSome result (λ x. commands_by self.now
+            ≡ map numeric (command_for CanonicalCommand.FeedRate x.0 ++ pace_command x.1.now.pace x.1.now.end ∷ [])) }
     {
         let plan = &self.plan;
         if plan.tasks.is_some() | plan.shown.is_some() | plan.remark.manner.is_some() {
@@ -122,7 +125,8 @@ impl Effect {
         comment: Option<&[u8]>,
     )
         requires { IfSome comment (λ text. length text.now ≤ 256) }
-        ensures { in_state state.now self.new ≡ block_done block.now (goal_by self.old) (remark_of (option_map (λ text. text.now) comment.entry)) state.now }
+        ensures { let remark = remark_of (option_map (λ text. text.now) comment.entry) in
+            in_state state.now self.new ≡ block_done block.now (goal_by self.old) remark state.now }
     {
         let machine = &state.machine;
         let mode = feed_mode_after(block, &machine.modes);
@@ -141,5 +145,27 @@ impl Effect {
         self.plan.remark.take(comment);
         self.plan.feed = feed_set(block, mode, self.machine.feed_per_min);
         self.plan.before = machine.outputs;
+    }
+
+    /// Becomes that of a block in a state, whose goal it has. X1 where its move has no feed or no time, else X2 where
+    /// it leaves the travel.
+    #[inline]
+    pub(crate) fn finish<A: Allocator + Copy + Drop>(
+        &mut self,
+        state: &State<A>,
+        block: &Block,
+        comment: Option<&[u8]>,
+        geometry: &Geometry,
+    ) -> Result<(), Fault>
+        requires { IfSome comment (λ text. length text.now ≤ 256) }
+        ensures { let remark = remark_of (option_map (λ text. text.now) comment.entry) in MatchResult result
+            (λ _. finished block.now (goal_by self.old) remark state.now geometry.now ≡ Ok (in_state state.now self.new))
+            (λ fault. finished block.now (goal_by self.old) remark state.now geometry.now ≡ Err fault) }
+    {
+        if let Some(fault) = path_fault(&self.plan.path, geometry) {
+            return Err(fault);
+        }
+        self.take_block(state, block, comment);
+        Ok(())
     }
 }

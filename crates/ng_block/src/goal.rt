@@ -1,11 +1,11 @@
 //! What a line does to motion: its feed, its pace and where it goes (NISTIR 6556, 3.5.1, 3.5.2, 3.5.12, 3.5.17,
 //! 3.5.19). E3 where a length that it computes is beyond the range.
-ghost use Rattle.std.specs.Prelude.{◌≡◌, ◌-ℤ◌};
+ghost use Rattle.std.specs.Prelude.{◌≡◌, ◌-ℤ◌, false};
 ghost use Rattle.ng_params.specs.Changes.{with_changes};
 ghost use Rattle.ng_modal.specs.Causes.{is_machine};
 ghost use Rattle.ng_modal.specs.Lines.{is_straight, is_arc};
 ghost use Rattle.ng_block.specs.Blocks.{feed_mode_after, is_inverse, is_fed, feed_word, time_word, feed_of, fed_pace, pace_by, program_coordinate, coordinate, end_of, machine_end_of, straight_end_of};
-ghost use Rattle.ng_block.specs.Goals.{straight_to, turning_path_of, path_of};
+ghost use Rattle.ng_block.specs.Goals.{straight_to, path_of};
 
 use crate::arcs::path_along_arc;
 use crate::axis_data::{named_on, unit_after};
@@ -108,7 +108,7 @@ fn fed_pace(mode: FeedMode, feed_per_min: Feed, word: Option<Num>) -> Option<Pac
     }
 }
 
-/// How fast a line's move goes; none where its feed or its time is missing.
+/// How fast a line's move goes; `None` where its feed or its time is missing.
 #[inline]
 pub fn pace_by(
     motion: Option<Motion>,
@@ -241,24 +241,31 @@ fn straight_to(block: &Block, machine: &Machine, feed_per_min: Feed, end: Point)
     Path::moving_at(pace, machine.point, end)
 }
 
-/// Where a line's motion goes that isn't straight, on a line without a word of group 0, with the feed after the line.
-/// E3 where a coordinate of it is beyond the range; of an arc else C1 to C4, of a cycle Y1 to Y8, X1, X2.
+/// Where a line's motion goes that isn't straight, under offsets, with the feed after the line, in the table that its
+/// settings leave. E3 where a coordinate of it is beyond the range; of an arc else C1 to C4, of a cycle Y1 to Y8, X1,
+/// X2.
 #[inline(never)]
-pub fn turning_path_of(
+pub fn path_unless_straight<A: Allocator + Copy + Drop>(
     block: &Block,
-    machine: &Machine,
+    state: &State<A>,
+    settings: &[Change],
+    offsets: &Offsets,
     feed_per_min: Feed,
     geometry: &Geometry,
 ) -> Result<Path, Fault>
-    ensures { result ≡ turning_path_of block.now machine.now feed_per_min geometry.now }
+    requires { is_straight block.now.motion ≡ false }
+    ensures { let table = with_changes state.now.params settings.now in
+        result ≡ path_of block.now state.now.machine offsets.now table feed_per_min geometry.now }
 {
+    let machine = &state.machine;
     if is_arc(block.motion) {
-        return path_along_arc(block, machine, &machine.offsets, feed_per_min);
+        return path_along_arc(block, machine, offsets, feed_per_min);
     }
     if kind_of(block.motion).is_some() {
-        return cycle_path(block, machine, &machine.offsets, feed_per_min, geometry);
+        return cycle_path(block, machine, offsets, feed_per_min, geometry);
     }
-    Ok(Path::Still)
+    let home = home_on(block.g.non_modal, &state.params, settings);
+    home_path(block, machine, offsets, home)
 }
 
 /// Where a line's motion goes under offsets, with the feed after the line, in the table that its settings leave. E3
@@ -271,19 +278,13 @@ pub fn path_of<A: Allocator + Copy + Drop>(
     feed_per_min: Feed,
     geometry: &Geometry,
 ) -> Result<Path, Fault>
-    ensures { result ≡ path_of block.now state.now.machine offsets.now (with_changes state.now.params settings.now) feed_per_min geometry.now }
+    ensures { let table = with_changes state.now.params settings.now in
+        result ≡ path_of block.now state.now.machine offsets.now table feed_per_min geometry.now }
 {
-    let machine = &state.machine;
-    if is_arc(block.motion) {
-        return path_along_arc(block, machine, offsets, feed_per_min);
-    }
-    if kind_of(block.motion).is_some() {
-        return cycle_path(block, machine, offsets, feed_per_min, geometry);
-    }
     if !is_straight(block.motion) {
-        let home = home_on(block.g.non_modal, &state.params, settings);
-        return home_path(block, machine, offsets, home);
+        return path_unless_straight(block, state, settings, offsets, feed_per_min, geometry);
     }
+    let machine = &state.machine;
     let end = straight_end_of(block, machine, offsets)?;
     Ok(straight_to(block, machine, feed_per_min, end))
 }

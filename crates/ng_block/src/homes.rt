@@ -61,8 +61,8 @@ pub fn home_on<A: Allocator + Copy + Drop>(
     }
 }
 
-/// The way to a home, through the point that a line's axis words name; still, where it goes to none. E3 where a
-/// coordinate of that point is beyond the range.
+/// The way to a home, through the point that a line's axis words name; still, where the line doesn't go home. E3 where
+/// a coordinate of that point is beyond the range.
 #[inline(never)]
 pub fn home_path(
     block: &Block,

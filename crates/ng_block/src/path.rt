@@ -85,7 +85,9 @@ pub fn traverse(start: Point, end: Point) -> StraightMove
 /// The next segment of a cycle.
 #[inline]
 fn next_in(cycle: &mut Option<Cycle>) -> Option<Segment>
-    ensures { MatchOption result ((left_in cycle.old ≡ []) × (left_in cycle.new ≡ [])) (λ segment. left_in cycle.old ≡ segment ∷ left_in cycle.new) }
+    ensures { MatchOption result
+        ((left_in cycle.old ≡ []) × (left_in cycle.new ≡ []))
+        (λ segment. left_in cycle.old ≡ segment ∷ left_in cycle.new) }
 {
     match cycle {
         None => None,
@@ -169,7 +171,7 @@ impl PathSegments {
         self.next_outside_cycle()
     }
 
-    /// The same where a segment is left that isn't of a cycle.
+    /// The next segment, where one is left that isn't of a cycle.
     fn next_outside_cycle(&mut self) -> Option<Segment>
         ensures { MatchOption result ((self.old ≡ []) × (self.new ≡ [])) (λ segment. self.old ≡ segment ∷ self.new) }
     {
@@ -206,7 +208,8 @@ pub fn pace_command(pace: Pace, end: Point) -> CanonicalCommand
 
 /// The command of an arc.
 fn arc_command(arc: &Arc) -> CanonicalCommand
-    ensures { result ≡ CanonicalCommand.ArcFeed (record { end = arc.now.end; centre_a = arc.now.centre_a; centre_b = arc.now.centre_b; turn = arc.now.turn }) }
+    ensures { result ≡ CanonicalCommand.ArcFeed
+        (record { end = arc.now.end; centre_a = arc.now.centre_a; centre_b = arc.now.centre_b; turn = arc.now.turn }) }
 {
     CanonicalCommand::ArcFeed(ArcFeed {
         end: arc.end,

@@ -12,7 +12,8 @@ use ng_words::LineKind;
 #[inline]
 pub fn percent_at(first: LineKind, line: &[u8]) -> Option<ProgramFlow>
     ensures value { result ≡ percent_by first line.now }
-    ensures program { (lines_before : List (List ℕ)) → first ≡ first_kind lines_before → result ≡ percent_at lines_before line.now }
+    ensures program { (lines_before : List (List ℕ))
+        → first ≡ first_kind lines_before → result ≡ percent_at lines_before line.now }
 {
     match percent_line_at(first, line) {
         None => None,

@@ -11,9 +11,9 @@ pub struct Plan {
     pub remark: Remark,
     /// The feed that its F sets.
     pub feed: Option<Feed>,
-    /// None where its words give nothing else to do but to say and to move.
+    /// `None` where its words give nothing else to do but to say and to move.
     pub tasks: Option<Tasks>,
-    /// What it prints of offsets; none where its words leave them as they are.
+    /// What it prints of offsets; `None` where its words leave them as they are.
     pub shown: Option<Shown>,
     pub path: Path,
     /// The outputs before the block.

@@ -1,16 +1,15 @@
 //! What a line does in a state: one way for all lines, through places that serve one after the other.
-ghost use Rattle.std.specs.Prelude.{◌≡◌, ◌≤◌, length, MatchResult, Ok, Err, IfSome};
-ghost use Rattle.std.specs.Option.{option_map};
-ghost use Rattle.ng_words.specs.Kept.{pieces_by};
-ghost use Rattle.ng_expr.specs.Settle.{settled_of};
+ghost use Rattle.std.specs.Prelude.{◌≡◌, MatchResult, Ok, Err};
 ghost use Rattle.ng_num.specs.Causes.{NoneHolds, IsFirstFault};
 ghost use Rattle.ng_block.specs.Causes.{causes};
-ghost use Rattle.ng_block.specs.Effects.{executed, executed_pieces, executed_values, in_state};
+ghost use Rattle.ng_words.specs.Kept.{pieces_by};
+ghost use Rattle.ng_words.specs.Lines.{last_comment};
+ghost use Rattle.ng_expr.specs.Settle.{settled_of};
+ghost use Rattle.ng_block.specs.Effects.{executed, executed_values, in_state};
 ghost use Rattle.ng_block.specs.Remarks.{remark_of};
 ghost use Rattle.ng_block.specs.Program.{deleted, executed_unless_deleted, executed_after};
 
 use crate::effect::{Effect, ProgramFlow};
-use crate::faults::path_fault;
 use crate::percent::percent_at;
 use crate::terms::Terms;
 use ng_canon::Geometry;
@@ -34,73 +33,6 @@ pub struct Scratch {
     effect: Effect,
 }
 
-/// What the values of a line do in a state, put into an effect; or the first fault that refuses them.
-#[tactic(auto, unfolding(crate::specs::Effects::executed_values))]
-fn execute_values<A: Allocator + Copy + Drop>(
-    state: &State<A>,
-    comment: Option<&[u8]>,
-    values: &Values,
-    tools: &Tools,
-    geometry: &Geometry,
-    sorted: &mut Sorted,
-    effect: &mut Effect,
-) -> Result<(), Fault>
-    requires short { IfSome comment (λ text. length text.now ≤ 256) }
-    ensures { MatchResult result (λ _. executed_values state.now (remark_of (option_map (λ text. text.now) comment.entry)) (settled_of values.now) tools.now geometry.now ≡ Ok (in_state state.now effect.new)) (λ f. executed_values state.now (remark_of (option_map (λ text. text.now) comment.entry)) (settled_of values.now) tools.now geometry.now ≡ Err f) }
-{
-    sorted.check(values, &state.machine.modes, tools.slots() as u8)?;
-    let block = &sorted.block;
-    effect.find_goal(state, block, values.settings.as_slice(), tools, geometry)?;
-    if let Some(fault) = path_fault(&effect.plan.path, geometry) {
-        return Err(fault);
-    }
-    effect.take_block(state, block, comment);
-    Ok(())
-}
-
-/// What the pieces of a line do in a state, their values found in places of their own; or the first fault that refuses
-/// them.
-#[tactic(auto, unfolding(crate::specs::Effects::executed_pieces))]
-fn execute_pieces<A: Allocator + Copy + Drop>(
-    state: &State<A>,
-    line: &Line,
-    tools: &Tools,
-    geometry: &Geometry,
-    values: &mut Values,
-    sorted: &mut Sorted,
-    effect: &mut Effect,
-) -> Result<(), Fault>
-    ensures { MatchResult result (λ _. executed_pieces state.now (pieces_by line.now.places) tools.now geometry.now ≡ Ok (in_state state.now effect.new)) (λ f. executed_pieces state.now (pieces_by line.now.places) tools.now geometry.now ≡ Err f) }
-{
-    match values.evaluate_into(line, &state.params) {
-        Ok(()) => execute_values(
-            state,
-            line.last_comment(),
-            values,
-            tools,
-            geometry,
-            sorted,
-            effect,
-        ),
-        Err(fault) => Err(fault),
-    }
-}
-
-/// A deleted line does nothing; its length alone is looked at.
-fn delete<A: Allocator + Copy + Drop>(
-    state: &State<A>,
-    text: &[u8],
-    effect: &mut Effect,
-) -> Result<(), Fault>
-    ensures { MatchResult result (λ _. deleted state.now text.now ≡ Ok (in_state state.now effect.new)) (λ f. deleted state.now text.now ≡ Err f) }
-{
-    if is_too_long(text) {
-        return Err(Fault::LineTooLong);
-    }
-    effect.leave(state, ProgramFlow::GoesOn);
-    Ok(())
-}
-
 impl Scratch {
     ghost use Rattle.ng_block.specs.Effects.{commands_by, segments_by};
     ghost use Rattle.std.specs.Prelude.{[]};
@@ -118,52 +50,90 @@ impl Scratch {
         }
     }
 
-    /// Puts what a line does in a state into the effect, or finds the first fault that refuses it.
+    /// Puts what the values of a line do in a state into the effect, or finds the first fault that refuses them: B1 to
+    /// B19, E3, C1 to C4, Y1 to Y8, X1, X2.
+    #[tactic(auto, unfolding(crate::specs::Effects::executed_values))]
+    fn take_values<A: Allocator + Copy + Drop>(
+        &mut self,
+        terms: &Terms<'_>,
+        state: &State<A>,
+    ) -> Result<(), Fault>
+        ensures { let remark = remark_of (last_comment (pieces_by self.old.line.places)) in
+            let done = executed_values state.now remark (settled_of self.old.values) terms.now.tools terms.now.geometry in
+            MatchResult result (λ _. done ≡ Ok (in_state state.now self.new.effect)) (λ f. done ≡ Err f) }
+    {
+        let comment = self.line.last_comment();
+        let slots = terms.tools.slots() as u8;
+        self.sorted
+            .check(&self.values, &state.machine.modes, slots)?;
+        let block = &self.sorted.block;
+        let settings = self.values.settings.as_slice();
+        self.effect.find_goal(terms, state, block, settings)?;
+        self.effect.finish(state, block, comment, terms.geometry)
+    }
+
+    /// Puts what a line does in a state into the effect, or finds the first fault that refuses it: E1 to E5, then those
+    /// of its values.
     #[inline]
-    #[tactic(auto, unfolding(crate::specs::Effects::executed), using(crate::proofs::CauseLemmas::first_of))]
+    #[tactic(auto, unfolding(crate::specs::Effects::executed, crate::specs::Effects::executed_pieces), using(crate::proofs::CauseLemmas::first_of))]
     fn take_line<A: Allocator + Copy + Drop>(
+        &mut self,
+        terms: &Terms<'_>,
+        state: &State<A>,
+        text: &[u8],
+    ) -> Result<(), Fault>
+        ensures does { MatchResult result
+            (λ _. executed state.now terms.now.tools terms.now.geometry text.now ≡ Ok (in_state state.now self.new.effect))
+            (λ f. executed state.now terms.now.tools terms.now.geometry text.now ≡ Err f) }
+        ensures first { MatchResult result
+            (λ _. NoneHolds (causes state.now terms.now.tools terms.now.geometry text.now))
+            (λ f. IsFirstFault (causes state.now terms.now.tools terms.now.geometry text.now) f) }
+    {
+        self.line.read(text)?;
+        self.values.evaluate_into(&self.line, &state.params)?;
+        self.take_values(terms, state)
+    }
+
+    /// Puts into the effect that a deleted line does nothing. E2 where it is too long: nothing else of it is looked at.
+    fn delete_line<A: Allocator + Copy + Drop>(
         &mut self,
         state: &State<A>,
         text: &[u8],
-        tools: &Tools,
-        geometry: &Geometry,
     ) -> Result<(), Fault>
-        ensures does { MatchResult result (λ _. executed state.now tools.now geometry.now text.now ≡ Ok (in_state state.now self.new.effect)) (λ f. executed state.now tools.now geometry.now text.now ≡ Err f) }
-        ensures first { MatchResult result (λ _. NoneHolds (causes state.now tools.now geometry.now text.now)) (λ f. IsFirstFault (causes state.now tools.now geometry.now text.now) f) }
+        ensures { MatchResult result
+            (λ _. deleted state.now text.now ≡ Ok (in_state state.now self.new.effect))
+            (λ f. deleted state.now text.now ≡ Err f) }
     {
-        match self.line.read(text) {
-            Ok(()) => execute_pieces(
-                state,
-                &self.line,
-                tools,
-                geometry,
-                &mut self.values,
-                &mut self.sorted,
-                &mut self.effect,
-            ),
-            Err(fault) => Err(fault),
+        if is_too_long(text) {
+            return Err(Fault::LineTooLong);
         }
+        self.effect.leave(state, ProgramFlow::GoesOn);
+        Ok(())
     }
 
-    /// What a line does in a state, or the first fault that refuses it, in the order of docs/LANGUAGE.md; the state
-    /// stays as it is. What it does lies in these places until the next line comes; after a fault there is nothing to
-    /// be had. A dry run and the controller run this for each line. Source: NISTIR 6556, 3.8, and own.
+    /// What a line does in a state, or the first fault that refuses it, in the order of docs/LANGUAGE.md, whether lines
+    /// are deleted or not; the state stays as it is. What it does lies in these places until the next line comes; after
+    /// a fault there is nothing to be had. A dry run and the controller run this for each line. Source: NISTIR 6556,
+    /// 3.8, and own.
     #[inline(always)]
     pub fn execute<A: Allocator + Copy + Drop>(
         &mut self,
+        terms: &Terms<'_>,
         state: &State<A>,
         text: &[u8],
-        tools: &Tools,
-        geometry: &Geometry,
     ) -> Result<&Effect, Fault>
-        ensures does { MatchResult result (λ e. executed state.now tools.now geometry.now text.now ≡ Ok (in_state state.now e.now)) (λ f. executed state.now tools.now geometry.now text.now ≡ Err f) }
-        ensures first { MatchResult result (λ _. NoneHolds (causes state.now tools.now geometry.now text.now)) (λ f. IsFirstFault (causes state.now tools.now geometry.now text.now) f) }
+        ensures does { MatchResult result
+            (λ e. executed state.now terms.now.tools terms.now.geometry text.now ≡ Ok (in_state state.now e.now))
+            (λ f. executed state.now terms.now.tools terms.now.geometry text.now ≡ Err f) }
+        ensures first { MatchResult result
+            (λ _. NoneHolds (causes state.now terms.now.tools terms.now.geometry text.now))
+            (λ f. IsFirstFault (causes state.now terms.now.tools terms.now.geometry text.now) f) }
     {
-        self.take_line(state, text, tools, geometry)?;
+        self.take_line(terms, state, text)?;
         Ok(&self.effect)
     }
 
-    /// The same, unless the line is deleted.
+    /// What a line does in a state, or the first fault that refuses it: nothing, where it is deleted.
     #[inline(always)]
     pub fn execute_unless_deleted<A: Allocator + Copy + Drop>(
         &mut self,
@@ -171,16 +141,19 @@ impl Scratch {
         state: &State<A>,
         text: &[u8],
     ) -> Result<&Effect, Fault>
-        ensures { MatchResult result (λ e. executed_unless_deleted terms.now state.now text.now ≡ Ok (in_state state.now e.now)) (λ f. executed_unless_deleted terms.now state.now text.now ≡ Err f) }
+        ensures { MatchResult result
+            (λ e. executed_unless_deleted terms.now state.now text.now ≡ Ok (in_state state.now e.now))
+            (λ f. executed_unless_deleted terms.now state.now text.now ≡ Err f) }
     {
         if terms.block_delete && is_deletable(text) {
-            delete(state, text, &mut self.effect)?;
+            self.delete_line(state, text)?;
             return Ok(&self.effect);
         }
-        self.execute(state, text, terms.tools, terms.geometry)
+        self.execute(terms, state, text)
     }
 
-    /// The same after lines before it, whose first that isn't blank is of a kind: it may be a percent line.
+    /// What a line does in a state, or the first fault that refuses it, after lines before it, whose first that isn't
+    /// blank is of a kind: so it may be a percent line, or deleted.
     #[inline(always)]
     pub fn execute_after<A: Allocator + Copy + Drop>(
         &mut self,
@@ -189,7 +162,9 @@ impl Scratch {
         state: &State<A>,
         text: &[u8],
     ) -> Result<&Effect, Fault>
-        ensures { MatchResult result (λ e. executed_after terms.now first state.now text.now ≡ Ok (in_state state.now e.now)) (λ f. executed_after terms.now first state.now text.now ≡ Err f) }
+        ensures { MatchResult result
+            (λ e. executed_after terms.now first state.now text.now ≡ Ok (in_state state.now e.now))
+            (λ f. executed_after terms.now first state.now text.now ≡ Err f) }
     {
         match percent_at(first, text) {
             Some(stop) => {
@@ -208,11 +183,20 @@ pub fn execute<A: Allocator + Copy + Drop>(
     tools: &Tools,
     geometry: &Geometry,
 ) -> Result<Effect, Fault>
-    ensures does { MatchResult result (λ e. executed state.now tools.now geometry.now text.now ≡ Ok (in_state state.now e)) (λ f. executed state.now tools.now geometry.now text.now ≡ Err f) }
-    ensures first { MatchResult result (λ _. NoneHolds (causes state.now tools.now geometry.now text.now)) (λ f. IsFirstFault (causes state.now tools.now geometry.now text.now) f) }
+    ensures does { MatchResult result
+        (λ e. executed state.now tools.now geometry.now text.now ≡ Ok (in_state state.now e))
+        (λ f. executed state.now tools.now geometry.now text.now ≡ Err f) }
+    ensures first { MatchResult result
+        (λ _. NoneHolds (causes state.now tools.now geometry.now text.now))
+        (λ f. IsFirstFault (causes state.now tools.now geometry.now text.now) f) }
 {
+    let terms = Terms {
+        block_delete: false,
+        tools,
+        geometry,
+    };
     let mut places = Scratch::new(state.machine);
-    match places.take_line(state, text, tools, geometry) {
+    match places.take_line(&terms, state, text) {
         Ok(()) => Ok(places.effect),
         Err(fault) => Err(fault),
     }

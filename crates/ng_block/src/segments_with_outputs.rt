@@ -52,8 +52,12 @@ fn outputs_with(outputs: Outputs, segment: &Segment) -> Outputs
 impl BlockSegmentsWithOutputs {
     /// The next segment.
     pub fn next(&mut self) -> Option<Segment>
-        ensures segment { MatchOption result ((self.old.segments ≡ []) × (self.new.segments ≡ [])) (λ segment. self.old.segments ≡ segment ∷ self.new.segments) }
-        ensures outputs { MatchOption result (self.new.outputs ≡ self.old.outputs) (λ segment. self.new.outputs ≡ outputs_with self.old.outputs segment) }
+        ensures segment { MatchOption result
+            ((self.old.segments ≡ []) × (self.new.segments ≡ []))
+            (λ segment. self.old.segments ≡ segment ∷ self.new.segments) }
+        ensures outputs { MatchOption result
+            (self.new.outputs ≡ self.old.outputs)
+            (λ segment. self.new.outputs ≡ outputs_with self.old.outputs segment) }
     {
         match self.block_segments.next() {
             Some(segment) => {

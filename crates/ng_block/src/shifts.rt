@@ -16,14 +16,14 @@ use ng_params::{Change, Params, System};
 use ng_state::Machine;
 use std::alloc::Allocator;
 
-/// What the steps of a line print of the offsets; none where a step leaves them as they are.
+/// What the steps of a line print of the offsets; `None` where a step leaves them as they are.
 #[derive(Clone, Copy)]
 pub struct Shown {
     /// The tool length after G43 or G49.
     pub tool_length: Option<Len>,
     /// Origin plus G92 offset after G54 to G59.3.
     pub system: Option<Point>,
-    /// The same after G92 and its three others, and after G10 of the system in force.
+    /// Origin plus G92 offset after G92 and its three others, and after G10 of the system in force.
     pub axis_data: Option<Point>,
 }
 

@@ -152,7 +152,9 @@ fn switch_where(there: bool, now: Outputs) -> Option<Segment>
 
 /// The switch of a step, by the outputs after it, or its dwell.
 pub fn segment_at(tasks: &Option<Tasks>, now: Outputs, step: BlockStep) -> Option<Segment>
-    ensures { MatchOption result (task_segments (tasks_in tasks.now) now step ≡ []) (λ segment. task_segments (tasks_in tasks.now) now step ≡ segment ∷ []) }
+    ensures { MatchOption result
+        (task_segments (tasks_in tasks.now) now step ≡ [])
+        (λ segment. task_segments (tasks_in tasks.now) now step ≡ segment ∷ []) }
 {
     let Some(tasks) = tasks else { return None };
     match step {

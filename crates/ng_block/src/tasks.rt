@@ -87,8 +87,8 @@ impl Tasks {
     }
 }
 
-/// Puts what a block's words give to do into a place; none where there is nothing to do. Most lines only move, so this
-/// is looked at first.
+/// Puts what a block's words give to do into a place; `None` where there is nothing to do. Most lines only move, so
+/// this is looked at first.
 #[inline]
 pub fn put_tasks(block: &Block, mode: FeedMode, before: &Outputs, place: &mut Option<Tasks>)
     ensures { tasks_in place.new ≡ tasks_of block.now mode before.now }

@@ -5,6 +5,7 @@ ghost use Rattle.ng_block.specs.Effects.{in_state};
 ghost use Rattle.ng_block.specs.Program.{executed_after};
 ghost use Rattle.ng_layout.specs.declared.half.Source.TheVariants as source;
 ghost use Rattle.ng_text.specs.Programs.{lines_before};
+ghost use Rattle.ng_layout.specs.Limits.{greatest_slot};
 ghost use Rattle.ng_layout.specs.Storable.{IsStorableMachine};
 ghost use Rattle.ng_session.specs.Entries.{done_of, terms_of};
 
@@ -19,6 +20,24 @@ use ng_num::Fault;
 use ng_text::missing_end;
 use ng_words::LineKind;
 use std::alloc::{AllocError, Allocator};
+
+/// What a line is run with over what is stored, with lines deleted or not.
+pub(crate) fn terms_over<'a, A: Allocator + Copy + Drop>(
+    stored: &'a Stored<A>,
+    block_delete: bool,
+    geometry: &'a Geometry,
+) -> Terms<'a>
+    ensures terms { result ≡ terms_of (record { geometry = geometry.now }) stored.now.tools block_delete }
+    ensures few { length result.tools ≤ greatest_slot }
+{
+    // called for its contract: a table has at most 128 slots, and no more are stored
+    let _ = stored.tools.slots();
+    Terms {
+        block_delete,
+        tools: &stored.tools,
+        geometry,
+    }
+}
 
 /// What a line of the operator does, in places, or the first fault that refuses it.
 #[tactic(auto, unfolding(crate::specs::Entries::done_of))]
@@ -36,13 +55,7 @@ fn execute_alone<'p, A: Allocator + Copy + Drop>(
     ensures short { OnOk result (length text.now ≤ 256) }
     ensures stands { IfOk result (λ e. IsStorableMachine stored.now.setup.machine → IsStorableMachine e.now.machine) }
 {
-    let terms = Terms {
-        block_delete,
-        tools: &stored.tools,
-        geometry,
-    };
-    // called for its contract: a table has at most 128 slots, and no more are stored
-    let _ = stored.tools.slots();
+    let terms = terms_over(stored, block_delete, geometry);
     match places.execute_unless_deleted(&terms, &stored.state, text) {
         Ok(effect) => Ok(effect),
         Err(fault) => Err(fault),
@@ -72,13 +85,7 @@ pub(crate) fn execute_after_lines<'p, A: Allocator + Copy + Drop>(
     ensures short { OnOk result (length text.now ≤ 256) }
     ensures stands { IfOk result (λ e. IsStorableMachine stored.now.setup.machine → IsStorableMachine e.now.machine) }
 {
-    let terms = Terms {
-        block_delete,
-        tools: &stored.tools,
-        geometry,
-    };
-    // called for its contract: a table has at most 128 slots, and no more are stored
-    let _ = stored.tools.slots();
+    let terms = terms_over(stored, block_delete, geometry);
     match places.execute_after(&terms, first, &stored.state, text) {
         Ok(effect) => Ok(effect),
         Err(fault) => Err(fault),

@@ -6,6 +6,7 @@ ghost use Rattle.ng_layout.specs.Storable.{IsStorableMachine, IsStorable};
 ghost use Rattle.ng_layout.specs.Stored.{with_decoded_state};
 ghost use Rattle.ng_session.specs.Entries.{done_again, turned_off, given_up};
 
+use crate::beginning::terms_over;
 use crate::current_block::CurrentBlock;
 use crate::reply::Reply;
 use crate::session::Session;
@@ -29,10 +30,8 @@ fn execute_again<'p, A: Allocator + Copy + Drop>(
         (λ fault. done_again (record { geometry = geometry.now }) stored.now half.now.text ≡ Err fault) }
     ensures stands { IfOk result (λ e. IsStorableMachine stored.now.setup.machine → IsStorableMachine e.now.machine) }
 {
-    // called for its contract: a table has at most 128 slots, and no more are stored
-    let _ = stored.tools.slots();
-    let text = half.text.as_slice();
-    match places.execute(&stored.state, text, &stored.tools, geometry) {
+    let terms = terms_over(stored, false, geometry);
+    match places.execute(&terms, &stored.state, half.text.as_slice()) {
         Ok(effect) => Ok(effect),
         Err(fault) => Err(fault),
     }

@@ -48,7 +48,10 @@ fn left_after(n: u64, count: u128) -> u64
 impl BlockSegmentsLeft {
     /// Takes the next step out of those that haven't begun.
     fn take_step(&mut self) -> Option<BlockStep>
-        ensures next { MatchOption result ((rest_of self.old ≡ self.old.moves) × (self.new ≡ self.old)) (λ step. rest_of self.old ≡ self.old.moves ++ segments_through (plan_of self.new) self.new.outputs (step ∷ self.new.steps.now)) }
+        ensures next { MatchOption result
+            ((rest_of self.old ≡ self.old.moves) × (self.new ≡ self.old))
+            (λ step. rest_of self.old
+            ≡ self.old.moves ++ segments_through (plan_of self.new) self.new.outputs (step ∷ self.new.steps.now)) }
         ensures fewer { IfSome result (λ step. length self.new.steps.now < length self.old.steps.now) }
         ensures moves { self.new.moves ≡ self.old.moves }
     {
@@ -87,7 +90,8 @@ impl Passing {
     fn pass(&mut self, step: BlockStep)
         requires some { 0 < self.old.left }
         requires moves { self.old.rest.moves ≡ [] }
-        ensures { SkipSpec (segments_at (plan_of self.old.rest) (begun_step self.old step).rest.outputs step) (begun_step self.old step) self.new }
+        ensures { let begun = begun_step self.old step in
+            SkipSpec (segments_at (plan_of self.old.rest) begun.rest.outputs step) begun self.new }
     {
         self.rest.outputs = outputs_through(&self.rest.tasks, self.rest.outputs, step);
         match step {

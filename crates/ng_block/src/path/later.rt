@@ -8,7 +8,7 @@ use ng_canon::Segment;
 use ng_cycles::{Cycle, MotionState};
 use ng_num::Point;
 
-/// The same outputs at another point.
+/// How the machine stands at another point, with the outputs as they are.
 fn moved(before: MotionState, point: Point) -> MotionState
     ensures { result ≡ record before { point = point } }
 {

@@ -1,5 +1,5 @@
-use Rattle.std.proofs.Common.{◌≤◌, length, arith, Ok}
-use Rattle.ng_layout.specs.Limits.{greatest_slot}
+use Rattle.std.proofs.Common.{◌∙◌, ap, sym, Ok}
+use Rattle.ng_block.specs.Program.{TermsModel, executed_unless_deleted}
 use Rattle.ng_session.specs.Entries.{done_of}
 use Rattle.ng_session.proofs.ShortLines.{alone_short}
 use Rattle.ng_session.proofs.Standing.{alone-stands}
@@ -8,9 +8,8 @@ use Rattle.ng_session.proofs.beginning.execute_alone.Goals as goal
 pub returns-in-Ok : goal.returns-in-Ok
 unfolding done_of
 returns-in-Ok g c =
-    let few : length c.stored.inside.tools ≤ greatest_slot = omega (arith, c.slots.ensures.range, c.slots.ensures.value) in
     record {
-      done = λ program. rw (← c.stored.view_is) c.in-Ok.ensures;
+      done = λ program. ap (λ (t : TermsModel). executed_unless_deleted t c.args.stored.now.setup c.args.text.now) (sym c.terms_over-terms.ensures.terms) ∙ rw (← c.stored.view_is) c.in-Ok.ensures;
       short = alone_short (Ok c.in-Ok.effect) _ _ c.args.text.now _ c.in-Ok.ensures;
-      stands = rw (← c.stored.view_is) (alone-stands (Ok c.in-Ok.effect) _ _ c.args.text.now _ few c.in-Ok.ensures);
+      stands = rw (← c.stored.view_is) (alone-stands (Ok c.in-Ok.effect) _ _ c.args.text.now _ c.terms_over-terms.ensures.few c.in-Ok.ensures);
     }

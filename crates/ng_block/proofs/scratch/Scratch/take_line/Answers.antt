@@ -1,9 +1,12 @@
-use Rattle.ng_words.specs.Kept.{written_by}
-use Rattle.ng_block.specs.Effects.{in_state}
-use Rattle.ng_block.proofs.CauseLemmas.{of_pieces}
+use Rattle.std.proofs.Common.{rules}
+use Rattle.ng_block.specs.Effects.{executed, executed_pieces, in_state}
+use Rattle.ng_block.proofs.CauseLemmas.{of_executed}
 use Rattle.ng_block.proofs.scratch.Scratch.take_line.Goals as goal
 
-pub returns-in-Ok-clause-first : goal.returns-in-Ok-clause-first
-returns-in-Ok-clause-first g c =
-    of_pieces c.args.state.now c.args.tools.now c.args.geometry.now c.args.text.now (written_by c.read.new.self) (in_state c.args.state.now c.execute_pieces.new.effect)
-    c.execute_pieces.result c.in-Ok.ensures.value c.execute_pieces.ensures
+pub returns-clause-does : goal.returns-clause-does
+unfolding executed executed_pieces
+returns-clause-does g c = search rules
+
+pub returns-clause-first : goal.returns-clause-first
+returns-clause-first g c =
+    of_executed c.args.state.now c.args.terms.now.tools c.args.terms.now.geometry c.args.text.now (in_state c.args.state.now c.take_values.new.self.effect) c.take_values.result (returns-clause-does g c)

@@ -1,14 +1,15 @@
--- A block without a word for offsets or of group 0 leaves the offsets as they are, and its path is the plain one.
+-- A block without a word for offsets or of group 0 leaves the offsets as they are, and sets what its settings set.
 use Rattle.std.proofs.Common.{◌≡◌, ℕ, ℤ, true, Option, Some, None, Ok, List, refl}
 use Rattle.std.specs.Prelude.{not, ◌||◌}
 use Rattle.std.specs.Option.{is_some}
-use Rattle.ng_num.specs.Results.{and_then}
 use Rattle.ng_params.specs.declared.change.Change.{Change}
-use Rattle.ng_canon.specs.declared.geometry.Geometry.{Geometry}
 use Rattle.ng_modal.specs.declared.asks.NonModal.{NonModal}
 use Rattle.ng_modal.specs.declared.asks.ToolLength.{ToolLength}
 use Rattle.ng_modal.specs.declared.block.Block.{Block}
-use Rattle.ng_block.specs.Goals.{plain_path_of, path_after_bearings}
+use Rattle.ng_offsets.specs.declared.offsets.Offsets.{Offsets}
+use Rattle.ng_state.specs.declared.machine.Machine.{Machine}
+use Rattle.ng_block.specs.Blocks.{end_of, straight_end_of}
+use Rattle.ng_block.specs.Goals.{bearings_of}
 use Rattle.ng_state.specs.State.{StateModel}
 use Rattle.ng_block.specs.Shifts.{keeps_offsets, nothing_shown}
 
@@ -24,9 +25,12 @@ missing (Some _) system word h = absurd (cc h)
 missing None (Some _) word h = absurd (cc h)
 missing None None (Some _) h = absurd (cc h)
 
-pub way_kept : (b : Block) (settings : List Change) (s : StateModel) (lengths : List ℤ) (feed : ℤ) (geometry : Geometry) → keeps_offsets b ≡ true →
-    path_after_bearings b settings s lengths feed geometry
-    ≡ and_then (plain_path_of b s.machine feed geometry) (λ path. Ok (record { offsets = s.machine.offsets; shown = nothing_shown; changes = settings }, path))
-way_kept b settings s lengths feed geometry h =
+pub bearings_kept : (b : Block) (settings : List Change) (s : StateModel) (lengths : List ℤ) → keeps_offsets b ≡ true →
+    bearings_of b settings s lengths ≡ Ok (record { offsets = s.machine.offsets; shown = nothing_shown; changes = settings })
+bearings_kept b settings s lengths h =
     let n = missing b.g.tool_length b.g.system b.g.non_modal h in
     rw (n.length_is, n.system_is, n.word_is) refl
+
+-- and it isn't under G53
+pub end_kept : (b : Block) (m : Machine) (o : Offsets) → keeps_offsets b ≡ true → straight_end_of b m o ≡ end_of b m o
+end_kept b m o h = let n = missing b.g.tool_length b.g.system b.g.non_modal h in rw (n.word_is) refl
