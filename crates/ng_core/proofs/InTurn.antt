@@ -17,7 +17,7 @@ use Rattle.ng_core.proofs.History.{HasRefusalCause, History}
 use Rattle.ng_core.proofs.GoingOn.{GoesFrom, begins, ends, goes_next}
 use Rattle.ng_core.proofs.Histories.{passes}
 
--- ---- one turn, and turns after turns
+-- ---- one turn, and several turns
 
 pub turns_one : {A R : Type 0} (honest : R → Type 0) (trace : R → Trace) (failed sectors : R → ℕ) (event : Event A) (r : Reply) (old new : ControllerModel R)
     → IsAnsweredEvent honest trace failed sectors event r old new → AreAnsweredEvents honest trace failed sectors (event ∷ []) (r ∷ []) old new
@@ -104,7 +104,7 @@ pub turns_pass : {A R : Type 0} (honest : R → Type 0) (trace : R → Trace) (f
 turns_pass honest trace failed sectors events replies old new t whole =
     meaning (turns_ran honest trace failed sectors events replies old new t) (λ ran program rests. ran program whole rests)
 
--- ---- what they leave of any
+-- ---- what they leave of any device
 
 turn_equipment : {A R : Type 0} (honest : R → Type 0) (trace : R → Trace) (failed sectors : R → ℕ) (event : Event A) (r : Reply) (b : Bool) (old new : ControllerModel R)
     → old.journal.broken ≡ b → IsAnsweredEvent honest trace failed sectors event r old new → new.equipment ≡ old.equipment
