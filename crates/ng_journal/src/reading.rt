@@ -26,7 +26,7 @@ use ng_params::Params;
 use ng_rig::{Failed, Rig};
 use std::alloc::Allocator;
 
-/// The header that sector `k` holds, on a large device or on any other, where it is valid there.
+/// The header in sector `k`, on a large device or on any other, if it is valid there.
 fn read_header<R: Rig>(rig: &mut R, large: bool, k: u64) -> Result<Option<Header>, Failed>
     requires room { least_size ≤ R.sectors rig.old }
     requires header { k < 2 }
@@ -40,7 +40,7 @@ fn read_header<R: Rig>(rig: &mut R, large: bool, k: u64) -> Result<Option<Header
     Ok(Header::read(large, k, &bytes))
 }
 
-/// Of two valid headers that of the greater epoch.
+/// Of two valid headers, the one of the greater epoch.
 fn newer(a: Option<Header>, b: Option<Header>) -> Option<Header>
     ensures value { result ≡ newer a b }
     ensures valid { (large : Bool) → IfSome a (IsValidHeader large) → IfSome b (IsValidHeader large)
@@ -69,7 +69,7 @@ pub(crate) fn header_in_force<R: Rig>(rig: &mut R, large: bool) -> Result<Option
     Ok(newer(even, odd))
 }
 
-/// What the first sector of a snapshot says by its state field.
+/// What the state field in the first sector of a snapshot says.
 fn decoded_state_of_snapshot(sector: &[u8; SECTOR_BYTES], length: u64) -> Option<DecodedState>
     ensures value { result ≡ decoded_state_of length (field_at sector.now) }
     ensures sound { IfSome result (IsSound length) }
@@ -77,8 +77,8 @@ fn decoded_state_of_snapshot(sector: &[u8; SECTOR_BYTES], length: u64) -> Option
     StateField::read(sector).report(length)
 }
 
-/// Takes over the tool table of a header, by the first sector of its snapshot; false where that is damaged. In format 1
-/// there is none.
+/// Reads the tool table of a header, given the first sector of its snapshot. False if it is damaged. In format 1 there
+/// is none.
 fn read_tools<R: Rig>(
     rig: &mut R,
     header: Header,
@@ -89,7 +89,7 @@ fn read_tools<R: Rig>(
     requires none { tools.old ≡ [] }
     ensures read { IfHonest (R.honest rig.old) (R.honest rig.new)
         (ReadSpec result (IsToolsOf header first.now tools.new) (R.trace rig.old) (R.trace rig.new)) }
-    // without honesty too
+    // Also for a device that isn't honest.
     ensures storable { IfOk result (λ is_whole. OnTrue is_whole (IsStorableTools tools.new)) }
     ensures none { IfOk result (λ is_whole. OnTrue is_whole (header.format ≡ One → tools.new ≡ [])) }
     ensures size { R.sectors rig.new ≡ R.sectors rig.old }
@@ -106,7 +106,7 @@ fn read_tools<R: Rig>(
     }
 }
 
-/// Takes over the parameters of a snapshot area; false where one is beyond the range.
+/// Reads the parameters of a snapshot area. False if one of them is out of range.
 fn read_table<R: Rig, A: Allocator + Copy + Drop>(
     rig: &mut R,
     first: usize,
@@ -117,7 +117,7 @@ fn read_table<R: Rig, A: Allocator + Copy + Drop>(
     requires long { length table.old ≡ parameter_count }
     ensures read { IfHonest (R.honest rig.old) (R.honest rig.new)
         (ReadSpec result (IsTableOf first table.new) (R.trace rig.old) (R.trace rig.new)) }
-    // without honesty too
+    // Also for a device that isn't honest.
     ensures long { IfOk result (λ is_whole. OnTrue is_whole (length table.new ≡ parameter_count)) }
     ensures size { R.sectors rig.new ≡ R.sectors rig.old }
     ensures failures { FailureCountSpec result (R.failed rig.old) (R.failed rig.new) }
@@ -131,7 +131,7 @@ fn read_table<R: Rig, A: Allocator + Copy + Drop>(
     Ok(true)
 }
 
-/// Takes over the snapshot of a header; false where it is damaged.
+/// Reads the snapshot of a header. False if it is damaged.
 pub(crate) fn read_snapshot<R: Rig, A: Allocator + Copy + Drop>(
     rig: &mut R,
     header: Header,
@@ -145,7 +145,7 @@ pub(crate) fn read_snapshot<R: Rig, A: Allocator + Copy + Drop>(
     ensures read { IfHonest (R.honest rig.old) (R.honest rig.new)
         (ReadSpec result (IsSnapshotOf header stored.new) (R.trace rig.old) (R.trace rig.new)) }
     ensures none { IfOk result (λ is_whole. OnTrue is_whole (header.format ≡ One → stored.new.tools ≡ [])) }
-    // without honesty too
+    // Also for a device that isn't honest.
     ensures storable { IfOk result (λ is_whole. OnTrue is_whole (IsStorable stored.new)) }
     ensures count { IfOk result (λ is_whole. OnTrue is_whole (stored.new.entries ≤ greatest_count)) }
     ensures long { IfOk result (λ is_whole. OnTrue is_whole (stored.new.length ≡ header.length)) }
