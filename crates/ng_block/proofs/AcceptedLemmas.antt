@@ -1,4 +1,4 @@
--- What is known of a line that is accepted: its block, and the goal that its path is part of.
+-- What is known of an accepted line: its block, and the goal that has its path.
 use Rattle.std.proofs.Common.{◌≡◌, ◌∙◌, ℕ, ℤ, List, length, Option, Some, None, Result, Ok, Err, refl, sym, ap}
 use Rattle.ng_num.specs.Results.{and_then}
 use Rattle.ng_num.specs.declared.fault.Fault.{Fault}
@@ -29,7 +29,7 @@ use Rattle.ng_state.specs.State.{StateModel}
 use Rattle.ng_block.specs.Tasks.{feed_set, tasks_of}
 use Rattle.ng_block.proofs.CauseLemmas.{path_by, path_is}
 
--- ---- what was found, one after the other
+-- ---- results, one after another
 
 pub then_ok : {X Y : Type 0} (r : Result X Fault) (next : X → Result Y Fault) (y : Y) → and_then r next ≡ Ok y → (x : X) × (r ≡ Ok x) × (next x ≡ Ok y)
 then_ok (Ok x) next y e = (x, refl, e)

@@ -1,4 +1,5 @@
--- A line is refused exactly where a cause holds, by the first that does: part by part of the list.
+-- A line is refused exactly if a cause holds, with the fault of the first one that does. The list is proved part by
+-- part.
 use Rattle.std.proofs.Common.{◌≡◌, ◌∙◌, ℕ, ℤ, ◌||◌, Bool, true, false, List, [], ◌∷◌, ◌++◌, length, Option, Some, None, Result, Ok, Err, refl, sym, ap, if◌then◌else◌}
 use Rattle.std.specs.Prelude.{MatchResult, is_err, is_none}
 use Rattle.std.specs.Option.{is_some}
@@ -59,12 +60,12 @@ Causes = List (Bool × Fault)
 
 -- ---- the first cause that holds
 
--- an answer whose fault is that of the first cause
+-- a result whose fault is that of the first cause
 decided : (cs : Causes) (r : Result Done Fault) → result_err r ≡ first_fault cs → MatchResult r (λ _. NoneHolds cs) (λ fault. IsFirstFault cs fault)
 decided cs (Ok done) e = none_holds cs (sym e)
 decided cs (Err fault) e = is_first cs fault (sym e)
 
--- what is found unless a cause of the front holds, and then what follows
+-- a result, unless a cause before it holds, and then what follows
 stage : {X Y : Type 0} (found : Option Fault) (x : X) (next : X → Result Y Fault) (front rest : Causes) →
     found ≡ first_fault front → result_err (next x) ≡ first_fault rest → result_err (and_then (unless found x) next) ≡ first_fault (front ++ rest)
 stage None x next front rest e h = h ∙ sym (first_none front rest (sym e))
@@ -83,7 +84,7 @@ path_by start geometry (Turns pace asked) = and_then (arc.checked asked) (λ arc
 path_by start geometry (GoesHome between home) = Ok (path.Homing (record { start = start; between = between; home = home }))
 path_by start geometry (Drills w s) = and_then (cycle.canned_of w s geometry) (λ drill. Ok (path.Cycle drill))
 
--- one length after the other, and then what becomes of them
+-- one length after another, and then what is made of them
 after_one : {X Y Z : Type 0} (r : Result X Fault) (f : X → Y) (next : Y → Result Z Fault) → and_then r (λ x. next (f x)) ≡ and_then (and_then r (λ x. Ok (f x))) next
 after_one (Ok x) f next = refl
 after_one (Err fault) f next = refl
@@ -138,7 +139,7 @@ path_is b m o table feed geometry =
 abbrev move_causes : Move → Geometry → Causes
 move_causes move geometry = arc_faults move ++ (cycle_faults move ++ ((has_no_feed move, NoFeed) ∷ ((goes_outside move geometry, OutsideTravel) ∷ [])))
 
--- what a path does, where its move has no fault
+-- what a path does, if its move has no fault
 abbrev moved : {X : Type 0} → Geometry → (Path → X) → Result Path Fault → Result X Fault
 moved geometry done found = and_then found (λ path. lawful (first_fault (path_faults path geometry)) (Ok (done path)))
 
@@ -178,9 +179,9 @@ move_first (Drills w s) start geometry done =
     drill_first (cycle.canned_of w s geometry) geometry done
     ∙ canned_first (first_fault (cycle.causes w s geometry)) (cycle.drill_of w s)
 
--- ---- all that a block computes
+-- ---- everything that a block computes
 
--- a cycle's words are kept where its move is found
+-- a cycle's words are kept if its move is found
 pub straight_none : (m : Option Motion) → is_straight m ≡ true → kind_of m ≡ None
 straight_none (Some motion.Traverse) e = refl
 straight_none (Some motion.Feed) e = refl
@@ -227,11 +228,11 @@ kept_found : (b : Block) (m : Machine) (o : Offsets) (table : List ℤ) (feed : 
 kept_found b m o table feed move e =
     kept_by_kind (is_straight b.motion) (is_arc b.motion) (kind_of b.motion) b m o feed _ _ _ move (straight_none b.motion) (arc_none b.motion) e
 
--- what a lawful goal does
+-- what a valid goal does
 abbrev reached : Geometry → (Goal → Done) → Result Goal Fault → Result Done Fault
 reached geometry done found = and_then found (λ goal. lawful (first_fault (path_faults goal.path geometry)) (Ok (done goal)))
 
--- the goal by its path and its kept words
+-- the goal, from its path and its kept words
 abbrev goal_found : Block → StateModel → ℤ → Bearings → Result Path Fault → Result KeptWords Fault → Result Goal Fault
 goal_found b s feed at paths kept =
     and_then {X = Bearings × Path} (and_then paths (λ path. Ok (at, path))) (λ way. and_then kept (λ kept. Ok (goal_with feed (bearings_after b s.params way.0) way.1 kept)))
@@ -241,7 +242,7 @@ goal_first : (b : Block) (s : StateModel) (feed : ℤ) (at : Bearings) (geometry
 goal_first b s feed at geometry done (Ok path) kept r e = rw e refl
 goal_first b s feed at geometry done (Err fault) kept r e = refl
 
--- with the feed and the offsets found
+-- once the feed and the offsets are found
 way_first : (b : Block) (s : StateModel) (feed : ℤ) (at : Bearings) (geometry : Geometry) (done : Goal → Done) (r : Result Move Fault) (paths : Result Path Fault) (kept : Result KeptWords Fault) →
     OnlyFar r → paths ≡ and_then r (path_by s.machine.point geometry) → ((move : Move) → r ≡ Ok move → (words : KeptWords) × (kept ≡ Ok words)) →
     result_err (reached geometry done (goal_found b s feed at paths kept))
@@ -254,7 +255,7 @@ way_first b s feed at geometry done (Ok move) paths kept far is words =
     ∙ goal_first b s feed at geometry done (path_by s.machine.point geometry move) found.0 kept found.1
     ∙ move_first move s.machine.point geometry _
 
--- all of it
+-- the whole goal
 abbrev goal_by_parts : Block → List Change → StateModel → Result ℤ Fault → Result Shifted Fault → (Offsets → ℤ → Result Path Fault) → Result KeptWords Fault → Result Goal Fault
 goal_by_parts b settings s feeds shifts paths kept =
     and_then feeds (λ feed.
@@ -277,7 +278,7 @@ parts_first b settings s geometry done (Ok feed) (Ok at) moves paths kept far_f 
 
 -- ---- the stages of a line
 
--- E3 of what is computed, and after it
+-- E3 of what is computed, and the causes after it
 abbrev block_causes : Block → StateModel → List ℤ → List ℤ → Geometry → Causes
 block_causes b s table tools geometry =
     let found = move_by b s.machine (offsets_found (shift_of b s.machine table tools) s.machine.offsets) table (result_unwrap_or (feed_of b s.machine) s.machine.feed_per_min) in
@@ -308,7 +309,7 @@ values_first s remark values tools geometry =
     stage (first_fault (faults values.words s.machine.modes (length tools))) b _ (faults values.words s.machine.modes (length tools)) (block_causes b s (with_changes s.params values.settings) tools geometry) refl
     (block_first b values.settings s tools geometry (λ goal. block_done b goal remark s))
 
--- what the pieces give, where each has a value
+-- the values of the pieces, if each has one
 followed_if_ok_is : (first : Settled) (found : Option Fault) (rest : Settled) → and_then (unless found rest) (λ b. Ok (followed first b)) ≡ unless found (followed first rest)
 followed_if_ok_is first None rest = refl
 followed_if_ok_is first (Some fault) rest = refl
@@ -350,7 +351,7 @@ none_of s tools geometry text done e = none_holds _ (sym (line_first s tools geo
 pub first_of : (s : StateModel) (tools : List ℤ) (geometry : Geometry) (text : List ℕ) (fault : Fault) → executed s tools geometry text ≡ Err fault → IsFirstFault (causes s tools geometry text) fault
 first_of s tools geometry text fault e = is_first _ fault (sym (line_first s tools geometry text) ∙ ap result_err e)
 
--- both, of an answer whose effect stands elsewhere
+-- for a line that was read, and for a result whose effect is elsewhere
 pub of_executed : (s : StateModel) (tools : List ℤ) (geometry : Geometry) (text : List ℕ) (done : Done) (r : Result (Unit {0}) Fault) →
     MatchResult r (λ _. executed s tools geometry text ≡ Ok done) (λ fault. executed s tools geometry text ≡ Err fault) →
     MatchResult r (λ _. NoneHolds (causes s tools geometry text)) (λ fault. IsFirstFault (causes s tools geometry text) fault)

@@ -1,4 +1,4 @@
--- Offsets move nothing, and what the program's end leaves.
+-- Offsets move nothing; and the state after the program's end.
 use Rattle.std.proofs.Common.{arith, ◌≡◌, ◌≢◌, ◌∙◌, ℕ, ◌≤◌, ℤ, Bool, true, false, not, ◌&&◌, ◌||◌, List, [], ◌∷◌, ◌++◌, Option, Some, None, Ok, refl, sym, ap, subst, if◌then◌else◌, length}
 use Rattle.std.specs.Option.{is_some}
 use Rattle.ng_params.specs.Changes.{with_changes}
@@ -40,7 +40,7 @@ use Rattle.ng_block.specs.ProgramEnd.{IsEnded}
 use Rattle.ng_state.specs.State.{StateModel}
 use Rattle.ng_block.proofs.AcceptedLemmas.{then_ok, same_ok, IsAccepted, accepted, reached}
 
--- ---- a block that sets offsets alone
+-- ---- a block that only sets offsets
 
 none_moves : (w : Option Motion) (calls : Bool) (mode : Motion) → w ≡ None → calls ≡ false → motion_by w calls mode ≡ None
 none_moves None false mode e h = refl

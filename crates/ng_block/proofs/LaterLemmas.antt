@@ -1,4 +1,4 @@
--- Segments of which so many are passed, as far as they go.
+-- Skipping a number of segments, at most all of them.
 use Rattle.std.proofs.Common.{arith, subst, ℕ, zero, suc, ◌-◌, ◌≡◌, ◌≢◌, ◌≤◌, ◌<◌, List, [], ◌∷◌, ◌++◌, take, drop, length, refl, sym, ◌∙◌, ap}
 use Rattle.std.proofs.Math.Seq.{drop-nil, take-nil}
 use Rattle.std.proofs.Math.ListN.{drop_of_length-le}
@@ -35,7 +35,7 @@ two_dropped x y (suc zero) h one = absurd (one refl)
 two_dropped x y (suc (suc zero)) h one = refl
 two_dropped x y (suc (suc (suc n))) h one = refl
 
--- ---- two lists, one after the other, of which so many are passed
+-- ---- skipping segments of two lists, one after the other
 
 pub drop-on : (xs ys : List Segment) (n : ℕ) → drop (n - length xs) (drop n xs ++ ys) ≡ drop n (xs ++ ys)
 drop-on [] ys n =
@@ -64,9 +64,9 @@ after_segments-on at (x ∷ xs) ys (suc n) =
 pub drop-all : (xs : List Segment) (n : ℕ) → 0 < n - length xs → drop n xs ≡ []
 drop-all xs n h = let past : length xs ≤ n = omega (arith, h) in drop_of_length-le xs past
 
--- ---- a step of a course is passed
+-- ---- skipping a step
 
--- what is left of a course is the same after it
+-- what is left after it is unchanged
 pub record Stays (old new : Passing) : Type 0 where
   pub moves : 0 < new.left → new.rest.moves ≡ []
   pub rest : drop new.left (rest_of new.rest) ≡ drop old.left (rest_of old.rest)
@@ -92,7 +92,7 @@ passed p new r s split none passes =
           ∙ after_segments-on p.standing xs ys p.left ∙ sym (ap (λ l. after_segments p.standing (take p.left l)) all);
     }
 
--- ---- where no step is left, all is passed
+-- ---- if no step is left, everything is skipped
 
 pub rest-end : (p : Passing) (r : BlockSegmentsLeft) → rest_of p.rest ≡ p.rest.moves → p.rest.moves ≡ [] → r ≡ p.rest → rest_of r ≡ drop p.left (rest_of p.rest)
 rest-end p r end none e =

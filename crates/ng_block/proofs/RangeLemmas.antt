@@ -1,4 +1,4 @@
--- What a line computes is refused for its range alone.
+-- What a line computes is refused only if it is out of range.
 use Rattle.std.proofs.Common.{◌≡◌, ℕ, ℤ, ◌+ℤ◌, ◌-ℤ◌, Bool, true, false, List, [], ◌∷◌, Option, Some, None, Result, Ok, Err, refl, sym, ◌∙◌, if◌then◌else◌}
 use Rattle.std.specs.Prelude.{nat_le, ◌==◌, unsigned_abs, unwrap_or}
 use Rattle.std.specs.Option.{is_some}
@@ -38,7 +38,7 @@ use Rattle.ng_block.specs.Homes.{home_on}
 use Rattle.ng_block.specs.Shifts.{shift_of}
 use Rattle.ng_block.specs.ToolLength.{offsets_after_length}
 
--- it is found, or it is beyond the range
+-- it is found, or it is out of range
 pub record OnlyFar {X : Type 0} (r : Result X Fault) : Type 0 where
   pub fault_is : (fault : Fault) → r ≡ Err fault → fault ≡ OutOfRange
 

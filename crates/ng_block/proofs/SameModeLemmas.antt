@@ -1,4 +1,4 @@
--- A second line of the same modes changes none.
+-- A second line with the same modes changes none.
 use Rattle.std.proofs.Common.{◌≡◌, ◌∙◌, ℕ, ℤ, Bool, true, false, ◌||◌, if◌then◌else◌, List, Option, Some, None, Ok, refl, sym, ap}
 use Rattle.std.specs.Prelude.{unwrap_or}
 use Rattle.ng_canon.specs.declared.geometry.Geometry.{Geometry}
@@ -17,7 +17,7 @@ use Rattle.ng_block.specs.SameModes.{HasSameModes}
 use Rattle.ng_block.proofs.AcceptedLemmas.{accepted}
 use Rattle.ng_block.proofs.EndLemmas.{same_block}
 
--- a mode that a line sets, or that the program's end sets, is so already
+-- a mode that a line or the program's end sets already has that value
 set_again : {X : Type 0} (is_end : Bool) (at_end : X) (word : Option X) (mode : X)
     → (if is_end then at_end else unwrap_or word (if is_end then at_end else unwrap_or word mode)) ≡ (if is_end then at_end else unwrap_or word mode)
 set_again true at_end word mode = refl

@@ -1,4 +1,4 @@
--- The segments of a lawful block join, and stay inside the travel: those of its path do, and no other moves.
+-- The segments of a valid block join, and stay inside the travel: those of its path do, and no others move.
 use Rattle.std.proofs.Common.{arith, ◌≡◌, ◌∙◌, ℕ, zero, suc, ℤ, Bool, true, false, not, ◌&&◌, ◌||◌, List, [], ◌∷◌, ◌++◌, Option, Some, None, Result, Ok, Err, refl, sym, ap, subst, if◌then◌else◌}
 use Rattle.std.specs.Option.{is_some}
 use Rattle.std.specs.Ordering.{int_eq}
@@ -58,7 +58,7 @@ use Rattle.ng_block.specs.Travel.{Joins, NoneMoves, StaysInside}
 use Rattle.ng_block.proofs.AcceptedLemmas.{same_ok, then_ok, plan_for, accepted, reached}
 use Rattle.ng_block.proofs.CauseLemmas.{path_by}
 
--- ---- lists of segments, one after the other
+-- ---- lists of segments, one after another
 
 joins_on : (p q r : Point) (xs ys : List Segment) → Joins p xs q → Joins q ys r → Joins p (xs ++ ys) r
 joins_on p q r [] ys h k = subst (λ (x : Point). Joins x ys r) h k
@@ -111,7 +111,7 @@ all_inside g (x ∷ xs) h (suc k) d low = all_inside g xs h.1 k d (omega arith)
 
 -- ---- the steps of a block
 
--- none but the motion moves
+-- only the motion moves
 abbrev IsQuiet : BlockStep → Type 0
 IsQuiet step.Motion = ⊥
 IsQuiet _ = Unit {0}
@@ -155,7 +155,7 @@ through : (Holds : List Segment → Type 0) → ((xs ys : List Segment) → None
 through Holds on p [] rest o quiet h = h o
 through Holds on p (s ∷ steps) rest o quiet h = on _ _ (quiet_still p _ s quiet.0) (through Holds on p steps rest (outputs_through p.tasks o s) quiet.1 h)
 
--- what holds of the path's segments, also before some that don't move, holds of a block's
+-- what holds of the path's segments, also before segments that don't move, holds of a block's
 of_path : (Holds : List Segment → Type 0) → ((xs ys : List Segment) → NoneMoves xs → Holds ys → Holds (xs ++ ys)) →
     (p : Plan) → ((ys : List Segment) → NoneMoves ys → Holds (path_segments p.path ++ ys)) → Holds (segments_of p)
 of_path Holds on p h =
@@ -194,7 +194,7 @@ drill_joins start d e = subst (λ (p : Point). Joins p (cycle_segments d) (after
 
 -- ---- a path
 
--- a move begins where the machine stands
+-- a move begins at the machine's position
 abbrev BeginsAt : Point → Move → Type 0
 BeginsAt start (Turns pace asked) = asked.start ≡ start
 BeginsAt start (Drills w s) = s.point ≡ start
@@ -219,7 +219,7 @@ path_joins start geometry (Drills w s) p h e =
     let is = unless_ok (first_fault (cycle.causes w s geometry)) (cycle.drill_of w s) found.0 found.1 in
     subst (λ (q : Path). Joins start (path_segments q) (point_after q start)) (same_ok (path.Cycle found.0) p found.2) (drill_joins start found.0 (ap (λ (d : Drill). d.start) (sym is.1) ∙ h))
 
--- what is found begins there
+-- a move that is found begins there
 abbrev Begins : Point → Result Move Fault → Type 0
 Begins start r = (move : Move) → r ≡ Ok move → BeginsAt start move
 
@@ -264,7 +264,7 @@ move_begins b m o table feed =
 
 -- ---- the segments of a block join
 
--- also before some that don't move
+-- also before segments that don't move
 joins_before : (p q : Point) (xs ys : List Segment) → Joins p xs q → NoneMoves ys → Joins p (xs ++ ys) q
 joins_before p q xs ys h k = joins_on p q q xs ys h (still_joins q ys k)
 
@@ -322,7 +322,7 @@ traced_inside g d at (s ∷ ss) e =
     let parts = neither (list_any (cycle.ends_outside g) here) (list_any (cycle.ends_outside g) (traced d next ss)) (sym (list_any-append (cycle.ends_outside g) here (traced d next ss)) ∙ e) in
     inside_on g here (traced d next ss) (stroke_inside g d at s parts.0) (traced_inside g d next ss parts.1)
 
--- a lawful cycle leaves no travel
+-- a valid cycle stays within the travel
 lawful_stays : (w : CycleWords) (s : Setting) (g : Geometry) → first_fault (cycle.causes w s g) ≡ None → cycle.leaves_travel g (cycle.drill_of w s) ≡ false
 lawful_stays w s g e = (none_holds (cycle.causes w s g) e).1.1.1.1.1.1.1.1.1.1.0
 

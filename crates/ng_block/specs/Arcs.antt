@@ -27,7 +27,7 @@ use Rattle.ng_block.specs.declared.path.Path.TheVariants.{Still, WithoutFeed, Ro
 use Rattle.ng_block.specs.AxisData.{unit_after}
 use Rattle.ng_block.specs.Blocks.{feed_mode_after, pace_by, end_of}
 
--- the way round that a motion goes; none where it isn't an arc
+-- the direction in which a motion turns; `None` if it isn't an arc
 abbrev pub turn_of : Option Motion → Option ArcDirection
 turn_of (Some ClockwiseArc) = Some Clockwise
 turn_of (Some CounterclockwiseArc) = Some Counterclockwise
@@ -37,13 +37,13 @@ turn_of _ = None
 abbrev pub axes_on : ByLetter → NamedAxes
 axes_on v = record { x = is_some v.x; y = is_some v.y; z = is_some v.z }
 
--- how far the centre lies from the start: I, J and K, in the unit after the line
+-- how far the centre is from the start: I, J and K, in the unit after the line
 abbrev pub centre_offsets_on : Block → Modes → Result CentreOffsets Fault
 centre_offsets_on b m =
     and_then (named_by b.values.i b.values.j b.values.k (unit_after b m)) (λ named.
     Ok (record { i = named.x; j = named.y; k = named.z }))
 
--- the arc from where the machine stands; what it goes at decides none of the faults that its shape may have
+-- the arc from the machine's position; its pace doesn't affect the faults that its shape may have
 abbrev pub asked_by : Block → Machine → ArcDirection → Point → CentreOffsets → Option Pace → AskedArc
 asked_by b m turn end offsets pace = record {
   plane = plane_after b m.modes;
@@ -56,12 +56,12 @@ asked_by b m turn end offsets pace = record {
   pace = unwrap_or pace Traverse;
 }
 
--- round an arc at a pace; a block that moves without one is refused
+-- around an arc at a pace; a block that moves without a pace is refused
 abbrev pub turning_at : Option Pace → Arc → Path
 turning_at None arc = WithoutFeed
 turning_at (Some pace) arc = Round arc
 
--- round to the line's end; or that a computed length, the centre's too, is beyond the range, or else the first of C1 to
+-- around to the line's end; or E3 if a computed length, also of the centre, is out of range, or else the first of C1 to
 -- C4
 abbrev pub turned : Block → Machine → Offsets → Option Pace → ArcDirection → Result Path Fault
 turned b m o pace turn =
@@ -70,7 +70,7 @@ turned b m o pace turn =
     and_then (checked (asked_by b m turn end offsets pace)) (λ arc.
     Ok (turning_at pace arc))))
 
--- where a line's motion goes round, with the feed after the line; still where it isn't an arc
+-- the path of a line's motion, with the feed after the line; still if the motion isn't an arc
 abbrev pub turned_where : Option ArcDirection → Block → Machine → Offsets → ℤ → Result Path Fault
 turned_where None b m o feed = Ok Still
 turned_where (Some turn) b m o feed = turned b m o (pace_by b.motion (feed_mode_after b m.modes) feed b.values.f) turn

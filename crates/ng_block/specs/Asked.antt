@@ -1,4 +1,4 @@
--- What a line asks for, whatever forbids it: its pieces, their values, and the move that these call for (NISTIR 6556,
+-- What a line asks for, even if it is refused: its pieces, their values, and the move that these ask for (NISTIR 6556,
 -- 3.3, 3.5).
 use Rattle.std.specs.Prelude.{ℕ, ℤ, List, [], ◌∷◌, Option, Some, None, false, if◌then◌else◌, Result, Ok, Err}
 use Rattle.std.specs.Option.{is_some}
@@ -31,7 +31,7 @@ use Rattle.ng_block.specs.Shifts.{shift_of}
 
 -- ---- its values
 
--- what is written on a text, however long it is; nothing where it isn't a line
+-- the parsed line of a text of any length; `None` if it isn't a line
 abbrev pub written_on : List ℕ → Option ParsedLine
 written_on text = parse_line (plain false text)
 
@@ -39,18 +39,18 @@ abbrev pub pieces_in : Option ParsedLine → List Piece
 pieces_in None = []
 pieces_in (Some line) = line.pieces
 
--- what its pieces give, each from the table as it was before the line; a piece without a value gives nothing
+-- the values of its pieces, each from the table as it was before the line; a piece without a value is left out
 abbrev pub values_of : List Piece → List ℤ → Settled
 values_of [] table = nothing
 values_of (p ∷ pieces) table = followed (result_unwrap_or (given table p) nothing) (values_of pieces table)
 
 -- ---- its feed and its offsets
 
--- the feed that its motion meets; where that is beyond the range, the one before the line
+-- the feed at its motion; if that is out of range, the one before the line
 abbrev pub feed_at_motion : Block → Machine → ℤ
 feed_at_motion b m = result_unwrap_or (feed_of b m) m.feed_per_min
 
--- the offsets that its motion meets; where one of them is beyond the range, those before the line
+-- the offsets at its motion; if one of them is out of range, those before the line
 abbrev pub offsets_found : Result Shifted Fault → Offsets → Offsets
 offsets_found (Ok found) before = found.offsets
 offsets_found (Err fault) before = before
@@ -62,9 +62,9 @@ offsets_at_motion b m table lengths = offsets_found (shift_of b m table lengths)
 
 pub data Move : Type 0 where
   Stays : Move  -- nothing moves
-  Goes : Option Pace → Point → Move  -- straight to an end, at a pace where there is one
-  Turns : Option Pace → AskedArc → Move  -- round an arc
-  GoesHome : Point → Point → Move  -- to a point between, and on from there to the home
+  Goes : Option Pace → Point → Move  -- straight to an end, at a pace if there is one
+  Turns : Option Pace → AskedArc → Move  -- around an arc
+  GoesHome : Point → Point → Move  -- to an intermediate point, and on from there to the home
   Drills : CycleWords → Setting → Move  -- in a canned cycle
 
 abbrev pub pace_of : Block → Machine → ℤ → Option Pace
@@ -94,8 +94,8 @@ homeward (Some home) b m o =
     then and_then (end_of b m o) (λ between. Ok (GoesHome between home))
     else Ok (Goes (Some Traverse) home)
 
--- the move from where the machine stands, under these offsets and at this feed; or that a length that its words name is
--- beyond the range
+-- the move from the machine's position, under these offsets and at this feed; or E3 if a length that its words name is
+-- out of range
 abbrev pub move_by : Block → Machine → Offsets → List ℤ → ℤ → Result Move Fault
 move_by b m o table feed =
     if is_straight b.motion then straight b m o feed

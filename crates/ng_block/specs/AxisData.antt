@@ -1,5 +1,5 @@
--- What a line's coordinate system and axis data make of the offsets: G54 to G59.3, G10, G92 and its three others
--- (NISTIR 6556, 3.5.5, 3.5.13, 3.5.18).
+-- What a line's coordinate system and axis data do to the offsets: G54 to G59.3, G10, and G92 to G92.3 (NISTIR 6556,
+-- 3.5.5, 3.5.13, 3.5.18).
 use Rattle.std.specs.Prelude.{ℕ, ℤ, List, Option, Some, None, unwrap_or, Result, Ok}
 use Rattle.std.specs.Option.{option_map}
 use Rattle.ng_num.specs.Points.{zero_point}
@@ -31,7 +31,7 @@ system_after b m = unwrap_or b.g.system m.system
 abbrev pub named_on : Block → Modes → Result Named Fault
 named_on b m = named_by b.values.x b.values.y b.values.z (unit_after b m)
 
--- the offsets after a step that may give new ones, and what it prints of them
+-- the offsets after a step that may change them, and what it prints of them
 abbrev pub offsets_after : Option NewOffsets → Offsets → Offsets
 offsets_after None o = o
 offsets_after (Some new) o = new.offsets
@@ -47,7 +47,7 @@ with_system (Some system) o table = and_then (selected o system table) (λ found
 abbrev pub no_axis_data : AxisData
 no_axis_data = record { new = None; stored = None }
 
--- G10 L2, of the system that P names, which each lawful line with G10 has
+-- G10 L2, for the system that P names; every valid line with G10 has a P
 abbrev pub with_origin : Option ℕ → Block → Modes → Offsets → List ℤ → Result AxisData Fault
 with_origin None b m o table = Ok no_axis_data
 with_origin (Some system) b m o table =
@@ -62,7 +62,7 @@ with_offset b m machine o =
     and_then (set_offset o named machine) (λ found.
     Ok (record { new = Some found.0; stored = Some found.1 })))
 
--- what a word of group 0 makes of the offsets that are in force after the line's system, and which parameters it stores
+-- what a word of group 0 does to the offsets in force after the line's system, and which parameters it stores
 abbrev pub axis_data_by : Option NonModal → Block → Modes → Point → Offsets → List ℤ → Result AxisData Fault
 axis_data_by (Some SetOrigin) b m machine o table = with_origin (system_on b.values.p) b m o table
 axis_data_by (Some SetOffset) b m machine o table = with_offset b m machine o

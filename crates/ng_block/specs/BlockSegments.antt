@@ -1,4 +1,4 @@
--- What a block's course has left.
+-- What is left of a block's segments.
 use Rattle.std.specs.Prelude.{List, [], ◌++◌, None}
 use Rattle.ng_num.specs.Points.{zero_point}
 use Rattle.ng_canon.specs.Fresh.{fresh_outputs}
@@ -8,7 +8,7 @@ use Rattle.ng_block.specs.Order.{Plan, segments_through}
 use Rattle.ng_block.specs.Shifts.{nothing_shown}
 use Rattle.ng_block.specs.Tasks.{tasks_in}
 
--- the plan of which it is, as far as its segments go
+-- the plan to which they belong, as far as it affects the segments
 abbrev pub plan_of : BlockSegmentsLeft → Plan
 plan_of c = record { remark = []; feed = None; tasks = tasks_in c.tasks; shown = nothing_shown; path = c.path; origin = zero_point; before = fresh_outputs }
 

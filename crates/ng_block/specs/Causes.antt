@@ -1,5 +1,5 @@
--- Why a line is refused: all faults, each with its cause before it, in the order in which they are looked for (own;
--- NISTIR 6556, 3.3 to 3.8). Each cause is said of what the line asks for, whatever else forbids it.
+-- Why a line is refused: all faults, each with its cause, in the order in which they are checked (own; NISTIR 6556, 3.3
+-- to 3.8). Each cause is about what the line asks for, even if the line is refused for another one.
 use Rattle.std.specs.Prelude.{ℕ, ℤ, int_lt, Bool, true, false, ◌||◌, List, [], ◌∷◌, ◌++◌, length, is_none, is_err, Result, Ok, Err}
 use Rattle.std.specs.List.{list_any}
 use Rattle.std.specs.Result.{result_unwrap_or}
@@ -27,7 +27,7 @@ use Rattle.ng_block.specs.Faults.{ends_outside, turns_outside, homes_outside}
 use Rattle.ng_state.specs.State.{StateModel}
 use Rattle.ng_block.specs.Shifts.{shift_of}
 
--- E3 to E5: a piece has no value; why, is its value's to say
+-- E3 to E5: a piece has no value; the value says why
 abbrev pub value_cause : Result Settled Fault → List (Bool × Fault)
 value_cause (Ok settled) = []
 value_cause (Err fault) = (true, fault) ∷ []
@@ -36,13 +36,13 @@ abbrev pub value_causes : List Piece → List ℤ → List (Bool × Fault)
 value_causes [] table = []
 value_causes (p ∷ pieces) table = value_cause (given table p) ++ value_causes pieces table
 
--- an arc's centre, or a length of a cycle, is beyond the range
+-- an arc's centre, or a length of a cycle, is out of range
 abbrev pub reaches_far : Move → Bool
 reaches_far (Turns pace asked) = is_centre_beyond asked
 reaches_far (Drills w s) = list_any is_far (lengths w (in_force w.own s.kept) s)
 reaches_far _ = false
 
--- E3: the feed, an offset, or a length of the move is beyond the range
+-- E3: the feed, an offset, or a length of the move is out of range
 abbrev pub computes_beyond : Block → Machine → List ℤ → List ℤ → Bool
 computes_beyond b m table tools =
     is_err (feed_of b m) || (is_err (shift_of b m table tools)
@@ -76,7 +76,7 @@ has_no_feed (Turns pace asked) = is_none pace
 has_no_feed (Drills w s) = is_none (above_zero s.feed_per_min)
 has_no_feed _ = false
 
--- X2, of a straight move, an arc and a way home; in a cycle one of all its moves ends outside the travel
+-- X2, of a straight move, an arc and a way home; of a cycle, if one of its moves ends outside the travel
 abbrev pub goes_outside : Move → Geometry → Bool
 goes_outside Stays geometry = false
 goes_outside (Goes pace end) geometry = ends_outside geometry end

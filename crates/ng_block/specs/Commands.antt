@@ -7,7 +7,7 @@ use Rattle.ng_block.specs.Effects.{plan_by}
 use Rattle.ng_block.specs.Order.{commands_at}
 use Rattle.ng_block.specs.Paths.{command_of}
 
--- of the step that has begun
+-- the commands of the step that has begun
 abbrev pub begun_commands : CommandsLeft → List CanonicalCommand
 begun_commands r = drop r.taken r.waiting.items ++ map command_of r.moves
 

@@ -33,7 +33,7 @@ use Rattle.ng_block.specs.Order.{outputs_after}
 use Rattle.ng_block.specs.Steps.{before_motion}
 use Rattle.ng_block.specs.Tasks.{tasks_of}
 
--- the kind of cycle that a motion is; none where it isn't a cycle
+-- the kind of cycle of a motion; `None` if it isn't a cycle
 abbrev pub kind_of : Option Motion → Option CycleKind
 kind_of (Some motion.Drilling) = Some Drilling
 kind_of (Some motion.DrillingWithDwell) = Some DrillingWithDwell
@@ -62,7 +62,7 @@ own_words b m =
     and_then (length_by b.values.q (unit_after b m)) (λ q.
     Ok (record { r = r; z = z; p = b.values.p; q = q }))))
 
--- the words that were kept for a cycle: none where the motion mode before the line is another
+-- the words that were kept for a cycle; there are none if the motion mode before the line was another
 abbrev pub kept_by : CycleKind → Option CycleKind → KeptWords → KeptWords
 kept_by kind None kept = no_words
 kept_by kind (Some before) kept = if is_same kind before then kept else no_words
@@ -74,7 +74,7 @@ kept_for kind m = kept_by kind (kind_of (Some m.modes.motion)) m.kept
 abbrev pub kept_beside : Block → Machine → KeptWords
 kept_beside b m = if is_some b.g.motion || ends b.m.stop then no_words else m.kept
 
--- a cycle keeps its own words, and those that were kept for it where the line has none
+-- a cycle keeps its own words and, for those that the line doesn't have, the words that were kept for it
 abbrev pub kept_in : CycleKind → Block → Machine → Result KeptWords Fault
 kept_in kind b m = and_then (own_words b m.modes) (λ own. Ok (if ends b.m.stop then no_words else in_force own (kept_for kind m)))
 
@@ -101,11 +101,12 @@ abbrev pub is_old_z : Retract → Bool
 is_old_z OldZ = true
 is_old_z ToR = false
 
--- the outputs that the motion meets: after the line's spindle, tool and coolant words
+-- the outputs at the motion: after the line's spindle, tool and coolant words
 abbrev pub outputs_at_motion : Block → Machine → Outputs
 outputs_at_motion b m = outputs_after (tasks_of b (feed_mode_after b m.modes) m.outputs) m.outputs before_motion
 
--- what the cycle meets: the offsets, the feed, the modes and the outputs after the line's other words
+-- the state in which the cycle is executed: the offsets, the feed, the modes and the outputs after the line's other
+-- words
 abbrev pub setting_of : Block → Machine → Offsets → ℤ → KeptWords → Setting
 setting_of b m o feed kept = record {
   point = m.point;
@@ -118,7 +119,7 @@ setting_of b m o feed kept = record {
   kept = kept;
 }
 
--- the cycle; or that a computed length is beyond the range, or else the first of Y1 to Y8, X1 and X2
+-- the cycle; or E3 if a computed length is out of range, or else the first of Y1 to Y8, X1 and X2
 abbrev pub cycle_of : Block → Machine → Offsets → ℤ → Geometry → CycleKind → Result Path Fault
 cycle_of b m o feed geometry kind =
     and_then (own_words b m.modes) (λ own.
@@ -126,7 +127,7 @@ cycle_of b m o feed geometry kind =
     and_then (canned_of words (setting_of b m o feed (kept_for kind m)) geometry) (λ drill.
     Ok (Cycle drill))))
 
--- where a line's motion goes in a cycle; still where it isn't a cycle
+-- the path of a line's motion; still if the motion isn't a cycle
 abbrev pub cycle_where : Option CycleKind → Block → Machine → Offsets → ℤ → Geometry → Result Path Fault
 cycle_where None b m o feed geometry = Ok Still
 cycle_where (Some kind) b m o feed geometry = cycle_of b m o feed geometry kind

@@ -1,4 +1,4 @@
--- The faults of a move (own numbers; NISTIR 6556, 3.5.2, 3.5.19), in the order in which they are looked for.
+-- The faults of a move (own numbers; NISTIR 6556, 3.5.2, 3.5.19), in the order in which they are checked.
 use Rattle.std.specs.Prelude.{Bool, true, false, not, ◌&&◌, List, [], ◌∷◌}
 use Rattle.ng_num.specs.declared.fault.Fault.{Fault}
 use Rattle.ng_num.specs.declared.point.Point.{Point}
@@ -26,8 +26,8 @@ turns_outside geometry arc = not (stays_inside arc geometry)
 abbrev pub homes_outside : Geometry → (between home : Point) → Bool
 homes_outside geometry between home = not (is_inside geometry between && is_inside geometry home)
 
--- X1 of a path: it is found without a feed where its move has none (`has_no_feed` of specs/Causes.antt). A cycle is
--- found with a feed, and within the travel, or not at all
+-- X1 of a path: the path has no feed if its move has none (`has_no_feed` of specs/Causes.antt). A cycle is found only
+-- if it has a feed and stays within the travel
 abbrev pub is_without_feed : Path → Bool
 is_without_feed WithoutFeed = true
 is_without_feed _ = false

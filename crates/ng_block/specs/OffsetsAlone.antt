@@ -1,4 +1,4 @@
--- Lines that set offsets alone (NISTIR 6556, 3.5.5, 3.5.11, 3.5.13, 3.5.18).
+-- Lines that only set offsets (NISTIR 6556, 3.5.5, 3.5.11, 3.5.13, 3.5.18).
 use Rattle.std.specs.Prelude.{◌≡◌, ℕ, List, Bool, true, false, not, ◌&&◌, Option, Some, None, Ok}
 use Rattle.ng_words.specs.Grammar.{ParsedLine, IsLineOf}
 use Rattle.ng_expr.specs.Settle.{Settled, settled_pieces}
@@ -10,7 +10,7 @@ use Rattle.ng_modal.specs.declared.asks.NonModal.TheVariants.{SetOrigin, SetOffs
 use Rattle.ng_modal.specs.declared.block.Block.{Block}
 use Rattle.ng_state.specs.State.{StateModel}
 
--- a text is a line whose words have values, and in a state these ask for a block
+-- a text is a line whose words have values, and in a state these ask for this block
 pub record AsksFor (s : StateModel) (text : List ℕ) (b : Block) : Type 0 where
   pub line : ParsedLine
   pub is_line : IsLineOf text line
@@ -18,7 +18,7 @@ pub record AsksFor (s : StateModel) (text : List ℕ) (b : Block) : Type 0 where
   pub have_values : settled_pieces line.pieces s.params ≡ Ok values
   pub block_is : b ≡ block_of values.words s.machine.modes
 
--- of group 0 no word but G10, G92 and its three others
+-- there is no word of group 0 but G10 and G92 to G92.3
 abbrev pub sets_at_most : Option NonModal → Bool
 sets_at_most None = true
 sets_at_most (Some SetOrigin) = true
@@ -28,8 +28,8 @@ sets_at_most (Some DropOffset) = true
 sets_at_most (Some RestoreOffset) = true
 sets_at_most _ = false
 
--- G54 to G59.3, G10, G92 and its three others, G43, G49, and nothing that moves: no word of group 1, and no X, Y or Z
--- but those that G10 and G92 take
+-- G54 to G59.3, G10, G92 to G92.3, G43, G49, and nothing that moves: no word of group 1, and X, Y and Z only as words
+-- of G10 and G92
 pub record SetsOffsetsAlone (b : Block) : Type 0 where
   pub no_motion : b.g.motion ≡ None
   pub no_way_home : sets_at_most b.g.non_modal ≡ true

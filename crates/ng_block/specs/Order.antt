@@ -24,8 +24,8 @@ use Rattle.ng_block.specs.Ends.{ends}
 use Rattle.ng_block.specs.Paths.{path_segments, path_commands, spindle_command}
 use Rattle.ng_block.specs.Steps.{order}
 
--- what a block says, the feed that its F sets, what its other words give to do, what it prints of offsets, where its
--- motion goes, the origin after it, and the outputs before it
+-- the plan of a block: its remark, the feed that its F sets, the tasks of its other words, what it prints of offsets,
+-- the path of its motion, the origin after it, and the outputs before it
 pub record Plan : Type 0 where
   pub remark : List CanonModel
   pub feed : Option ℤ
@@ -37,7 +37,7 @@ pub record Plan : Type 0 where
 
 -- ---- what each step prints
 
--- one command of what is there
+-- one command, if there is a value
 abbrev pub command_for : {X : Type 0} → (X → CanonicalCommand) → Option X → List CanonicalCommand
 command_for to None = []
 command_for to (Some x) = to x ∷ []
@@ -56,7 +56,7 @@ stop_commands (Some word.Shuttle) origin = command.PalletShuttle ∷ command.Pro
 stop_commands (Some word.End) origin = command.OriginOffsets origin ∷ command.SelectPlane Xy ∷ command.StopSpindle ∷ command.MistOff ∷ command.FloodOff ∷ command.ProgramEnd ∷ []
 stop_commands (Some word.EndWithShuttle) origin = command.OriginOffsets origin ∷ command.SelectPlane Xy ∷ command.StopSpindle ∷ command.MistOff ∷ command.FloodOff ∷ command.PalletShuttle ∷ command.ProgramEnd ∷ []
 
--- what a step prints that has at most one command; nothing where none of its words has a command
+-- what a step prints that has at most one command; nothing if none of its words has a command
 abbrev pub command_at : Tasks → BlockStep → List CanonicalCommand
 command_at t step.SpindleSpeed = command_for command.SpindleSpeed t.speed
 command_at t step.SelectTool = command_for command.SelectTool t.selected_slot
@@ -68,13 +68,13 @@ command_at t step.Units = command_for command.LengthUnits t.unit
 command_at t step.Motion = command_for command.InverseTime t.time
 command_at t _ = []
 
--- what a step but the remark and the feed prints, but for its moves
+-- what a step prints, except for the remark, the feed and the moves
 abbrev pub task_commands : Tasks → Point → BlockStep → List CanonicalCommand
 task_commands t origin step.Coolant = coolant_commands t.coolant
 task_commands t origin step.Stop = stop_commands t.stop origin
 task_commands t origin s = command_at t s
 
--- the time of a move stands right before it
+-- the time of a move comes right before it
 abbrev pub numeric_at : Plan → BlockStep → List CanonicalCommand
 numeric_at p step.Feed = command_for command.FeedRate p.feed
 numeric_at p step.ToolLength = command_for command.ToolLength p.shown.tool_length
@@ -120,7 +120,7 @@ coolant_outputs (Some Off) o = record o { mist = false; flood = false }
 abbrev pub stop_outputs : Option StopWord → Outputs → Outputs
 stop_outputs word o = if ends word then record o { spindle = Stopped; mist = false; flood = false } else o
 
--- the outputs after a step: what its words switch, all else as it was
+-- the outputs after a step: what its words switch, and all else as before
 abbrev pub outputs_through : Tasks → Outputs → BlockStep → Outputs
 outputs_through t o step.SpindleSpeed = speed_outputs t.speed o
 outputs_through t o step.SelectTool = selected_outputs t.selected_slot o
@@ -134,7 +134,7 @@ outputs_through t o _ = o
 abbrev pub outputs_after : Tasks → Outputs → List BlockStep → Outputs
 outputs_after t o steps = fold (outputs_through t) o steps
 
--- a switch carries all outputs as they then are, after its step
+-- a switch carries all outputs as they are after its step
 abbrev pub switch_where : Bool → Outputs → List Segment
 switch_where there now = if there then segment.Switch now ∷ [] else []
 
@@ -142,7 +142,7 @@ abbrev pub dwell_segments : Option ℤ → List Segment
 dwell_segments None = []
 dwell_segments (Some seconds) = segment.Dwell seconds ∷ []
 
--- what a step but the motion switches, or how long it waits
+-- what a step other than the motion switches, or how long it dwells
 abbrev pub task_segments : Tasks → Outputs → BlockStep → List Segment
 task_segments t now step.SpindleSpeed = switch_where (is_some t.speed) now
 task_segments t now step.SelectTool = switch_where (is_some t.selected_slot) now

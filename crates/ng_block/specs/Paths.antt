@@ -1,4 +1,5 @@
--- Where a block's motion goes: its path and the segments of it, and what each of these prints (NISTIR 6556, 3.5, 4.3).
+-- Where a block's motion goes: its path, the segments of the path, and what each of these prints (NISTIR 6556, 3.5,
+-- 4.3).
 use Rattle.std.specs.Prelude.{List, [], ◌∷◌, Option, Some, None, map}
 use Rattle.ng_num.specs.declared.point.Point.{Point}
 use Rattle.ng_canon.specs.declared.command.CanonicalCommand.{CanonicalCommand}
@@ -14,12 +15,12 @@ use Rattle.ng_block.specs.declared.path.Path.{Path}
 use Rattle.ng_cycles.specs.Segments.{begin, after_segments, cycle_segments}
 use Rattle.ng_block.specs.declared.path.Path.TheVariants.{Still, WithoutFeed, Straight, Round, Homing, Cycle}
 
--- a straight move at a pace; a block that moves without one is refused
+-- a straight move at a pace; a block that moves without a pace is refused
 abbrev pub moving_at : Option Pace → Point → Point → Path
 moving_at None start end = WithoutFeed
 moving_at (Some pace) start end = Straight (record { start = start; end = end; pace = pace })
 
--- where the machine stands after a path
+-- the machine's position after a path
 abbrev pub point_after : Path → Point → Point
 point_after (Straight line) start = line.end
 point_after (Round arc) start = arc.end

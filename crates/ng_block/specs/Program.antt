@@ -1,4 +1,4 @@
--- What a line does in a program: unless it is deleted, and after the lines before it (NISTIR 6556, 3.3, and own).
+-- What a line does in a program, unless it is deleted, and after the lines before it (NISTIR 6556, 3.3, and own).
 use Rattle.std.specs.Prelude.{ℕ, ℤ, List, [], Bool, true, false, ◌&&◌, Option, Some, None, Result, Ok, Err, if◌then◌else◌}
 use Rattle.ng_num.specs.declared.fault.Fault.{Fault}
 use Rattle.ng_num.specs.declared.fault.Fault.TheVariants.{LineTooLong}
@@ -25,11 +25,11 @@ pub record TermsModel : Type 0 where
 abbrev pub idle : StateModel → ProgramFlow → Done
 idle setup stop = record { setup = setup; before = setup.machine.outputs; segments = []; commands = []; stop = stop }
 
--- a deleted line does nothing; its length alone is looked at
+-- a deleted line does nothing; only its length is checked
 abbrev pub deleted : StateModel → List ℕ → Result Done Fault
 deleted setup line = if is_too_long line then Err LineTooLong else Ok (idle setup GoesOn)
 
--- what a line of the program does that isn't a percent line
+-- what a line of the program does if it isn't a percent line
 abbrev pub executed_unless_deleted : TermsModel → StateModel → List ℕ → Result Done Fault
 executed_unless_deleted terms setup line =
     if terms.block_delete && is_deletable line then deleted setup line
@@ -40,7 +40,7 @@ abbrev pub stop_after : PercentLine → ProgramFlow
 stop_after Opens = GoesOn
 stop_after Closes = Ends
 
--- how the program goes on after a percent line, by the lines before it; nothing, where the line isn't one
+-- how the program goes on after a percent line, given the lines before it; `None` if the line isn't one
 abbrev pub percent_at : List (List ℕ) → List ℕ → Option ProgramFlow
 percent_at lines_before line = option_map stop_after (percent_line_at lines_before line)
 
@@ -59,10 +59,10 @@ is_end Stops = false
 is_end StopsIfWanted = false
 is_end Ends = true
 
--- how the program goes on after a line, by the kind of the first line before it that isn't blank
+-- how the program goes on after a line, given the kind of the first line before it that isn't blank
 abbrev pub percent_by : LineKind → List ℕ → Option ProgramFlow
 percent_by first line = option_map stop_after (percent_line_by first line)
 
--- what a line does, likewise
+-- what a line does, given that kind
 abbrev pub executed_after : TermsModel → LineKind → StateModel → List ℕ → Result Done Fault
 executed_after terms first setup line = framed (percent_by first line) setup (executed_unless_deleted terms setup line)

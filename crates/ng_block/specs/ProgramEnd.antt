@@ -1,4 +1,4 @@
--- The state that M2 and M30 leave (NISTIR 6556, 3.6.1).
+-- The state after M2 and M30 (NISTIR 6556, 3.6.1).
 use Rattle.std.specs.Prelude.{◌≡◌, pos, true, false}
 use Rattle.ng_num.specs.Points.{zero_point}
 use Rattle.ng_params.specs.Numbers.{system_in_force}
@@ -12,7 +12,7 @@ use Rattle.ng_state.specs.declared.modes.FeedMode.TheVariants.{PerMinute}
 use Rattle.ng_state.specs.KeptWords.{no_words}
 use Rattle.ng_state.specs.State.{StateModel}
 
--- G40 leaves nothing to say: there is no cutter radius compensation
+-- for G40 there is nothing to say: there is no cutter radius compensation
 pub record IsEnded (s : StateModel) : Type 0 where
   pub g92_2 : s.machine.offsets.g92 ≡ zero_point
   pub g54 : s.machine.modes.system ≡ 1

@@ -1,4 +1,4 @@
--- Where a block goes on at one of its segments, and how the machine stands before that (own).
+-- A block that goes on at one of its segments, and the machine's position and outputs before that (own).
 use Rattle.std.specs.Prelude.{◌≡◌, ℕ, ◌-◌, List, length, take, drop}
 use Rattle.ng_num.specs.declared.point.Point.{Point}
 use Rattle.ng_canon.specs.declared.segment.Segment.{Segment}
@@ -11,21 +11,21 @@ use Rattle.ng_block.specs.Effects.{segments_by}
 use Rattle.ng_block.specs.Order.{outputs_through}
 use Rattle.ng_block.specs.Tasks.{tasks_in}
 
--- before the block, which begins at a point
+-- the position and outputs before the block, which begins at a point
 abbrev pub standing_before : Effect → Point → MotionState
 standing_before e start = record { point = start; outputs = e.plan.before }
 
--- before segment n, counted from 0: each segment before it leaves the machine where it ends, and a switch leaves its
--- outputs
+-- the position and outputs before segment n, counted from 0. The position is the end of the segments before it, and the
+-- outputs are those of the last switch before it
 abbrev pub standing_at : Effect → Point → ℕ → MotionState
 standing_at e start n = after_segments (standing_before e start) (take n (segments_by e))
 
--- ---- a cursor that passes segments
+-- ---- a cursor that skips segments
 
 abbrev pub begun_step : Passing → BlockStep → Passing
 begun_step p s = record p { rest = record p.rest { outputs = outputs_through (tasks_in p.rest.tasks) p.rest.outputs s } }
 
--- some segments are passed as far as so many go, and what is left of them comes next
+-- some segments are skipped, at most as many as are to be skipped, and the others come next
 pub record SkipSpec (segments : List Segment) (old new : Passing) : Type 0 where
   pub rest : new.rest ≡ record old.rest { moves = drop old.left segments }
   pub standing : new.standing ≡ after_segments old.standing (take old.left segments)

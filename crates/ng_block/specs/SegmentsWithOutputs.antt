@@ -1,4 +1,4 @@
--- The segments that are left of a block, and the outputs before them.
+-- The remaining segments of a block, and the outputs before them.
 use Rattle.std.specs.Prelude.{List}
 use Rattle.ng_canon.specs.declared.outputs.Outputs.{Outputs}
 use Rattle.ng_canon.specs.declared.segment.Segment.{Segment}
@@ -11,7 +11,7 @@ outputs_with o (segment.Line line) = o
 outputs_with o (segment.Arc arc) = o
 outputs_with o (segment.Dwell seconds) = o
 
--- the segments that are left, and the outputs before them
+-- the remaining segments, and the outputs before them
 pub record SegmentsModel : Type 0 where
   pub outputs : Outputs
   pub segments : List Segment

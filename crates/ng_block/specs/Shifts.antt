@@ -1,6 +1,6 @@
 -- The offsets that a line puts in force, in the order of its steps: tool length, coordinate system, axis data (NISTIR
--- 6556, 3.8). None of them moves the machine. Origins and stored offsets are those of the table that the line's
--- settings leave.
+-- 6556, 3.8). None of them moves the machine. Origins and stored offsets are those of the table after the line's
+-- assignments.
 use Rattle.std.specs.Prelude.{ℤ, Bool, not, ◌||◌, List, Option, Some, None, Result, Ok}
 use Rattle.std.specs.Option.{is_some}
 use Rattle.ng_num.specs.Results.{and_then}
@@ -12,7 +12,7 @@ use Rattle.ng_block.specs.declared.shifts.Shifted.{Shifted}
 use Rattle.ng_block.specs.ToolLength.{offsets_after_length, length_shown}
 use Rattle.ng_block.specs.AxisData.{with_system, axis_data_of, offsets_after, offsets_shown}
 
--- the offsets, what each step prints of them, and the changes that store them; or that one is beyond the range
+-- the offsets, what each step prints of them, and the changes that store them; or E3 if an offset is out of range
 abbrev pub shift_of : Block → Machine → List ℤ → List ℤ → Result Shifted Fault
 shift_of b m table lengths =
     let o = offsets_after_length b.g.tool_length b.values.h lengths m.offsets in
@@ -27,7 +27,7 @@ shift_of b m table lengths =
 abbrev pub nothing_shown : Shown
 nothing_shown = record { tool_length = None; system = None; axis_data = None }
 
--- where a line shows nothing, nothing is kept
+-- if a line shows nothing of its offsets, nothing is kept
 abbrev pub shown_in : Option Shown → Shown
 shown_in None = nothing_shown
 shown_in (Some shown) = shown

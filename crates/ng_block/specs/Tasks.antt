@@ -1,4 +1,4 @@
--- What a block's words give its steps to do, but for its remark, its feed and its motion (NISTIR 6556, 3.5 to 3.7).
+-- What a block's words give its steps to do, except for its remark, its feed and its motion (NISTIR 6556, 3.5 to 3.7).
 use Rattle.std.specs.Prelude.{ℤ, Bool, not, ◌||◌, Option, Some, None, unwrap_or, if◌then◌else◌}
 use Rattle.std.specs.Option.{is_some, option_map}
 use Rattle.ng_canon.specs.declared.outputs.Outputs.{Outputs}
@@ -9,7 +9,7 @@ use Rattle.ng_state.specs.declared.modes.FeedMode.{FeedMode}
 use Rattle.ng_block.specs.declared.tasks.Tasks.{Tasks}
 use Rattle.ng_block.specs.Blocks.{is_inverse, feed_word, time_word}
 
--- the feed that F prints, where it sets it: that after the line
+-- the feed that F prints, if F sets it: the feed after the line
 abbrev pub feed_set : Block → FeedMode → ℤ → Option ℤ
 feed_set b mode feed = option_map (λ f. feed) (feed_word mode b.values.f)
 
@@ -31,7 +31,7 @@ tasks_of b mode before = record {
 abbrev pub no_tasks : Tasks
 no_tasks = record { speed = None; selected_slot = None; changed_slot = None; spindle = None; coolant = None; dwell = None; plane = None; unit = None; time = None; stop = None }
 
--- where a block gives nothing to do, nothing is kept
+-- if a block gives nothing to do, nothing is kept
 abbrev pub tasks_in : Option Tasks → Tasks
 tasks_in None = no_tasks
 tasks_in (Some tasks) = tasks

@@ -7,7 +7,8 @@ use Rattle.ng_modal.specs.declared.asks.ToolLength.TheVariants.{OfSlot, Zero}
 use Rattle.ng_offsets.specs.Origins.{with_tool}
 use Rattle.ng_offsets.specs.declared.offsets.Offsets.{Offsets}
 
--- G43 takes the length of the slot that H names, which each lawful line with G43 has; G49 that of slot 0, which is none
+-- G43 takes the length of the slot that H names, and every valid line with G43 has an H; G49 takes that of slot 0,
+-- which is no length
 abbrev pub slot_by : ToolLength → Option ℤ → ℕ
 slot_by OfSlot h = unwrap_or (slot_on h) 0
 slot_by Zero h = 0

@@ -1,4 +1,4 @@
--- What is true of the segments of a lawful block, in a machinist's words: they join, and they stay inside the travel
+-- What is true of the segments of a valid block, in a machinist's words: they join, and they stay inside the travel
 -- (own; NISTIR 6556, 3.5.1 to 3.5.3, 3.5.16).
 use Rattle.std.specs.Prelude.{◌≡◌, List, [], ◌∷◌, IsTrue}
 use Rattle.ng_num.specs.declared.point.Point.{Point}
@@ -8,8 +8,8 @@ use Rattle.ng_canon.specs.declared.geometry.Geometry.{Geometry}
 use Rattle.ng_canon.specs.declared.segment.Segment.{Segment}
 use Rattle.ng_canon.specs.declared.segment.Segment.TheVariants as segment
 
--- from a point to an end: the first segment that moves begins at the point, each later one where the one before it
--- ended, and the end is that of the last; where none moves it is the point
+-- from a point to an end: the first segment that moves begins at the point, each later one at the end of the one before
+-- it, and the end is that of the last; if none moves, it is the point
 abbrev pub Joins : Point → List Segment → Point → Type 0
 Joins point [] end = end ≡ point
 Joins point (segment.Line line ∷ rest) end = (line.start ≡ point) × Joins line.end rest end

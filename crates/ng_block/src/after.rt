@@ -27,7 +27,7 @@ fn keeps_modes(block: &Block) -> bool
         | block.m.stop.is_some())
 }
 
-/// Puts the modes after a block into a place. Most lines change none but the motion, so this is looked at first.
+/// Stores the modes after a block. Most lines change none but the motion, so this is checked first.
 #[inline]
 pub fn put_modes_after(block: &Block, modes: &Modes, place: &mut Modes)
     ensures { place.new ≡ modes_after block.now modes.now }

@@ -12,7 +12,7 @@ use ng_num::{Fault, Point};
 use ng_offsets::{Named, Offsets};
 use ng_state::{Machine, Modes, Motion};
 
-/// The way round that a motion goes; `None` where it isn't an arc.
+/// The direction in which a motion turns. `None` if it isn't an arc.
 fn turn_of(motion: Option<Motion>) -> Option<ArcDirection>
     ensures { result ≡ turn_of motion }
 {
@@ -34,7 +34,7 @@ fn axes_on(values: &ByLetter) -> NamedAxes
     }
 }
 
-/// How far an arc's centre lies from its start, in the unit after the line.
+/// How far an arc's centre is from its start, in the unit after the line.
 fn centre_offsets_on(block: &Block, modes: &Modes) -> Result<CentreOffsets, Fault>
     ensures { result ≡ centre_offsets_on block.now modes.now }
 {
@@ -47,7 +47,7 @@ fn centre_offsets_on(block: &Block, modes: &Modes) -> Result<CentreOffsets, Faul
     })
 }
 
-/// The arc that a line asks for, from where the machine stands.
+/// The arc that a line asks for, from the machine's position.
 fn asked_by(
     block: &Block,
     machine: &Machine,
@@ -73,7 +73,7 @@ fn asked_by(
     }
 }
 
-/// Round to the end of a line. E3 where a coordinate of its end or its centre is beyond the range, else C1 to C4.
+/// Around to the end of a line. E3 if a coordinate of its end or its centre is out of range, else C1 to C4.
 fn turned(
     block: &Block,
     machine: &Machine,
@@ -93,9 +93,9 @@ fn turned(
     }
 }
 
-/// Where a line's motion goes round under offsets, with the feed after the line; still, where it isn't an arc. E3 where
-/// a coordinate of its end or its centre is beyond the range, else C1 to C4: an arc without an end or without an offset
-/// in its plane, with radii that differ, or without a radius.
+/// The path of a line's motion along an arc, under offsets and with the feed after the line. It is still if the motion
+/// isn't an arc. E3 if a coordinate of its end or its centre is out of range, else C1 to C4: an arc without an end or
+/// without an offset in its plane, with radii that differ, or with none.
 #[inline(never)]
 #[tactic(auto, unfolding(crate::specs::Arcs::path_along_arc))]
 pub fn path_along_arc(

@@ -1,4 +1,4 @@
-//! What a line's axis data make of the offsets: G10, G92 and its three others (NISTIR 6556, 3.5.5, 3.5.18).
+//! What a line's axis data do to the offsets: G10, and G92 to G92.3 (NISTIR 6556, 3.5.5, 3.5.18).
 ghost use Rattle.std.specs.Prelude.{◌≡◌};
 ghost use Rattle.ng_params.specs.Changes.{with_changes};
 ghost use Rattle.ng_block.specs.AxisData.{unit_after, system_after, named_on, with_origin, with_offset, axis_data_of};
@@ -13,7 +13,7 @@ use std::alloc::Allocator;
 /// What axis data do.
 #[derive(Clone, Copy)]
 pub struct AxisData {
-    /// The offsets, where those in force change.
+    /// The offsets, if those in force change.
     pub new: Option<NewOffsets>,
     /// The changes of parameters that store an origin or an offset.
     pub stored: Option<[Change; 3]>,
@@ -86,8 +86,8 @@ fn with_offset(
     })
 }
 
-/// What a line's word of group 0 makes of the offsets that are in force after its coordinate system, in the table that
-/// its settings leave. E3 where an offset, or a sum that is printed, is beyond the range.
+/// What a line's word of group 0 does to the offsets in force after its coordinate system, with the table after its
+/// assignments. E3 if an offset, or a sum that is printed, is out of range.
 pub fn axis_data_of<A: Allocator + Copy + Drop>(
     block: &Block,
     machine: &Machine,

@@ -1,5 +1,5 @@
-//! A block's segments, one at a time, kept without its effect: so a block may be worked long after the places of its
-//! line serve another.
+//! A block's segments, one at a time, kept without its effect. So a block may be worked long after the scratch space of
+//! its line is used for another line.
 ghost use Rattle.std.specs.Prelude.{◌≡◌, ◌∷◌, [], MatchOption};
 ghost use Rattle.ng_block.specs.BlockSegments.{plan_of, rest_of};
 ghost use Rattle.ng_block.specs.Effects.{segments_by};
@@ -24,13 +24,13 @@ struct BlockSegmentsLeft {
     path: Path,
     /// The outputs after the steps that have begun.
     outputs: Outputs,
-    /// The segments of the motion, where that has begun.
+    /// The segments of the motion, if that has begun.
     moves: PathSegments,
     /// The steps that haven't begun.
     steps: &'static [BlockStep],
 }
 
-/// The segments that are left of a block, in their order. Contracts see the list of them.
+/// The remaining segments of a block, in order. Contracts see the list of them.
 #[derive(Drop)]
 pub struct BlockSegments {
     rest: BlockSegmentsLeft,
@@ -48,7 +48,7 @@ impl Model for BlockSegments {
 }
 
 impl Effect {
-    /// All that is left of its segments before the first.
+    /// All of its segments, before the first.
     fn block_segments_left(&self) -> BlockSegmentsLeft
         ensures rest { rest_of result ≡ segments_by self.now }
         ensures moves { result.moves ≡ [] }
@@ -62,7 +62,7 @@ impl Effect {
         }
     }
 
-    /// Its segments, kept without it.
+    /// Its segments, kept without the effect.
     pub fn block_segments(&self) -> BlockSegments
         ensures { result ≡ segments_by self.now }
     {
@@ -73,7 +73,7 @@ impl Effect {
 }
 
 impl BlockSegmentsLeft {
-    /// Begins a step, and gives its first segment.
+    /// Begins a step, and returns its first segment.
     fn first_in(&mut self, step: BlockStep) -> Option<Segment>
         requires { self.old.moves ≡ [] }
         ensures tasks { self.new.tasks ≡ self.old.tasks }

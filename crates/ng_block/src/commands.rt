@@ -18,7 +18,7 @@ use ng_modal::{Coolant, StopWord};
 use ng_num::Point;
 use std::marker::Model;
 
-/// The most commands of a step but the motion.
+/// The most commands of a step other than the motion.
 const MOST: usize = 8;
 
 type OfStep = ArrayVec<CanonicalCommand, MOST>;
@@ -102,7 +102,7 @@ fn put_coolant(coolant: Option<Coolant>, commands: &mut OfStep)
     }
 }
 
-/// The commands of the program's end, but for its shuttle and its last one.
+/// The commands of the program's end, except for its shuttle and its last one.
 fn put_end(origin: Point, commands: &mut OfStep)
     requires { commands.old.items ≡ [] }
     ensures { commands.new.items ≡ CanonicalCommand.OriginOffsets origin ∷ CanonicalCommand.SelectPlane Plane.Xy
@@ -139,7 +139,7 @@ fn put_stop(word: Option<StopWord>, origin: Point, commands: &mut OfStep)
     }
 }
 
-/// Puts the commands of a step, but for its remark and its moves.
+/// Adds the commands of a step, except for its remark and its moves.
 fn put_tasks(tasks: &Option<Tasks>, origin: Point, step: BlockStep, commands: &mut OfStep)
     requires { commands.old.items ≡ [] }
     ensures { commands.new.items ≡ task_commands (tasks_in tasks.now) origin step }
@@ -158,16 +158,16 @@ fn put_tasks(tasks: &Option<Tasks>, origin: Point, step: BlockStep, commands: &m
 #[derive(Drop)]
 struct CommandsLeft<'a> {
     effect: &'a Effect,
-    /// Those of the step that has begun, from `taken` on.
+    /// The commands of the step that has begun, from `taken` on.
     waiting: OfStep,
     taken: usize,
-    /// The segments of the motion, where that has begun.
+    /// The segments of the motion, if that has begun.
     moves: PathSegments,
     /// The steps that haven't begun.
     steps: &'a [BlockStep],
 }
 
-/// The commands that are left of a block, in their order.
+/// The remaining commands of a block, in order.
 #[derive(Drop)]
 pub struct Commands<'a> {
     rest: CommandsLeft<'a>,
@@ -184,7 +184,7 @@ impl<'a> Model for Commands<'a> {
 }
 
 impl Effect {
-    /// Its commands, in their order.
+    /// Its commands, in order.
     pub fn commands(&self) -> Commands<'_>
         ensures { result ≡ commands_by self.now }
     {
@@ -220,7 +220,7 @@ impl<'a> CommandsLeft<'a> {
         }
     }
 
-    /// Begins a step, but for its remark.
+    /// Begins a step, without its remark.
     fn begin(&mut self, step: BlockStep)
         requires { self.old.moves ≡ [] }
         ensures effect { self.new.effect ≡ self.old.effect }
@@ -243,7 +243,7 @@ impl<'a> CommandsLeft<'a> {
         }
     }
 
-    /// Begins a step, and gives its first command.
+    /// Begins a step, and returns its first command.
     fn first_in(&mut self, step: BlockStep) -> Option<Canon<'a>>
         requires begun { begun_commands self.old ≡ [] }
         requires moves { self.old.moves ≡ [] }

@@ -16,7 +16,7 @@ use ng_num::{Fault, Len, Num, Unit, nm_of};
 use ng_offsets::Offsets;
 use ng_state::{Distance, KeptWords, Machine, Modes, Motion, Retract};
 
-/// The kind of cycle that a motion is; `None` where it isn't a cycle.
+/// The kind of cycle of a motion. `None` if it isn't a cycle.
 #[inline]
 pub fn kind_of(motion: Option<Motion>) -> Option<CycleKind>
     ensures { result ≡ kind_of motion }
@@ -46,7 +46,7 @@ fn is_same(one: CycleKind, other: CycleKind) -> bool
     }
 }
 
-/// The length that a word names in a unit, where there is a word.
+/// The length that a word names in a unit, if there is a word.
 fn length_by(word: Option<Num>, unit: Unit) -> Result<Option<Len>, Fault>
     ensures { result ≡ length_by word unit }
 {
@@ -73,7 +73,7 @@ fn own_words(block: &Block, modes: &Modes) -> Result<KeptWords, Fault>
     })
 }
 
-/// The words that were kept for a cycle; empty where the motion mode before the line is another.
+/// The words that were kept for a cycle. There are none if the motion mode before the line was another.
 fn kept_for(kind: CycleKind, machine: &Machine) -> KeptWords
     ensures { result ≡ kept_for kind machine.now }
 {
@@ -99,8 +99,8 @@ pub fn kept_beside(block: &Block, machine: &Machine) -> KeptWords
     }
 }
 
-/// The words kept after a cycle's line: its own, and those that were kept for it where the line has none; the program's
-/// end drops them. E3 where a length of its own is beyond the range.
+/// The words kept after a cycle's line: its own and, for those that the line doesn't have, the words that were kept for
+/// it. The program's end drops them. E3 if one of its own lengths is out of range.
 #[inline(never)]
 pub fn kept_in(kind: CycleKind, block: &Block, machine: &Machine) -> Result<KeptWords, Fault>
     ensures { result ≡ kept_in kind block.now machine.now }
@@ -151,7 +151,7 @@ fn is_old_z(retract: Retract) -> bool
     }
 }
 
-/// The outputs that a line's motion meets: after its spindle, tool and coolant words.
+/// The outputs at a line's motion: after its spindle, tool and coolant words.
 fn outputs_at_motion(block: &Block, machine: &Machine) -> Outputs
     ensures { result ≡ outputs_at_motion block.now machine.now }
 {
@@ -160,7 +160,8 @@ fn outputs_at_motion(block: &Block, machine: &Machine) -> Outputs
     outputs_before_motion(&tasks, machine.outputs)
 }
 
-/// What a cycle meets: the offsets, the feed, the modes and the outputs after the line's other words.
+/// The state in which a cycle is executed: the offsets, the feed, the modes and the outputs after the line's other
+/// words.
 fn setting_of(
     block: &Block,
     machine: &Machine,
@@ -183,9 +184,9 @@ fn setting_of(
     }
 }
 
-/// The canned cycle of a line's motion under offsets, with the feed after the line; still, where it isn't a cycle. E3
-/// where a length that it computes is beyond the range, else the first of Y1 to Y8, X1 and X2: the extreme coordinates
-/// decide it, and neither repeats nor pecks are walked.
+/// The path of a line's motion in a canned cycle, under offsets and with the feed after the line. It is still if the
+/// motion isn't a cycle. E3 if a computed length is out of range, else the first of Y1 to Y8, X1 and X2. The extreme
+/// coordinates decide: neither repeats nor pecks are walked.
 #[inline(never)]
 #[tactic(auto, unfolding(crate::specs::Cycles::cycle_path))]
 pub fn cycle_path(

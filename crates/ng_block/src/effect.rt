@@ -1,5 +1,5 @@
-//! What a block leaves after: the machine, the parameters that it changes, how the program goes on, and the plan of its
-//! commands and segments.
+//! The effect of a block: the modal state after it, the parameters that it changes, how the program goes on, and the
+//! plan of its commands and segments.
 ghost use Rattle.std.specs.Prelude.{◌≡◌, ◌≤◌, ◌∷◌, ◌++◌, [], map, Ok, Err, length, IfSome, MatchResult, None};
 ghost use Rattle.ng_canon.specs.Text.{numeric};
 ghost use Rattle.std.specs.Option.{option_map};
@@ -28,7 +28,7 @@ use ng_params::Change;
 use ng_state::{Machine, State};
 use std::alloc::Allocator;
 
-/// The most changes of parameters that a line makes: a setting for each of its pieces, and those of its words.
+/// The most changes of parameters that a line makes: an assignment for each of its pieces, and those of its words.
 pub const CHANGES: usize = 136;
 
 /// The parameters that a line changes, in order.
@@ -40,24 +40,24 @@ pub enum ProgramFlow {
     GoesOn,
     /// M0, M60.
     Stops,
-    /// M1: where the operator wants it.
+    /// M1: stops if the operator wants it.
     StopsIfWanted,
     /// M2, M30.
     Ends,
 }
 
-/// What a line does: all that it changes, and, by `commands` and `segments`, what it prints and moves, in order.
+/// What a line does: all that it changes and, by `commands` and `segments`, what it prints and moves, in order.
 #[derive(Drop)]
 pub struct Effect {
     pub machine: Machine,
-    /// The parameters that it sets, taken in order.
+    /// The parameters that it sets, in order.
     pub changes: Changes,
     pub stop: ProgramFlow,
     pub(crate) plan: Plan,
 }
 
 impl Effect {
-    /// No effect on a machine.
+    /// No effect on a modal state.
     pub fn none(machine: Machine) -> Effect
         ensures machine { result.machine ≡ machine }
         ensures changes { result.changes.items ≡ [] }
@@ -81,8 +81,8 @@ impl Effect {
         }
     }
 
-    /// The one move of a block that only goes straight, after the feed that it sets, if any; `None` of another block.
-    /// So the commands of nearly every line are had without a cursor.
+    /// The only move of a block that just goes straight, after the feed that it sets, if any. `None` for any other
+    /// block. So the commands of nearly every line need no cursor.
     #[inline]
     pub fn only_move(&self) -> Option<(Option<Feed>, &StraightMove)>
         ensures { IfSome result (λ x. commands_by self.now
@@ -102,7 +102,7 @@ impl Effect {
         }
     }
 
-    /// Becomes that of a line which does nothing in a state.
+    /// Becomes the effect of a line that does nothing in a state.
     pub(crate) fn leave<A: Allocator + Copy + Drop>(&mut self, state: &State<A>, stop: ProgramFlow)
         ensures { in_state state.now self.new ≡ idle state.now stop }
     {
@@ -117,7 +117,7 @@ impl Effect {
         self.plan.before = state.machine.outputs;
     }
 
-    /// Becomes that of a lawful block in a state, whose goal it has.
+    /// Becomes the effect of a valid block in a state. It has the block's goal already.
     pub(crate) fn take_block<A: Allocator + Copy + Drop>(
         &mut self,
         state: &State<A>,

@@ -1,4 +1,4 @@
-//! The faults of a move, in the order in which they are looked for.
+//! The faults of a move, in the order in which they are checked.
 ghost use Rattle.std.specs.Prelude.{◌≡◌};
 ghost use Rattle.ng_num.specs.Causes.{first_fault};
 ghost use Rattle.ng_block.specs.Faults.{stays_inside, path_faults};
@@ -17,7 +17,7 @@ fn stays_inside(arc: &Arc, geometry: &Geometry) -> bool
     geometry.contains(arc.end) && extremes_inside(arc, geometry)
 }
 
-/// The first fault that the move of a block decides.
+/// The first fault of a path.
 #[inline]
 pub fn path_fault(path: &Path, geometry: &Geometry) -> Option<Fault>
     ensures { result ≡ first_fault (path_faults path.now geometry.now) }

@@ -1,4 +1,4 @@
-//! Laws for proofs above this crate to cite: the calls do nothing, and their contracts are the laws.
+//! Laws to be cited by proofs in the crates above. The calls do nothing; their contracts are the laws.
 ghost use Rattle.std.specs.Prelude.{◌≡◌, ℕ, ℤ, List, length, Ok, Err};
 ghost use Rattle.std.specs.List.{All};
 ghost use Rattle.ng_num.specs.declared.fault.Fault.{Fault};
@@ -23,7 +23,7 @@ pub fn order()
     ensures { ORDER ≡ order }
 {}
 
-/// A line is refused exactly where a cause holds, by the first that does (own).
+/// A line is refused exactly if a cause holds, with the fault of the first one that does (own).
 pub fn refusals()
     ensures accepted { (setup : StateModel) (tools : List ℤ) (geometry : Geometry) (text : List ℕ) (done : Done)
         → executed setup tools geometry text ≡ Ok done → NoneHolds (causes setup tools geometry text) }
@@ -31,16 +31,16 @@ pub fn refusals()
         → executed setup tools geometry text ≡ Err fault → IsFirstFault (causes setup tools geometry text) fault }
 {}
 
-/// The segments of a lawful block join: each that moves begins where the one before it ended, the first where the
-/// machine stood, and the last ends where it stands after the block (own).
+/// The segments of a valid block join: each that moves begins where the one before it ended, the first at the machine's
+/// position before the block, and the last ends at the position after the block (own).
 pub fn segments_join()
     ensures { (setup : StateModel) (tools : List ℤ) (geometry : Geometry) (text : List ℕ) (done : Done)
         → executed setup tools geometry text ≡ Ok done
         → Joins setup.machine.point done.segments done.setup.machine.point }
 {}
 
-/// No offset moves the machine: a lawful block of which no segment moves keeps the machine's point, and so does one
-/// that sets offsets alone (NISTIR 6556, 3.5.5, 3.5.11, 3.5.13, 3.5.18).
+/// No offset moves the machine: a valid block without a segment that moves keeps the machine's position, and so does
+/// one that only sets offsets (NISTIR 6556, 3.5.5, 3.5.11, 3.5.13, 3.5.18).
 pub fn offsets_move_nothing()
     ensures still { (setup : StateModel) (tools : List ℤ) (geometry : Geometry) (text : List ℕ) (done : Done)
         → executed setup tools geometry text ≡ Ok done → NoneMoves done.segments
@@ -50,21 +50,22 @@ pub fn offsets_move_nothing()
         → done.setup.machine.point ≡ setup.machine.point }
 {}
 
-/// Each segment of a lawful block stays inside the travel (own).
+/// Each segment of a valid block stays inside the travel (own).
 pub fn travel()
     ensures { (setup : StateModel) (tools : List ℤ) (geometry : Geometry) (text : List ℕ) (done : Done)
         → executed setup tools geometry text ≡ Ok done → All (StaysInside geometry) done.segments }
 {}
 
-/// A line that ends the program leaves what M2 and M30 do, in a table of all 5,399 parameters (NISTIR 6556, 3.6.1).
+/// A line that ends the program leaves the state of M2 and M30, in a table of all 5,399 parameters (NISTIR 6556,
+/// 3.6.1).
 pub fn program_end()
     ensures { (setup : StateModel) (tools : List ℤ) (geometry : Geometry) (text : List ℕ) (done : Done)
         → length setup.params ≡ parameter_count → executed setup tools geometry text ≡ Ok done → done.stop ≡ Ends
         → IsEnded done.setup }
 {}
 
-/// A second line of the same modes changes none: a lawful line leaves the modes as they are where the line before it
-/// had the same words of the groups of modes (NISTIR 6556, 3.4).
+/// A second line with the same modes changes none: a valid line leaves the modes unchanged if the line before it had
+/// the same words of the groups of modes (NISTIR 6556, 3.4).
 pub fn modes_stay()
     ensures { (setup : StateModel) (tools : List ℤ) (geometry : Geometry) (text again : List ℕ) (done next : Done) (one other : Block)
         → executed setup tools geometry text ≡ Ok done → AsksFor setup text one

@@ -1,14 +1,15 @@
 //! Blocks: what a line of a program does.
 //!
-//! `execute` answers what a line does in a state, or the first fault that refuses it: the new machine, the parameters
-//! that change, and the plan of the block, whose commands and segments come one at a time, in the order of its steps,
-//! through cursors whose models are the lists. `Scratch::execute` is the one way for a line: who runs a program keeps
-//! places and runs it there, by `Scratch::execute_after` for each line after those before it; `execute` takes new ones.
-//! What the lines of a whole program come to is said above, by the dry run (`ng_dry`) and the controller's session. The
-//! crate stands on the reader of lines, the state, the parameter table, the offsets and the canonical text below it.
+//! `execute` returns what a line does in a state, or its first fault: the new modal state, the parameters that change,
+//! and the plan of the block. The plan's commands and segments come one at a time, in the order of the block's steps,
+//! through cursors whose models are the lists. `Scratch::execute` is the one way to execute a line. A caller that runs
+//! a program keeps a `Scratch` and executes the lines in it, by `Scratch::execute_after` for each line after those
+//! before it. `execute` takes a new one. The crates above define what the lines of a whole program lead to: the dry run
+//! (`ng_dry`) and the controller's session. This crate depends on the reader of lines, the state, the parameter table,
+//! the offsets and the canonical text.
 //!
-//! Each code that `ng_modal` accepts is done here. What a line asks for, and whether it may, is `ng_modal`'s; which
-//! arcs are lawful is `ng_arc`'s; what a canned cycle does, and whether it is lawful, is `ng_cycles`'s.
+//! Each code that `ng_modal` accepts is executed here. `ng_modal` decides what a line asks for, and whether it may;
+//! `ng_arc` decides which arcs are valid; and `ng_cycles` decides what a canned cycle does, and whether it is valid.
 #![tactic(auto)]
 
 mod after;

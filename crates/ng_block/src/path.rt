@@ -12,7 +12,7 @@ use ng_cycles::{Canned, Cycle};
 use ng_num::Point;
 use std::marker::Model;
 
-/// The way home: to a point between, and on from there, both at the traverse rate.
+/// The way home: to an intermediate point, and on from there, both at the traverse rate.
 #[derive(Clone, Copy)]
 pub struct HomePath {
     pub start: Point,
@@ -30,11 +30,11 @@ pub enum Path {
     Straight(StraightMove),
     Round(Arc),
     Homing(HomePath),
-    /// A canned cycle that nothing forbids.
+    /// A valid canned cycle.
     Cycle(Canned),
 }
 
-/// Puts into a place where the machine stands after a cycle.
+/// Stores the machine's position after a cycle.
 #[inline(never)]
 fn put_end(canned: &Canned, place: &mut Point)
     ensures { place.new ≡ (after_segments (begin canned.now) (cycle_segments canned.now)).point }
@@ -54,7 +54,7 @@ impl Path {
         }
     }
 
-    /// Puts into a place where the machine stands after it, from where it stood before.
+    /// Stores the machine's position after the path, given the one before it.
     #[inline]
     pub fn put_point_after(&self, start: &Point, place: &mut Point)
         ensures { place.new ≡ point_after self.now start.now }
@@ -95,13 +95,13 @@ fn next_in(cycle: &mut Option<Cycle>) -> Option<Segment>
     }
 }
 
-/// The segments that are left of a path.
+/// The remaining segments of a path.
 #[derive(Drop)]
 pub struct PathSegments {
     next: Option<Segment>,
     /// The straight move after the next segment.
     after_next: Option<StraightMove>,
-    /// The segments that are left of a cycle.
+    /// The remaining segments of a cycle.
     cycle: Option<Cycle>,
 }
 
@@ -171,7 +171,7 @@ impl PathSegments {
         self.next_outside_cycle()
     }
 
-    /// The next segment, where one is left that isn't of a cycle.
+    /// The next segment, if no cycle is left.
     fn next_outside_cycle(&mut self) -> Option<Segment>
         ensures { MatchOption result ((self.old ≡ []) × (self.new ≡ [])) (λ segment. self.old ≡ segment ∷ self.new) }
     {

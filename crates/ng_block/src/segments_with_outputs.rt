@@ -8,11 +8,11 @@ use crate::effect::Effect;
 use ng_canon::{Outputs, Segment};
 use std::marker::Model;
 
-/// The segments that are left of a block, in their order, and the outputs before them.
+/// The remaining segments of a block, in order, and the outputs before them.
 #[derive(Drop)]
 pub struct BlockSegmentsWithOutputs {
     block_segments: BlockSegments,
-    /// The outputs as the last switch left them.
+    /// The outputs after the last switch.
     outputs: Outputs,
 }
 
@@ -25,7 +25,7 @@ impl Model for BlockSegmentsWithOutputs {
 }
 
 impl Effect {
-    /// Its segments, in their order.
+    /// Its segments, in order.
     pub fn segments(&self) -> BlockSegmentsWithOutputs
         ensures segments { result.segments ≡ segments_by self.now }
         ensures outputs { result.outputs ≡ self.now.plan.before }

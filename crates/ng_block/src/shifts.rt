@@ -16,14 +16,14 @@ use ng_params::{Change, Params, System};
 use ng_state::Machine;
 use std::alloc::Allocator;
 
-/// What the steps of a line print of the offsets; `None` where a step leaves them as they are.
+/// What the steps of a line print of the offsets. `None` if a step leaves them unchanged.
 #[derive(Clone, Copy)]
 pub struct Shown {
     /// The tool length after G43 or G49.
     pub tool_length: Option<Len>,
     /// Origin plus G92 offset after G54 to G59.3.
     pub system: Option<Point>,
-    /// Origin plus G92 offset after G92 and its three others, and after G10 of the system in force.
+    /// Origin plus G92 offset after G92 to G92.3, and after G10 of the system in force.
     pub axis_data: Option<Point>,
 }
 
@@ -76,7 +76,7 @@ fn length_shown(word: Option<ToolLength>, after: &Offsets) -> Option<Len>
     }
 }
 
-/// The offsets after a step that may give new ones.
+/// The offsets after a step that may change them.
 fn offsets_after(new: &Option<NewOffsets>, offsets: Offsets) -> Offsets
     ensures { result ≡ offsets_after new.now offsets }
 {
@@ -86,7 +86,7 @@ fn offsets_after(new: &Option<NewOffsets>, offsets: Offsets) -> Offsets
     }
 }
 
-/// What a step prints of them.
+/// What a step prints of the offsets.
 fn offsets_shown(new: &Option<NewOffsets>) -> Option<Point>
     ensures { result ≡ offsets_shown new.now }
 {
@@ -114,8 +114,8 @@ fn with_system<A: Allocator + Copy + Drop>(
     }
 }
 
-/// The offsets after a line's words, in the table that its settings leave. E3 where one of them, or a sum that is
-/// printed, is beyond the range.
+/// The offsets after a line's words, with the table after its assignments. E3 if one of them, or a sum that is printed,
+/// is out of range.
 #[inline(never)]
 pub fn shift_of<A: Allocator + Copy + Drop>(
     block: &Block,

@@ -1,10 +1,10 @@
-//! The order in which a block is carried out (NISTIR 6556, 3.8, table 8), as the cursors over its commands and
-//! segments walk it. `laws::order` says that it is the order of the definition.
+//! The order in which a block is executed (NISTIR 6556, 3.8, table 8), as the cursors over its commands and segments
+//! walk it. `laws::order` says that it is the defined order.
 
 /// The steps of a block.
 #[derive(Clone, Copy)]
 pub enum BlockStep {
-    /// The last comment of the line, or the message that it is.
+    /// The last comment of the line, or the message in it.
     Remark,
     FeedMode,
     Feed,
@@ -28,7 +28,7 @@ pub enum BlockStep {
     Stop,
 }
 
-/// The steps in their order.
+/// The steps in order.
 pub const ORDER: [BlockStep; 21] = [
     BlockStep::Remark,
     BlockStep::FeedMode,

@@ -128,7 +128,7 @@ fn outputs_of(tasks: &Tasks, before: Outputs) -> Outputs
     stop_outputs(tasks.stop, outputs_before_motion(tasks, before))
 }
 
-/// Puts the outputs after all steps into a place.
+/// Stores the outputs after all steps.
 #[inline]
 pub fn put_outputs_after(tasks: &Option<Tasks>, before: &Outputs, place: &mut Outputs)
     ensures { place.new ≡ outputs_after (tasks_in tasks.now) before.now order }
@@ -139,7 +139,7 @@ pub fn put_outputs_after(tasks: &Option<Tasks>, before: &Outputs, place: &mut Ou
     }
 }
 
-/// A switch to outputs, where a word asks for one.
+/// A switch to outputs, if a word asks for one.
 fn switch_where(there: bool, now: Outputs) -> Option<Segment>
     ensures { MatchOption result (switch_where there now ≡ []) (λ segment. switch_where there now ≡ segment ∷ []) }
 {
@@ -150,7 +150,7 @@ fn switch_where(there: bool, now: Outputs) -> Option<Segment>
     }
 }
 
-/// The switch of a step, by the outputs after it, or its dwell.
+/// The switch of a step, given the outputs after it, or its dwell.
 pub fn segment_at(tasks: &Option<Tasks>, now: Outputs, step: BlockStep) -> Option<Segment>
     ensures { MatchOption result
         (task_segments (tasks_in tasks.now) now step ≡ [])

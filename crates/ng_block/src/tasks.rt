@@ -1,5 +1,5 @@
-//! What a block's words give its steps to do, but for its remark and its motion; the feed that its F sets stands apart,
-//! since most lines that do more than move set a feed and move.
+//! What a block's words give its steps to do, except for its remark and its motion. The feed that its F sets is kept
+//! separately, since most lines that do more than move just set a feed and move.
 ghost use Rattle.std.specs.Prelude.{◌≡◌};
 ghost use Rattle.ng_block.specs.Tasks.{feed_set, tasks_of, tasks_in, gives_nothing};
 
@@ -24,12 +24,12 @@ pub struct Tasks {
     pub dwell: Option<Num>,
     pub plane: Option<Plane>,
     pub unit: Option<Unit>,
-    /// F, where it is the time of the move.
+    /// F, if it is the time of the move.
     pub time: Option<Num>,
     pub stop: Option<StopWord>,
 }
 
-/// The feed that F prints: that after the line.
+/// The feed that F prints: the feed after the line.
 #[inline]
 pub fn feed_set(block: &Block, mode: FeedMode, feed_per_min: Feed) -> Option<Feed>
     ensures { result ≡ feed_set block.now mode feed_per_min }
@@ -40,7 +40,7 @@ pub fn feed_set(block: &Block, mode: FeedMode, feed_per_min: Feed) -> Option<Fee
     }
 }
 
-/// Whether no word of a block gives something to do but to set a feed and to move.
+/// Whether no word of a block gives anything to do, except to set a feed and to move.
 #[inline]
 fn gives_nothing(block: &Block, mode: FeedMode) -> bool
     ensures { result ≡ gives_nothing block.now mode }
@@ -87,8 +87,8 @@ impl Tasks {
     }
 }
 
-/// Puts what a block's words give to do into a place; `None` where there is nothing to do. Most lines only move, so
-/// this is looked at first.
+/// Stores what a block's words give to do; `None` if there is nothing to do. Most lines only move, so this is checked
+/// first.
 #[inline]
 pub fn put_tasks(block: &Block, mode: FeedMode, before: &Outputs, place: &mut Option<Tasks>)
     ensures { tasks_in place.new ≡ tasks_of block.now mode before.now }

@@ -1,4 +1,4 @@
--- What a history leaves at a stop, by the plain interpreter.
+-- What a stop leaves of a history, in terms of the plain interpreter.
 use Rattle.std.proofs.Common.{◌≡◌, ⊎_elim, ℕ, zero, suc, Bool, Option, Some, None, List, [], ◌∷◌, ◌++◌, length, take, drop, Result, Ok, Err, refl, sym, ◌∙◌, ap, subst, append_assoc, length-append, arith}
 use Rattle.std.proofs.lemmas.List.{take-append-drop}
 use Rattle.std.specs.List.{Contains}
@@ -29,7 +29,7 @@ use Rattle.ng_core.proofs.InTurn.{turns_history}
 use Rattle.ng_core.proofs.Histories.{Leads, IsLeftBy, leads, passed}
 use Rattle.ng_core.proofs.Timing.{weaker_said}
 
--- ---- of an operator who gave more lines
+-- ---- more lines of the operator
 
 abbrev AreAmong : List (List ℕ) → List (List ℕ) → Type 0
 AreAmong lines more = (text : List ℕ) → Contains lines text → Contains more text
@@ -71,13 +71,13 @@ either_line : (front old new : List (List ℕ)) → AreAmong old new → AreAmon
 either_line front old new among text there =
     ⊎_elim (λ c. Contains-append_left front new text c) (λ c. Contains-append_right front new text (among text c)) (Contains-append_cases front old text there)
 
--- the first of some events
+-- the lines of the first events
 taken_lines : {A : Type 0} (n : ℕ) (events : List (Event A)) → AreAmong (lines_given (take n events)) (lines_given events)
 taken_lines zero events text there = absurd (let few = there.1 in omega (arith, few))
 taken_lines (suc n) [] text there = there
 taken_lines (suc n) (event ∷ events) text there = either_line (given_by event) (lines_given (take n events)) (lines_given events) (taken_lines n events) text there
 
--- those that were tried
+-- the lines of the events that were tried
 tried_lines : {A : Type 0} (events : List (Event A)) (answers : List (Result Reply Fault)) → AreAmong (lines_given (tried_events events answers)) (lines_given events)
 tried_lines [] answers text there = there
 tried_lines (event ∷ events) [] text there = absurd (let few = there.1 in omega (arith, few))

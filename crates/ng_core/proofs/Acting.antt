@@ -1,4 +1,4 @@
--- What an event leaves, by what its calls of the device leave.
+-- What an event leaves, from what its calls of the device leave.
 use Rattle.std.proofs.Common.{◌≡◌, ◌⊎◌, inl, inr, ⊎_elim, ℕ, List, [], ◌∷◌, ◌++◌, Ok, Err, refl, sym, ◌∙◌, ap, subst}
 use Rattle.std.proofs.lemmas.List.{append-nil}
 use Rattle.ng_num.specs.declared.fault.Fault.{Fault}
@@ -17,14 +17,14 @@ use Rattle.ng_session.specs.declared.reply.Reply.{Reply}
 use Rattle.ng_core.specs.Model.{ControllerModel, IsAtRestWith, durable_state_of}
 use Rattle.ng_core.specs.Events.{IsCrashOfEither, IsCarriedOut, TouchesNothing, program_session_of}
 
--- what is left after an outcome that hands nothing out
+-- the items after an outcome that hands nothing out
 left_same : (out : Transition) (given : List Item) → out.items ≡ [] → given ++ out.items ≡ given
 left_same out given none = ap (λ (l : List Item). given ++ l) none ∙ append-nil given
 
 standing_same : (p q : List ℕ) (s t : SessionModel) → p ≡ q → s.stored ≡ t.stored → durable_state_of p s ≡ durable_state_of q t
 standing_same p q s t same stored = λ i. record { saved = stored i; program = same i }
 
--- what is known of a device stays known where nothing changes
+-- what is known of a device stays known if nothing changes
 rests_as : {R : Type 0} (trace : Trace) (a b : JournalModel R) (s t : DurableState) → b ≡ a → t ≡ s → IsDurablyAt trace a s → IsDurablyAt trace b t
 rests_as trace a b s t journal standing rests =
     subst (λ (j : JournalModel _). IsDurablyAt trace j t) (sym journal) (subst (λ (x : DurableState). IsDurablyAt trace a x) (sym standing) rests)
@@ -32,7 +32,7 @@ rests_as trace a b s t journal standing rests =
 pub known_as : (p q : List ℕ) (k l : KnownModel) → q ≡ p → l ≡ k → IsKnownOf p k → IsKnownOf q l
 known_as p q k l program lines known = subst (λ (x : KnownModel). IsKnownOf q x) (sym lines) (subst (λ (x : List ℕ). IsKnownOf x k) (sym program) known)
 
--- nothing was asked of the device, and what is stored stays
+-- the device wasn't called, and what is stored is unchanged
 pub acts_quiet : {R : Type 0} (r : Reply) (out : Transition) (program : List ℕ) (old new : ControllerModel R) (trace_old trace_new : Trace)
     → trace_new ≡ trace_old → IsAtRestWith trace_old old program → new.journal ≡ old.journal → new.lines ≡ old.lines → r ≡ out.reply → new.session ≡ out.next
     → out.items ≡ [] → out.program ≡ program → out.next.stored ≡ old.session.stored
@@ -52,7 +52,7 @@ acts_quiet r out program old new trace_old trace_new alive rests journal lines r
       untouched = λ nothing. refl;
     })
 
--- lines were read, and what is stored stays
+-- lines were read, and what is stored is unchanged
 pub acts_read : {R : Type 0} (r : Reply) (out : Transition) (program : List ℕ) (old new : ControllerModel R) (trace_old trace_new : Trace)
     → trace_new ≡ trace_old → IsDurablyAt trace_new new.journal (durable_state_of program old.session) → IsKnownOf out.program new.lines → r ≡ out.reply → new.session ≡ out.next
     → out.items ≡ [] → out.program ≡ program → out.next.stored ≡ old.session.stored
@@ -72,7 +72,7 @@ acts_read r out program old new trace_old trace_new alive rests known replied ne
   untouched = λ nothing. alive;
 }
 
--- there wasn't enough memory, or no count was left, and nothing was written
+-- there was no memory, or no count was left, and nothing was written
 pub acts_aside : {R : Type 0} (fault : Fault) (out : Transition) (program : List ℕ) (old new : ControllerModel R) (trace_old trace_new : Trace)
     → (fault ≡ OutOfMemory) ⊎ (fault ≡ CountersUsed) → trace_new ≡ trace_old → new.session ≡ old.session → IsDurablyAt trace_new new.journal (durable_state_of program old.session) → IsKnownOf program new.lines
     → IsCarriedOut (Err fault) out program old new trace_old trace_new
@@ -100,7 +100,7 @@ acts_unread fault out program old new trace_old trace_new is alive same =
       untouched = tt;
     })
 
--- each stop stands for the one or for the other
+-- each stop leaves either the state before or the state after
 moved_stops : (trace_old trace_new : Trace) (before after : DurableState) (given more : List Item) → given ≡ items trace_old → more ≡ given
     → IsContinuation trace_old trace_new (IsEither (Ok before) (Ok after) (items trace_old))
     → IsContinuation trace_old trace_new (IsCrashOfEither (record { standing = before; items = given }) (record { standing = after; items = more }))
@@ -144,7 +144,7 @@ acts_unmoved fault e out program old new journal trace_old trace_new moves is sa
       untouched = tt;
     })
 
--- each stop has the item besides
+-- each stop has the item in addition
 handed_stops : (trace_old trace_new : Trace) (before after : DurableState) (given more : List Item) → before ≡ after
     → IsContinuation trace_old trace_new (StandsFor before more)
     → IsContinuation trace_old trace_new (IsCrashOfEither (record { standing = before; items = given }) (record { standing = after; items = more }))

@@ -33,9 +33,9 @@ use Rattle.ng_core.proofs.AnyLines.{has_kind}
 use Rattle.ng_core.proofs.Hindering.{unused_begin}
 use Rattle.ng_core.proofs.Quiet.{still_begin}
 
--- ---- what was read ahead is dropped
+-- ---- the lines that were read ahead are dropped
 
--- the same controller, which knows this of the lines
+-- a controller with this knowledge of the lines
 abbrev pub with_lines : {R : Type 0} → ControllerModel R → KnownModel → ControllerModel R
 with_lines c known = record { journal = c.journal; session = c.session; lines = known; equipment = c.equipment }
 
@@ -128,7 +128,7 @@ module _ {R : Type 0} (seen : R → Device) where
     failures = refl;
   }
 
-  -- both were read
+  -- both reads succeeded
   pub plans_found : (first : LineKind) (line : Option ProgramLineModel) (place : ℕ) (old new : ControllerModel R) → FindingBoth seen first line old.lines place old.journal new.journal
       → ((program : List ℕ) → IsKnownOf program old.lines → line ≡ program_line_at program place → first ≡ first_kind (lines_before program place) → IsKnownOf program new.lines)
       → new.session ≡ old.session → new.equipment ≡ old.equipment → ledger_of new.journal ≡ ledger_of old.journal → new.journal.broken ≡ false
@@ -215,7 +215,7 @@ module _ {R : Type 0} (seen : R → Device) where
     failures = p.failures ∙ c.failures;
   }
 
-  -- what the status shows stays where a line is begun
+  -- what the status shows is unchanged when a line is begun
   begun_by_status : (program : List ℕ) (s : SessionModel) (line : ProgramLineModel) (done : Result Done Fault) → reply.Begun ≡ (begin_by program s line done).reply → session_status (begin_by program s line done).next ≡ session_status s
   begun_by_status program s line (Ok done) told = refl
   begun_by_status program s line (Err fault) told = cc
@@ -224,7 +224,7 @@ module _ {R : Type 0} (seen : R → Device) where
   begun_status q program s None told = cc
   begun_status q program s (Some line) told = begun_by_status program s line (done_of q program s.stored source.Program line.text s.block_delete) told
 
-  -- the device failed in that: the line is begun
+  -- the device failed while planning: the line is begun all the same
   pub carried_unplanned : (fault e : Fault) (old mid new : ControllerModel R) → fault ≡ e → is_running old.session.activity ≡ true
       → (let begins : List ℕ → Transition = λ program. begin old.equipment program old.session (program_line_at program old.session.stored.place) in
       CarriesOut seen needs_line begins (Ok reply.Begun) old mid → PlansAhead seen (Err e) mid new
@@ -256,7 +256,7 @@ module _ {R : Type 0} (seen : R → Device) where
             (subst (λ (n : ℕ). CountsFailure {T = Reply} (Err e) n (seen new.journal.rig).failed) c.failures p.failures);
       }
 
--- an event for which what was read ahead is dropped
+-- an event after which the lines read ahead are dropped
 pub still_forgotten : {A : Type 0} (e : Event A) (known : KnownModel) (program : List ℕ) → IsKnownOf program known → IsKnownOf program (forgotten_for e known)
 still_forgotten e known program of = by (drops_plan e)
   where
@@ -274,7 +274,7 @@ module _ {R : Type 0} (seen : R → Device) where
       carried_from seen (TakesMemory old.equipment old.session e) (AsksDevice old.equipment old.session e) (NeedsProgramLine old.equipment old.session e) (λ program. step old.equipment program old.session e)
       answer old new known (λ program of. subst (λ (k : KnownModel). IsKnownOf program k) (sym is) (still_forgotten e old.lines program of)) c
 
--- what stands stays where a line that was read ahead is begun
+-- the stored state is unchanged when a line that was read ahead is begun
 pub stored_ahead : (equipment : Equipment) (told : Reply) (s t : SessionModel) (known_old known_new : KnownModel) → IsBegunAhead equipment told s t known_old known_new → t.stored ≡ s.stored
 stored_ahead equipment told s t known_old known_new b =
     let found = has_kind b.planned.first b.planned.place b.beginning in

@@ -1,4 +1,4 @@
--- The other events, by what their calls promise.
+-- The other events, from the contracts of their calls.
 use Rattle.std.proofs.Common.{◌≡◌, ◌⊎◌, ◌↔◌, inl, inr, ℕ, ◌<◌, ◌≤◌, List, length, Option, None, Result, Ok, Err, refl, sym, ◌∙◌, ap, subst, arith}
 use Rattle.std.specs.Prelude.{IsErrOf}
 use Rattle.ng_num.specs.declared.fault.Fault.{Fault}
@@ -29,7 +29,7 @@ does_answer seen event r old new quiet same lines replied next =
 
 -- ---- a program
 
--- what `load_program` promises
+-- the contract of `load_program`
 abbrev pub StoresProgram : {R T : Type 0} → (R → Device) → Result T Fault → StoredModel → List ℕ → JournalModel R → JournalModel R → Type 0
 StoresProgram seen result saved text old new =
     IfHonest (seen old.rig) (seen new.rig) ((before : DurableState) → IsDurablyAt (seen old.rig).trace old before

@@ -1,5 +1,5 @@
--- Programs in which a line is found as a device gave it: lines of each kind before a place, and each place at which a
--- next line begins.
+-- For whatever a device returns there is a program that has such a line: any kind of line before a place, and any place
+-- at which the next line begins.
 use Rattle.std.proofs.Common.{◌≡◌, ℕ, zero, suc, ◌-◌, ◌≤◌, List, [], ◌∷◌, length, drop, refl, sym, ◌∙◌, ap, arith}
 use Rattle.std.specs.Str.Lines.{lines}
 use Rattle.std.proofs.lemmas.List.{take_all}
@@ -8,7 +8,7 @@ use Rattle.ng_words.specs.declared.start.LineKind.TheVariants.{Blank, Percent, O
 use Rattle.ng_text.specs.Percent.{first_kind}
 use Rattle.ng_text.specs.Programs.{lines_before, next_line_start, span}
 
--- a text of one line of each kind, blank where it has none
+-- a text whose first line that isn't blank is of the given kind; it is blank if there is no such line
 abbrev text_of : LineKind → List ℕ
 text_of Blank = []
 text_of Percent = 37 ∷ []
@@ -24,13 +24,14 @@ text_short Blank n = omega arith
 text_short Percent n = omega arith
 text_short Other n = omega arith
 
--- before a place, the first line of some program that isn't blank is of each kind; before its beginning no line is
+-- before a place, the first line of some program that isn't blank is of the given kind; before the beginning there is
+-- no line
 pub has_kind : (kind : LineKind) (place : ℕ) → (place ≡ 0 → kind ≡ Blank) → (program : List ℕ) × (kind ≡ first_kind (lines_before program place))
 has_kind kind zero blank = ([], blank refl)
 has_kind kind (suc n) blank =
     (text_of kind, text_kind kind ∙ sym (ap (λ (text : List ℕ). first_kind (lines text)) (take_all (suc n) (text_of kind) (text_short kind n))))
 
--- a text whose first line has this many bytes with its newline, and such a text from a place on
+-- a text whose first line, with its newline, has this many bytes, and such a text from a place on
 abbrev text_with : ℕ → List ℕ
 text_with zero = []
 text_with (suc zero) = 10 ∷ []
@@ -49,7 +50,7 @@ drop_from : (n : ℕ) (rest : List ℕ) → drop n (text_from n rest) ≡ rest
 drop_from zero rest = refl
 drop_from (suc n) rest = drop_from n rest
 
--- from a place on, the next line of some program begins at each place
+-- from a place on, the next line of some program begins at the given place
 pub has_next : (place next : ℕ) → place ≤ next → (program : List ℕ) × (next ≡ next_line_start program place)
 unfolding next_line_start
 has_next place next beyond =

@@ -1,4 +1,4 @@
--- What comes of an event whatever the device is, by what its calls promise.
+-- What an event leads to with any device, from the contracts of its calls.
 use Rattle.std.proofs.Common.{◌≡◌, ◌≢◌, ◌⊎◌, inl, inr, ℕ, true, false, List, length, Option, Some, None, Result, Ok, Err, refl, sym, ◌∙◌, ap, subst}
 use Rattle.std.specs.Prelude.{IfErr}
 use Rattle.ng_num.specs.declared.fault.Fault.{Fault}
@@ -16,7 +16,7 @@ use Rattle.ng_core.specs.Events.{IsAnsweredAnyway, KeepsSession, handing}
 use Rattle.ng_core.proofs.Choosing.{with_session}
 use Rattle.ng_core.proofs.Ticks.{IsDue, tick_held, tick_item, rests_there}
 
--- nothing was asked of the device, or it failed
+-- the device wasn't called, or it failed
 pub stays_same : {R : Type 0} (reads : Type 0) (fault : Fault) (old new : ControllerModel R) → new.session ≡ old.session → (fault ≢ DeviceFailed → new.journal ≡ old.journal) → KeepsSession reads fault old new
 stays_same {R} reads fault old new same journal = record {
   status = ap session_status same;
@@ -25,7 +25,7 @@ stays_same {R} reads fault old new same journal = record {
   journal = λ other none. journal other;
 }
 
--- it may be read where it is
+-- a line may be read in more cases
 stays_wider : {R : Type 0} (reads wider : Type 0) (fault : Fault) (old new : ControllerModel R) → (reads → wider) → KeepsSession reads fault old new → KeepsSession wider fault old new
 stays_wider reads wider fault old new wide s = record { status = s.status; session = s.session; ledger = s.ledger; journal = λ other none. s.journal other (λ r. none (wide r)) }
 
@@ -38,7 +38,7 @@ pub comes_by : {R : Type 0} (reads : Type 0) (r : Reply) (out : List ℕ → Tra
     → ((program : List ℕ) → r ≡ (out program).reply) → ((program : List ℕ) → new.session ≡ (out program).next) → IsAnsweredAnyway reads (Ok r) out old new
 comes_by reads r out old new replied next = λ read program. (replied program, next program)
 
--- the same of an equal outcome, and where more may be read
+-- for an equal outcome, and if a line may be read in more cases
 pub comes_to : {R : Type 0} (reads wider : Type 0) (answer : Result Reply Fault) (out wanted : List ℕ → Transition) (old new : ControllerModel R)
     → (reads → wider) → ((program : List ℕ) → out program ≡ wanted program) → IsAnsweredAnyway reads answer out old new → IsAnsweredAnyway wider answer wanted old new
 comes_to reads wider (Ok r) out wanted old new wide equal comes = λ read program.

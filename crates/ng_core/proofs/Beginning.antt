@@ -1,4 +1,4 @@
--- A line of the program is begun, by what the reads before it promise.
+-- A line of the program is begun, from the contracts of the reads before it.
 use Rattle.std.proofs.Common.{◌≡◌, inl, ℕ, true, List, Option, Some, Result, Ok, Err, refl, sym, ◌∙◌, ap, subst}
 use Rattle.ng_num.specs.declared.fault.Fault.{Fault}
 use Rattle.ng_num.specs.declared.fault.Fault.TheVariants.{DeviceFailed, OutOfMemory}
@@ -25,7 +25,7 @@ use Rattle.ng_core.proofs.Acting.{known_as, acts_read, acts_aside, acts_unread}
 use Rattle.ng_core.proofs.AnyLines.{has_kind}
 use Rattle.ng_core.proofs.Quiet.{still_begin}
 
--- what `first_kind` and `program_line` promise
+-- the contracts of `first_kind` and `program_line`
 abbrev pub Finding : {R E : Type 0} → (R → Device) → Result LineKind E → LinesBefore → ℕ → JournalModel R → JournalModel R → Type 0
 Finding seen result known place old new =
     IfHonest (seen old.rig) (seen new.rig) ((standing : DurableState) → IsDurablyAt (seen old.rig).trace old standing → IsTrueOf standing.program known → FirstKindSpec result new standing place (seen old.rig).trace (seen new.rig).trace)
@@ -34,7 +34,7 @@ abbrev pub Reading : {R E : Type 0} → (R → Device) → Result (Option Progra
 Reading seen result place old new =
     IfHonest (seen old.rig) (seen new.rig) ((standing : DurableState) → IsDurablyAt (seen old.rig).trace old standing → ProgramLineSpec result new standing place (seen old.rig).trace (seen new.rig).trace)
 
--- it is known
+-- the kind is known
 pub finds_known : {R : Type 0} (seen : R → Device) (known : LinesBefore) (kind : LineKind) (place : ℕ) (journal : JournalModel R)
     → ((program : List ℕ) → IsTrueOf program known → kind ≡ first_kind (lines_before program place)) → Finding {E = Fault} seen (Ok kind) known place journal journal
 finds_known seen known kind place journal is = record {
@@ -43,13 +43,13 @@ finds_known seen known kind place journal is = record {
   holds = λ h standing rests true_of. record { same = refl; at = rests; kind = is standing.program true_of };
 }
 
--- it is looked up
+-- the kind is read
 pub finds_asked : {R E : Type 0} (seen : R → Device) (result : Result LineKind E) (known : LinesBefore) (place : ℕ) (old new : JournalModel R)
     → IfHonest (seen old.rig) (seen new.rig) ((standing : DurableState) → IsDurablyAt (seen old.rig).trace old standing → FirstKindSpec result new standing place (seen old.rig).trace (seen new.rig).trace)
     → Finding {E = E} seen result known place old new
 finds_asked seen result known place old new p = meaning p (λ f standing rests true_of. f standing rests)
 
--- both were read, and nothing is changed
+-- both reads succeeded, and nothing is changed
 pub record FindsBoth {R : Type 0} (first : LineKind) (line : Option ProgramLineModel) (journal : JournalModel R) (standing : DurableState) (place : ℕ) (old new : Trace) : Type 0 where
   pub same : new ≡ old
   pub at : IsDurablyAt new journal standing
@@ -95,7 +95,7 @@ does_begin seen r first line place old new at p known replied next = record {
       quiet.items quiet.program_is quiet.stored_is;
 }
 
--- the same of any device: a line was read, and a kind of the first line before it
+-- with any device: a line was read, and the kind of the first line before it
 pub by_running : {R : Type 0} (out : List ℕ → Transition) (c : ControllerModel R) (program : List ℕ) (line : Option ProgramLineModel)
     → is_running c.session.activity ≡ true → by_line out c program line ≡ begin c.equipment program c.session line
 by_running out c program line runs = rw runs refl
@@ -115,7 +115,7 @@ begun_line r out first line place old new runs at beginning replied next ledger 
       ledger = ledger;
     }
 
--- there wasn't enough memory for the state after the line
+-- there was no memory for the state after the line
 pub does_begin_short : {R : Type 0} (seen : R → Device) (fault : Fault) (first : LineKind) (line : Option ProgramLineModel) (place : ℕ) (out : List ℕ → Transition) (old new : ControllerModel R)
     → FindingBoth seen first line old.lines place old.journal new.journal → fault ≡ OutOfMemory → new.session ≡ old.session → new.lines ≡ old.lines
     → IsCarriedOutIfHonest seen (Err fault) out old new

@@ -1,4 +1,4 @@
--- What is left of an event, by what its calls promise: all of it at once.
+-- Everything that an event leaves, from the contracts of its calls.
 use Rattle.std.proofs.Common.{◌≡◌, ◌⊎◌, inl, inr, ℕ, true, false, List, [], Option, Some, None, Result, Ok, Err, refl, sym, ◌∙◌, ap, subst}
 use Rattle.std.proofs.lemmas.Result.{IfErr-weaker}
 use Rattle.std.specs.Option.{is_some}
@@ -23,7 +23,7 @@ use Rattle.ng_core.proofs.Hindering.{hindered_as, busy_block, busy_unread}
 use Rattle.ng_core.proofs.Quiet.{IsStill, still}
 use Rattle.ng_core.proofs.Ticks.{does_on, does_held, tick_item, tick_none}
 
--- of a Tick
+-- what a Tick needs
 abbrev needs_of_tick : SessionModel → Needs
 needs_of_tick s = needs ((s.held ≡ false) × IsBetweenLines s) ((s.held ≡ false) × (has_work s ≡ true)) ((s.held ≡ false) × IsBetweenLines s)
 
@@ -37,7 +37,7 @@ module _ {R : Type 0} (seen : R → Device) where
   carried_as memory device reads out answer old mid new same c =
       subst (λ (x : ControllerModel R). CarriesOut seen (needs (memory x) (device x) (reads x)) (out x) answer x new) same c
 
-  -- of an equal outcome, and where memory is taken and the device is asked in more cases; a line is read in the same
+  -- for an equal outcome, and if memory and the device are needed in more cases; a line is read in the same cases
   pub carried_to : (memory m device d reads e : Type 0) (out wanted : List ℕ → Transition) (answer : Result Reply Fault) (old new : ControllerModel R)
       → (memory → m) → (device → d) → (reads → e) → (e → reads) → ((program : List ℕ) → out program ≡ wanted program)
       → CarriesOut seen (needs memory device reads) out answer old new → CarriesOut seen (needs m d e) wanted answer old new
@@ -53,9 +53,9 @@ module _ {R : Type 0} (seen : R → Device) where
     failures = c.failures;
   }
 
-  -- ---- the device isn't asked
+  -- ---- the device isn't called
 
-  -- the session answered
+  -- the session replied
   pub carried_still : (memory device reads : Type 0) (r : Reply) (out : List ℕ → Transition) (old new : ControllerModel R)
       → old.journal.broken ≡ false → (reads → ⊥) → ((program : List ℕ) → IsStill program old.session.stored (out program))
       → new.journal ≡ old.journal → new.lines ≡ old.lines → new.equipment ≡ old.equipment
@@ -72,7 +72,7 @@ module _ {R : Type 0} (seen : R → Device) where
     failures = ap (λ (j : JournalModel R). (seen j.rig).failed) same;
   }
 
-  -- it refused
+  -- the session refused
   pub carried_refused : (memory device reads : Type 0) (fault : Fault) (out : List ℕ → Transition) (c : ControllerModel R)
       → c.journal.broken ≡ false → (reads → ⊥) → ((program : List ℕ) → refuses program fault c.session ≡ out program)
       → CarriesOut seen (needs memory device reads) out (Ok (reply.Refused fault)) c c
@@ -80,7 +80,7 @@ module _ {R : Type 0} (seen : R → Device) where
       carried_to memory memory device device reads reads (λ program. refuses program fault c.session) out (Ok (reply.Refused fault)) c c (λ m. m) (λ d. d) (λ e. e) (λ e. e) equal
       (carried_still memory device reads (reply.Refused fault) (λ program. refuses program fault c.session) c c whole unread (λ program. still refl refl refl) refl refl refl (λ program. refl) (λ program. refl))
 
-  -- there wasn't enough memory
+  -- there was no memory
   pub carried_short : (memory device reads : Type 0) (fault : Fault) (out : List ℕ → Transition) (old new : ControllerModel R)
       → old.journal.broken ≡ false → fault ≡ OutOfMemory → memory
       → new.journal ≡ old.journal → new.lines ≡ old.lines → new.equipment ≡ old.equipment → new.session ≡ old.session
@@ -98,7 +98,7 @@ module _ {R : Type 0} (seen : R → Device) where
       } in
       subst (λ (f : Fault). CarriesOut seen (needs memory device reads) out (Err f) old new) (sym is) short
 
-  -- a counter is used up, as was seen before
+  -- a counter is used up, as was checked before
   pub carried_used : (memory device reads : Type 0) (out : List ℕ → Transition) (c : ControllerModel R)
       → c.journal.broken ≡ false → IsCausedBy memory device (ledger_of c.journal) out CountersUsed
       → CarriesOut seen (needs memory device reads) out (Err CountersUsed) c c
@@ -113,9 +113,9 @@ module _ {R : Type 0} (seen : R → Device) where
     failures = refl;
   }
 
-  -- ---- the device is asked
+  -- ---- the device is called
 
-  -- for what is stored: a counter is used up, or it failed
+  -- to store something: a counter is used up, or the device failed
   pub carried_failed : (memory device reads : Type 0) (fault e : Fault) (out : List ℕ → Transition) (old new : ControllerModel R)
       → fault ≡ e → IsCarriedOutIfHonest seen (Err e) out old new → (e ≡ CountersUsed) ⊎ (e ≡ DeviceFailed) → (e ≡ CountersUsed → new.journal ≡ old.journal)
       → new.equipment ≡ old.equipment → new.session ≡ old.session → IsCausedBy memory device (ledger_of old.journal) out e
@@ -134,7 +134,7 @@ module _ {R : Type 0} (seen : R → Device) where
       } in
       subst (λ (f : Fault). CarriesOut seen (needs memory device reads) out (Err f) old new) (sym is) there
 
-  -- for what uses up no counter, and it failed
+  -- for something that uses up no counter, and the device failed
   pub carried_lost : (memory device reads : Type 0) (fault e : Fault) (out : List ℕ → Transition) (old new : ControllerModel R)
       → fault ≡ e → IsCarriedOutIfHonest seen (Err e) out old new → e ≡ DeviceFailed → device → ((program : List ℕ) → UsesUpCounter (ledger_of old.journal) (out program) → ⊥)
       → new.equipment ≡ old.equipment → new.session ≡ old.session
@@ -153,7 +153,7 @@ module _ {R : Type 0} (seen : R → Device) where
       } in
       subst (λ (f : Fault). CarriesOut seen (needs memory device reads) out (Err f) old new) (sym is) there
 
-  -- for a line of the program, and then there wasn't enough memory
+  -- for a line of the program, and then there was no memory
   pub carried_read : (memory device reads : Type 0) (fault : Fault) (out : List ℕ → Transition) (old new : ControllerModel R)
       → fault ≡ OutOfMemory → memory → IsCarriedOutIfHonest seen (Err fault) out old new
       → new.equipment ≡ old.equipment → new.session ≡ old.session → ledger_of new.journal ≡ ledger_of old.journal → ((reads → ⊥) → new.journal ≡ old.journal)
@@ -189,7 +189,7 @@ module _ {R : Type 0} (seen : R → Device) where
   some_item None item is = absurd (let none : Option Item = None in let z : none ≡ Some item = sym is in cc)
   some_item (Some c) item is = refl
 
-  -- what is handed out uses up no counter and takes no memory
+  -- what is handed out uses up no counter and needs no memory
   lost_alone : (ledger : Ledger) (item : Item) (s : SessionModel) (fault : Fault) → IsCausedBy ⊥ (Unit {0}) ledger (λ program. handing item program s) fault → fault ≡ DeviceFailed
   lost_alone ledger item s fault (inl short) = absurd short.1
   lost_alone ledger item s fault (inr (inl used)) = absurd (used.1 [])
@@ -231,7 +231,7 @@ module _ {R : Type 0} (seen : R → Device) where
       (λ p. (held, p)) (λ b. (held, b)) (λ p. (held, p)) (λ read. read.1) (λ program. sym (tick_none old.equipment program old.session held (sym none)))
       (subst (λ (s : SessionModel). CarriesOut seen (needs_of_work s) (λ program. open_next old.equipment program s (opening_of s.current)) answer (with_session old s) new) same c)
 
--- what holds where there is one
+-- what holds if there is a value
 pub by_some : {T : Type 0} (P : Type 0) (Q : T → Type 0) (o : Option T) → true ≡ is_some o → MatchOption o P Q → (x : T) × Q x
 by_some P Q None some m = absurd (let b : true ≡ false = some in cc)
 by_some P Q (Some x) some m = (x, m)

@@ -20,13 +20,13 @@ use Rattle.ng_core.specs.Model.{ControllerModel}
 use Rattle.ng_core.specs.Events.{IsCarriedOut, IsCarriedOutIfHonest, handing}
 use Rattle.ng_core.proofs.Ticks.{does_on, tick_item}
 
--- the same controller with this session
+-- a controller with this session
 abbrev pub with_session : {R : Type 0} → ControllerModel R → SessionModel → ControllerModel R
 with_session c s = record { journal = c.journal; session = s; lines = c.lines; equipment = c.equipment }
 
 -- ---- an item
 
--- what became of the item counts as what became of the Tick: the session took it before, and shows the same
+-- the outcome of the item is that of the Tick: the session took the item before, and its status is unchanged
 acts_before : {R : Type 0} (answer : Result Reply Fault) (out : Transition) (program : List ℕ) (old new : ControllerModel R) (trace_old trace_new : Trace)
     → IfErr answer (λ e. e ≡ DeviceFailed) → IsCarriedOut answer out program (with_session old (handed old.session)) new trace_old trace_new → IsCarriedOut answer out program old new trace_old trace_new
 acts_before (Ok r) out program old new trace_old trace_new errors acts = record { comes = acts.comes; stops = acts.stops; leaves = acts.leaves; untouched = acts.untouched }
@@ -77,7 +77,7 @@ segment_opens o half is = subst (λ (x : Option HalfModel). IfSome x (λ h. IsSo
 pub begins_there : (q : Equipment) (P : List ℕ) (s : SessionModel) → s.current ≡ None → is_running s.activity ≡ true → end q P s s.current ≡ begin q P s (program_line_at P s.stored.place)
 begins_there q P s none runs = ap (λ (o : Option CurrentBlockModel). end q P s o) none ∙ rw runs refl
 
--- what holds where there is none
+-- what holds if there is no value
 pub by_none : {T P : Type 0} (Q : T → Type 0) (o : Option T) → false ≡ is_some o → MatchOption o P Q → P
 by_none Q None none p = p
 by_none Q (Some x) none q = absurd (let b : false ≡ true = none in cc)

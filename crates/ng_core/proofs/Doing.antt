@@ -1,4 +1,4 @@
--- The same of an honest device, whatever its program is.
+-- What an event does over an honest device, whatever its program is.
 use Rattle.std.proofs.Common.{◌≡◌, ◌⊎◌, inl, inr, ℕ, List, [], ◌∷◌, Result, Ok, Err, refl, sym, ap, subst}
 use Rattle.ng_num.specs.declared.fault.Fault.{Fault}
 use Rattle.ng_num.specs.declared.fault.Fault.TheVariants.{DeviceFailed, CountersUsed, OutOfMemory}
@@ -15,7 +15,7 @@ use Rattle.ng_core.specs.Events.{IsCarriedOutIfHonest, TouchesNothing}
 use Rattle.ng_core.proofs.Acting.{known_as, acts_quiet, acts_aside, acts_moved, acts_unmoved, acts_handed, acts_unhanded}
 use Rattle.ng_core.proofs.Quiet.{IsStill}
 
--- the session answered, and what stands stays
+-- the session replied, and the durable state is unchanged
 pub does_still : {R : Type 0} (seen : R → Device) (r : Reply) (out : List ℕ → Transition) (old new : ControllerModel R)
     → ((program : List ℕ) → IsStill program old.session.stored (out program)) → new.journal ≡ old.journal → new.lines ≡ old.lines
     → ((program : List ℕ) → r ≡ (out program).reply) → ((program : List ℕ) → new.session ≡ (out program).next)
@@ -28,7 +28,7 @@ does_still {R} seen r out old new quiet same lines replied next = record {
       (quiet program).items (quiet program).program_is (quiet program).stored_is;
 }
 
--- there wasn't enough memory, or no count was left, and nothing was asked of the device
+-- there was no memory, or no count was left, and the device wasn't called
 pub does_aside : {R : Type 0} (seen : R → Device) (fault : Fault) (out : List ℕ → Transition) (old new : ControllerModel R)
     → (fault ≡ OutOfMemory) ⊎ (fault ≡ CountersUsed) → new.journal ≡ old.journal → new.lines ≡ old.lines → new.session ≡ old.session → IsCarriedOutIfHonest seen (Err fault) out old new
 does_aside {R} seen fault out old new which same lines still = record {
@@ -38,7 +38,7 @@ does_aside {R} seen fault out old new which same lines still = record {
       (subst (λ (j : JournalModel R). IsDurablyAt (seen j.rig).trace j (durable_state_of program old.session)) (sym same) rests.0) (known_as program program old.lines new.lines refl lines rests.1);
 }
 
--- what was asked of the journal
+-- a call of the journal that stores something
 abbrev pub Storing : {R T : Type 0} → (R → Device) → Result T Fault → (List ℕ → Transition) → ControllerModel R → JournalModel R → Type 0
 Storing seen result out old journal =
     IfHonest (seen old.journal.rig) (seen journal.rig) ((program : List ℕ) → IsAtRestWith (seen old.journal.rig).trace old program
@@ -72,7 +72,7 @@ Handing seen result item old journal =
     IfHonest (seen old.journal.rig) (seen journal.rig) ((program : List ℕ) → IsAtRestWith (seen old.journal.rig).trace old program
     → JournalHandOutSpec result journal (durable_state_of program old.session) item (seen old.journal.rig).trace (seen journal.rig).trace)
 
--- what an outcome that hands out one item has
+-- an outcome that hands out one item
 pub record Gives (item : Item) (old : DurableState) (program : List ℕ) (out : Transition) : Type 0 where
   pub items : out.items ≡ item ∷ []
   pub program_is : out.program ≡ program

@@ -1,5 +1,5 @@
--- The reply tells of a failed device exactly where that counted a failure: an event that is answered is refused for no
--- failure of the device.
+-- A reply reports a failed device exactly if the device counted a failure: an event that is answered isn't refused for
+-- a failure of the device.
 use Rattle.std.proofs.Common.{◌≡◌, inl, inr, ℕ, Bool, true, false, if◌then◌else◌, List, [], Option, Result, Ok, Err, sym, ◌∙◌, ap, subst}
 use Rattle.ng_num.specs.declared.fault.Fault.{Fault}
 use Rattle.ng_num.specs.declared.fault.Fault.TheVariants.{DeviceFailed, CountersUsed, OutOfMemory}
@@ -27,7 +27,7 @@ own_by_line out c program line own = own_if (is_running c.session.activity) (beg
 not_lost : (told : Reply) → TellsOwn told → told ≡ reply.Refused DeviceFailed → ⊥
 not_lost told own is = let z : false ≡ true = subst TellsOwn is own in cc
 
--- an answer is of the session's own, whether a line is read for it or not
+-- the reply is the session's, whether or not a line is read for it
 answers_own : {A R : Type 0} (reads : Type 0) (r : Reply) (event : Event A) (old new : ControllerModel R)
     → ((reads → ⊥) → (program : List ℕ) → (r ≡ (transition_of old program event).reply) × (new.session ≡ (transition_of old program event).next))
     → (reads → IsAnsweredByLine r (λ program. transition_of old program event) old new)

@@ -1,4 +1,4 @@
--- A history that goes on event by event.
+-- A history that goes on, event by event.
 use Rattle.std.proofs.Common.{◌≡◌, ⊎_elim, ℕ, Bool, true, false, List, [], ◌∷◌, ◌++◌, Result, Ok, Err, refl, sym, ◌∙◌, ap, subst, append_assoc}
 use Rattle.std.proofs.lemmas.List.{append-nil}
 use Rattle.ng_num.specs.declared.fault.Fault.{Fault}
@@ -13,7 +13,7 @@ use Rattle.ng_core.specs.Events.{Handles, reply_to, broken_answer}
 use Rattle.ng_core.specs.Causes.{transition_of}
 use Rattle.ng_core.proofs.History.{History, HonestTurn, OnSpecIfHonest, OnSpecAnyState, program_after}
 
--- So many of these events were answered: whatever comes of the rest makes a history of all.
+-- Some of the events were answered. Any history of the rest makes a history of all.
 pub record GoesOn {A R : Type 0} (seen : R → Device) (events rest : List (Event A)) (done : List Reply) (moments program : List ℕ) (old now : ControllerModel R) : Type 0 where
   pub here : List ℕ
   pub rests : now.journal.broken ≡ false → IsAtRestWith (seen now.journal.rig).trace now here

@@ -1,4 +1,4 @@
--- What a stop leaves has at least as many entries as were acknowledged by then: so no body takes an acknowledged one
+-- A stop leaves at least as many entries as were acknowledged by then. So no implementation takes an acknowledged entry
 -- away, not even for a moment.
 use Rattle.std.proofs.Common.{◌≡◌, ◌≤◌, ◌<◌, ◌+◌, ℕ, ℤ, zero, suc, List, [], ◌∷◌, ◌++◌, length, take, Option, Some, None, Result, Ok, Err, refl, sym, ◌∙◌, ap, subst, arith}
 use Rattle.std.proofs.lemmas.List.{length-take-le}
@@ -88,9 +88,9 @@ pub counts_acknowledged : {A R : Type 0} (seen : R → Device) (x : DurableState
 counts_acknowledged seen x events replies moments first now p t image handed tools y from until stop is =
     counted first.equipment _ x _ _ _ (dones (take (answered_by t moments) replies)) image handed tools y (p.stops.each t image handed from until stop) is
 
--- ---- and so a body that takes one away during an event is refused by what `on` says of the past, alone
+-- ---- what `on` says of the past alone rules out an implementation that takes an entry away during an event
 
--- before a moment to come all earlier ones were
+-- by a later moment, all earlier events were answered
 answered_before : (first t m : ℕ) (before : List ℕ) (last : ℕ) → IsRising first last before → last ≤ t → t < m → answered_by t (before ++ m ∷ []) ≡ length before
 answered_before first t m [] last rising late early = none_by t m m [] early (omega arith)
 answered_before first t m (s ∷ before) last rising late early =

@@ -1,4 +1,4 @@
--- What hinders an event, by what hinders the calls that it makes.
+-- Why an event isn't answered, from why the calls that it makes fail.
 use Rattle.std.proofs.Common.{◌≡◌, ◌≤◌, ◌⊎◌, ◌↔◌, inl, inr, ℕ, ℤ, Bool, true, false, not, if◌then◌else◌, ◌||◌, List, length, Option, Some, None, Result, Ok, Err, refl, sym, ◌∙◌, ap, subst, IsSomeAnd}
 use Rattle.std.specs.Option.{is_some, option_map}
 use Rattle.std.specs.Prelude.{IsErrOf}
@@ -20,7 +20,7 @@ use Rattle.ng_session.specs.Stages as stage
 use Rattle.ng_core.specs.Causes.{UsesUpCounter, IsCausedBy, stored_for, with_entry}
 use Rattle.ng_core.proofs.Ticks.{IsDue, opening}
 
--- what hinders the one hinders the other
+-- a cause stays one for an equal outcome, and if memory and the device are needed in more cases
 pub hindered_as : {m n d e : Type 0} (ledger : Ledger) (told wanted : List ℕ → Transition) → (m → n) → (d → e) → ((program : List ℕ) → told program ≡ wanted program)
     → (fault : Fault) → IsCausedBy m d ledger told fault → IsCausedBy n e ledger wanted fault
 hindered_as ledger told wanted f g same fault (inl short) = inl (short.0, f short.1)
@@ -32,7 +32,7 @@ hindered_as ledger told wanted f g same fault (inr (inr lost)) = inr (inr (lost.
 differ : (T : Type 0) (e : Fault) → e ≡ DeviceFailed → (let answered : Result T Fault = Err e in IsErrOf answered CountersUsed) → ⊥
 differ T e lost used = absurd (let answered : Result T Fault = Err DeviceFailed in let z : answered ≡ Err CountersUsed = (λ i. Err (sym lost i)) ∙ used in cc)
 
--- it answers that a counter is used up exactly where what it stores uses one up, and that is what the outcome stores
+-- the call returns that a counter is used up exactly if what it stores uses one up, and the outcome stores the same
 pub hindered_storing : (T : Type 0) (e : Fault) (ledger : Ledger) (told : List ℕ → Transition) (s : Storing) → (e ≡ CountersUsed) ⊎ (e ≡ DeviceFailed)
     → (let answered : Result T Fault = Err e in IsErrOf answered CountersUsed ↔ UsesUp ledger s)
     → ((program : List ℕ) → stored_for (told program) (told program).reply ≡ Some s) → IsCausedBy ⊥ (Unit {0}) ledger told e
@@ -41,7 +41,7 @@ hindered_storing T e ledger told s (inl used) iff stores =
 hindered_storing T e ledger told s (inr lost) iff stores =
     inr (inr (lost, tt, λ program used. differ T e lost (iff.1 (subst (λ (o : Option Storing). IsSomeAnd o (UsesUp ledger)) (stores program) used))))
 
--- the half-done block of what opens
+-- the half-done block that is stored when something opens
 stored_opening : (out : Transition) (n : ℕ) (o : Option Opened) → stored_for out (opening_reply n o) ≡ option_map Open out.next.stored.half
 stored_opening out n None = refl
 stored_opening out n (Some open_part.Segment) = refl
@@ -78,7 +78,7 @@ hindered_load T e room s saved text ledger free small is which iff =
     (λ used. (iff.0 used).1, λ u. iff.1 (small, u))
     (λ program. ap (λ (o : Option Fault). stored_for (load_unless program s text o) (load_unless program s text o).reply) free ∙ ap (λ (x : StoredModel). Some (Load x)) (sym is)))
 
--- a point where the machine stands, a half-done block that is given up, or a tool's length
+-- a reference, a half-done block that is given up, or a tool's length
 pub stored_reference : (q : Equipment) (P : List ℕ) (s : SessionModel) (point : Point) → reference_refusal q.geometry s point ≡ None
     → stored_for (reference q P s point) (reference q P s point).reply ≡ Some (Commit (after_reference s.stored point))
 stored_reference q P s point free = ap (λ (o : Option Fault). stored_for (reference_unless P s point o) (reference_unless P s point o).reply) free
@@ -100,7 +100,7 @@ pub busy_block : (b : Bool) (o : Option CurrentBlockModel) → is_some o ≡ tru
 busy_block true o block = refl
 busy_block false o block = block
 
--- where a block is current, no line is read
+-- if a block is current, no line is read
 pub busy_unread : (s : SessionModel) → is_some s.current ≡ true → IsBetweenLines s → ⊥
 busy_unread s block between = absurd (let z : false ≡ true = ap (λ (o : Option CurrentBlockModel). is_some o) (sym between.0) ∙ block in cc)
 
@@ -122,7 +122,7 @@ pub unused_begin : (q : Equipment) (P : List ℕ) (s : SessionModel) (line : Opt
 unused_begin q P s None ledger used = used
 unused_begin q P s (Some line) ledger used = unused_by P s line (done_of q P s.stored source.Program line.text s.block_delete) ledger used
 
--- nor does a half-done block that goes on
+-- nor does a half-done block that goes on use one up
 unused_again : (P : List ℕ) (s : SessionModel) (half : HalfModel) (from : Point) (done : Result Done Fault) (ledger : Ledger) → UsesUpCounter ledger (resume_by P s half from done) → ⊥
 unused_again P s half from (Ok done) ledger used = used
 unused_again P s half from (Err fault) ledger used = used

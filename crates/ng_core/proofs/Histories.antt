@@ -1,4 +1,4 @@
--- What a history leaves, by the session alone.
+-- What a history leaves, in terms of the session alone.
 use Rattle.std.proofs.Common.{◌≡◌, ◌⊎◌, ◌≤◌, ◌+◌, inl, inr, ⊎_elim, ℕ, zero, suc, Bool, true, false, List, [], ◌∷◌, ◌++◌, length, map, take, Result, Ok, Err, refl, sym, ◌∙◌, ap, subst, append_assoc, arith}
 use Rattle.std.proofs.lemmas.List.{append-nil}
 use Rattle.ng_num.specs.declared.fault.Fault.{Fault}
@@ -26,14 +26,14 @@ use Rattle.ng_core.proofs.Timing.{none_by, one_by, same_moment, same_more, same_
 
 -- ---- what a stop leaves, and how much of it was acknowledged
 
--- A stop leaves what stands after some of these events, no fewer than so many; of their replies so many are Done, or
--- one more.
+-- A stop leaves the state after some of these events, at least `least` of them. Of their replies `acknowledged` are
+-- Done, or one more.
 pub record IsLeftAt {A : Type 0} (equipment : Equipment) (scene : ProgramSession) (given : List Item) (least : ℕ) (events : List (Event A)) (acknowledged : ℕ) (image : Image) (handed : List Item) : Type 0 where
   pub after : IsCrashAfterSome least equipment scene given events image handed
   pub all : acknowledged ≤ dones (replies_of equipment scene (take after.count events))
   pub few : dones (replies_of equipment scene (take after.count events)) ≤ acknowledged + 1
 
--- the same where the first n events were answered
+-- what a stop leaves if the first n events were answered
 abbrev pub IsLeftBy : {A : Type 0} → Equipment → ProgramSession → List Item → List (Event A) → List (Result Reply Fault) → List Reply → ℕ → Image → List Item → Type 0
 IsLeftBy equipment scene given events answers replies n image handed =
     IsLeftAt equipment scene given (length (answered_events (take n events) answers)) (tried_events (take (suc n) events) answers) (dones (take n replies)) image handed
@@ -53,7 +53,7 @@ either_left trace_old program old after image handed rests either =
     ⊎_elim (λ stop. record { left = crash_in (program_session_of program old) (items trace_old); which = inl refl; stands_for = alone trace_old _ _ image handed rests.0.at stop }) (λ p. p) either
 
 module _ {A : Type 0} (equipment : Equipment) (scene : ProgramSession) (given : List Item) (image : Image) (handed : List Item) where
-  -- at rest, after none
+  -- at rest, after no event
   none_left : StandsFor (crash_in scene given).standing given image handed → IsLeftAt {A = A} equipment scene given 0 [] 0 image handed
   none_left stands = record {
     after = record { count = 0; all = omega arith; within = omega arith; stands_for = as_items _ given (given ++ []) image handed (append-nil given) stands };
@@ -106,7 +106,7 @@ module _ {A : Type 0} (equipment : Equipment) (scene : ProgramSession) (given : 
     few = omega (arith, p.few, same);
   }
 
-  -- the same by other words
+  -- for equal numbers and events
   same_left : (least more : ℕ) (events others : List (Event A)) (acknowledged done : ℕ) → more ≡ least → others ≡ events → done ≡ acknowledged
       → IsLeftAt equipment scene given least events acknowledged image handed → IsLeftAt equipment scene given more others done image handed
   same_left least more events others acknowledged done l e a p =
@@ -116,7 +116,7 @@ module _ {A : Type 0} (equipment : Equipment) (scene : ProgramSession) (given : 
 
 -- ---- what a history leads to
 
--- What is left at each stop, with how much of it was acknowledged; and what stands now.
+-- What each stop leaves, with how much of it was acknowledged; and the state now.
 pub record Leads {A R : Type 0} (seen : R → Device) (events : List (Event A)) (replies : List Reply) (moments : List ℕ) (equipment : Equipment) (scene : ProgramSession) (trace_old : Trace) (new : ControllerModel R) : Type 0 where
   pub answers : List (Result Reply Fault)
   pub replies_are : replies ≡ map reply_to answers
@@ -128,7 +128,7 @@ pub record Leads {A R : Type 0} (seen : R → Device) (events : List (Event A)) 
   pub rests : new.journal.broken ≡ false → IsAtRestWith (seen new.journal.rig).trace new (session_after equipment scene (answered_events events answers)).program
   pub items_are : new.journal.broken ≡ false → items (seen new.journal.rig).trace ≡ items trace_old ++ items_of equipment scene (answered_events events answers)
 
--- Once the device failed, nothing changes any more, and nothing is acknowledged; so each moment is the same.
+-- After the device failed, nothing changes any more, and nothing is acknowledged; so each moment is the same.
 record Idles {A R : Type 0} (seen : R → Device) (events : List (Event A)) (replies : List Reply) (moments : List ℕ) (old new : ControllerModel R) : Type 0 where
   answers : List (Result Reply Fault)
   replies_are : replies ≡ map reply_to answers
@@ -177,7 +177,7 @@ idles seen (event ∷ events) (r ∷ replies) (m ∷ moments) program old new h 
     idles_more seen event events r replies m moments answer program old between new broken h.1.1.0
     (idles seen events replies moments (program_after answer (transition_of old program event) program) between new h.1.1.1 (ap (λ (c : ControllerModel _). c.journal.broken) turn.1 ∙ broken))
 
--- the rest of a history leads on, from where an answered event left the controller
+-- the rest of a history goes on from the controller that an answered event left
 led_on : {A R : Type 0} (seen : R → Device) (event : Event A) (events : List (Event A)) (r v : Reply) (replies : List Reply) (moments program : List ℕ) (old between new : ControllerModel R)
     → r ≡ v → OnSpecIfHonest seen (Ok v) event program old between → IsAtRestWith (seen old.journal.rig).trace old program
     → Leads seen events replies moments between.equipment (program_session_of (transition_of old program event).program between) (seen between.journal.rig).trace new
@@ -346,7 +346,7 @@ passed seen events replies moments equipment scene trace_old new l = record {
   items_are = l.items_are;
 }
 
--- Each history passes as the session does.
+-- Each history proceeds as the session does.
 pub passes : {A R : Type 0} (seen : R → Device) (events : List (Event A)) (replies : List Reply) (moments program : List ℕ) (old new : ControllerModel R)
     → History seen events replies moments program old new → old.journal.broken ≡ false → IsAtRestWith (seen old.journal.rig).trace old program
     → PassesAsSession seen events replies moments old.equipment (program_session_of program old) (seen old.journal.rig).trace new

@@ -1,4 +1,4 @@
--- What a list of events does to a controller over an honest device, one after the other.
+-- What a list of events does to a controller over an honest device, one after another.
 use Rattle.std.proofs.Common.{◌≡◌, ℕ, Bool, true, false, List, [], ◌∷◌, Result, Ok, Err, IfErr}
 use Rattle.ng_num.specs.declared.fault.Fault.{Fault}
 use Rattle.ng_rig.specs.Device.{Device}
@@ -16,13 +16,12 @@ use Rattle.ng_core.specs.Events.{IsCarriedOut, reply_to, broken_answer}
 abbrev pub HasRefusalCause : {A R : Type 0} → ControllerModel R → Event A → Fault → Type 0
 HasRefusalCause c event fault = IsCausedBy (TakesMemory c.equipment c.session event) (AsksDevice c.equipment c.session event) (ledger_of c.journal) (λ program. transition_of c program event) fault
 
--- the program that the device has after an event: that of its outcome, where it was answered
+-- the program that the device has after an event: that of its outcome, if it was answered
 abbrev pub program_after : Result Reply Fault → Transition → List ℕ → List ℕ
 program_after (Ok r) out program = out.program
 program_after (Err fault) out program = program
 
--- An event came to its outcome in a whole controller, or was hindered; the controller is broken then where the device
--- failed.
+-- A whole controller carried an event out, or was kept from it. The controller is broken then if the device failed.
 pub record OnSpecIfHonest {A R : Type 0} (seen : R → Device) (answer : Result Reply Fault) (event : Event A) (program : List ℕ) (old new : ControllerModel R) : Type 0 where
   pub acts : IsCarriedOut answer (transition_of old program event) program old new (seen old.journal.rig).trace (seen new.journal.rig).trace
   pub hindered : IfErr answer (HasRefusalCause old event)
@@ -40,7 +39,7 @@ pub record HonestTurn {A R : Type 0} (seen : R → Device) (event : Event A) (r 
   pub moment_is : at ≡ moment (seen new.journal.rig).trace
   pub stepping : OnSpecAnyState seen old.journal.broken answer event program old new
 
--- One event after the other, each with its reply and its moment, from where the one before left controller and device.
+-- One event after another, each with its reply and its moment, from the controller and device that the one before left.
 abbrev pub History : {A R : Type 0} → (R → Device) → List (Event A) → List Reply → (moments program : List ℕ) → ControllerModel R → ControllerModel R → Type 0
 History seen [] [] [] program old new = new ≡ old
 History seen [] [] (m ∷ moments) program old new = ⊥

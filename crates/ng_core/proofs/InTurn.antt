@@ -18,7 +18,7 @@ use Rattle.ng_core.proofs.History.{HasRefusalCause, History}
 use Rattle.ng_core.proofs.GoingOn.{GoesFrom, begins, ends, goes_next}
 use Rattle.ng_core.proofs.Histories.{passes}
 
--- ---- one turn, and turns after turns
+-- ---- one turn, and several turns
 
 pub turns_one : {A R : Type 0} (seen : R → Device) (event : Event A) (r : Reply) (old new : ControllerModel R)
     → IsAnsweredEvent seen event r old new → AreAnsweredEvents seen (event ∷ []) (r ∷ []) old new
@@ -105,7 +105,7 @@ pub turns_pass : {A R : Type 0} (seen : R → Device) (events : List (Event A)) 
 turns_pass seen events replies old new t whole =
     meaning (turns_ran seen events replies old new t) (λ ran program rests. ran program whole rests)
 
--- ---- what they leave of any
+-- ---- what they leave of any device
 
 turn_equipment : {A R : Type 0} (seen : R → Device) (event : Event A) (r : Reply) (b : Bool) (old new : ControllerModel R)
     → old.journal.broken ≡ b → IsAnsweredEvent seen event r old new → new.equipment ≡ old.equipment

@@ -13,17 +13,17 @@ use Rattle.ng_session.specs.Cuts.{Nothing_open}
 use Rattle.ng_core.specs.Headline.{IsAccounted}
 use Rattle.ng_core.specs.Lives.{CutSession, IsCutWithinPowerOn, IsSession, CommittedSession, state_after_session, items_of_session, SessionKeepsToFold, CutsOfImageHistory}
 
--- what a session lived, by the fold
+-- what a session did, in terms of the fold
 record IsLived (equipment : Equipment) (tools : List ℤ) (x : DurableState) (s : CutSession) : Type 0 where
   committed : Option CommittedSession
   keeps : SessionKeepsToFold equipment x s committed
   stands_for : StandsBeside tools (state_after_session equipment x committed) (items_of_session equipment x committed) s.image s.items
 
--- what stands by itself stands beside this table
+-- an image that stands for a state by itself also stands for it with this table
 read_with : (tools : List ℤ) (standing : DurableState) (given : List Item) (image : Image) (handed : List Item) → StandsFor standing given image handed → StandsBeside tools standing given image handed
 read_with tools standing given image handed p = record { state = modern-beside tools image p.modern ∙ p.state; written = p.written; handed_is = p.handed_is }
 
--- where what stood was recovered before the cut, it lived no entry
+-- if the state was recovered before the cut, the session committed no entry
 lived_within : (equipment : Equipment) (tools : List ℤ) (x : DurableState) (s : CutSession) → IsCutWithinPowerOn tools x s → IsLived equipment tools x s
 lived_within equipment tools x s p = elim p.stands_for [
   | inl before ↦ record { committed = None; keeps = p.acknowledged; stands_for = before }

@@ -1,4 +1,4 @@
--- What came since power on, and what comes after it.
+-- The events since power on, and those that come after them.
 use Rattle.std.proofs.Common.{◌≡◌, ℕ, ℤ, false, List, ◌++◌, Result, Ok, Err, refl, sym, ◌∙◌, ap, subst}
 use Rattle.std.specs.Prelude.{IfOk}
 use Rattle.ng_num.specs.declared.fault.Fault.{Fault}

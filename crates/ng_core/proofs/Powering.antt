@@ -1,4 +1,4 @@
--- What power on gives, by what the journal recovers.
+-- What power on returns, from what the journal recovers.
 use Rattle.std.proofs.Common.{◌≡◌, ℕ, ℤ, List, Ok, sym, ◌∙◌, ap, subst}
 use Rattle.ng_rig.specs.Trace.{Trace}
 use Rattle.ng_layout.specs.Stored.{StoredModel, DurableState}

@@ -1,4 +1,4 @@
--- What no device is asked for leaves what stands as it is.
+-- An event that needs no device leaves the stored state unchanged.
 use Rattle.std.proofs.Common.{◌≡◌, ℕ, ◌==◌, Bool, true, false, not, ◌||◌, if◌then◌else◌, List, [], Option, None, Some, Result, Ok, Err, refl}
 use Rattle.std.specs.Option.{is_some}
 use Rattle.ng_num.specs.declared.fault.Fault.{Fault}
@@ -11,7 +11,7 @@ use Rattle.ng_session.specs.Session.{SessionModel, Transition, is_running, is_id
 use Rattle.ng_session.specs.declared.event.Event.{Event}
 use Rattle.ng_session.specs.declared.event.Event.TheVariants as event
 
--- nothing is handed out, and what stands stays
+-- nothing is handed out, and the stored state is unchanged
 pub record IsStill (program : List ℕ) (stored : StoredModel) (out : Transition) : Type 0 where
   pub items : out.items ≡ []
   pub program_is : out.program ≡ program
@@ -65,7 +65,7 @@ still_step q P s (event.BlockDelete on) quiet = still refl refl refl
 still_step q P s event.Status quiet = still refl refl refl
 still_step q P s event.Tick quiet = absurd quiet
 
--- nor is a line read for it
+-- and no line is read for it
 pub quiet_unread : {A : Type 0} (q : Equipment) (s : SessionModel) (e : Event A) → IsQuiet e → NeedsProgramLine q s e → ⊥
 quiet_unread q s (event.Load text) quiet read = read
 quiet_unread q s event.Start quiet read = read

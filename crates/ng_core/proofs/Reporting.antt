@@ -1,4 +1,4 @@
--- An entry that is kept as a report.
+-- An entry that is stored as a report.
 use Rattle.std.proofs.Common.{◌≡◌, ◌⊎◌, ℕ, ℤ, ◌+◌, ◌<◌, nat_lt, arith, Bool, true, false, not, ◌&&◌, if◌then◌else◌, Option, None, Some, Result, Ok, Err, refl, sym, ap, subst, ◌∙◌}
 use Rattle.std.proofs.lemmas.Bool.Decides.{nat_tests}
 use Rattle.std.specs.Option.{is_none}
@@ -41,7 +41,7 @@ pub keeps_none : {R T : Type 0} (seen : R → Device) (fault : Fault) (saved : S
 keeps_none {R} {T} seen fault saved entry next old new is same which unchanged p lines =
     does_unmoved {T = T} seen fault fault (λ program. commits program entry next) old new (storing {T = T} seen (Err fault) saved entry next old new.journal is p) which unchanged lines same (λ program. refl)
 
--- ---- where a half-done block may be given up
+-- ---- a half-done block may be given up
 
 none_of : {T : Type 0} (o : Option T) → is_none o ≡ true → o ≡ None
 none_of None h = refl
@@ -66,7 +66,7 @@ no_block s free = none_of s.current (first_of (is_none s.current) (not (is_runni
 pub has_half : (s : SessionModel) → abandon_refusal s ≡ None → s.stored.half ≡ None → ⊥
 has_half s free none = let e : true ≡ false = sym (ap is_none none) ∙ half_of (is_at_rest s) (is_none s.stored.half) free in cc
 
--- ---- where a tool's length may be put into a slot
+-- ---- a tool's length may be put into a slot
 
 rest_of : (b d : Bool) → b && d ≡ true → b ≡ true
 rest_of true d h = refl

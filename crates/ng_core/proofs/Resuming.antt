@@ -1,4 +1,4 @@
--- A half-done block goes on, by what the read before it promises.
+-- A half-done block goes on, from the contract of the read before it.
 use Rattle.std.proofs.Common.{◌≡◌, ◌≤◌, inl, ℕ, ◌&&◌, Bool, true, false, not, if◌then◌else◌, List, Option, Some, None, Result, Ok, Err, refl, sym, ◌∙◌, ap, subst}
 use Rattle.std.specs.Prelude.{IfSome}
 use Rattle.std.specs.Option.{is_none}
@@ -91,7 +91,7 @@ comes_not_resumed reads fault old new is same =
 
 -- ---- it goes on
 
--- what the session answers and goes on to
+-- the reply of the session, and the session after it
 abbrev pub GoesOn : {R : Type 0} → Reply → SessionModel → ControllerModel R → SessionModel → ℕ → Type 0
 GoesOn r next old s place = (program : List ℕ) → IsNextLineAt program s place → (r ≡ (resume old.equipment program s).reply) × (next ≡ (resume old.equipment program s).next)
 
@@ -136,11 +136,11 @@ by_stopped : {R : Type 0} (out : List ℕ → Transition) (c : ControllerModel R
     → is_running c.session.activity ≡ false → by_line out c program line ≡ out program
 by_stopped out c program line stops = rw stops refl
 
--- where it was refused, no line was read
+-- if it was refused, no line was read
 pub refused_unread : (refusal : Option Fault) (fault : Fault) → Some fault ≡ refusal → refusal ≡ None → ⊥
 refused_unread refusal fault is free = absurd (let some : Option Fault = Some fault in let z : some ≡ None = is ∙ free in cc)
 
--- whatever the device gave for the line at the place, the next line begins there in some program
+-- whatever the device returned for the line at the place, the next line begins there in some program
 pub resumed_line : {R : Type 0} (r : Reply) (place : ℕ) (old new : ControllerModel R) (s : SessionModel)
     → s ≡ old.session → resume_refusal old.equipment old.session ≡ None → IsProgramsLine old.session.stored.half → s.stored.place ≤ place
     → GoesOn r new.session old s place → ledger_of new.journal ≡ ledger_of old.journal
@@ -158,7 +158,7 @@ resumed_line r place old new s same free line beyond goes ledger =
       ledger = ledger;
     }
 
--- there wasn't enough memory for the states after the block and after its approach
+-- there was no memory for the states after the block and after its approach
 pub does_resume_short : {R E : Type 0} (seen : R → Device) (fault : Fault) (place : ℕ) (s : SessionModel) (out : List ℕ → Transition) (old new : ControllerModel R)
     → FindingNext {E = E} seen (Ok place) s old.journal new.journal → fault ≡ OutOfMemory → new.session ≡ old.session → new.lines ≡ old.lines
     → IsCarriedOutIfHonest seen (Err fault) out old new

@@ -1,4 +1,4 @@
--- Which sessions the stops of a device leave, by what its calls promise.
+-- The sessions that the stops of a device leave, from the contracts of its calls.
 use Rattle.std.proofs.Common.{◌≡◌, ◌≤◌, inl, inr, ⊎_elim, ℕ, ℤ, suc, List, [], ◌∷◌, ◌++◌, take, Ok, refl, sym, ◌∙◌, ap, subst, append_assoc, arith}
 use Rattle.std.proofs.lemmas.List.{append-nil}
 use Rattle.ng_canon.specs.declared.item.Item.{Item}
@@ -42,7 +42,7 @@ left_within equipment tools x old image handed state written p = record {
   };
 }
 
--- a synced device is left as it reads
+-- a stop of a synced device leaves the image that is read
 left_synced : (tools : List ℤ) (old : Trace) (image : Image) (handed : List Item) → IsSynced old → IsWritten (reads old) → IsStop old image handed
     → IsEitherBeside tools (stands_beside tools (reads old)) (recovered_of (stands_beside tools (reads old))) (items old) image handed
 left_synced tools old image handed synced written stop =
@@ -95,13 +95,13 @@ after_power_on A seen tools image x events replies moments first now p state wri
     let scene = session_at_power_on (recovered x) in
     left_after first.equipment tools (lines_given (take (suc n) events)) x image (items (seen first.journal.rig).trace) (entries_of first.equipment scene tried) (under_way first.equipment scene tried) (dones (take n replies)) left handed state written a)
 
--- ---- power on anew
+-- ---- power on again
 
 rising_last : (first last : ℕ) (moments : List ℕ) → IsRising first last moments → first ≤ last
 rising_last first last [] rising = rising
 rising_last first last (m ∷ ms) rising = omega (arith, rising.0, rising_last m last ms rising.1)
 
--- an image that a power on may begin with
+-- an image with which a power on may begin
 record IsSound (tools : List ℤ) (image : Image) : Type 0 where
   standing : DurableState
   state : stands_beside tools image ≡ Ok standing

@@ -1,4 +1,4 @@
--- The arms of a Tick, by what their calls promise.
+-- The arms of a Tick, from the contracts of their calls.
 use Rattle.std.proofs.Common.{◌≡◌, ◌⊎◌, ℕ, true, false, List, Option, Some, None, Result, Ok, Err, refl, sym, ◌∙◌, ap, subst}
 use Rattle.ng_num.specs.declared.fault.Fault.{Fault}
 use Rattle.ng_num.specs.declared.fault.Fault.TheVariants.{DeviceFailed, CountersUsed}
@@ -21,7 +21,7 @@ use Rattle.ng_core.proofs.Acting.{known_as}
 use Rattle.ng_core.proofs.Quiet.{still}
 use Rattle.ng_core.proofs.Doing.{does_still, does_moved, does_unmoved, does_handed, does_unhanded, Storing}
 
--- the same from an equal controller, to an equal outcome
+-- for an equal controller and an equal outcome
 pub does_on : {R : Type 0} (seen : R → Device) (answer : Result Reply Fault) (out wanted : List ℕ → Transition) (old mid new : ControllerModel R)
     → mid ≡ old → ((program : List ℕ) → out program ≡ wanted program) → IsCarriedOutIfHonest seen answer out mid new → IsCarriedOutIfHonest seen answer wanted old new
 does_on seen answer out wanted old mid new same equal does =
@@ -39,13 +39,13 @@ does_held seen c held =
     does_on seen (Ok reply.Held) (λ program. answers program reply.Held c.session) (λ program. tick c.equipment program c.session) c c c refl (λ program. sym (tick_held c.equipment program c.session held))
     (does_still seen reply.Held (λ program. answers program reply.Held c.session) c c (λ program. still refl refl refl) refl refl (λ program. refl) (λ program. refl))
 
--- what is known of the lines stays
+-- what is known of the lines is unchanged
 pub kept : (k l : KnownModel) → l ≡ k → (program : List ℕ) → IsKnownOf program k → IsKnownOf program l
 kept k l same program known = known_as program program k l refl same known
 
 -- ---- an item
 
--- what `hand_out` promises
+-- the contract of `hand_out`
 abbrev pub HandsIt : {R T : Type 0} → (R → Device) → Result T Fault → Item → JournalModel R → JournalModel R → Type 0
 HandsIt seen result item old new =
     IfHonest (seen old.rig) (seen new.rig) ((standing : DurableState) → IsDurablyAt (seen old.rig).trace old standing → JournalHandOutSpec result new standing item (seen old.rig).trace (seen new.rig).trace)
@@ -80,7 +80,7 @@ opening_touches n None nothing = nothing
 opening_touches n (Some open_part.Segment) nothing = nothing
 opening_touches n (Some open_part.Approach) nothing = nothing
 
--- what `open_segment` promises
+-- the contract of `open_segment`
 abbrev pub StoresHalf : {R T : Type 0} → (R → Device) → Result T Fault → HalfModel → JournalModel R → JournalModel R → Type 0
 StoresHalf seen result half old new =
     IfHonest (seen old.rig) (seen new.rig) ((before : DurableState) → IsDurablyAt (seen old.rig).trace old before
@@ -112,13 +112,13 @@ opens_none {R} {T} seen fault e half old new same held which unchanged p lines =
 
 -- ---- an entry
 
--- what `commit` promises
+-- the contract of `commit`
 abbrev pub StoresEntry : {R T : Type 0} → (R → Device) → Result T Fault → StoredModel → JournalModel R → JournalModel R → Type 0
 StoresEntry seen result saved old new =
     IfHonest (seen old.rig) (seen new.rig) ((before : DurableState) → IsDurablyAt (seen old.rig).trace old before
     → CommitSpec result new before (record before { saved = saved }) (seen old.rig).trace (seen new.rig).trace)
 
--- the block that is current, and what is stored after it
+-- the current block, and what is stored after it
 pub record IsDue (s : SessionModel) (saved : StoredModel) : Type 0 where
   pub block : CurrentBlockModel
   pub current : s.current ≡ Some block

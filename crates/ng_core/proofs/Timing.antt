@@ -1,4 +1,4 @@
--- Stops by the moments of a trace that goes on.
+-- Stops at the moments of a trace that goes on.
 use Rattle.std.proofs.Common.{◌≡◌, ◌⊎◌, inl, inr, ℕ, suc, ◌<◌, ◌≤◌, if◌then◌else◌, nat_lt, List, [], ◌∷◌, length, refl, sym, ◌∙◌, ap, subst, arith}
 use Rattle.std.proofs.lemmas.Bool.Decides.{nat_tests}
 use Rattle.ng_canon.specs.declared.item.Item.{Item}
@@ -23,7 +23,7 @@ none_by t last m (s ∷ ms) lt rising = not_yet t m (answered_by t (s ∷ ms)) (
 pub one_by : (t m : ℕ) (ms : List ℕ) → m ≤ t → answered_by t (m ∷ ms) ≡ suc (answered_by t ms)
 one_by t m ms le = already t m (answered_by t ms) (suc (answered_by t ms)) le
 
--- ---- moments that are one and the same
+-- ---- equal moments
 
 pub same_moment : {X : Type 0} → ℕ → List X → List ℕ
 same_moment m [] = []
@@ -57,12 +57,12 @@ module _ (image : ℕ → List ℕ) (handed : List Item) where
   since : (trace : Trace) (first t : ℕ) → first ≤ t → t ≤ moment trace → IsStop (trace_at t trace) image handed → StopSince trace first image handed
   since trace first t from until stop = between-since image handed trace first (record { at = t; from = from; until = until; stop = stop })
 
-  -- within a call each is the old trace's, or one of the call's
+  -- within a call each stop is one of the old trace's or of the call's
   pub within_call : (old mid : Trace) (P : Image → List Item → Type 0) (t : ℕ) → IsContinuation old mid P → moment old ≤ t → t ≤ moment mid → IsStop (trace_at t mid) image handed
       → StopSince old (moment old) image handed ⊎ P image handed
   within_call old mid P t a from until stop = a.each (moment old) image handed (omega arith) (since mid (moment old) t from until stop)
 
--- where no call came
+-- without a call
 pub no_call : (trace : Trace) (Said : ℕ → Image → List Item → Type 0)
     → ((t : ℕ) (image : ℕ → List ℕ) (handed : List Item) → StopSince trace (moment trace) image handed → Said t image handed) → AtEachStop trace trace Said
 no_call trace Said now = record { was = trace_now trace; each = λ t image handed from until stop. now t image handed (since image handed trace (moment trace) t from until stop) }
@@ -88,7 +88,7 @@ more_calls old mid new P Rest Said a rest early late = record {
   ];
 }
 
--- where more is said
+-- for a weaker statement
 pub weaker_said : (old new : Trace) (P Said : ℕ → Image → List Item → Type 0) → AtEachStop old new P
     → ((t : ℕ) (image : ℕ → List ℕ) (handed : List Item) → moment old ≤ t → P t image handed → Said t image handed) → AtEachStop old new Said
 weaker_said old new P Said a imply = record { was = a.was; each = λ t image handed from until stop. imply t image handed from (a.each t image handed from until stop) }

@@ -1,4 +1,4 @@
--- What events do to a controller and to its device, one after the other, over any device (own).
+-- What events do to a controller and to its device, one after another, with any device (own).
 use Rattle.std.specs.Prelude.{◌≡◌, ℕ, true, false, List, [], ◌∷◌}
 use Rattle.ng_rig.specs.Device.{Device}
 use Rattle.ng_rig.specs.Trace.{moment}

@@ -16,7 +16,7 @@ use Rattle.ng_core.specs.Model.{ControllerModel}
 abbrev pub transition_of : {A R : Type 0} → ControllerModel R → List ℕ → Event A → Transition
 transition_of c program event = step c.equipment program c.session event
 
--- what is stored with an entry: a program's is loaded, each other is committed
+-- what is stored with an entry: a program is loaded, any other entry is committed
 abbrev pub with_entry : StoredModel → Entry → Storing
 with_entry saved (Block source text block_delete) = Commit saved
 with_entry saved (Loaded text) = Load saved
@@ -25,12 +25,12 @@ with_entry saved Approached = Commit saved
 with_entry saved Abandoned = Commit saved
 with_entry saved (Tooled slot nm) = Commit saved
 
--- what is stored with the entry that there is, if there is one
+-- what is stored with the entry, if there is one
 abbrev pub with_entries : StoredModel → List Entry → Option Storing
 with_entries saved [] = None
 with_entries saved (entry ∷ more) = Some (with_entry saved entry)
 
--- what has to be stored before an outcome is told, by its reply
+-- what has to be stored before an outcome is reported, depending on its reply
 abbrev pub stored_for : Transition → Reply → Option Storing
 stored_for out (reply.Done n) = with_entries out.next.stored out.entries
 stored_for out (reply.Opened index) = option_map Open out.next.stored.half
@@ -49,12 +49,12 @@ stored_for out (reply.Refused fault) = None
 abbrev pub UsesUpCounter : Ledger → Transition → Type 0
 UsesUpCounter ledger out = IsSomeAnd (stored_for out out.reply) (UsesUp ledger)
 
--- an entry that is committed, and not loaded
+-- an entry that is committed, not loaded
 abbrev pub IsCommitted : Entry → Type 0
 IsCommitted entry = (saved : StoredModel) → with_entry saved entry ≡ Commit saved
 
--- There isn't enough memory, where some is taken; or a counter is used up that the outcome needs; or the device failed,
--- where it is asked and no counter is used up. The outcome is by the program that the device has.
+-- There is no memory, if some is needed; or a counter that the outcome needs is used up; or the device failed, if it is
+-- called and no counter is used up. The outcome is that for the program on the device.
 abbrev pub IsCausedBy : (memory device : Type 0) → Ledger → (List ℕ → Transition) → Fault → Type 0
 IsCausedBy memory device ledger told fault =
     ((fault ≡ OutOfMemory) × memory)

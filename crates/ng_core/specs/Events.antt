@@ -27,47 +27,47 @@ abbrev pub reply_to : Result Reply Fault → Reply
 reply_to (Ok r) = r
 reply_to (Err fault) = reply.Refused fault
 
--- What is told, and the session then, of an event that leads to this. Without memory or a counter for it the session
--- stays; where the device failed, what the status shows stays.
+-- The reply to an event with this outcome, and the session after it. Without memory or a counter for it, the session is
+-- unchanged; if the device failed, what the status shows is unchanged.
 abbrev pub IsAnsweredBy : {R : Type 0} → Result Reply Fault → Transition → ControllerModel R → ControllerModel R → Type 0
 IsAnsweredBy (Ok r) out old new = (r ≡ out.reply) × (new.session ≡ out.next)
 IsAnsweredBy (Err DeviceFailed) out old new = session_status new.session ≡ session_status old.session
 IsAnsweredBy (Err fault) out old new = new.session ≡ old.session
 
--- Where an event isn't answered, what the status shows stays. Where the device didn't fail, so does all of the session,
--- and what the journal keeps; and the device isn't called, unless a line is read.
+-- If an event isn't answered, what the status shows is unchanged. If the device didn't fail, the whole session and what
+-- the journal keeps are unchanged too, and the device isn't called, unless a line is read.
 pub record KeepsSession {R : Type 0} (reads : Type 0) (fault : Fault) (old new : ControllerModel R) : Type 0 where
   pub status : session_status new.session ≡ session_status old.session
   pub session : fault ≢ DeviceFailed → new.session ≡ old.session
   pub ledger : fault ≢ DeviceFailed → ledger_of new.journal ≡ ledger_of old.journal
   pub journal : fault ≢ DeviceFailed → (reads → ⊥) → new.journal ≡ old.journal
 
--- What is told, and the session then, whatever the device is: by the session alone, unless a line is read for it.
+-- The reply and the session after it, with any device. They depend on the session alone, unless a line is read for it.
 abbrev pub IsAnsweredAnyway : {R : Type 0} → (reads : Type 0) → Result Reply Fault → (List ℕ → Transition) → ControllerModel R → ControllerModel R → Type 0
 IsAnsweredAnyway reads answer out old new =
     MatchResult answer (λ r. (reads → ⊥) → (program : List ℕ) → (r ≡ (out program).reply) × (new.session ≡ (out program).next)) (λ fault. KeepsSession reads fault old new)
 
--- What an event leads to by a line that was read, or by none: a program that runs begins that line, after the lines of
--- this program before its place; a half-done block goes on as in this program.
+-- What an event leads to if a line was read, or no line. A program that runs begins that line, after the lines of this
+-- program before its place. A half-done block goes on as in this program.
 abbrev pub by_line : {R : Type 0} → (List ℕ → Transition) → ControllerModel R → List ℕ → Option ProgramLineModel → Transition
 by_line out c program line = if is_running c.session.activity then begin c.equipment program c.session line else out program
 
--- Whatever the device gave: it is answered for one line, after the lines of some program, or for none, and the session
--- goes on as by that alone; what the journal keeps stays.
+-- Whatever the device returned, the event is answered for one line, after the lines of some program, or for no line.
+-- The session goes on accordingly, and what the journal keeps is unchanged.
 pub record IsAnsweredByLine {R : Type 0} (r : Reply) (out : List ℕ → Transition) (old new : ControllerModel R) : Type 0 where
   pub program : List ℕ
   pub line : Option ProgramLineModel
   pub comes : IsAnsweredBy (Ok r) (by_line out old program line) old new
   pub ledger : ledger_of new.journal ≡ ledger_of old.journal
 
--- What stands then and was handed out: of an answer what it leads to, alone; without memory or a counter for it the
--- device stays.
+-- The durable state and the items handed out after an event. With a reply they are those of its outcome. Without memory
+-- or a counter for it, the device is unchanged.
 abbrev pub LeavesDevice : {R : Type 0} → Result Reply Fault → Transition → List ℕ → ControllerModel R → Trace → Trace → Type 0
 LeavesDevice (Ok r) out program new trace_old trace_new = IsAtRestWith trace_new new out.program × (items trace_new ≡ items trace_old ++ out.items)
 LeavesDevice (Err DeviceFailed) out program new trace_old trace_new = Unit {0}
 LeavesDevice (Err fault) out program new trace_old trace_new = IsAtRestWith trace_new new program × (trace_new ≡ trace_old)
 
--- an answer for which nothing is stored and nothing handed out
+-- a reply for which nothing is stored and nothing handed out
 abbrev pub TouchesNothing : Reply → Type 0
 TouchesNothing (reply.Done n) = ⊥
 TouchesNothing (reply.Opened index) = ⊥
@@ -82,7 +82,7 @@ TouchesNothing reply.Taken = Unit {0}
 TouchesNothing (reply.Status status) = Unit {0}
 TouchesNothing (reply.Refused fault) = Unit {0}
 
--- A stop leaves the one or the other.
+-- A stop leaves either the one or the other.
 pub record IsCrashOfEither (before after : CrashState) (image : Image) (handed : List Item) : Type 0 where
   pub left : CrashState
   pub which : (left ≡ before) ⊎ (left ≡ after)
@@ -91,16 +91,16 @@ pub record IsCrashOfEither (before after : CrashState) (image : Image) (handed :
 abbrev pub program_session_of : {R : Type 0} → List ℕ → ControllerModel R → ProgramSession
 program_session_of program c = record { program = program; session = c.session }
 
--- An event came to its outcome: each stop since leaves what was there before it or what is there after it. Where
--- nothing is stored and nothing handed out, the device's trace is as it was.
+-- An event was carried out: each stop since leaves what was there before it or what is there after it. If nothing is
+-- stored and nothing handed out, the device's trace is unchanged.
 pub record IsCarriedOut {R : Type 0} (answer : Result Reply Fault) (out : Transition) (program : List ℕ) (old new : ControllerModel R) (trace_old trace_new : Trace) : Type 0 where
   pub comes : IsAnsweredBy answer out old new
   pub stops : IsContinuation trace_old trace_new (IsCrashOfEither (crash_in (program_session_of program old) (items trace_old)) (crash_in (session_of_transition out) (items trace_old ++ out.items)))
   pub leaves : LeavesDevice answer out program new trace_old trace_new
   pub untouched : IfOk answer (λ r. TouchesNothing r → trace_new ≡ trace_old)
 
--- An event came to its outcome over an honest device that rests with what the session stored: what it leads to is by
--- the program of what stands.
+-- An event was carried out over an honest device that is at rest with what the session stored. The outcome is that for
+-- the program in the durable state.
 abbrev pub IsCarriedOutIfHonest : {R : Type 0} → (R → Device) → Result Reply Fault → (List ℕ → Transition) → ControllerModel R → ControllerModel R → Type 0
 IsCarriedOutIfHonest seen answer out old new =
     IfHonest (seen old.journal.rig) (seen new.journal.rig) ((program : List ℕ) → IsAtRestWith (seen old.journal.rig).trace old program
@@ -134,11 +134,11 @@ pub record Handles {A R : Type 0} (seen : R → Device) (event : Event A) (told 
   pub told_is : told ≡ reply_to answer
   pub carried : CarriesOutEvent seen event answer old new
 
--- The reply tells of a failed device exactly where that counted a failure, one.
+-- The reply reports a failed device exactly if the device counted a failure, and then one.
 abbrev pub TellsFailure : Reply → ℕ → ℕ → Type 0
 TellsFailure told old new = (told ≡ reply.Refused DeviceFailed → new ≡ (old + 1) % 2 ^ 64) × ((told ≡ reply.Refused DeviceFailed → ⊥) → new ≡ old)
 
--- Each event but Status is refused once the device failed; the status then says so.
+-- After the device failed, each event but Status is refused, and the status says so.
 abbrev pub broken_status : SessionModel → Status
 broken_status s = record (session_status s) { condition = condition.Broken }
 

@@ -1,4 +1,4 @@
--- Wherever power is cut since power on, by the plain interpreter alone (own).
+-- What a power cut at any time since power on leaves, in terms of the plain interpreter alone (own).
 use Rattle.std.specs.Prelude.{◌≡◌, ◌≤◌, ◌+◌, ℕ, ℤ, suc, false, List, [], ◌++◌, length, take, drop, Ok, IfOk}
 use Rattle.ng_canon.specs.declared.item.Item.{Item}
 use Rattle.ng_rig.specs.Device.{Device}
@@ -20,9 +20,10 @@ use Rattle.ng_core.specs.Powers.{PowerOnResult}
 use Rattle.ng_core.specs.Runs.{PassesAsSession, IsRun, tried_events}
 use Rattle.ng_core.specs.AnsweredEvents.{AreAnsweredEvents, answered_at}
 
--- ---- what came since power on
+-- ---- what happened since power on
 
--- A controller as power on gave it over what stood: whole, at rest, and its device rests with that.
+-- A controller as power on returned it over a durable state: whole, at rest, and with its device at rest with that
+-- state.
 pub record IsPoweredOn {R : Type 0} (seen : R → Device) (x : DurableState) (c : ControllerModel R) : Type 0 where
   pub whole : c.journal.broken ≡ false
   pub session : c.session ≡ resting x.saved
@@ -36,9 +37,9 @@ pub record IsPast {A R : Type 0} (seen : R → Device) (x : DurableState) (event
 
 -- ---- what a stop leaves of it
 
--- A stop leaves a cut of the first of the executed entries, which the plain interpreter carries out from what stood, of
--- an operator who gave these lines: of as many as were acknowledged, or of one more. Next come the other executed ones
--- and what is under way then.
+-- A stop leaves a cut of the first of the executed entries, as many as were acknowledged or one more. The plain
+-- interpreter carries them out from the state at power on, with the lines that the operator gave. The other executed
+-- entries come next, and what is under way then.
 pub record IsAccounted (equipment : Equipment) (lines : List (List ℕ)) (x : DurableState) (before : List Item) (executed begun : List Entry) (acknowledged : ℕ) (image : Image) (handed : List Item) : Type 0 where
   pub count : ℕ
   pub all : acknowledged ≤ count
@@ -48,23 +49,23 @@ pub record IsAccounted (equipment : Equipment) (lines : List (List ℕ)) (x : Du
   pub cut : IsCut equipment lines x before (take count executed) (drop count (executed ++ begun)) left
   pub stands_for : StandsFor left.standing left.items image handed
 
--- What came passes as the session does, and whenever power was cut since power on, the stop is accounted for: by the
--- entries that the session executed for the events answered by then and the one under way, and what is under way after
--- that, as many as Done was answered by then or one more, and by the lines that these events gave. These are the
--- moments at which the events were answered.
+-- The events proceed as the session does. Whenever power was cut since power on, the stop is accounted for: by the
+-- entries that the session executed for the events answered by then and for the one under way, and by what is under way
+-- after that; by as many entries as replies of Done by then, or one more; and by the lines that these events gave. The
+-- moments are those at which the events were answered.
 pub record Accounts {A R : Type 0} (seen : R → Device) (x : DurableState) (events : List (Event A)) (replies : List Reply) (moments : List ℕ) (first now : ControllerModel R) : Type 0 where
   pub passes : PassesAsSession seen events replies moments first.equipment (session_at_power_on x) (seen first.journal.rig).trace now
   pub stops : AtEachStop (seen first.journal.rig).trace (seen now.journal.rig).trace (λ t. let n = answered_by t moments in let tried = tried_events (take (suc n) events) passes.answers in
       IsAccounted first.equipment (lines_given (take (suc n) events)) x (items (seen first.journal.rig).trace) (entries_of first.equipment (session_at_power_on x) tried) (under_way first.equipment (session_at_power_on x) tried) (dones (take n replies)))
 
--- So a stop has, of what stood at power on, as many entries more as Done was answered by its moment, or one more,
--- whatever table power on reads it beside.
+-- So a stop has as many entries more than the state at power on as there were replies of Done by its moment, or one
+-- more, with whatever table power on reads it.
 abbrev pub CountsAcknowledged : {R : Type 0} → (R → Device) → DurableState → List Reply → (moments : List ℕ) → ControllerModel R → ControllerModel R → Type 0
 CountsAcknowledged seen x replies moments first now = (t : ℕ) (image : Image) (handed : List Item) (tools : List ℤ) (y : DurableState)
     → moment (seen first.journal.rig).trace ≤ t → t ≤ moment (seen now.journal.rig).trace → IsStop (trace_at t (seen now.journal.rig).trace) image handed → stands_beside tools image ≡ Ok y
     → let acknowledged = dones (take (answered_by t moments) replies) in (x.saved.entries + acknowledged ≤ y.saved.entries) × (y.saved.entries ≤ x.saved.entries + acknowledged + 1)
 
--- ---- what the calls promise of it
+-- ---- the contracts of the calls
 
 -- Power on gives the first past, of no event: over the recovered of what stood, beside these tools if it was of format
 -- 1, where only such a controller wrote it.

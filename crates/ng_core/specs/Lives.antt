@@ -1,6 +1,6 @@
--- Histories of a device over its images (own): sessions one after another, each from the image that the one before
--- left; and which stops of a device are such sessions. An image of format 1 is read beside a tool table, which power on
--- takes from the settings.
+-- Histories of a device in terms of its images (own): sessions one after another, each from the image that the one
+-- before left; and which stops of a device are such sessions. An image of format 1 is read with a tool table, which
+-- power on takes from the settings.
 use Rattle.std.specs.Prelude.{◌≡◌, ◌⊎◌, ◌≤◌, ◌+◌, ℕ, ℤ, suc, Option, Some, None, List, [], ◌∷◌, ◌++◌, length, take, drop, Ok}
 use Rattle.ng_canon.specs.declared.item.Item.{Item}
 use Rattle.ng_rig.specs.Device.{Device}
@@ -23,8 +23,8 @@ use Rattle.ng_core.specs.Headline.{IsAccounted, Accounts}
 
 -- ---- a session
 
--- What is known of a session once power was cut: the lines that its operator gave, the entries that it executed until
--- then or in the event under way, what it had under way then, how many of them were acknowledged, the image that is
+-- What is known of a session after power was cut: the lines that its operator gave, the entries that it executed until
+-- then or in the event under way, what it had under way then, how many entries were acknowledged, the image that is
 -- left, and the items that it handed out.
 pub record CutSession : Type 0 where
   pub lines : List (List ℕ)
@@ -34,14 +34,15 @@ pub record CutSession : Type 0 where
   pub image : Image
   pub items : List Item
 
--- Power was cut within power on: what stood stands, or its recovered; nothing was executed, and nothing handed out.
+-- Power was cut within power on: the image stands for the state before, or for the recovered state. Nothing was
+-- executed, and nothing handed out.
 pub record IsCutWithinPowerOn (tools : List ℤ) (x : DurableState) (s : CutSession) : Type 0 where
   pub executed : s.executed ≡ []
   pub acknowledged : s.acknowledged ≡ 0
   pub stands_for : StandsBeside tools x [] s.image s.items ⊎ StandsBeside tools (recovered x) [] s.image s.items
 
--- A session from an image that stands for something and that only such a controller wrote. Power was cut within power
--- on, or after it: what stands and was handed out is accounted for then, from the recovered of what stood.
+-- A session from an image that stands for a state and that only such a controller wrote. Power was cut within power on
+-- or after it. In the second case what is stored and what was handed out is accounted for, from the recovered state.
 pub record IsSession (equipment : Equipment) (tools : List ℤ) (image : Image) (s : CutSession) : Type 0 where
   pub standing : DurableState
   pub state : stands_beside tools image ≡ Ok standing
@@ -63,13 +64,13 @@ abbrev pub last_image : Image → List CutSession → Image
 last_image image [] = image
 last_image image (s ∷ ss) = last_image s.image ss
 
--- What a session lived after power on: its entries, and what followed them.
+-- What a session committed after power on: its entries, and what followed them.
 pub record CommittedSession : Type 0 where
   pub entries : List Entry
   pub saved : StoredModel
   pub more : List Item
 
--- what stands after a session; None: power was cut within power on
+-- the state after a session; `None` if power was cut within power on
 abbrev pub state_after_session : Equipment → DurableState → Option CommittedSession → DurableState
 state_after_session equipment x None = x
 state_after_session equipment x (Some l) = record { saved = l.saved; program = (after_all equipment (recovered x) l.entries).program }
@@ -86,7 +87,7 @@ abbrev pub fold_state : Equipment → DurableState → List (Option CommittedSes
 fold_state equipment x [] = x
 fold_state equipment x (l ∷ ls) = fold_state equipment (state_after_session equipment x l) ls
 
--- The first of the executed entries, as many as were acknowledged or one more, and after them what may follow where the
+-- The first of the executed entries, as many as were acknowledged or one more, and after them what may follow if the
 -- others come next.
 pub record KeepsToFold (equipment : Equipment) (x : DurableState) (s : CutSession) (l : CommittedSession) : Type 0 where
   pub count : ℕ
@@ -101,15 +102,15 @@ abbrev pub SessionKeepsToFold : Equipment → DurableState → CutSession → Op
 SessionKeepsToFold equipment x s None = s.acknowledged ≡ 0
 SessionKeepsToFold equipment x s (Some l) = KeepsToFold equipment x s l
 
--- each session keeps to the fold, each from that of the one before
+-- each session keeps to the fold, each from the state after the one before
 abbrev pub EachKeepsToFold : Equipment → DurableState → List CutSession → List (Option CommittedSession) → Type 0
 EachKeepsToFold equipment x [] [] = Unit {0}
 EachKeepsToFold equipment x [] (l ∷ ls) = ⊥
 EachKeepsToFold equipment x (s ∷ ss) [] = ⊥
 EachKeepsToFold equipment x (s ∷ ss) (l ∷ ls) = SessionKeepsToFold equipment x s l × EachKeepsToFold equipment (state_after_session equipment x l) ss ls
 
--- However often power is cut: the last image stands for the fold, and what was handed out in all sessions is what the
--- fold hands out, each session's entries with what follows them.
+-- However often power is cut: the last image stands for the fold's state, and what was handed out in all sessions is
+-- what the fold hands out for each session's entries, with what follows them.
 abbrev pub CutsOfImageHistory : Type 0
 CutsOfImageHistory = (equipment : Equipment) (tools : List ℤ) (image : Image) (x : DurableState) (history : List CutSession) → stands_beside tools image ≡ Ok x → IsWritten image → IsImageHistory equipment tools image history →
     (committed : List (Option CommittedSession)) × EachKeepsToFold equipment x history committed
@@ -117,24 +118,25 @@ CutsOfImageHistory = (equipment : Equipment) (tools : List ℤ) (image : Image) 
 
 -- ---- which stops are sessions
 
--- A stop leaves a session from this image, with these lines given, these entries executed and begun, and so many
--- acknowledged; before it these items were handed out.
+-- A stop leaves a session from this image, with these lines given, these entries executed and begun, and this many
+-- acknowledged; these items were handed out before it.
 pub record LeavesSession (equipment : Equipment) (tools : List ℤ) (image : Image) (before : List Item) (lines : List (List ℕ)) (executed begun : List Entry) (acknowledged : ℕ) (left : Image) (handed : List Item) : Type 0 where
   pub items : List Item
   pub handed_is : handed ≡ before ++ items
   pub session : IsSession equipment tools image (record { lines = lines; executed = executed; begun = begun; acknowledged = acknowledged; image = left; items = items })
 
--- Whatever power on answers: each stop since it began is one that the device could have had then, left by what came
--- before; or it leaves a session from what the device read then, with nothing given and nothing executed. Where the
--- device was synced then, as after a cut, each leaves such a session.
+-- Whatever power on returns, there are two cases for each stop since it began. Either the device could have had that
+-- stop at the beginning, with what came before; or it leaves a session from what the device read at the beginning, with
+-- no lines given and nothing executed. If the device was synced at the beginning, as after a cut, the second case
+-- holds.
 abbrev pub SessionsWithinPowerOn : {R : Type 0} → (R → Device) → Type 0
 SessionsWithinPowerOn {R} seen = (equipment : Equipment) (tools : List ℤ) (x : DurableState) (result : PowerOnResult R) (old new : Trace) → PowerOnSpecIfHonest tools result old new → stands_beside tools (reads old) ≡ Ok x → IsWritten (reads old) →
     AtEachStop old new (λ t image handed. IsStop old image handed ⊎ LeavesSession equipment tools (reads old) (items old) [] [] [] 0 image handed)
     × (IsSynced old → AtEachStop old new (λ t. LeavesSession equipment tools (reads old) (items old) [] [] [] 0))
 
--- A stop at the moment t leaves a session from this image: the entries executed and begun are those of the events
--- answered by then and of the one under way, as are the lines, and as many were acknowledged as Done was answered by
--- then.
+-- A stop at the moment t leaves a session from this image. The entries executed and begun, and the lines, are those of
+-- the events answered by then and of the one under way. As many entries were acknowledged as there were replies of Done
+-- by then.
 abbrev pub LeavesSessionBy : {A R : Type 0} (seen : R → Device) (tools : List ℤ) (image : Image) (x : DurableState) (events : List (Event A)) (replies : List Reply) (moments : List ℕ) (first now : ControllerModel R)
     → Accounts seen (recovered x) events replies moments first now → ℕ → Image → List Item → Type 0
 LeavesSessionBy seen tools image x events replies moments first now accounts t =
@@ -149,8 +151,8 @@ SessionsAfterPowerOn {R} A seen = (tools : List ℤ) (image : Image) (x : Durabl
     → stands_beside tools image ≡ Ok x → IsWritten image
     → AtEachStop (seen first.journal.rig).trace (seen now.journal.rig).trace (LeavesSessionBy seen tools image x events replies moments first now accounts)
 
--- Power on anew with no cut before it: what the device reads then is what a stop of that session leaves, and each stop
--- since leaves that session as it came to be, or one from what the device reads then.
+-- Power on again with no cut before it: what the device reads then is what a stop of the session before leaves. Each
+-- stop since leaves that session, or one from what the device reads then.
 abbrev pub SessionsAnew : {R : Type 0} → Type 0 → (R → Device) → Type 0
 SessionsAnew {R} A seen = (tools : List ℤ) (image : Image) (x : DurableState) (events : List (Event A)) (replies : List Reply) (moments : List ℕ) (first now : ControllerModel R) (accounts : Accounts seen (recovered x) events replies moments first now)
     (equipment : Equipment) (result : PowerOnResult R) (new : Trace) → stands_beside tools image ≡ Ok x → IsWritten image → PowerOnSpecIfHonest tools result (seen now.journal.rig).trace new →

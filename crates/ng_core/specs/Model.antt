@@ -15,7 +15,7 @@ pub record ControllerModel (R : Type 0) : Type 0 where
   pub lines : KnownModel
   pub equipment : Equipment
 
--- what is stored of a session, beside the program of its device
+-- what is stored of a session, with the program of its device
 abbrev pub durable_state_of : List ℕ → SessionModel → DurableState
 durable_state_of program s = record { saved = s.stored; program = program }
 
@@ -24,8 +24,8 @@ durable_state_of program s = record { saved = s.stored; program = program }
 abbrev pub IsAtRestWith : {R : Type 0} → Trace → ControllerModel R → List ℕ → Type 0
 IsAtRestWith trace c program = IsDurablyAt trace c.journal (durable_state_of program c.session) × IsKnownOf program c.lines
 
--- What holds of each controller: unless the device failed, its session stands over what the journal has stored; and
--- what was read ahead is planned on what will be stored once nothing is left of the current block.
+-- What holds of each controller: unless the device failed, its session has what the journal has stored; and the lines
+-- that were read ahead are planned on what will be stored after the current block.
 pub record IsControllerInvariant {R : Type 0} (journal : JournalModel R) (session : SessionModel) (lines : KnownModel) (equipment : Equipment) : Type 0 where
   pub saved : journal.broken ≡ false → session.stored ≡ journal.saved
   pub plan : IsPlan equipment (base_of session) lines.ahead

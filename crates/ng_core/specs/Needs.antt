@@ -1,10 +1,10 @@
--- What the answer to an event needs; where that fails, an error comes in its place (own).
+-- What the answer to an event needs; if that fails, an error is returned instead (own).
 use Rattle.std.specs.Prelude.{◌≡◌, true}
 use Rattle.ng_session.specs.Entries.{Equipment}
 use Rattle.ng_session.specs.Session.{SessionModel, IsBetweenLines, has_work, TakesMemory, AsksDevice, NeedsProgramLine}
 use Rattle.ng_session.specs.declared.event.Event.{Event}
 
--- where it takes memory, where it asks something of the device, and where it reads a line of the program
+-- when it needs memory, when it calls the device, and when it reads a line of the program
 pub record Needs : Type 1 where
   pub memory : Type 0
   pub device : Type 0
@@ -13,18 +13,18 @@ pub record Needs : Type 1 where
 abbrev pub needs : (memory device reads : Type 0) → Needs
 needs memory device reads = record { memory = memory; device = device; reads = reads }
 
--- the device alone, by which something is stored or handed out
+-- only the device, to store something or to hand it out
 abbrev pub needs_device : Needs
 needs_device = needs ⊥ (Unit {0}) ⊥
 
--- all three, by which a line of the program is read and begun
+-- all three, to read a line of the program and begin it
 abbrev pub needs_line : Needs
 needs_line = needs (Unit {0}) (Unit {0}) (Unit {0})
 
--- of a Tick where nothing is held and no item is left
+-- what a Tick needs if nothing is held and no item is left
 abbrev pub needs_of_work : SessionModel → Needs
 needs_of_work s = needs (IsBetweenLines s) (has_work s ≡ true) (IsBetweenLines s)
 
--- of each event
+-- what each event needs
 abbrev pub needs_of : {A : Type 0} → Equipment → SessionModel → Event A → Needs
 needs_of equipment s event = needs (TakesMemory equipment s event) (AsksDevice equipment s event) (NeedsProgramLine equipment s event)

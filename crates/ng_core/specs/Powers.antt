@@ -1,4 +1,4 @@
--- What power on gives (own).
+-- What power on returns (own).
 use Rattle.std.specs.Prelude.{◌≡◌, ◌≤◌, ◌<◌, ℕ, ℤ, false, List, Result, Ok, Err, IfOk, IfErr, IsErrAnd}
 use Rattle.ng_num.specs.declared.fault.Fault.{Fault}
 use Rattle.ng_num.specs.declared.fault.Fault.TheVariants.{NotFormatted, OutOfMemory}
@@ -19,7 +19,7 @@ use Rattle.ng_core.specs.Model.{ControllerModel, IsAtRestWith}
 abbrev pub PowerOnResult : Type 0 → Type 0
 PowerOnResult R = Result (ControllerModel R) (Fault × R)
 
--- what the journal answered: itself, with what its session stores; or a fault, and the device
+-- what the journal returned: itself, with what its session stores; or a fault, and the device
 abbrev pub journal_result : {R : Type 0} → PowerOnResult R → RecoverResult R
 journal_result (Ok c) = Ok (c.journal, c.session.stored)
 journal_result (Err e) = Err e
@@ -31,15 +31,15 @@ power_on_rig answer = recover_rig (journal_result answer)
 abbrev pub power_on_fault : {R : Type 0} → PowerOnResult R → Result ℕ Fault
 power_on_fault answer = recover_fault (journal_result answer)
 
--- the device rests with the recovered of what stood
+-- the device is at rest with the recovered state
 pub record IsControllerRecovered {R : Type 0} (tools : List ℤ) (c : ControllerModel R) (old new : Trace) : Type 0 where
   pub program : List ℕ
   pub rests : IsAtRestWith new c program
   pub is : recovered_of (stands_beside tools (reads old)) ≡ Ok (record { saved = c.session.stored; program = program })
 
--- The journal recovers what stands, or tells why not, over any image, where one of format 1 stands beside this tool
--- table; over one that only such a controller wrote, the device rests then with the recovered of what stood, which the
--- session has too.
+-- The journal recovers the state that an image stands for, or reports why not, for any image; one of format 1 is read
+-- with this tool table. If only such a controller wrote the image, the device is then at rest with the recovered state,
+-- and the session has that state too.
 pub record PowerOnSpecIfHonest {R : Type 0} (tools : List ℤ) (result : PowerOnResult R) (old new : Trace) : Type 0 where
   pub recovers : RecoverSpec tools (journal_result result) old new
   pub rests : IsWritten (reads old) → IfOk result (λ c. IsControllerRecovered tools c old new)

@@ -1,3 +1,3 @@
--- What only contracts of private functions cite.
+-- Definitions that only contracts of private functions cite.
 pub mod NextLines
 pub mod Ahead

@@ -14,7 +14,7 @@ use Rattle.ng_core.specs.Model.{ControllerModel, IsAtRestWith}
 use Rattle.ng_core.specs.Events.{reply_to, program_session_of}
 use Rattle.ng_core.specs.Moments.{AtEachStop, IsRising, answered_by}
 
--- ---- what came of them, by the session alone
+-- ---- what happened, in terms of the session alone
 
 -- the events that the session answered, until the device failed
 abbrev pub answered_events_by : {A : Type 0} → Result Reply Fault → Event A → List (Event A) → List (Event A)
@@ -27,7 +27,7 @@ answered_events [] answers = []
 answered_events (event ∷ events) [] = []
 answered_events (event ∷ events) (answer ∷ answers) = answered_events_by answer event (answered_events events answers)
 
--- those events, with the one in which it failed
+-- those events, and the one in which it failed
 abbrev pub tried_events_by : {A : Type 0} → Result Reply Fault → Event A → List (Event A) → List (Event A)
 tried_events_by (Ok r) event events = event ∷ events
 tried_events_by (Err DeviceFailed) event events = event ∷ []
@@ -48,16 +48,16 @@ abbrev pub session_replies : List (Result Reply Fault) → List Reply
 session_replies [] = []
 session_replies (answer ∷ answers) = session_replies_by answer (session_replies answers)
 
--- A stop leaves what stands after the first n of these events, and what they handed out; n is no less than this.
+-- A stop leaves the state after the first n of these events, and what they handed out; n is at least `least`.
 pub record IsCrashAfterSome {A : Type 0} (least : ℕ) (equipment : Equipment) (scene : ProgramSession) (before : List Item) (events : List (Event A)) (image : Image) (handed : List Item) : Type 0 where
   pub count : ℕ
   pub all : least ≤ count
   pub within : count ≤ length events
   pub stands_for : let left = crash_after equipment scene before (take count events) in StandsFor left.standing left.items image handed
 
--- The replies are the session's to the events that came. Each event was answered at its moment of the device's trace,
--- one of these, and a stop leaves what stands after those that came of the events answered by then, or after the one
--- under way too. While the device didn't fail, what stands and was handed out now is the session's.
+-- The replies are the session's, to the events that came. Each event was answered at its moment of the device's trace.
+-- A stop leaves the state after those that came of the events answered by then, or after the one under way too. Unless
+-- the device failed, the state and the items handed out now are the session's.
 pub record PassesAsSession {A R : Type 0} (seen : R → Device) (events : List (Event A)) (replies : List Reply) (moments : List ℕ) (equipment : Equipment) (scene : ProgramSession) (trace_old : Trace) (new : ControllerModel R) : Type 0 where
   pub answers : List (Result Reply Fault)
   pub replies_are : replies ≡ map reply_to answers
@@ -70,12 +70,12 @@ pub record PassesAsSession {A R : Type 0} (seen : R → Device) (events : List (
   pub rests : new.journal.broken ≡ false → IsAtRestWith (seen new.journal.rig).trace new (session_after equipment scene (answered_events events answers)).program
   pub items_are : new.journal.broken ≡ false → items (seen new.journal.rig).trace ≡ items trace_old ++ items_of equipment scene (answered_events events answers)
 
--- whatever program rests there beside the session, they pass as the session does
+-- whatever program is stored with the session, the events proceed as the session does
 abbrev pub IsRun : {A R : Type 0} → (R → Device) → List (Event A) → List Reply → (moments : List ℕ) → ControllerModel R → ControllerModel R → Type 0
 IsRun seen events replies moments old new = (program : List ℕ) → old.journal.broken ≡ false → IsAtRestWith (seen old.journal.rig).trace old program
     → PassesAsSession seen events replies moments old.equipment (program_session_of program old) (seen old.journal.rig).trace new
 
--- The device counted one failure where the controller broke, and else none; once broken it stays so.
+-- The device counted one failure if the controller broke, and none otherwise; a broken controller stays broken.
 abbrev pub CountsOneFailure : Bool → Bool → ℕ → ℕ → Type 0
 CountsOneFailure true broken old new = (broken ≡ true) × (new ≡ old)
 CountsOneFailure false true old new = new ≡ (old + 1) % 2 ^ 64

@@ -1,4 +1,4 @@
-//! A controller, and how it answers events.
+//! A controller, and how it handles events.
 ghost use Rattle.std.specs.Prelude.{◌≡◌, true, false, IfErr, [], ◌∷◌};
 ghost use Rattle.ng_num.specs.declared.fault.Fault.TheVariants.{OutOfMemory};
 ghost use Rattle.ng_rig.specs.Calls.{IfHonest};
@@ -11,8 +11,8 @@ use ng_session::{Condition, Event, KnownLines, Reply, Session, Status};
 use std::alloc::Allocator;
 use std::marker::Model;
 
-/// A machine's controller, over its device (own). Contracts see a `ControllerModel`. After a call of the device failed
-/// it is broken, until it is powered on anew.
+/// A machine's controller, over its device (own). Contracts see a `ControllerModel`. After a failed call of the device
+/// it is broken, until it is powered on again.
 pub struct Controller<R: Rig, A: Allocator + Copy + Drop> {
     pub(crate) alloc: A,
     pub(crate) journal: Journal<R, A>,
@@ -44,7 +44,7 @@ impl<R: Rig, A: Allocator + Copy + Drop> Controller<R, A> {
     ghost use Rattle.ng_rig.specs.Trace.{moment};
     ghost use Rattle.ng_core.specs.Headline.{AddsToPast};
 
-    /// The device as it is, with no call to it.
+    /// The device as it is, without a call to it.
     pub fn into_rig(self) -> R
         ensures { result ≡ self.journal.rig }
     {
@@ -58,24 +58,27 @@ impl<R: Rig, A: Allocator + Copy + Drop> Controller<R, A> {
         journal.into_rig()
     }
 
-    /// Whether a call of the device failed: then each event but Status is refused, K5.
+    /// Whether a call of the device failed. Then each event but Status is refused with K5.
     pub fn broken(&self) -> bool
         ensures { result ≡ self.now.journal.broken }
     {
         self.journal.broken()
     }
 
-    /// Answers an event (own).
+    /// Handles an event (own).
     ///
-    /// Refused by the session, which stays as it is: K1, K2, K3, K4, J5, a point outside the travel by X2, a tool's
-    /// slot by B14 and its length by E3, a line of the operator or of a half-done block by its own faults. A line of
-    /// the program that is refused, and a text that ends before its program does (X3, X4), leave the program stopped
-    /// there. M1 where there isn't enough memory, which only a Load, a line of the operator, a Resume and a Tick
-    /// between two lines take; J4 where the journal has used up a counter that a Load, an opened segment or approach,
-    /// or an entry needs. Nothing is changed then, though a Tick or a Resume has read its line. J1 where the device
-    /// failed: the controller is broken then, and the device stands for what stood before the event or for what stands
-    /// after it. K5 to all but Status where it is broken already. The device keeps its size. Over an honest device all
-    /// that came since power on, with this event, is accounted for by the plain interpreter, whenever power is cut.
+    /// The session refuses and stays as it is for K1, K2, K3, K4 and J5; for a point outside the travel (X2); for a
+    /// tool's slot (B14) and its length (E3); and for the own faults of a line of the operator or of a half-done block.
+    /// If a line of the program is refused, or its text ends before the program does (X3, X4), the program stops there.
+    ///
+    /// M1 if there is no memory; only a Load, a line of the operator, a Resume and a Tick between two lines need any.
+    /// J4 if the journal has used up a counter that a Load, an opened segment or approach, or an entry needs. In both
+    /// cases nothing is changed, though a Tick or a Resume has read its line. J1 if the device failed: then the
+    /// controller is broken, and the device stands for the state before the event or for the state after it. K5 for all
+    /// events but Status if the controller was broken already.
+    ///
+    /// The device keeps its size. Over an honest device, all that happened since power on, with this event, is
+    /// accounted for by the plain interpreter, whenever power is cut.
     pub fn on(&mut self, event: Event<A>) -> Reply
         ensures serves { self.old.journal.broken ≡ false
             → Handles R.seen event result self.old self.new }
@@ -92,7 +95,7 @@ impl<R: Rig, A: Allocator + Copy + Drop> Controller<R, A> {
         self.reply(&event)
     }
 
-    /// Answers an event that stays the caller's as `on` does: the same is refused, and the same is left.
+    /// Handles an event as `on` does, but without taking it. Its refusals and effects are those of `on`.
     pub(crate) fn reply(&mut self, event: &Event<A>) -> Reply
         ensures serves { self.old.journal.broken ≡ false
             → Handles R.seen event.now result self.old self.new }
@@ -109,7 +112,7 @@ impl<R: Rig, A: Allocator + Copy + Drop> Controller<R, A> {
         }
     }
 
-    /// What the session answers, or why it doesn't answer: M1, J4, J1 or K5.
+    /// The reply of the session, or why there is none: M1, J4, J1 or K5.
     fn handle(&mut self, event: &Event<A>) -> Result<Reply, Fault>
         ensures carried { self.old.journal.broken ≡ false
             → CarriesOutEvent R.seen event.now result self.old self.new }
@@ -125,8 +128,8 @@ impl<R: Rig, A: Allocator + Copy + Drop> Controller<R, A> {
         self.carry_out(event)
     }
 
-    /// What is answered while no call of the device has failed yet, or why nothing is: M1, J4 or J1. What was read
-    /// ahead is dropped already where it doesn't come any more after the event.
+    /// The reply while no call of the device has failed yet, or why there is none: M1, J4 or J1. The lines that were
+    /// read ahead are dropped already if they no longer come after the event.
     fn carry_out(&mut self, event: &Event<A>) -> Result<Reply, Fault>
         requires whole { self.old.journal.broken ≡ false }
         requires alone { drops_plan event.now ≡ true → self.old.lines.ahead ≡ [] }
@@ -149,7 +152,7 @@ impl<R: Rig, A: Allocator + Copy + Drop> Controller<R, A> {
         }
     }
 
-    /// What is answered once the device failed.
+    /// The reply after the device failed.
     fn answer_broken(&self, event: &Event<A>) -> Result<Reply, Fault>
         ensures { result ≡ broken_answer self.now.session event.now }
     {
@@ -173,7 +176,7 @@ impl<R: Rig, A: Allocator + Copy + Drop> Controller<R, A> {
         }
     }
 
-    /// Loads a program, once that is stored.
+    /// Loads a program, after it is stored.
     fn load(&mut self, text: &[u8]) -> Result<Reply, Fault>
         requires whole { self.old.journal.broken ≡ false }
         requires alone { self.old.lines.ahead ≡ [] }
@@ -188,7 +191,7 @@ impl<R: Rig, A: Allocator + Copy + Drop> Controller<R, A> {
         Ok(self.session.load(stored))
     }
 
-    /// What the session answers of itself.
+    /// The reply to an event that the session handles by itself.
     fn answer(&mut self, event: &Event<A>) -> Result<Reply, Fault>
         requires whole { self.old.journal.broken ≡ false }
         requires quiet { IsQuiet event.now }

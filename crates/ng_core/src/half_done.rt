@@ -1,4 +1,4 @@
-//! A half-done block: where its machine stands is told, it goes on, or it is given up.
+//! A half-done block: the point of its machine is given, it goes on, or it is given up.
 ghost use Rattle.std.specs.Prelude.{◌≡◌, ◌≤◌, ℕ, List, false, IfOk, IfErr};
 ghost use Rattle.ng_num.specs.declared.fault.Fault.TheVariants.{DeviceFailed};
 ghost use Rattle.ng_rig.specs.Calls.{IfHonest};
@@ -18,9 +18,9 @@ use ng_rig::Rig;
 use ng_session::{Reply, Session};
 use std::alloc::Allocator;
 
-/// The byte of the program at which its next line begins after the half-done block: after the line at the place where
-/// the block is a line of the program, for which that is read, and else the place. J1 where the device failed: the
-/// journal is broken then.
+/// The byte of the program at which the next line begins after the half-done block. If the block is a line of the
+/// program, the line at the place is read, and the next one begins after it; otherwise it begins at the place. J1 if
+/// the device failed: then the journal is broken.
 fn next_line<R: Rig, A: Allocator + Copy + Drop>(
     journal: &mut Journal<R, A>,
     session: &Session<A>,
@@ -31,7 +31,7 @@ fn next_line<R: Rig, A: Allocator + Copy + Drop>(
         → IsDurablyAt (R.seen journal.old.rig).trace journal.old standing
         → NextLineSpec result journal.new standing session.now (R.seen journal.old.rig).trace (R.seen journal.new.rig).trace) }
     ensures within { IfOk result (λ next. next ≤ session.now.stored.length) }
-    // without honesty too
+    // Also for a device that isn't honest.
     ensures beyond { IfOk result (λ next. session.now.stored.place ≤ next) }
     ensures unread { (IsProgramsLine session.now.stored.half → ⊥) → (journal.new ≡ journal.old)
         × IfOk result (λ next. (program : List ℕ) → IsNextLineAt program session.now next) }
@@ -60,8 +60,8 @@ impl<R: Rig, A: Allocator + Copy + Drop> Controller<R, A> {
     ghost use Rattle.ng_core.specs.Needs.{needs_device};
     ghost use Rattle.ng_core.specs.Causes.{IsCommitted};
 
-    /// Commits a report: it takes the place of what is stored of it. J4 where a counter is used up, J1 where the device
-    /// failed: the session is as it was then.
+    /// Commits a report, which replaces what is stored. J4 if a counter is used up, J1 if the device failed: then the
+    /// session is as before.
     fn keep(&mut self, report: DecodedState) -> Result<Reply, Fault>
         requires whole { self.old.journal.broken ≡ false }
         requires alone { self.old.lines.ahead ≡ [] }
@@ -74,7 +74,7 @@ impl<R: Rig, A: Allocator + Copy + Drop> Controller<R, A> {
             }))
             result self.old self.new }
     {
-        // called for its contract: what is stored can be stored again
+        // Called for its contract: what is stored can be stored again.
         let _ = self.session.stored();
         let before = self.session.exchange(report);
         match self.journal.commit(self.session.stored()) {
@@ -86,9 +86,9 @@ impl<R: Rig, A: Allocator + Copy + Drop> Controller<R, A> {
         }
     }
 
-    /// The machine stands at a point, in nm of machine coordinates, once that is stored. K1 and X2 by the session's
-    /// refusal, J4 where a counter is used up: nothing is changed then. J1 where the device failed: the journal is
-    /// broken then, and the session is as it was.
+    /// Sets the machine's point, in nm of machine coordinates, after it is stored. K1 and X2 if the session refuses it,
+    /// J4 if a counter is used up: then nothing is changed. J1 if the device failed: then the journal is broken, and
+    /// the session is as before.
     pub(crate) fn reference(&mut self, point: &Point) -> Result<Reply, Fault>
         requires whole { self.old.journal.broken ≡ false }
         requires alone { self.old.lines.ahead ≡ [] }
@@ -105,9 +105,8 @@ impl<R: Rig, A: Allocator + Copy + Drop> Controller<R, A> {
         self.keep(report)
     }
 
-    /// The half-done block is given up, once that is stored. K1 and K4 by the session's refusal, J4 where a counter is
-    /// used up: nothing is changed then. J1 where the device failed: the journal is broken then, and the session is as
-    /// it was.
+    /// Gives the half-done block up, after that is stored. K1 and K4 if the session refuses it, J4 if a counter is used
+    /// up: then nothing is changed. J1 if the device failed: then the journal is broken, and the session is as before.
     pub(crate) fn abandon(&mut self) -> Result<Reply, Fault>
         requires whole { self.old.journal.broken ≡ false }
         requires alone { self.old.lines.ahead ≡ [] }
@@ -126,9 +125,10 @@ impl<R: Rig, A: Allocator + Copy + Drop> Controller<R, A> {
         }
     }
 
-    /// The half-done block goes on. K1, K4, K3 and its line's own faults by the session's refusal, with no call of the
-    /// device. Where it is a line of the program, it is read at once where the next one begins: J1 where the device
-    /// failed, and the journal is broken then. M1 where there isn't enough memory. The session is as it was then.
+    /// Makes the half-done block go on. K1, K4, K3 and its line's own faults if the session refuses it, with no call of
+    /// the device. If the block is a line of the program, the line is read now, to find where the next one begins: J1
+    /// if the device failed, and then the journal is broken. M1 if there is no memory. In all these cases the session
+    /// is as before.
     pub(crate) fn resume(&mut self) -> Result<Reply, Fault>
         requires whole { self.old.journal.broken ≡ false }
         requires alone { self.old.lines.ahead ≡ [] }

@@ -1,4 +1,5 @@
-//! Laws over the definitions, for proofs above this crate to cite: the call does nothing, and its contract is the law.
+//! Laws over the definitions, to be cited by proofs in the crates above. The calls do nothing; their contracts are the
+//! laws.
 ghost use Rattle.std.specs.Prelude.{◌≡◌, ◌≤◌, ◌<◌, ◌+◌, ℕ, ℤ, List, [], ◌∷◌, Ok, false};
 ghost use Rattle.ng_canon.specs.declared.item.Item.{Item};
 ghost use Rattle.ng_rig.specs.Trace.{Image, moment, trace_at, IsStop};
@@ -17,9 +18,9 @@ ghost use Rattle.ng_core.specs.Lives.{CutsOfImageHistory, SessionsWithinPowerOn,
 use ng_rig::Rig;
 use std::alloc::Allocator;
 
-/// What events leave of an honest device, one after the other, each with its reply: what the session makes of those
-/// that came, and each stop since their beginning leaves what stands after those that came until then, or after the one
-/// under way too.
+/// What events, one after another and each with its reply, leave of an honest device: what the session makes of those
+/// that came. Each stop since their beginning leaves the state after those that came until then, or after the one under
+/// way too.
 pub fn histories<R: Rig, A: Allocator>()
     ensures { (events : List (Event A)) (replies : List Reply) (program : List ℕ) (old new : ControllerModel R)
         → (R.seen old.journal.rig).honest → (turns : AreAnsweredEvents R.seen events replies old new)
@@ -29,7 +30,7 @@ pub fn histories<R: Rig, A: Allocator>()
         old.equipment (program_session_of program old) (R.seen old.journal.rig).trace new }
 {}
 
-/// Whenever power of an honest device is cut since power on, the plain interpreter accounts for what is left: by as
+/// Whenever power of an honest device is cut since power on, the plain interpreter accounts for what is left, with as
 /// many entries as were acknowledged until then, or one more.
 pub fn accounts<R: Rig, A: Allocator>()
     ensures cuts { (x : DurableState) (events : List (Event A)) (replies : List Reply) (moments : List ℕ)
@@ -37,13 +38,13 @@ pub fn accounts<R: Rig, A: Allocator>()
         → IsPast R.seen x events replies moments first now
         → Accounts R.seen x events replies moments first now }
 
-    // so what a stop leaves counts them
+    // So the state that a stop leaves counts them.
     ensures counts { (x : DurableState) (events : List (Event A)) (replies : List Reply) (moments : List ℕ)
         (first now : ControllerModel R) → Accounts R.seen x events replies moments first now
         → CountsAcknowledged R.seen x replies moments first now }
 
-    // and by what `on` adds to a past, that alone, no stop within an event has fewer of them than were acknowledged
-    // before it
+    // And from what `on` adds to a past alone: no stop within an event has fewer of them than were acknowledged before
+    // it.
     ensures keeps { (event : Event A) (r : Reply) (old new : ControllerModel R)
         → AddsToPast {A = A} R.seen (event ∷ []) (r ∷ [])
         (moment (R.seen new.journal.rig).trace ∷ []) old new
@@ -57,24 +58,24 @@ pub fn accounts<R: Rig, A: Allocator>()
 
 /// However often power is cut, within power on or after it: from an image that only such a controller wrote, the last
 /// image stands for the plain interpreter's fold over the sessions' entries, with what power on makes of it between two
-/// sessions, and what was handed out in all of them is what the fold hands out. Of each session these are the first of
-/// the entries that it executed, as many as were acknowledged or one more, by the lines of that session's operator,
-/// with a beginning of the one that comes next after them.
+/// sessions. What was handed out in all sessions is what the fold hands out. The entries of a session are the first of
+/// those that it executed, as many as were acknowledged or one more, with the lines of that session's operator, and
+/// they are followed by a beginning of the entry that comes next.
 pub fn cuts()
     ensures history { CutsOfImageHistory }
 
-    // what power on made of it stays, however often it is cut within power on after that
+    // A recovered state stays the same, however often power is cut within power on after that.
     ensures again { (x : DurableState) → recovered (recovered x) ≡ recovered x }
 {}
 
-/// Each stop of a device leaves such a session, by what its calls promise.
+/// Each stop of a device leaves such a session, from the contracts of its calls.
 pub fn sessions<R: Rig, A: Allocator>()
-    // since `power_on` began, whatever it answers, by `PowerOnSpec`
+    // Since `power_on` began, whatever it returns, from `PowerOnSpec`.
     ensures within { SessionsWithinPowerOn R.seen }
 
-    // since it ended, by what `on` and `run` promise of all that came, `Accounts`
+    // Since it ended, from what `on` and `run` say of all that happened, `Accounts`.
     ensures after { SessionsAfterPowerOn A R.seen }
 
-    // since another began with no cut before it, as after the device failed
+    // Since another one began with no cut before it, as after the device failed.
     ensures anew { SessionsAnew A R.seen }
 {}

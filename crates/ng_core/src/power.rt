@@ -17,16 +17,16 @@ use ng_settings::Settings;
 use std::alloc::Allocator;
 
 /// Powers on (own): finds what the device stands for, writes it again with nothing open, and starts a session at rest
-/// over it, with both switches of the operator off. Where something was open, its block is half-done, and it isn't
-/// known where the machine stands.
+/// over it, with both switches of the operator off. If something was open, its block is half-done, and the machine's
+/// point isn't known.
 ///
-/// A device of format 1 is given the tools of the settings, and is of format 2 from then on; with format 2 they aren't
-/// looked at.
+/// A device of format 1 gets the tools of the settings, and is of format 2 from then on. With format 2 these aren't
+/// used.
 ///
-/// J2 for fewer than 1,710 sectors, with no call of the device, and where it isn't formatted; J3 where what stands is
-/// damaged; J4 where the journal's counter is used up, or with format 1 where it hasn't two epochs left: all before any
-/// write. J1 where the device failed. M1 where there isn't enough memory, before any call of the device. The device is
-/// handed back with each of them. Nothing is handed out.
+/// J2 for fewer than 1,710 sectors, with no call of the device, and if the device isn't formatted; J3 if what is stored
+/// is damaged; J4 if the journal's counter is used up, or with format 1 if it hasn't two epochs left. All of these come
+/// before any write. J1 if the device failed. M1 if there is no memory, before any call of the device. In each of these
+/// cases the device is returned. Nothing is handed out.
 pub fn power_on<R: Rig, A: Allocator + Copy + Drop>(
     alloc: A,
     rig: R,

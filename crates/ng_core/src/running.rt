@@ -1,4 +1,4 @@
-//! A list of events, one after the other.
+//! A list of events, one after another.
 ghost use Rattle.std.specs.Prelude.{◌≡◌, ℕ, List, length, IfOk, IfErr};
 ghost use Rattle.ng_num.specs.declared.fault.Fault.TheVariants.{OutOfMemory};
 
@@ -12,12 +12,12 @@ impl<R: Rig, A: Allocator + Copy + Drop> Controller<R, A> {
     ghost use Rattle.ng_core.specs.Runs.{CountsOneFailure};
     ghost use Rattle.ng_core.specs.Headline.{AreRun};
 
-    /// Answers events in turn, each as `on` does: the replies in their order (own).
+    /// Handles events in turn, each as `on` does, and returns the replies in order (own).
     ///
-    /// M1 where there isn't enough memory for all replies: then no event was answered, and nothing is changed. A fault
-    /// of an event is its reply, and the next one is answered all the same. Over an honest device each stop leaves what
-    /// stands after the events that came until then, or after the one under way too; and all that came since power on,
-    /// in this call and before it, is accounted for by the plain interpreter, whenever power is cut.
+    /// M1 if there is no memory for all replies: then no event was handled, and nothing is changed. A fault of an event
+    /// is its reply, and the next event is handled all the same. Over an honest device each stop leaves the state after
+    /// the events that came until then, or after the one under way too. All that happened since power on, in this call
+    /// and before it, is accounted for by the plain interpreter, whenever power is cut.
     pub fn run(&mut self, events: &[Event<A>]) -> Result<Vec<Reply, A>, Fault>
         ensures runs { IfOk result (λ replies. (moments : List ℕ)
             × AreRun R.seen events.now replies.items moments self.old self.new) }

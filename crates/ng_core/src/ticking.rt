@@ -1,5 +1,5 @@
-//! A Tick: held, or the first of these that applies. An item is handed out, an approach or a segment is opened, an
-//! entry is committed, a line is begun.
+//! A Tick: nothing if held, else the first of these that applies. An item is handed out, an approach or a segment is
+//! opened, an entry is committed, a line is begun.
 ghost use Rattle.std.specs.Prelude.{◌≡◌, ◌≤◌, ℕ, List, true, false, Some, IfOk, IfErr, IfSome, IsSome};
 ghost use Rattle.ng_num.specs.declared.fault.Fault.TheVariants.{DeviceFailed};
 ghost use Rattle.ng_rig.specs.Calls.{IfHonest};
@@ -23,7 +23,7 @@ use ng_text::LinesBefore;
 use ng_words::LineKind;
 use std::alloc::Allocator;
 
-/// The kind of the first line before a place that isn't blank, where that is known: no line is before the beginning.
+/// The kind of the first line before a place that isn't blank, if that is known. There is no line before the beginning.
 fn known_before(known: &LinesBefore, place: u64) -> Option<LineKind>
     ensures holds { (program : List ℕ) → IsTrueOf program known.now
         → IfSome result (λ kind. kind ≡ first_kind (lines_before program place)) }
@@ -35,8 +35,7 @@ fn known_before(known: &LinesBefore, place: u64) -> Option<LineKind>
     known.first_before(place)
 }
 
-/// The kind of the first line before a place of the program in force that isn't blank. Nothing is read where it is
-/// known.
+/// The kind of the first line before a place of the program in force that isn't blank. Nothing is read if it is known.
 fn first_kind_before<R: Rig, A: Allocator + Copy + Drop>(
     journal: &mut Journal<R, A>,
     known: &KnownLines<A>,
@@ -47,7 +46,7 @@ fn first_kind_before<R: Rig, A: Allocator + Copy + Drop>(
     ensures kind { IfHonest (R.seen journal.old.rig) (R.seen journal.new.rig) ((standing : DurableState)
         → IsDurablyAt (R.seen journal.old.rig).trace journal.old standing → IsTrueOf standing.program known.now.before
         → FirstKindSpec result journal.new standing place (R.seen journal.old.rig).trace (R.seen journal.new.rig).trace) }
-    // without honesty too
+    // Also for a device that isn't honest.
     ensures beginning { place ≡ 0 → IfOk result (λ kind. kind ≡ LineKind.Blank) }
     ensures ledger { ledger_of journal.new ≡ ledger_of journal.old }
     ensures broken { IsBrokenBy result journal.new.broken }
@@ -61,8 +60,8 @@ fn first_kind_before<R: Rig, A: Allocator + Copy + Drop>(
     }
 }
 
-/// What is known of the lines after the line at a place, where the next one begins; no more after one that is too long,
-/// which is refused.
+/// What is known of the lines before the next one, after the line at a place was read. After a line that is too long,
+/// which is refused, no more is known than before.
 fn lines_after<A: Allocator + Copy + Drop>(
     known: &KnownLines<A>,
     place: u64,
@@ -88,7 +87,7 @@ impl<R: Rig, A: Allocator + Copy + Drop> Controller<R, A> {
     ghost use Rattle.ng_core.specs.Needs.{needs_device, needs_line, needs_of_work};
     ghost use Rattle.ng_core.specs.Private.Ahead.{PlansAhead};
 
-    /// Does the next thing that is to do, of those above the first that applies.
+    /// Does the next thing to do: the first of those above that applies.
     pub(crate) fn tick(&mut self) -> Result<Reply, Fault>
         requires { self.old.journal.broken ≡ false }
         ensures { CarriesOutEvent {A = A} R.seen event.Tick result self.old self.new }
@@ -115,8 +114,8 @@ impl<R: Rig, A: Allocator + Copy + Drop> Controller<R, A> {
         }
     }
 
-    /// With nothing left to open: commits the approach or the current block; with none, begins the program's next line,
-    /// if it runs.
+    /// With nothing left to open: commits the approach or the current block. If there is no current block, begins the
+    /// program's next line, if the program runs.
     fn end(&mut self) -> Result<Reply, Fault>
         requires { self.old.journal.broken ≡ false }
         ensures { CarriesOut R.seen (needs_of_work self.old.session)
@@ -142,7 +141,7 @@ impl<R: Rig, A: Allocator + Copy + Drop> Controller<R, A> {
         Ok(Reply::Moved)
     }
 
-    /// Opens the approach or the next segment, once its half-done block is stored.
+    /// Opens the approach or the next segment, after its half-done block is stored.
     fn open(&mut self, half: Half) -> Result<Reply, Fault>
         requires whole { self.old.journal.broken ≡ false }
         requires half { IsStorableHalf half }
@@ -155,7 +154,7 @@ impl<R: Rig, A: Allocator + Copy + Drop> Controller<R, A> {
         Ok(self.session.open(half, &self.geometry))
     }
 
-    /// Commits the current block or its approach, once what stands after it is stored.
+    /// Commits the current block or its approach, after the new state is stored.
     fn commit(&mut self) -> Result<Reply, Fault>
         requires whole { self.old.journal.broken ≡ false }
         requires block { IsSome self.old.session.current }
@@ -171,8 +170,8 @@ impl<R: Rig, A: Allocator + Copy + Drop> Controller<R, A> {
     }
 
     /// Begins the program's next line, which was read ahead or is read now, or stops the program at the end of its
-    /// text; where one was begun, lines after it are read ahead. Where the device failed in that, the line is begun,
-    /// which the status doesn't show.
+    /// text. If a line was begun, lines after it are read ahead. If the device fails in that, the line is begun, but
+    /// the status doesn't show it.
     fn begin_next(&mut self) -> Result<Reply, Fault>
         requires whole { self.old.journal.broken ≡ false }
         requires runs { is_running self.old.session.activity ≡ true }
@@ -209,8 +208,8 @@ impl<R: Rig, A: Allocator + Copy + Drop> Controller<R, A> {
         }
     }
 
-    /// Reads the program's line at its place, where none was read ahead, and begins it; or stops the program at the end
-    /// of its text.
+    /// Reads the program's line at its place, if none was read ahead, and begins it; or stops the program at the end of
+    /// its text.
     fn begin_read(&mut self) -> Result<Reply, Fault>
         requires whole { self.old.journal.broken ≡ false }
         requires runs { is_running self.old.session.activity ≡ true }
@@ -234,8 +233,8 @@ impl<R: Rig, A: Allocator + Copy + Drop> Controller<R, A> {
         }
     }
 
-    /// Reads one more line ahead and plans it, unless none can be planned. J1 where the device failed: the journal is
-    /// broken then, and nothing else is changed.
+    /// Reads one more line ahead and plans it, unless none can be planned. J1 if the device failed: then the journal is
+    /// broken, and nothing else is changed.
     fn plan(&mut self) -> Result<(), Fault>
         requires whole { self.old.journal.broken ≡ false }
         ensures { PlansAhead R.seen result self.old self.new }

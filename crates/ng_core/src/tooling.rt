@@ -20,8 +20,8 @@ impl<R: Rig, A: Allocator + Copy + Drop> Controller<R, A> {
     ghost use Rattle.ng_core.specs.Needs.{needs_device};
     ghost use Rattle.ng_core.specs.Causes.{IsCommitted};
 
-    /// Commits a table with one slot changed or added, as one entry more: it takes the place of the one that is stored.
-    /// J4 where a counter is used up, J1 where the device failed: the session is as it was then.
+    /// Commits a table with one slot changed or added, as one more entry. It replaces the stored table. J4 if a counter
+    /// is used up, J1 if the device failed: then the session is as before.
     fn keep_tools(&mut self, tools: Tools) -> Result<Reply, Fault>
         requires whole { self.old.journal.broken ≡ false }
         requires alone { self.old.lines.ahead ≡ [] }
@@ -45,9 +45,9 @@ impl<R: Rig, A: Allocator + Copy + Drop> Controller<R, A> {
         }
     }
 
-    /// A tool's length, in nm, is put into a slot of the table, once that is stored. K1, B14 and E3 by the session's
-    /// refusal, J4 where a counter is used up: nothing is changed then. J1 where the device failed: the journal is
-    /// broken then, and the session is as it was.
+    /// Puts a tool's length, in nm, into a slot of the table, after that is stored. K1, B14 and E3 if the session
+    /// refuses it, J4 if a counter is used up: then nothing is changed. J1 if the device failed: then the journal is
+    /// broken, and the session is as before.
     pub(crate) fn tool(&mut self, slot: u16, tool_length: Len) -> Result<Reply, Fault>
         requires whole { self.old.journal.broken ≡ false }
         requires alone { self.old.lines.ahead ≡ [] }

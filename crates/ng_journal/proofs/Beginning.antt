@@ -1,4 +1,4 @@
--- A format: sectors written one after the other, and what stands when the header of the first epoch is synced.
+-- A format: sectors are written one after another. And the state once the header of the first epoch is synced.
 use Rattle.std.proofs.Common.{◌≡◌, ◌≢◌, ◌⊎◌, inl, inr, ℕ, ◌+◌, ◌-◌, ◌%◌, ◌<◌, ◌==◌, ◌&&◌, nat_lt, Bool, false, if◌then◌else◌, List, [], ℤ, pos, set, replicate, Option, Some, None, Result, Ok, Err, length, refl, sym, ◌∙◌, ap, subst, arith}
 use Rattle.std.proofs.lemmas.Bool.{cases_eq}
 use Rattle.std.proofs.lemmas.List.{length-replicate}
@@ -32,14 +32,14 @@ use Rattle.ng_journal.specs.Formats.{IsEmpty, first_header}
 use Rattle.ng_journal.specs.Private.Overwrites.{OverwritesTo, Overwrites}
 use Rattle.ng_journal.proofs.Framing.{there, elsewhere, WritesFirst, first_headers, first_log, first_area, first_tools, empty_lengths, first_sync, first_write, laid_out}
 
--- what a read of another sector gives after a write that may have failed
+-- what a read of another sector returns after a write that may have failed
 untouched : {T E : Type 0} (result : Result T E) (m n : ℕ) (bytes : List ℕ) (old new : Trace) → m ≢ n → WriteSpec result n bytes old new → reads new m ≡ reads old m
 untouched (Ok _) m n bytes old new other is = ap (λ (l : Trace). reads l m) is ∙ elsewhere m n bytes old other
 untouched (Err _) m n bytes old new other (inl is) = ap (λ (l : Trace). reads l m) is
 untouched (Err _) m n bytes old new other (inr (inl is)) = ap (λ (l : Trace). reads l m) is ∙ elsewhere m n bytes old other
 untouched (Err _) m n bytes old new other (inr (inr is)) = ap (λ (l : Trace). reads l m) is
 
--- One sector more of a stretch, and right.
+-- One more sector of a stretch is right.
 module _ (n at first size : ℕ) (IsRight : ℕ → List ℕ → Type 0) (bytes : List ℕ) (old mid : Trace) (lt : n < size) (at_is : at ≡ first + n) (right : IsRight n bytes) (w : OverwritesTo n first size IsRight old mid) where
   abbrev May : ℕ → List ℕ → Type 0
   May m c = BelongsIn first size IsRight m c
@@ -78,7 +78,7 @@ written_on n first size IsRight old mid new w is = subst (λ (l : Trace). Overwr
 pub not_synced : {T E : Type 0} (e : E) (n first size : ℕ) (IsRight : ℕ → List ℕ → Type 0) (old mid new : Trace) → OverwritesTo n first size IsRight old mid → new ≡ mid → Overwrites {T = T} (Err e) first size IsRight old new
 not_synced {T = T} {E = E} e n first size IsRight old mid new w same = subst (λ (l : Trace). Overwrites {T = T} {E = E} (Err e) first size IsRight old l) (sym same) (record { writes = w.writes; outside = w.outside; parts = tt })
 
--- No header and no part in a sector that begins with zeros.
+-- A sector that begins with zeros is neither a header nor a part.
 no_mark : (bytes : List ℕ) → number_at 8 0 bytes ≡ 0 → is_marked bytes ≡ false
 unfolding is_marked number_at
 no_mark bytes is = rw is refl
@@ -116,7 +116,7 @@ made_force image saved m = λ i. newer (no_header (is_large image) 0 (image 0) m
 made_written : (image : Image) (saved : StoredModel) → IsMade image saved → IsWritten image
 made_written image saved m = record { past = λ n lt. let e = m.log n lt in omega (arith, e) }
 
--- stands for what was written, and its log is empty
+-- it stands for what was written, and its log is empty
 made_ends : (image : Image) (saved : StoredModel) → IsMade image saved → saved.length ≡ 0 → saved.tools ≡ [] → length saved.setup.params ≡ 5399 → saved.room ≡ program_room (is_large image) → EndsIn image first_header (record { saved = saved; program = [] }) no_records
 made_ends image saved m long none table limit =
     let row = stretch (snapshot_first 1) snapshot_size image in
@@ -138,7 +138,7 @@ made_ends image saved m long none table limit =
       room = limit;
     }
 
--- The four stretches, written one after the other.
+-- The four stretches, written one after another.
 pub record Steps (saved : StoredModel) (old a b c d : Trace) : Type 0 where
   pub writes : WritesFirst saved old d
   pub other : IsEmpty 0 (reads d 0)
@@ -165,7 +165,7 @@ steps {E = E} {F = F} {G = G} {H = H} t u v w saved old a b c d first at none is
       log = λ m lt. lengths.outside (log_first + m) (λ x. omega (arith, x.from)) ∙ here.outside (log_first + m) (λ x. omega (arith, x.to)) ∙ log.parts m lt;
     }
 
--- the device is as large as it was
+-- the device is as large as before
 as_large : (saved : StoredModel) (old a b e c : Trace) (bytes : List ℕ) → Steps saved old a b e c → is_large (reads (Wrote 1 bytes (Synced c))) ≡ is_large (reads old)
 as_large saved old a b e c bytes s = ap (λ (l : List ℕ). nat_lt 0 (length l)) (elsewhere 5805 1 bytes (Synced c) (λ e. omega (arith, e)) ∙ s.last)
 
@@ -180,7 +180,7 @@ made saved old a b e c bytes s is = record {
   log = λ m lt. ap (number_at 8 0) (elsewhere (log_first + m) 1 bytes (Synced c) (λ e. omega (arith, e)) ∙ s.log m lt) ∙ number-zeros 8 0 512;
 }
 
--- the zeros that are left
+-- the remaining zeros
 made_zeros : (saved : StoredModel) (old a b e c : Trace) (bytes : List ℕ) → Steps saved old a b e c → (n : ℕ) → (n ≡ 0) ⊎ IsAmong log_first shortest_log n → IsEmpty n (reads (Wrote 1 bytes (Synced c)) n)
 made_zeros saved old a b e c bytes s n (inl first) = elsewhere n 1 bytes (Synced c) (λ e. omega arith) ∙ ap (reads c) first ∙ s.other
 made_zeros saved old a b e c bytes s n (inr log) =
@@ -193,7 +193,7 @@ made_zeros saved old a b e c bytes s n (inr log) =
 pub table_long : (n p : ℕ) (v : ℤ) → length (set (replicate n (pos 0)) p v) ≡ n
 table_long n p v = length-set (replicate n (pos 0)) p v ∙ length-replicate n (pos 0)
 
--- What is made, whatever is stored.
+-- What is written, whatever is stored.
 pub record Begins {T E : Type 0} (result : Result T E) (saved : StoredModel) (old new : Trace) : Type 0 where
   pub writes : WritesFirst saved old new
   pub at : OnOk result (IsAtEnd new first_header (record { saved = saved; program = [] }) no_records)

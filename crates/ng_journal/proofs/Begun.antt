@@ -1,4 +1,4 @@
--- An image that stands by its snapshot alone, and the end of its log where its format is the second.
+-- An image that stands for a state by its snapshot alone, and the end of its log in format 2.
 use Rattle.std.proofs.Common.{◌≡◌, ◌≢◌, ◌<◌, Ok, sym, ◌∙◌, ap, arith}
 use Rattle.ng_rig.specs.Trace.{Image, Trace, reads}
 use Rattle.ng_layout.specs.declared.header.Format.TheVariants.{Two}

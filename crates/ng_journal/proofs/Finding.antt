@@ -1,4 +1,4 @@
--- What was read, and what it says of what the image stands for.
+-- What was read, and what it says about the state that the image stands for.
 use Rattle.std.proofs.Common.{◌≡◌, ◌≤◌, inl, inr, ◌⊎◌, ℕ, zero, suc, Bool, true, false, Option, Some, None, Ok, Err, refl, sym, ◌∙◌, ap, subst}
 use Rattle.ng_num.specs.declared.fault.Fault.TheVariants.{NotFormatted, Damaged}
 use Rattle.ng_rig.specs.Trace.{Image}
@@ -27,7 +27,7 @@ none_found image h is none =
     let e : in_force image ≡ None = sym is ∙ none in
     λ i. by_header (e i) (λ x. durable_state_under (program_room (is_large image)) x (stretch (snapshot_first x.epoch) snapshot_size image) (stretch (tools_first x.epoch) tools_size image) (stretch (program_first x.area) (program_size x.area) image) (stretch log_first (log_size_of x) image))
 
--- the snapshot is damaged, and so is what is found with each record after it
+-- the snapshot is damaged, and so is the result with each record after it
 by_cases : (o : Option LogPosition) → (o ≡ None) ⊎ ((m : LogPosition) × (o ≡ Some m))
 by_cases None = inl refl
 by_cases (Some m) = inr (m, refl)
@@ -69,7 +69,7 @@ snapped image h header whole snap is some read sound = record {
 pub log_damaged : (image : Image) (header : Header) (snap saved : StoredModel) (found : Option LogEnd) → Snapped image header snap → found ≡ None → IsRunOf header snap saved image found → HasCause Damaged image
 log_damaged image header snap saved found s none r = run-damaged image header snap saved s.force s.is.0 (subst (λ (o : Option LogEnd). IsRunOf header snap saved image o) none r)
 
--- all is found
+-- everything is found
 pub all_found : (image : Image) (header : Header) (snap saved : StoredModel) (found : Option LogEnd) (end : LogEnd) → Snapped image header snap → found ≡ Some end → end.sector ≤ log_size_of header → IsRunOf header snap saved image found → saved.room ≡ program_room (is_large image) → StandsUnder header saved image
 all_found image header snap saved found end s some room r limit =
     let run : IsRunOf header snap saved image (Some end) = subst (λ (o : Option LogEnd). IsRunOf header snap saved image o) some r in

@@ -1,4 +1,4 @@
--- The first line of a program's beginning, from the sectors in which it lies.
+-- The first line of a program's beginning, from the sectors that hold it.
 use Rattle.std.proofs.Common.{◌≡◌, ℕ, ◌+◌, ◌-◌, ◌*◌, ◌≤◌, min, List, ◌++◌, length, take, sym, ◌∙◌, ap, subst, arith}
 use Rattle.std.proofs.lemmas.List.{take_all, get_or-take, length-take-le}
 use Rattle.ng_words.specs.declared.start.LineKind.{LineKind}

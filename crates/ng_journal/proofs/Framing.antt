@@ -1,5 +1,5 @@
--- What each call writes, and where: a checkpoint what is stored under the next epoch, a load the text besides, a format
--- a fresh controller among zeros.
+-- What each call writes, and where: a checkpoint writes the stored state under the next epoch, a load also the text,
+-- and a format a fresh controller among zeros.
 use Rattle.std.proofs.Common.{◌≡◌, ◌≢◌, ◌⊎◌, inl, inr, ⊎_elim, ℕ, ◌+◌, ◌-◌, ◌*◌, ◌%◌, ◌<◌, ◌≤◌, List, [], ℤ, length, replicate, Result, Ok, Err, refl, sym, ◌∙◌, ap, subst, arith}
 use Rattle.std.proofs.lemmas.Bool.{cases_eq}
 use Rattle.std.proofs.lemmas.Bool.Decides.{nat_tests}
@@ -28,7 +28,7 @@ use Rattle.ng_journal.specs.Private.Overwrites.{Overwrites}
 use Rattle.ng_journal.specs.Loads.{BelongsToText, BelongsToLoad, IsTextAt, WritesLoad}
 use Rattle.ng_journal.specs.Private.LoadSteps.{TextTo, WritesText}
 
--- what a read gives after a write
+-- what a read returns after a write
 pub there : (n : ℕ) (bytes : List ℕ) (trace : Trace) → reads (Wrote n bytes trace) n ≡ bytes
 there n bytes trace = grind (arith, nat_tests)
 
@@ -42,7 +42,7 @@ among first size IsRight old new w = only_wider (BelongsIn first size IsRight) (
     in_stretch : (n : ℕ) (c : List ℕ) → BelongsIn first size IsRight n c → IsAmong first size n
     in_stretch n c b = let is = b.is in let within = b.within in record { from = omega arith; to = omega arith }
 
--- a sector of a program area, which holds something
+-- a sector of a program area that holds something
 abbrev pub IsInArea : ℕ → ℕ → List ℕ → Type 0
 IsInArea area n c = IsAmong (program_first area) (program_size area) n × (0 < length c)
 
@@ -59,7 +59,7 @@ May header saved n bytes = BelongsTo header saved n bytes
 abbrev MayAreas : Header → StoredModel → ℕ → List ℕ → Type 0
 MayAreas header saved n bytes = BelongsToAreas header saved n bytes
 
--- the snapshot alone, in format 1 or where its write or one after it failed
+-- the snapshot alone, in format 1 or if its write or a later one failed
 area_only : {T E : Type 0} (result : Result T E) (first : ℕ) (header : Header) (saved : StoredModel) (old new : Trace) → first ≡ snapshot_first header.epoch → WritesArea result first saved old new → WritesOnly (MayAreas header saved) old new
 area_only result first header saved old new is area =
     only_wider (BelongsIn first snapshot_size (HoldsPart saved)) (MayAreas header saved) old new (λ n c b. inl (subst (λ (k : ℕ). BelongsIn k snapshot_size (HoldsPart saved) n c) is b)) area.writes
@@ -110,7 +110,7 @@ state_sync result header saved old mid new w is = only_syncs (May header saved) 
 pub state_header : {T E : Type 0} (result : Result T E) (header : Header) (saved : StoredModel) (bytes : List ℕ) (old mid new : Trace) → HoldsHeader header bytes → WritesState header saved old mid → WriteSpec result (header.epoch % 2) bytes mid new → WritesState header saved old new
 state_header result header saved bytes old mid new holds w is = only_more (May header saved) old mid new w (only_write (May header saved) result (header.epoch % 2) bytes mid new (inr (refl, holds)) is)
 
--- and then it stands there
+-- and then the snapshot is there
 pub laid_out : (header : Header) (saved : StoredModel) (bytes : List ℕ) (mid : Trace) → ((j : ℕ) → j < snapshot_size → HoldsPart saved j (reads mid (snapshot_first header.epoch + j))) → (header.format ≡ Two → (j : ℕ) → j < tools_size → HoldsToolPart saved j (reads mid (tools_first header.epoch + j))) → HoldsHeader header bytes → IsLaidOut header saved (reads (Wrote (header.epoch % 2) bytes (Synced mid)))
 laid_out header saved bytes mid parts tools holds n (inl (inr among)) =
     let first = tools_first header.epoch in
@@ -141,7 +141,7 @@ synced_by (Ok _) old new is = subst IsSynced (sym is) (is_synced old)
 pub state_under : {T E : Type 0} (result : Result T E) (next header : Header) (saved : StoredModel) (old new : Trace) → next ≡ header → StoresState result next saved old new → StoresState result header saved old new
 state_under result next header saved old new is s = subst (λ (h : Header). StoresState result h saved old new) is s
 
--- one sector more of a stretch, and right
+-- one more sector of a stretch is right
 pub one_more : (n first size : ℕ) (IsRight : ℕ → List ℕ → Type 0) (bytes : List ℕ) (old mid new : Trace) → n < size → IsRight n bytes
     → WritesOnly (BelongsIn first size IsRight) old mid → ((j : ℕ) → j < n → IsRight j (reads mid (first + j))) → new ≡ Wrote (first + n) bytes mid
     → WritesOnly (BelongsIn first size IsRight) old new × ((j : ℕ) → j < n + 1 → IsRight j (reads new (first + j)))
@@ -203,7 +203,7 @@ pub load_state : (area : ℕ) (header : Header) (loaded : DurableState) (old mid
 load_state area header loaded old mid new w last =
     only_more (MayLoad area header loaded) old mid new w (only_wider (May (next_header header area loaded.saved.length) loaded.saved) (MayLoad area header loaded) mid new (λ n c own. inr own) last)
 
--- the text stays where it stands
+-- the text stays where it is
 text_stays_at : (area : ℕ) (header : Header) (loaded : DurableState) (mid new : Trace) → area ≤ 3 → WritesOnly (May (next_header header area loaded.saved.length) loaded.saved) (Synced mid) new → (j : ℕ) → j < program_size area → reads new (program_first area + j) ≡ reads mid (program_first area + j)
 text_stays_at area header loaded mid new most on j lt =
     ⊎_elim (λ was. was) (λ own. absurd (apart (program_first area + j) (area-where area j most lt) (of_epoch next loaded.saved (program_first area + j) (reads new (program_first area + j)) own))) ((reads_blend (May next loaded.saved) (Synced mid) new on).each (program_first area + j))
@@ -228,7 +228,7 @@ text_stays (Ok _) u area header loaded old mid synced new short most w is_synced
     on : WritesOnly (May (next_header header area loaded.saved.length) loaded.saved) (Synced mid) new
     on = subst (λ (l : Trace). WritesOnly (May (next_header header area loaded.saved.length) loaded.saved) l new) is_synced last
 
--- A format of whatever is stored: each of the three stretches, a sync, the header, a sync.
+-- A format, whatever is stored: each of the three stretches, a sync, the header, a sync.
 abbrev pub MayFormat : StoredModel → ℕ → List ℕ → Type 0
 MayFormat saved n bytes = BelongsIn 0 2 IsEmpty n bytes ⊎ (BelongsIn log_first shortest_log IsEmpty n bytes ⊎ BelongsTo first_header saved n bytes)
 
@@ -245,7 +245,7 @@ pub first_area : {T E : Type 0} (result : Result T E) (first : ℕ) (saved : Sto
 first_area result first saved old mid new is w area =
     only_more (MayFormat saved) old mid new w (only_wider (BelongsIn first snapshot_size (HoldsPart saved)) (MayFormat saved) mid new (λ n c b. inr (inr (inl (inl (subst (λ (k : ℕ). BelongsIn k snapshot_size (HoldsPart saved) n c) is b))))) area.writes)
 
--- no slots are zeros
+-- a table without slots is written as zeros
 pub empty_lengths : (saved : StoredModel) (j : ℕ) (bytes : List ℕ) → saved.tools ≡ [] → bytes ≡ replicate 512 0 → HoldsToolPart saved j bytes
 empty_lengths saved j bytes none is = subst (λ (l : List ℕ). HoldsToolPart saved j l) (sym is) (subst (λ (tools : List ℤ). HoldsLengths tools (64 * j) (replicate 512 0)) (sym none) (record {
   each = λ k lt there. absurd (let none : 64 * j + k < 0 = there in omega arith);

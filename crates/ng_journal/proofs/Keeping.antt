@@ -1,5 +1,4 @@
--- Nothing that is written of a state tells its room for a program: it is what is written of the same state with any
--- other.
+-- What is written of a state doesn't depend on its room for a program.
 use Rattle.std.proofs.Common.{◌≡◌, inl, inr, ⊎_elim, ℕ, ◌+◌, ◌<◌, ◌≤◌, List, ℤ, length, Option, Result, Ok, Err, sym, subst}
 use Rattle.std.specs.Prelude.{OnOk, IfOk}
 use Rattle.ng_canon.specs.declared.item.Item.{Item}
@@ -154,7 +153,7 @@ module _ (old : Trace) (header : Header) (before : DurableState) (end : LogEnd) 
         image = subst (λ (x : LogEnd). EndsIn (reads new) header (record before { saved = saved }) x) (sym is) (blend-ends (reads old) (reads new) header before end saved changes slot next (blend (reads new) (items new) (reads_blend (BelongsToRecord e) old new w.writes)) w.parts);
       }
 
--- A record of a state stands for that state with the room of what stood.
+-- A record of a state stands for that state with the old state's room.
 pub append_kept : {E : Type 0} (result : Result LogEnd E) (header : Header) (end : LogEnd) (table : List ℤ) (slot : Option SlotChange) (before : DurableState) (was stored : StoredModel) (count : ℕ) (old new : Trace) → IsAtEnd old header before end
     → before.saved.setup.params ≡ was.setup.params → before.saved.tools ≡ was.tools → before.saved.room ≡ was.room
     → table ≡ was.setup.params → length was.setup.params ≡ 5399 → slot ≡ first_change was.tools stored.tools → IsOneSlotFrom was.tools stored.tools → IsStorable stored → count ≡ length (differences was.setup.params stored.setup.params)

@@ -1,4 +1,4 @@
--- The line of a program at a place, from the sectors in which it lies.
+-- The line of a program at a place, from the sectors that hold it.
 use Rattle.std.proofs.Common.{◌≡◌, ◌⊎◌, inl, inr, ℕ, zero, suc, ◌+◌, ◌-◌, ◌*◌, ◌/◌, ◌%◌, ◌<◌, ◌≤◌, ◌==◌, min, max, Bool, true, false, List, [], ◌∷◌, ◌++◌, length, take, drop, get_or, slice_index, Option, Some, None, Result, Ok, Err, if◌then◌else◌, refl, sym, ◌∙◌, ap, subst, arith, length-append, length-drop}
 use Rattle.std.specs.Prelude.{IsOk, OnOk, ◌↔◌}
 use Rattle.std.proofs.lemmas.Bool.Decides.{nat_tests}
@@ -57,7 +57,7 @@ pub text-at : (n : ℕ) (row : ℕ → List ℕ) (i : ℕ) → i < n → get_or 
 unfolding program_text
 text-at n row i lt = get_or-map-range_with_len (λ i. get_or (row (i / 512)) (i % 512) 0) 0 n i i 0 lt (omega arith)
 
--- a part of a sector is that part of the text
+-- a part of a sector is the same part of the text
 part_same : (row : ℕ → List ℕ) (sector : List ℕ) (size place n from to skipped : ℕ) → length sector ≡ 512 → sector ≡ row n → from ≤ to → to ≤ 512 → 512 * n + to ≤ size → place + skipped ≡ 512 * n + from
     → take (to - from) (drop from sector) ≡ take (to - from) (drop skipped (drop place (program_text size row)))
 part_same row sector size place n from to skipped full is ordered within inside placed =
@@ -100,7 +100,7 @@ line_taken old new front rest plain kept =
     let same = take-append_seam front (10 ∷ rest) in
     (subst HasNoNewline (sym same) plain, omega (arith, length-append front (10 ∷ rest)), newline_at front rest, kept ∙ ap (λ l. take 257 (old ++ l)) (sym same))
 
--- Parts taken one after the other.
+-- Parts taken one after another.
 keep_keep : (n : ℕ) (xs ys : List ℕ) → take n (take n xs ++ ys) ≡ take n (xs ++ ys)
 keep_keep zero xs ys = refl
 keep_keep (suc n) [] ys = refl
@@ -114,7 +114,7 @@ take_sum m k xs within =
 pub none_kept : (rest kept : List ℕ) (n : ℕ) → n ≡ 0 → kept ≡ [] → KeepsLineFront rest n kept
 none_kept rest kept n is none = subst (λ (k : ℕ). KeepsLineFront rest k kept) (sym is) (record { plain = tt; kept_is = none })
 
--- the same text, so many bytes of it in front
+-- the text from a place on
 abbrev rest_of : List ℕ → ℕ → List ℕ
 rest_of text place = drop place text
 
@@ -240,6 +240,6 @@ end_some rest kept o n is e = subst (IsEnd rest kept) is e
 pub end_none : (rest kept : List ℕ) (o : Option ℕ) → o ≡ None → IsEnd rest kept o → IsEnd rest kept None
 end_none rest kept o is e = subst (IsEnd rest kept) is e
 
--- The program of what stands is that of the area in force.
+-- The program of the durable state is that of the area in force.
 pub line_in_force : {end : LogEnd} (old : Trace) (header : Header) (standing : DurableState) (place : ℕ) (line : Option ProgramLineModel) → IsAtEnd old header standing end → line ≡ program_line_at (program_text header.length (stretch (program_first header.area) (program_size header.area) (reads old))) place → line ≡ program_line_at standing.program place
 line_in_force old header standing place line at found = found ∙ ap (λ (l : List ℕ). program_line_at l place) at.image.program

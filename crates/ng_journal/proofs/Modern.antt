@@ -1,4 +1,4 @@
--- What stands under a header of format 1 whose log has no record, stored in format 2 with a table.
+-- The state under a header of format 1 whose log has no record, stored in format 2 with a table.
 use Rattle.std.proofs.Common.{◌≡◌, inr, ⊎_elim, ℕ, ◌<◌, List, ℤ, Some, Result, Ok, Err, refl, sym, ◌∙◌, ap, subst, arith}
 use Rattle.ng_rig.specs.Trace.{Trace, reads, items}
 use Rattle.ng_rig.specs.Continuation.{IsContinuation}
@@ -23,7 +23,7 @@ use Rattle.ng_journal.specs.Private.RecoverySteps.{ModernizeSpec, StoresModern, 
 use Rattle.ng_journal.proofs.Begun.{begins-empty, begins-stand, begun-end}
 use Rattle.ng_journal.proofs.Restoring.{beside-under, Promised}
 
--- of format 2 it stays
+-- with format 2, nothing changes
 pub modern_already : {E : Type 0} (tools : List ℤ) (header : Header) (standing : DurableState) (trace : Trace) → header.format ≡ Two → IsBegun trace header standing → ModernizeSpec {E = E} tools (Ok header) header standing trace trace
 modern_already tools header standing trace two b = record {
   stops = stays trace (StandsBeside tools (beside_format tools header.format standing) (items trace));
@@ -38,7 +38,7 @@ nothing_modern tools header saved trace two = record {
   synced = λ synced. synced;
 }
 
--- of format 1 it is a checkpoint
+-- with format 1, there is a checkpoint
 modern_written : (tools : List ℤ) (header last : Header) (saved with : StoredModel) (old new : Trace) → header.format ≡ One → last ≡ migrated header → with ≡ record saved { tools = tools } → WritesState last with old new → WritesOnly (λ n bytes. BelongsToModern tools header saved n bytes) old new
 modern_written tools header last saved with old new one last_is with_is w =
     only_wider (λ n bytes. BelongsTo last with n bytes) (λ n bytes. BelongsToModern tools header saved n bytes) old new
@@ -65,7 +65,7 @@ module _ (tools : List ℤ) (header last : Header) (saved with : StoredModel) (s
   target : DurableState
   target = beside_format tools header.format standing
 
-  -- what is stored with the table is what stands beside it
+  -- what is stored with the table is the state that is read with it
   made_is : beside with last.area (reads old) ≡ beside_format tools header.format standing
   made_is =
       let area : last.area ≡ header.area = ap (λ (h : Header). h.area) last_is in
@@ -111,7 +111,7 @@ module _ (tools : List ℤ) (header last : Header) (saved with : StoredModel) (s
         at = subst (λ (s : DurableState). IsAtEnd new last s no_records) made_is (begun-end new last (beside with last.area (reads old)) (ap (λ (h : Header). h.format) last_is) d.at);
       }
 
--- where the table is the one given
+-- if the table is the given one
 pub modern_over : {E : Type 0} (given table : List ℤ) (result : Result Header E) (header : Header) (standing : DurableState) (old new : Trace) → table ≡ given → ModernizeSpec given result header standing old new → ModernizeSpec table result header standing old new
 modern_over given table result header standing old new same m = subst (λ (t : List ℤ). ModernizeSpec t result header standing old new) (sym same) m
 

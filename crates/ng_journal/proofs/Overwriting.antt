@@ -1,5 +1,5 @@
--- A load: the program's text written to the area that isn't in force, a sync, a checkpoint whose header names that
--- area.
+-- A load: the program's text is written to the area that isn't in force; then a sync, and a checkpoint whose header
+-- names that area.
 use Rattle.std.proofs.Common.{◌≡◌, ◌≢◌, inl, inr, ⊎_elim, ℕ, zero, suc, ◌+◌, ◌*◌, ◌<◌, ◌≤◌, nat_lt, Bool, true, false, List, Result, Ok, Err, length, sym, ◌∙◌, refl, ap, subst, arith}
 use Rattle.std.proofs.lemmas.Bool.Decides.{nat_tests}
 use Rattle.std.specs.Prelude.{OnOk}
@@ -38,14 +38,14 @@ pub record IsFree (old : Trace) (header : Header) (area : ℕ) : Type 0 where
 pub free_in : {old : Trace} (area : ℕ) (header : Header) (saved : StoredModel) → area ≢ header.area → FitsDevice (reads old) (next_header header area saved.length) saved → IsFree old header area
 free_in area header saved apart fits = record { apart = apart; has = fits.valid.area }
 
--- only a large device has a program area in which its last sector lies
+-- only on a large device does a program area contain the last sector
 has_last : (large : Bool) (area : ℕ) → area ≤ greatest_area large → IsAmong (program_first area) (program_size area) 5805 → large ≡ true
 has_last true area has among = refl
 has_last false zero has among = absurd (omega (arith, among.to))
 has_last false (suc zero) has among = absurd (omega (arith, among.to))
 has_last false (suc (suc n)) has among = absurd (omega arith)
 
--- a write to it leaves the device as large as it was
+-- a write to it leaves the device as large as before
 same_size : (old : Trace) (header : Header) (area : ℕ) → IsOwnImage old header → IsFree old header area → (image : Image) (handed : List Item) → IsMixOf old (In area) image handed → is_large image ≡ is_large (reads old)
 same_size old header area at free image handed p = ⊎_elim
     (λ may. ap (λ (s : List ℕ). nat_lt 0 (length s)) (at.synced.one 5805 (image 5805) may))
@@ -93,13 +93,13 @@ own_again old mid synced area header at free w is =
       written = written-frame header (reads mid) (reads old) same at.written;
     })
 
--- and as large as it was
+-- and as large as before
 pub fits_again : (old mid synced : Trace) (area : ℕ) (header next : Header) (saved : StoredModel) → IsOwnImage old header → IsFree old header area → WritesOnly (In area) old mid → synced ≡ Synced mid → next ≡ next_header header area saved.length → FitsDevice (reads old) (next_header header area saved.length) saved → FitsDevice (reads synced) next saved
 fits_again old mid synced area header next saved at free w is next_is fits =
     let large : is_large (reads synced) ≡ is_large (reads old) = ap (λ (l : Trace). is_large (reads l)) is ∙ (same_reads old mid header area at free w).large in
     record { valid = subst (λ (b : Bool). IsValidHeader b next) (sym large) (subst (λ (h : Header). IsValidHeader (is_large (reads old)) h) (sym next_is) fits.valid); limit = fits.limit ∙ ap program_room (sym large) }
 
--- the text stands in that area
+-- the text is in that area
 text_is : (area : ℕ) (text : List ℕ) (image : Image) → length text ≤ longest_in area → ((j : ℕ) → 512 * j < length text → HoldsText text (512 * j) (image (program_first area + j))) → program_text (length text) (stretch (program_first area) (program_size area) image) ≡ text
 text_is area text image short parts = text-whole text (stretch (program_first area) (program_size area) image) (λ j lt. subst (HoldsText text (512 * j)) (sym (stretch-at (program_first area) (program_size area) image j (omega arith))) (parts j lt))
 

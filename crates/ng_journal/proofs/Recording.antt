@@ -1,4 +1,4 @@
--- Room made for a record, and then the record.
+-- Room is made for a record, and then the record is written.
 use Rattle.std.proofs.Common.{◌≡◌, ◌⊎◌, inl, inr, ⊎_elim, ℕ, ◌+◌, ◌<◌, ◌≤◌, ◌↔◌, Bool, true, false, List, ℤ, Option, Result, Ok, Err, length, refl, sym, ◌∙◌, ap, subst, arith}
 use Rattle.std.specs.Prelude.{OnOk, IfOk}
 use Rattle.std.proofs.lemmas.Bool.{cases_lt}
@@ -37,7 +37,7 @@ use Rattle.ng_journal.specs.Storing.{Ledger, changes_to, HasRoomFor, IsFullFor, 
 pub own : {trace : Trace} {header : Header} {standing : DurableState} {end : LogEnd} → IsAtEnd trace header standing end → IsOwnImage trace header
 own at = record { synced = at.synced; force = at.image.force; written = at.image.written }
 
--- what stands fits a device under the next epoch too
+-- the state fits a device under the next epoch too
 pub fits_next : {trace : Trace} {header : Header} {before : DurableState} {end : LogEnd} (next : Header) (saved : StoredModel) → IsAtEnd trace header before end → before.saved ≡ saved → next ≡ next_header header header.area header.length → header.epoch < greatest_count → FitsDevice (reads trace) next saved
 fits_next {trace = trace} {header = header} next saved at is next_is more =
     let w = force-within (reads trace) header at.image.force in
@@ -48,7 +48,7 @@ fits_next {trace = trace} {header = header} next saved at is next_is more =
 
 -- ---- what stops leave
 
--- what stands, beside the program in force
+-- the state, with the program in force
 pub same_standing : (trace : Trace) (header : Header) (before : DurableState) (end : LogEnd) (saved : StoredModel) (area : ℕ) → IsAtEnd trace header before end → before.saved ≡ saved → area ≡ header.area → beside saved area (reads trace) ≡ before
 same_standing trace header before end saved area at is area_is =
     (λ i. beside (sym is i) (area_is i) (reads trace))
@@ -58,7 +58,7 @@ module _ (old new : Trace) (header next : Header) (before : DurableState) (end :
   same : beside saved next.area (reads old) ≡ before
   same = same_standing old header before end saved next.area at is area_is
 
-  -- a checkpoint of what stands leaves it standing
+  -- a checkpoint of the state leaves it unchanged
   keeps_standing : {T E : Type 0} (result : Result T E) → CheckpointSpec result header next saved old new → IsContinuation old new (StandsFor before (items old))
   keeps_standing result c = weaker old new (IsEitherUnder header next (stands (reads old)) (Ok (beside saved next.area (reads old))) (items old)) (StandsFor before (items old)) c.stops (λ image handed p. record {
     modern = ⊎_elim (λ was. record { header = header; force = was.0; format = at.image.format }) (λ made. record { header = next; force = made.0; format = two }) p.state;
@@ -142,7 +142,7 @@ not_stored e result l changes saved old new count r = record {
   synced = tt;
 }
 
--- a record leaves what isn't in the log
+-- a record leaves everything outside the log unchanged
 stays_laid : (l : Ledger) (r : LogRecord) (mid new : Trace) → r.at + size_of r ≤ shortest_log → IsRenewed l mid → WritesOnly (BelongsToRecord r) mid new → IsLaidOut (renewed l).header l.saved (reads new)
 stays_laid l r mid new room done w = λ n own. subst (BelongsTo (renewed l).header l.saved n) (sym (same n own)) (done.laid n own)
   where
@@ -187,7 +187,7 @@ stored {T = T} {E = E} result tip l changes saved old mid new few count (inr ful
     go (Err e) parts laid = tt
     go (Ok v) parts laid = inr (subst (IsFullFor l.header l.end) count full.0, laid, parts)
 
--- what is kept of it
+-- the ledger after it
 pub ledger_after : {E : Type 0} (result : Result Tip E) (tip : Tip) (l : Ledger) (changes : ℕ) (saved : StoredModel) → changes ≡ changes_to l saved → IsRoom l changes tip → IfOk result (λ t. t ≡ tip_of (with_record (ledger tip l.saved) saved)) → IfOk result (λ t. IsLedgerAfter l saved (ledger t saved))
 ledger_after (Err e) tip l changes saved count room is = tt
 ledger_after (Ok after) tip l changes saved count (inl there) is = record {
@@ -199,12 +199,12 @@ ledger_after (Ok after) tip l changes saved count (inr full) is = record {
   full = λ _. ap (λ (t : Tip). ledger t saved) (is ∙ ap (λ (t : Tip). tip_of (with_record (ledger t l.saved) saved)) full.1);
 }
 
--- either log has the room
+-- each of the two logs has room
 pub has_room : (tip : Tip) (l : Ledger) (changes : ℕ) → changes ≤ 5399 → IsRoom l changes tip → HasRoomFor tip.header tip.end changes
 has_room tip l changes few (inl there) = subst (λ (t : Tip). HasRoomFor t.header t.end changes) (sym there.1) there.0
 has_room tip l changes few (inr full) = subst (λ (t : Tip). HasRoomFor t.header t.end changes) (sym full.1) (let room : HasRoomFor (renewed l).header no_records changes = omega (arith, few, log-short l.header.format) in room)
 
--- a table has no changes to itself
+-- a table doesn't differ from itself
 pub none_changed : (saved : StoredModel) → 0 ≡ length (differences saved.setup.params saved.setup.params)
 none_changed saved = ap length (sym (differences-none saved.setup.params))
 
@@ -214,14 +214,14 @@ has_room_yet b header end changes iff no_ = elim (cases_lt (log_size_of header) 
   | inr room ↦ room
 ]
 
--- the same tip, for a program of the same length
+-- the same tip, for an equal length of the program
 pub same_length : (a b : ℕ) (tip : Tip) → b ≡ a → IsTip a tip.header tip.end → IsTip b tip.header tip.end
 same_length a b tip is t = record { long = is ∙ t.long; format = t.format; within = t.within; number = t.number }
 
 record_is : (tip : Tip) (table : List ℤ) (slot : Option SlotChange) (was saved : StoredModel) → table ≡ was.setup.params → slot ≡ first_change was.tools saved.tools → record_from tip.header.epoch tip.end table slot saved ≡ record_of (ledger tip was) saved
 record_is tip table slot was saved is slot_is = λ i. record_from tip.header.epoch tip.end (is i) (slot_is i) saved
 
--- a record as another call answers for it
+-- a record that failed, for the result of another call
 pub not_recorded : {T U E F : Type 0} (e : E) (result : Result U F) (tip : Tip) (table : List ℤ) (slot : Option SlotChange) (was saved : StoredModel) (old new : Trace) → table ≡ was.setup.params → slot ≡ first_change was.tools saved.tools → WritesRecord result (record_from tip.header.epoch tip.end table slot saved) old new → WritesRecord {T = T} (Err e) (record_of (ledger tip was) saved) old new
 not_recorded e result tip table slot was saved old new is slot_is w = record { writes = subst (λ (r : LogRecord). WritesOnly (BelongsToRecord r) old new) (record_is tip table slot was saved is slot_is) w.writes; parts = tt; synced = tt }
 

@@ -1,4 +1,4 @@
--- What `recover` hands back.
+-- What `recover` returns.
 use Rattle.std.proofs.Common.{◌≡◌, inl, inr, List, ℤ, Ok, Err, sym, ◌∙◌, subst}
 use Rattle.ng_rig.specs.Trace.{Trace, reads}
 use Rattle.ng_layout.specs.declared.header.Header.{Header}
@@ -34,7 +34,7 @@ recovered_all tools journal header saved old new same held r = record {
       record { stops = k.stops; ready = ready-rests tools journal header saved old new same held k.ready };
 }
 
--- why nothing was
+-- why nothing was recovered
 pub recovered_failed : {R E : Type 0} (tools : List ℤ) (rig : R) (e : E) (saved : StoredModel) (old new : Trace) → RestoreSpec tools (Err e) saved old new → RecoverSpec tools (Err (DeviceFailed, rig)) old new
 recovered_failed tools rig e saved old new r = record { finds = tt; refused = tt; renews = r.renews; laid = tt; synced = tt; kept = λ written. record { stops = (r.kept written).stops; ready = tt } }
 

@@ -1,4 +1,5 @@
--- The stops of a checkpoint: what is stored written to the next epoch's areas, a sync, the next header, a sync.
+-- The stops of a checkpoint: the stored state is written to the next epoch's areas; then a sync, the next header, a
+-- sync.
 use Rattle.std.proofs.Common.{◌≡◌, ◌≢◌, ◌⊎◌, inl, inr, ⊎_elim, ℕ, ◌+◌, ◌%◌, ◌<◌, ◌≤◌, ◌==◌, nat_lt, Bool, if◌then◌else◌, List, [], Some, Result, Ok, Err, length, refl, sym, ◌∙◌, ap, subst, arith}
 use Rattle.std.proofs.lemmas.Bool.{cases_eq}
 use Rattle.std.proofs.lemmas.Bool.Decides.{nat_tests}
@@ -35,13 +36,13 @@ In next n c = IsOfAreas next n
 abbrev P : Trace → Header → Header → DurableState → Image → List Item → Type 0
 P old header next target = IsEitherUnder header next (stands (reads old)) (Ok target) (items old)
 
--- ---- what is written for a header changes nothing of what stands under the one before
+-- ---- what is written for a header changes nothing under the one before
 
 not_areas : (next : Header) (n : ℕ) → (n < 2) ⊎ (((174 ≤ n) × (n < log_first + shortest_log)) ⊎ (1710 ≤ n)) → IsOfAreas next n → ⊥
 not_areas next n where_is (inl a) = elim where_is [ inl low ↦ omega (arith, a.from) | inr (inl high) ↦ (let from = high.0 in omega (arith, a.to)) | inr (inr past) ↦ omega (arith, a.to) ]
 not_areas next n where_is (inr t) = let from = t.1.from in let to = t.1.to in elim where_is [ inl low ↦ omega arith | inr (inl high) ↦ (let below = high.1 in omega arith) | inr (inr past) ↦ omega arith ]
 
--- nor does it change how large the device is
+-- nor does it change the size of the device
 same_size : (next : Header) (image base : Image) → ((n : ℕ) → IsOfAreas next n ⊎ (image n ≡ base n)) → is_large image ≡ is_large base
 same_size next image base same = ap (λ (s : List ℕ). nat_lt 0 (length s)) (⊎_elim (λ a. absurd (not_areas next 5805 (inr (inr (omega arith))) a)) (λ e. e) (same 5805))
 
@@ -76,13 +77,13 @@ frames trace header next at epoch (inr empty) image same =
 
 -- ---- the areas written
 
--- where that is so, and a header is to be written
+-- if that is so, and a header is to be written
 pub record Begins (old : Trace) (header next : Header) : Type 0 where
   pub at : IsOwnImage old header
   pub epoch : next.epoch ≡ header.epoch + 1
   pub follows : MayFollow next header (reads old)
 
--- an image of writes to the areas alone stands for what stood before
+-- an image with writes to the areas alone stands for the old state
 same_under : (old : Trace) (header next : Header) → Begins old header next → (image : Image) (handed : List Item) → IsMixOf old (In next) image handed → IsSameUnder header image (reads old)
 same_under old header next b image handed p = frames old header next b.at b.epoch b.follows image (λ n. ⊎_elim (λ may. inr (b.at.synced.one n (image n) may)) (λ areas. inl areas) (p.each n))
 
@@ -94,7 +95,7 @@ blend_is_old old header next target b image handed p =
 after_areas : (old mid : Trace) (header next : Header) (target : DurableState) → Begins old header next → WritesOnly (In next) old mid → IsContinuation old mid (P old header next target)
 after_areas old mid header next target b w = weaker old mid (IsMixOf old (In next)) (P old header next target) w.stops (blend_is_old old header next target b)
 
--- the areas hold what is stored, and a header is to be written
+-- the areas hold the stored state, and a header is to be written
 pub record Ready (old mid : Trace) (header new : Header) (saved : StoredModel) (bytes : List ℕ) : Type 0 where
   pub begins : Begins old header new
   pub writes : WritesOnly (In new) old mid
@@ -110,7 +111,7 @@ pub record Ready (old mid : Trace) (header new : Header) (saved : StoredModel) (
 abbrev target_of : Trace → Header → StoredModel → DurableState
 target_of old new saved = beside saved new.area (reads old)
 
--- outside of the areas a read gives what it gave
+-- outside the areas a read returns what it did before
 outside : (old mid : Trace) (header next : Header) → IsOwnImage old header → WritesOnly (In next) old mid → (n : ℕ) → (IsOfAreas next n → ⊥) → reads mid n ≡ reads old n
 outside old mid header next at w n out = ⊎_elim (λ may. at.synced.one n (reads mid n) may) (λ areas. absurd (out areas)) ((reads_blend (In next) old mid w).each n)
 
@@ -183,7 +184,7 @@ header_reads mid h n bytes = elim (cases_eq n h) [
   | inr other ↦ let e : (if n == h then bytes else reads mid n) ≡ reads mid n = grind (arith, nat_tests) in inr (other, e)
 ]
 
--- and when all is synced
+-- and when everything is synced
 after_all : (old mid : Trace) (header new : Header) (saved : StoredModel) (bytes : List ℕ) → Ready old mid header new saved bytes → BeginsIn (reads (Wrote (new.epoch % 2) bytes (Synced mid))) new (target_of old new saved)
 after_all old mid header new saved bytes r =
     let h = new.epoch % 2 in

@@ -1,4 +1,4 @@
--- A device at rest, and a hand-out from there.
+-- A device at rest, and an item handed out from there.
 use Rattle.std.proofs.Common.{◌≡◌, ◌⊎◌, ℕ, List, [], ◌∷◌, ◌++◌, Result, Ok, Err, sym, ◌∙◌, ap, subst}
 use Rattle.std.specs.Prelude.{OnOk}
 use Rattle.ng_canon.specs.declared.item.Item.{Item}
@@ -47,7 +47,7 @@ given_by : {T E : Type 0} (result : Result T E) (item : Item) (old new : Trace) 
 given_by (Ok v) item old new is = ap items is
 given_by (Err e) item old new is = tt
 
--- A hand-out changes nothing that is read.
+-- Handing an item out changes nothing that is read.
 pub handed_out : {R T E : Type 0} (result : Result T E) (journal before : JournalModel R) (standing : DurableState) (item : Item) (old new : Trace) → tip_of (ledger_of journal) ≡ tip_of (ledger_of before) → journal.saved ≡ before.saved → IsDurablyAt old before standing → HandOutSpec result item old new → JournalHandOutSpec result journal standing item old new
 handed_out result journal before standing item old new same saved_is rest is =
     let h = hands result item old new rest.at.synced is in
@@ -64,7 +64,7 @@ handed_out result journal before standing item old new same saved_is rest is =
       };
     }
 
--- one that failed handed out its item or nothing
+-- if that failed, the item or nothing was handed out
 pub perhaps_handed : {R T F : Type 0} (f : F) (journal before : JournalModel R) (standing : DurableState) (item : Item) (old new : Trace) → tip_of (ledger_of journal) ≡ tip_of (ledger_of before) → journal.saved ≡ before.saved → IsDurablyAt old before standing → (new ≡ old) ⊎ (new ≡ Handed item old) → JournalHandOutSpec {T = T} (Err f) journal standing item old new
 perhaps_handed f journal before standing item old new same saved_is rest is =
     let err : Result ℕ ℕ = Err 0 in

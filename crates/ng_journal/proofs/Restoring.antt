@@ -1,4 +1,5 @@
--- The exits of power on: a sync, what is found, a checkpoint of its recovered, and over format 1 one more in format 2.
+-- The exits of power on: a sync, what is found, a checkpoint of the recovered state, and over format 1 one more in
+-- format 2.
 use Rattle.std.proofs.Common.{◌≡◌, inl, inr, ⊎_elim, ℕ, ◌+◌, ◌<◌, ◌≤◌, List, ℤ, Some, Result, Ok, Err, refl, sym, ◌∙◌, ap, subst, arith}
 use Rattle.std.specs.Option.{option_map}
 use Rattle.ng_num.specs.declared.fault.Fault.{Fault}
@@ -22,12 +23,12 @@ use Rattle.ng_journal.specs.Recovery.{recovered_of, epochs_for, HasCause, Belong
 use Rattle.ng_journal.specs.Journal.{StandsBeside}
 use Rattle.ng_journal.specs.Private.RecoverySteps.{StandsUnder, IsRead, RestoreSpec, ModernizeSpec, StoresModern, BelongsToModern, modern_by}
 
--- what an image stands for beside a table, by the header in force
+-- what an image stands for with a table, given the header in force
 pub beside-under : (tools : List ℤ) (image : Image) (h : Header) → in_force image ≡ Some h → stands_beside tools image ≡ beside_header tools (Some h) (stands image)
 unfolding stands_beside
 beside-under tools image h is = λ i. beside_header tools (is i) (stands image)
 
--- a table beside it is the recovered's too
+-- adding a table and recovering can be done in either order
 recovered-beside : (tools : List ℤ) (f : Format) (x : DurableState) → recovered (beside_format tools f x) ≡ beside_format tools f (recovered x)
 recovered-beside tools One x = refl
 recovered-beside tools Two x = refl
@@ -58,7 +59,7 @@ module _ (tools : List ℤ) where
     kept = λ written. record { stops = subst (λ (l : Trace). IsContinuation old l (Same old)) (sym is) (synced_stops old written); ready = tt };
   }
 
-  -- or there is a reason to recover nothing
+  -- or there is a reason why nothing is recovered
   pub exit_refused : {E : Type 0} (fault : Fault) (saved : StoredModel) (old new : Trace) → new ≡ Synced old → HasCause fault (reads old) → RestoreSpec {E = E} tools (Ok (Err fault)) saved old new
   exit_refused fault saved old new is cause = record {
     outcome = cause;
@@ -76,7 +77,7 @@ module _ (tools : List ℤ) where
 under : (answer : Result Header Fault) (header : Header) (saved : StoredModel) (image : Image) → answer ≡ Ok header → IsRead saved image answer → StandsUnder header saved image
 under answer header saved image is read = subst (λ (a : Result Header Fault). IsRead saved image a) is read
 
--- the same once more, of a device that hasn't changed
+-- what was found, for a device that hasn't changed
 pub found_under : (answer : Result Header Fault) (header : Header) (saved : StoredModel) (mid now : Trace) → answer ≡ Ok header → now ≡ mid → IsRead saved (reads mid) answer → StandsUnder header saved (reads now)
 found_under answer header saved mid now sound same read = under answer header saved (reads now) sound (subst (λ (l : Trace). IsRead saved (reads l) answer) (sym same) read)
 
@@ -92,13 +93,13 @@ Next header saved = next_header header header.area saved.length
 abbrev closed_of : StoredModel → StoredModel
 closed_of s = record s { half = option_map closed s.half }
 
--- that is what this is
+-- the next header is that one
 pub next_is : (header next : Header) (found saved : StoredModel) (image : Image) → StandsUnder header found image → saved ≡ closed_of found → next ≡ next_header header header.area header.length → next ≡ Next header saved
 next_is header next found saved image u closed_is is =
     let long : saved.length ≡ header.length = ap (λ (s : StoredModel). s.length) closed_is ∙ u.long in
     is ∙ ap (next_header header header.area) (sym long)
 
--- A power on that finds the epochs it takes has one left at least.
+-- If a power on finds the epochs that it needs, at least one is left.
 pub one_more : (header : Header) → header.epoch + epochs_for header.format ≤ greatest_count → header.epoch < greatest_count
 one_more header room = let one = by header.format in omega arith
   where
@@ -106,11 +107,11 @@ one_more header room = let one = by header.format in omega arith
     by One = omega arith
     by Two = omega arith
 
--- What is promised of a checkpoint under it.
+-- The contract of a checkpoint under it.
 abbrev pub Promised : {T E : Type 0} → Result T E → Header → StoredModel → Trace → Trace → Type 0
 Promised result next saved now new = (header : Header) → IsOwnImage now header → next.epoch ≡ header.epoch + 1 → MayFollow next header (reads now) → FitsDevice (reads now) next saved → CheckpointSpec result header next saved now new
 
--- ---- what was found under a header, and its recovered
+-- ---- what was found under a header, and the recovered state
 
 module _ (tools : List ℤ) (header : Header) (found saved : StoredModel) (old now : Trace) (is : now ≡ Synced old) (u : StandsUnder header found (reads now)) (closed_is : saved ≡ closed_of found) (more : header.epoch < greatest_count) where
   abbrev standing : DurableState
@@ -122,7 +123,7 @@ module _ (tools : List ℤ) (header : Header) (found saved : StoredModel) (old n
   raw : stands (reads old) ≡ Ok (beside found header.area (reads now))
   raw = ap (λ (l : Trace). stands (reads l)) (sym is) ∙ u.state
 
-  -- the recovered of what stood, by itself and beside the table
+  -- the recovered state, by itself and with the table
   recovered_is : recovered_of (stands (reads old)) ≡ Ok standing
   recovered_is = ap recovered_of raw ∙ ap (λ (s : StoredModel). Ok (beside s header.area (reads now))) (sym closed_is)
 
@@ -150,7 +151,7 @@ module _ (tools : List ℤ) (header : Header) (found saved : StoredModel) (old n
   done_by result next new is_next written c =
       subst (λ (h : Header). CheckpointSpec result header h saved now new) is_next (c header (own_on written) (ap (λ (h : Header). h.epoch) is_next) (inl (ap (λ (h : Header). h.format) is_next)) (subst (λ (h : Header). FitsDevice (reads now) h saved) (sym is_next) fits))
 
-  -- each stop of the checkpoint, beside the table
+  -- each stop of the checkpoint, with the table
   through : {T E : Type 0} (result : Result T E) (new : Trace) → IsWritten (reads old) → CheckpointSpec result header (Next header saved) saved now new → IsContinuation old new (Same tools old)
   through result new written c =
       joined old now new (Same tools old) (subst (λ (l : Trace). IsContinuation old l (Same tools old)) (sym is) (synced_stops tools old written))
@@ -164,7 +165,7 @@ module _ (tools : List ℤ) (header : Header) (found saved : StoredModel) (old n
         handed_is = p.handed_is ∙ ap items is;
       }))
 
-  -- what a checkpoint writes of what was found is the recovered of what stood
+  -- what a checkpoint writes of what was found is the recovered state
   May : ℕ → List ℕ → Type 0
   May n bytes = BelongsToNext tools (reads old) n bytes
 
@@ -193,7 +194,7 @@ module _ (tools : List ℤ) (header : Header) (found saved : StoredModel) (old n
     kept = λ written. record { stops = through result new written (done_by result next new is_next written c); ready = tt };
   }
 
-  -- what is made of it in format 2
+  -- what is then made of it in format 2
   module _ {T F : Type 0} (v : T) (next : Header) (mid new : Trace) (is_next : next ≡ Next header saved) (stores : StoresState {E = F} (Ok v) next saved now mid) (c : Promised {E = F} (Ok v) next saved now mid) where
     abbrev ok : Result T F
     ok = Ok v

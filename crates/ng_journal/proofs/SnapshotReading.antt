@@ -1,4 +1,4 @@
--- A snapshot read: its state field, then its parameters.
+-- Reading a snapshot: its state field, then its parameters.
 use Rattle.std.proofs.Common.{◌≡◌, ℕ, ◌+◌, List, [], ℤ, Bool, true, false, Option, Some, None, sym, ◌∙◌, ap, subst, arith}
 use Rattle.ng_rig.specs.Trace.{Trace, Image, reads}
 use Rattle.ng_layout.specs.Report.{and_then, decoded_state_of}
@@ -72,7 +72,7 @@ module _ (header : Header) (image : Image) (bytes : List ℕ) (o : Option Decode
           let same : ◌≡◌ {A = ReplayState} (record { report = r; params = table; tools = tools }) (record { report = decoded_state_in new; params = new.setup.params; tools = new.tools }) = λ i. let s = sym after i in record { report = decoded_state_in s; params = s.setup.params; tools = s.tools } in
           (made ∙ ap (λ (f : ReplayState). Some f) same, ap (λ (s : StoredModel). s.length) after)
 
--- what was read of a device that has not changed, at its outcome
+-- what was read, with its result, if the device has not changed
 pub table_as : (first area : ℕ) (table : List ℤ) (old mid : Trace) (b v : Bool) → first ≡ area → mid ≡ old → b ≡ v → IsTableOf first table (reads mid) b → IsTableOf area table (reads old) v
 table_as first area table old mid b v place same is t = subst (λ (x : Bool). IsTableOf area table (reads old) x) is (subst (λ (n : ℕ). IsTableOf n table (reads old) b) place (subst (λ (l : Trace). IsTableOf first table (reads l) b) same t))
 
@@ -82,7 +82,7 @@ tools_as header bytes tools old mid b v same is t = subst (λ (x : Bool). IsTool
 pub snapshot_as : (header : Header) (saved : StoredModel) (image : Image) (b v : Bool) → b ≡ v → IsSnapshotOf header saved image v → IsSnapshotOf header saved image b
 snapshot_as header saved image b v is s = subst (λ (x : Bool). IsSnapshotOf header saved image x) (sym is) s
 
--- the tool table of a header: in format 1 none, in format 2 that of its area
+-- the tool table of a header: empty in format 1, that of its area in format 2
 pub no_table_in_one : (header : Header) (bytes : List ℕ) (tools : List ℤ) (image : Image) → header.format ≡ One → tools ≡ [] → IsToolsOf header bytes tools image true
 no_table_in_one header bytes tools image one none = ap (λ (f : Format). tools_in f bytes (stretch (tools_first header.epoch) tools_size image)) one ∙ ap (λ (l : List ℤ). Some l) (sym none)
 

@@ -20,11 +20,11 @@ use Rattle.ng_journal.specs.Private.Records.{ledger}
 use Rattle.ng_journal.proofs.Recording.{none_changed}
 use Rattle.ng_journal.specs.Storing.{Ledger, changes_to, IsFullFor, IsLedgerAfter}
 
--- the header of the next epoch, with a program that its area holds, is valid where the area is one of the device's
+-- the header of the next epoch, with a program that fits its area, is valid if the device has that area
 pub next_valid : (large : Bool) (header : Header) (area length : ℕ) → header.epoch < greatest_count → area ≤ greatest_area large → length ≤ longest_in area → IsValidHeader large (next_header header area length)
 next_valid large header area length more has fits = record { counted = omega arith; few = omega arith; area = has; length = fits }
 
--- where a record was stored, the header is the one that was in force, or the next of the same area
+-- if a record was stored, the header is the one that was in force, or the next one of the same area
 header_after : (large : Bool) (l : Ledger) (saved : StoredModel) (tip : Tip) → IsValidHeader large l.header → (IsFullFor l.header l.end (changes_to l saved) → l.header.epoch < greatest_count) → IsLedgerAfter l saved (ledger tip saved) → IsValidHeader large tip.header
 header_after large l saved tip valid more after = elim (cases_lt (log_size_of l.header) (l.end.sector + parts_for (changes_to l saved))) [
   | inl full ↦ subst (λ (x : Ledger). IsValidHeader large x.header) (sym (after.full full)) (next_valid large l.header l.header.area l.header.length (more full) valid.area valid.length)
@@ -46,7 +46,7 @@ steady_after sectors now l saved tip s same more after at storable count room = 
 pub storable_kept : (was saved : StoredModel) → IsStorable was → IsStorable saved → saved.length ≤ was.room → IsStorable (record saved { room = was.room })
 storable_kept was saved w s fits = record { table = s.table; tools = s.tools; machine = s.machine; half = s.half; place = s.place; program = fits; room = w.room }
 
--- where nothing was stored, it is as it was
+-- if nothing was stored, the journal is as before
 pub steady_still : (sectors now : ℕ) (header : Header) (end : LogEnd) (was saved : StoredModel) → IsSteady sectors header end was → now ≡ sectors → saved.length ≡ was.length → saved.room ≡ was.room → saved.entries ≡ was.entries → IsStorable saved → IsSteady now header end saved
 steady_still sectors now header end was saved s same long room count storable = subst (λ (n : ℕ). IsSteady n header end saved) (sym same) (record {
   room = s.room;
@@ -57,7 +57,7 @@ steady_still sectors now header end was saved s same long room count storable = 
   count = omega (arith, count, s.count);
 })
 
--- the same where a segment was opened
+-- if a segment was opened
 pub steady_opened : (sectors now : ℕ) (tip after : Tip) (was new : StoredModel) (half : HalfModel) (used : Bool) → IsSteady sectors tip.header tip.end was → now ≡ sectors → ((used ≡ true) ↔ ((greatest_count ≤ tip.header.epoch) × IsFullFor tip.header tip.end 0)) → used ≡ false → new ≡ record was { half = Some half }
     → IsLedgerAfter (ledger tip was) (record was { half = Some half }) (ledger after (record was { half = Some half })) → IsTip was.length after.header after.end → IsStorable new → IsSteady now after.header after.end new
 steady_opened sectors now tip after was new half used s same iff free is led at storable =
@@ -69,7 +69,7 @@ steady_opened sectors now tip after was new half used s same iff free is led at 
       | inr ge ↦ absurd (let yes = iff.1 (ge, subst (IsFullFor tip.header tip.end) (sym (none_changed was)) full) in cc)
     ]
 
--- the room tells whether a device is large
+-- the room shows whether a device is large
 room_tells : (a b : Bool) → program_room a ≡ program_room b → a ≡ b
 room_tells true true is = refl
 room_tells false false is = refl
@@ -98,7 +98,7 @@ steady_loaded sectors now area header next end was saved s same more has longest
   count = count;
 }))
 
--- the header counts on where the epochs aren't used up
+-- the header has a next one if the epochs aren't used up
 pub more_epochs : (used : Bool) (entries : ℕ) (header : Header) → ((used ≡ true) ↔ ((greatest_count < entries) ⊎ (greatest_count ≤ header.epoch))) → used ≡ false → (header.epoch < greatest_count) × (entries ≤ greatest_count)
 more_epochs used entries header iff free = (
   elim (cases_lt header.epoch greatest_count) [ inl lt ↦ lt | inr ge ↦ absurd (let yes = iff.1 (inr ge) in cc) ],

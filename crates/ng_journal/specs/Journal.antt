@@ -25,20 +25,20 @@ pub record JournalModel (R : Type 0) : Type 0 where
   pub saved : StoredModel
   pub broken : Bool
 
--- What a journal keeps of a state: all but the room for a program, which is its device's.
+-- What a journal keeps of a state: all but the room for a program, which is that of its device.
 abbrev pub kept_by : {R : Type 0} → JournalModel R → StoredModel → StoredModel
 kept_by journal stored = record stored { room = journal.saved.room }
 
--- The header is of format 2 and names a program of this length; its log ends here, within its sectors, of which each
--- record has one at least.
+-- The header is of format 2 and names a program of this length. Its log ends here, within its sectors; each record
+-- takes at least one sector.
 pub record IsTip (length : ℕ) (header : Header) (end : LogEnd) : Type 0 where
   pub long : length ≡ header.length
   pub format : header.format ≡ Two
   pub within : end.sector ≤ log_size_of header
   pub number : end.number ≤ end.sector
 
--- What holds of every journal, whatever its device does: its header is valid on a device of so many sectors, and its
--- room is theirs.
+-- What holds of every journal, whatever its device does: its header is valid on a device with this many sectors, and
+-- its room is that of such a device.
 pub record IsSteady (sectors : ℕ) (header : Header) (end : LogEnd) (saved : StoredModel) : Type 0 where
   pub room : least_size ≤ sectors
   pub valid : IsValidHeader (is_large_size sectors) header
@@ -47,43 +47,46 @@ pub record IsSteady (sectors : ℕ) (header : Header) (end : LogEnd) (saved : St
   pub storable : IsStorable saved
   pub count : saved.entries ≤ greatest_count
 
--- The device has one image, which stands for this, and the log ends where the journal has it.
+-- The device has one image, which stands for this state, and the log ends where the journal says.
 pub record IsDurablyAt {R : Type 0} (trace : Trace) (journal : JournalModel R) (standing : DurableState) : Type 0 where
   pub at : IsAtEnd trace journal.header standing journal.end
   pub saved_is : standing.saved ≡ journal.saved
 
--- Each stop since stands for the one or for the other, after Ok for the other alone; nothing is handed out.
+-- Each stop since stands for the state before or for the state after, and after Ok only for the latter; nothing is
+-- handed out.
 pub record CommitSpec {R T E : Type 0} (result : Result T E) (journal : JournalModel R) (before after : DurableState) (old new : Trace) : Type 0 where
   pub stops : IsContinuation old new (IsEither (Ok before) (Ok after) (items old))
   pub items_are : items new ≡ items old
   pub at : OnOk result (IsDurablyAt new journal after)
 
--- An image of either format stands for this beside a table and has no record of an epoch to come; this was handed out.
+-- An image of either format stands for this state with a table and has no record of a later epoch; these items were
+-- handed out.
 pub record StandsBeside (tools : List ℤ) (standing : DurableState) (given : List Item) (image : Image) (handed : List Item) : Type 0 where
   pub state : stands_beside tools image ≡ Ok standing
   pub written : IsWritten image
   pub handed_is : handed ≡ given
 
--- An image of format 2 stands for this and has no record of an epoch to come; this was handed out.
+-- An image of format 2 stands for this state and has no record of a later epoch; these items were handed out.
 pub record StandsFor (standing : DurableState) (given : List Item) (image : Image) (handed : List Item) : Type 0 where
   pub state : stands image ≡ Ok standing
   pub modern : IsModern image
   pub written : IsWritten image
   pub handed_is : handed ≡ given
 
--- Each stop since has the item besides; what stands stays. After Ok it is handed out, else it or nothing.
+-- Each stop since has the item in addition, and the state is unchanged. After Ok the item is handed out, otherwise it
+-- or nothing.
 pub record JournalHandOutSpec {R T E : Type 0} (result : Result T E) (journal : JournalModel R) (standing : DurableState) (item : Item) (old new : Trace) : Type 0 where
   pub stops : IsContinuation old new (StandsFor standing (items old ++ item ∷ []))
   pub items_are : (items new ≡ items old) ⊎ (items new ≡ items old ++ item ∷ [])
   pub given : OnOk result (items new ≡ items old ++ item ∷ [])
   pub at : IsDurablyAt new journal standing
 
--- The device failed in that call exactly where that is the fault.
+-- The device failed in the call exactly if the fault says so.
 abbrev pub CountsFailure : {T : Type 0} → Result T Fault → ℕ → ℕ → Type 0
 CountsFailure (Err e) old new = new ≡ (if is_device_failure e then (old + 1) % 2 ^ 64 else old)
 CountsFailure (Ok _) old new = new ≡ old
 
--- A journal is broken exactly where the device failed.
+-- A journal is broken exactly if the device failed.
 abbrev pub IsBrokenBy : {T : Type 0} → Result T Fault → Bool → Type 0
 IsBrokenBy (Err e) broken = broken ≡ is_device_failure e
 IsBrokenBy (Ok _) broken = broken ≡ false

@@ -1,4 +1,4 @@
--- What only contracts of private functions cite.
+-- Definitions that only contracts of private functions cite.
 pub mod CheckpointSteps
 pub mod LineParts
 pub mod LoadSteps

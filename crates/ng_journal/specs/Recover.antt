@@ -1,4 +1,4 @@
--- What `recover` answers (own).
+-- What `recover` returns (own).
 use Rattle.std.specs.Prelude.{◌≡◌, ◌⊎◌, ℕ, ℤ, List, Result, Ok, Err, OnOk, IfOk}
 use Rattle.ng_num.specs.declared.fault.Fault.{Fault}
 use Rattle.ng_num.specs.declared.fault.Fault.TheVariants.{NotFormatted, Damaged, CountersUsed, DeviceFailed, OutOfMemory}
@@ -13,13 +13,13 @@ use Rattle.ng_journal.specs.Recovery.{recovered_of, HasCause, IsFound, IsNextEpo
 abbrev pub RecoverResult : Type 0 → Type 0
 RecoverResult R = Result (JournalModel R × StoredModel) (Fault × R)
 
--- the device that is handed back
+-- the device that is returned
 abbrev pub recover_rig : {R : Type 0} → RecoverResult R → R
 recover_rig (Ok x) = x.0.rig
 recover_rig (Err e) = e.1
 
--- what may keep a device of any content from being recovered: memory is wanting, the device failed, it isn't formatted,
--- it is damaged, or its epochs are used up
+-- why a device may not be recovered, whatever it holds: it is out of memory, the device failed, it isn't formatted, it
+-- is damaged, or its epochs are used up
 abbrev pub IsRecoveryFault : Fault → Type 0
 IsRecoveryFault fault = (fault ≡ OutOfMemory) ⊎ ((fault ≡ DeviceFailed) ⊎ ((fault ≡ NotFormatted) ⊎ ((fault ≡ Damaged) ⊎ (fault ≡ CountersUsed))))
 
@@ -34,26 +34,26 @@ FoundByRecover tools (Err (OutOfMemory, rig)) image = Unit {0}
 FoundByRecover tools (Err (DeviceFailed, rig)) image = Unit {0}
 FoundByRecover tools (Err (fault, rig)) image = HasCause fault image
 
--- A refusal for what the device holds leaves it as it was, with one sync more.
+-- A refusal because of what the device holds leaves it as it was, with one more sync.
 abbrev pub LeavesAlone : {R : Type 0} → RecoverResult R → Trace → Trace → Type 0
 LeavesAlone (Ok x) old new = Unit {0}
 LeavesAlone (Err (OutOfMemory, rig)) old new = Unit {0}
 LeavesAlone (Err (DeviceFailed, rig)) old new = Unit {0}
 LeavesAlone (Err (fault, rig)) old new = new ≡ Synced old
 
--- the journal rests with the recovered of what stood
+-- the journal is at rest with the recovered state
 pub record IsJournalRecovered {R : Type 0} (tools : List ℤ) (journal : JournalModel R) (old new : Trace) : Type 0 where
   pub standing : DurableState
   pub rests : IsDurablyAt new journal standing
   pub is : recovered_of (stands_beside tools (reads old)) ≡ Ok standing
 
--- Each stop since stands for what stood before or for its recovered.
+-- Each stop since stands for the old state or for the recovered one.
 pub record JournalKeepsAll {R : Type 0} (tools : List ℤ) (result : RecoverResult R) (old new : Trace) : Type 0 where
   pub stops : IsContinuation old new (IsEitherBeside tools (stands_beside tools (reads old)) (recovered_of (stands_beside tools (reads old))) (items old))
   pub ready : IfOk result (λ x. IsJournalRecovered tools x.0 old new)
 
--- What is found, or why nothing is, and what is written, over any image: after Ok what was found stands there under the
--- journal's header and nothing is unsynced. What stops leave over an image that only this journal wrote.
+-- What is found, or why nothing is, and what is written, for any image. After Ok what was found is there under the
+-- journal's header, and nothing is unsynced. Also what stops leave over an image that only this journal wrote.
 pub record RecoverSpec {R : Type 0} (tools : List ℤ) (result : RecoverResult R) (old new : Trace) : Type 0 where
   pub finds : FoundByRecover tools result (reads old)
   pub refused : LeavesAlone result old new

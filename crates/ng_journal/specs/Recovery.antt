@@ -13,17 +13,17 @@ use Rattle.ng_layout.specs.Stands.{in_force, stands, stands_beside, recovered, I
 use Rattle.ng_layout.specs.Stored.{StoredModel, DurableState}
 use Rattle.ng_journal.specs.AtRest.{BelongsTo, next_header, migrated}
 
--- the recovered of what stands, where something does
+-- the recovered state, if there is a state
 abbrev pub recovered_of : Result DurableState Fault → Result DurableState Fault
 recovered_of (Ok s) = Ok (recovered s)
 recovered_of (Err e) = Err e
 
--- how many epochs a power on takes: over format 1 one more, in which it becomes format 2
+-- how many epochs a power on needs: over format 1 one more, in which the device becomes format 2
 abbrev pub epochs_for : Format → ℕ
 epochs_for One = 2
 epochs_for Two = 1
 
--- so many epochs are past the last one
+-- a power on needs an epoch past the last one
 pub record HasLastEpoch (image : Image) : Type 0 where
   pub header : Header
   pub force : in_force image ≡ Some header
@@ -38,25 +38,25 @@ HasCause Damaged image = stands image ≡ Err Damaged
 HasCause CountersUsed image = HasLastEpoch image
 HasCause _ image = ⊥
 
--- this is the recovered of what stands beside the table of the settings
+-- this is the recovered state of the image, with the table of the settings
 pub record IsFound (tools : List ℤ) (saved : StoredModel) (image : Image) : Type 0 where
   pub program : List ℕ
   pub is : recovered_of (stands_beside tools image) ≡ Ok (record { saved = saved; program = program })
 
--- the header is the one in force, but of format 2 and of the epoch after, or over format 1 of the second after
+-- the header is the one in force, but of format 2 and of the next epoch, or over format 1 of the one after that
 pub record IsNextEpoch (header : Header) (image : Image) : Type 0 where
   pub before : Header
   pub force : in_force image ≡ Some before
   pub is : header ≡ record before { format = Two; epoch = before.epoch + epochs_for before.format }
 
--- These bytes belong in sector n where this is stored under the epoch after a header, and over format 1 with a table in
+-- These bytes belong in sector n if this is stored under the epoch after a header and, over format 1, with a table in
 -- format 2 under the one after that.
 abbrev pub BelongsToRenewal : List ℤ → Header → StoredModel → ℕ → List ℕ → Type 0
 BelongsToRenewal tools header saved n bytes =
     let next = next_header header header.area saved.length in
     BelongsTo next saved n bytes ⊎ ((header.format ≡ One) × BelongsTo (migrated next) (record saved { tools = tools }) n bytes)
 
--- the same of the recovered of what stands
+-- the bytes that belong there for the recovered state of an image
 pub record BelongsToNext (tools : List ℤ) (image : Image) (n : ℕ) (bytes : List ℕ) : Type 0 where
   pub header : Header
   pub force : in_force image ≡ Some header
@@ -68,13 +68,13 @@ pub record BelongsToNext (tools : List ℤ) (image : Image) (n : ℕ) (bytes : L
 abbrev pub Renews : List ℤ → Trace → Trace → Type 0
 Renews tools old new = WritesOnly (BelongsToNext tools (reads old)) old new
 
--- An image stands for one of the two beside the table of the settings, and has no record of an epoch to come; nothing
+-- An image stands for one of the two states with the table of the settings, and has no record of a later epoch; nothing
 -- was handed out.
 pub record IsEitherBeside (tools : List ℤ) (before after : Result DurableState Fault) (given : List Item) (image : Image) (handed : List Item) : Type 0 where
   pub state : (stands_beside tools image ≡ before) ⊎ (stands_beside tools image ≡ after)
   pub written : IsWritten image
   pub handed_is : handed ≡ given
 
--- The table may be any, but over a header in force of format 1 it is the one that is given.
+-- The table may be any; but over a header in force of format 1 it is the given one.
 abbrev pub IsTableOver : List ℤ → List ℤ → Image → Type 0
 IsTableOver given table image = (header : Header) → in_force image ≡ Some header → header.format ≡ One → table ≡ given

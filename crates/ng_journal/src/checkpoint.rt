@@ -19,7 +19,7 @@ use ng_layout::{
 use ng_rig::{Failed, Rig};
 use std::alloc::Allocator;
 
-/// Writes the sectors of a snapshot, the first of them here.
+/// Writes the sectors of a snapshot, from sector `first` on.
 fn write_snapshot<R: Rig, A: Allocator + Copy + Drop>(
     rig: &mut R,
     first: usize,
@@ -39,7 +39,7 @@ fn write_snapshot<R: Rig, A: Allocator + Copy + Drop>(
     Ok(())
 }
 
-/// Writes the sectors of a tool area, the first of them here.
+/// Writes the sectors of a tool area, from sector `first` on.
 fn write_tools<R: Rig, A: Allocator + Copy + Drop>(
     rig: &mut R,
     first: usize,
@@ -86,7 +86,7 @@ pub(crate) fn header_sector(header: Header) -> [u8; SECTOR_BYTES]
     header.write()
 }
 
-/// The header of the epoch after this one's, with a program of this length in this area.
+/// The header of the next epoch, with a program of this length in this area.
 pub(crate) fn next_header(header: Header, area: u64, length: u64) -> Header
     requires { header.epoch < greatest_count }
     ensures { result ≡ next_header header area length }
@@ -112,7 +112,7 @@ pub(crate) fn migrated(header: Header) -> Header
     }
 }
 
-/// Writes what is stored under this header, which is to be that of the next epoch.
+/// Writes what is stored under this header, which must be that of the next epoch.
 pub(crate) fn checkpoint<R: Rig, A: Allocator + Copy + Drop>(
     rig: &mut R,
     next: Header,
@@ -123,7 +123,7 @@ pub(crate) fn checkpoint<R: Rig, A: Allocator + Copy + Drop>(
     requires count { stored.now.entries ≤ greatest_count }
     requires storable { IsStorable stored.now }
     requires tools { next.format ≡ One → stored.now.tools ≡ [] }
-    // for any room for a program, since none is written
+    // For any room for a program, since none is written.
     ensures stops { IfHonest (R.seen rig.old) (R.seen rig.new)
         ((room : ℕ) (header : Header) → IsOwnImage (R.seen rig.old).trace header → next.epoch ≡ header.epoch + 1
         → MayFollow next header (reads (R.seen rig.old).trace)

@@ -1,4 +1,4 @@
-//! A device made fresh: no header is left on it, then it stands for a fresh controller.
+//! Formatting a device: first no header is left on it, and then it stands for a fresh controller.
 ghost use Rattle.std.specs.Prelude.{ℕ, ◌≡◌, ◌≤◌, ◌<◌, ◌+◌, ◌⊎◌, ◌↔◌, replicate, IsErrOf, IfErr};
 ghost use Rattle.ng_num.specs.declared.fault.Fault.TheVariants.{DeviceFailed, NotFormatted};
 ghost use Rattle.ng_rig.specs.Calls.{IfHonest, IsCall};
@@ -28,7 +28,7 @@ fn empty_sector() -> [u8; SECTOR_BYTES]
     [0; SECTOR_BYTES]
 }
 
-/// Takes the headers away, one after the other.
+/// Clears the headers, one after another.
 fn clear_headers<R: Rig>(rig: &mut R) -> Result<(), Failed>
     requires { least_size ≤ (R.seen rig.old).sectors }
     ensures clears { IfHonest (R.seen rig.old) (R.seen rig.new)
@@ -42,7 +42,7 @@ fn clear_headers<R: Rig>(rig: &mut R) -> Result<(), Failed>
     Ok(())
 }
 
-/// Takes all parts of records away.
+/// Clears all parts of records.
 fn clear_log<R: Rig>(rig: &mut R) -> Result<(), Failed>
     requires { least_size ≤ (R.seen rig.old).sectors }
     ensures clears { IfHonest (R.seen rig.old) (R.seen rig.new)
@@ -83,7 +83,7 @@ fn clear_tools<R: Rig>(rig: &mut R, first: usize) -> Result<(), Failed>
     Ok(())
 }
 
-/// Makes a device fresh that is large enough.
+/// Formats a device that is large enough.
 fn make_fresh<R: Rig>(rig: &mut R) -> Result<(), Failed>
     requires { least_size ≤ (R.seen rig.old).sectors }
     ensures formats { IfHonest (R.seen rig.old) (R.seen rig.new)
@@ -105,12 +105,12 @@ fn make_fresh<R: Rig>(rig: &mut R) -> Result<(), Failed>
     rig.sync()
 }
 
-/// Formats a device (own): after Ok it has one image, which stands for a fresh controller with no program, under epoch
+/// Formats a device (own). After Ok it has one image, which stands for a fresh controller with no program, under epoch
 /// 1.
 ///
-/// J2 for fewer than 1,710 sectors, with no call of the device. J1 where the device failed; nothing is said of what it
-/// stands for then, nor of a stop before Ok: it is formatted again. Only the headers' sectors, the log's and the first
-/// epoch's snapshot's are written. Nothing is handed out. It takes no memory.
+/// J2 for fewer than 1,710 sectors, with no call of the device. J1 if the device failed: then nothing is said of what
+/// it stands for, nor of a stop before Ok, and it has to be formatted again. Only the sectors of the headers, of the
+/// log and of the first epoch's snapshot are written. Nothing is handed out, and nothing is allocated.
 pub fn format<R: Rig>(rig: &mut R) -> Result<(), Fault>
     ensures formats { let room = program_room (is_large_size (R.seen rig.old).sectors) in least_size ≤ (R.seen rig.old).sectors
         → IfHonest (R.seen rig.old) (R.seen rig.new) (FormatSpec result room (R.seen rig.old).trace (R.seen rig.new).trace) }

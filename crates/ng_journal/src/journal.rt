@@ -32,7 +32,7 @@ use std::marker::Model;
 
 mod program;
 
-/// What is stored of a controller, on a device (own). After a call of the device failed it is broken. Contracts see a
+/// What is stored of a controller, on a device (own). After a failed call of the device it is broken. Contracts see a
 /// `JournalModel`.
 pub struct Journal<R: Rig, A: Allocator + Copy + Drop> {
     rig: R,
@@ -53,15 +53,15 @@ impl<R: Rig, A: Allocator + Copy + Drop> Model for Journal<R, A> {
 
 /// Powers on (own): finds what the device stands for, and writes it again under the next epoch with nothing open.
 ///
-/// What stands is the snapshot of the header in force with the complete records after it. The log ends at its beginning
-/// then.
+/// The state is the snapshot of the header in force with the complete records after it. Afterwards the log ends at its
+/// beginning.
 ///
-/// A device of format 1 is given the table, and is of format 2 then; of any other the table isn't looked at.
+/// A device of format 1 gets the table, and is of format 2 from then on. With format 2 the table isn't used.
 ///
-/// J2 for fewer than 1,710 sectors, with no call of the device, and where no header is valid; J3 where what stands is
-/// damaged; J4 where the next epoch would be beyond its limit, over format 1 the one after that: all before any write.
-/// J1 where the device failed. M1 where it is out of memory, before any call of the device. The device is handed back
-/// with each of them.
+/// J2 for fewer than 1,710 sectors, with no call of the device, and if no header is valid; J3 if what is stored is
+/// damaged; J4 if the next epoch, or over format 1 the one after that, would exceed its limit. All of these come before
+/// any write. J1 if the device failed. M1 if it is out of memory, before any call of the device. In each of these cases
+/// the device is returned.
 pub fn recover<R: Rig, A: Allocator + Copy + Drop>(
     alloc: A,
     mut rig: R,
@@ -86,7 +86,7 @@ pub fn recover<R: Rig, A: Allocator + Copy + Drop>(
         Ok(both) => both,
         Err(_) => return Err((Fault::OutOfMemory, rig)),
     };
-    // called for its contract: each length is within its limits, and there are no more than may be stored
+    // Called for its contract: each length is within its limits, and there are no more lengths than may be stored.
     let _ = tools.slots();
     match restore(&mut rig, large, tools, &mut stored) {
         Err(Failed) => Err((Fault::DeviceFailed, rig)),
@@ -104,7 +104,7 @@ pub fn recover<R: Rig, A: Allocator + Copy + Drop>(
     }
 }
 
-/// Two of what is stored of a fresh controller on a device with this room: one for the journal and one for its caller.
+/// The stored state of a fresh controller on a device with this room, twice: for the journal and for its caller.
 fn two_fresh<A: Allocator + Copy + Drop>(
     alloc: A,
     room: u64,
@@ -118,7 +118,7 @@ fn two_fresh<A: Allocator + Copy + Drop>(
 impl<R: Rig, A: Allocator + Copy + Drop> Journal<R, A> {
     ghost use Rattle.ng_journal.specs.Journal.{JournalModel, IsDurablyAt, CommitSpec, JournalHandOutSpec, IsBrokenBy, kept_by};
 
-    /// The device as it is, with no call to it.
+    /// The device as it is, without a call to it.
     pub fn into_rig(self) -> R
         ensures { result ≡ self.rig }
     {
@@ -138,13 +138,13 @@ impl<R: Rig, A: Allocator + Copy + Drop> Journal<R, A> {
         self.broken
     }
 
-    /// Stores an entry (own): what is stored from now on, beside the same program. It is written as a record after the
-    /// log's end, one write a part and one sync. Where the log has no room for it, what stood is written under the next
-    /// epoch before. The room for a program stays the device's, whatever that of the entry (`kept_by`).
+    /// Stores an entry (own): the new state, with the same program. It is written as a record after the log's end, with
+    /// one write for each part and one sync. If the log has no room for it, the old state is written under the next
+    /// epoch first. The room for a program stays that of the device, whatever the entry says (`kept_by`).
     ///
-    /// J4 where the entry count would be beyond its limit, or where the next epoch is needed and would be; then nothing
-    /// is changed. J1 where the device failed: the journal is broken then, and the device stands for what stood before
-    /// or for the new. It takes no memory.
+    /// J4 if the entry count would exceed its limit, or if the next epoch is needed and would exceed its limit: then
+    /// nothing is changed. J1 if the device failed: then the journal is broken, and the device stands for the old state
+    /// or for the new one. Nothing is allocated.
     #[tactic(auto, unfolding(crate::specs::Storing::UsesUp))]
     pub fn commit(&mut self, stored: &Stored<A>) -> Result<(), Fault>
         requires whole { self.old.broken ≡ false }
@@ -189,8 +189,8 @@ impl<R: Rig, A: Allocator + Copy + Drop> Journal<R, A> {
     /// Stores that a segment or an approach of a half-done block is open (own); the entry count stays. It is written as
     /// a record with no changes, as for `commit`.
     ///
-    /// J4 where the next epoch is needed and would be beyond its limit; then nothing is changed. J1 as for `commit`. It
-    /// takes no memory.
+    /// J4 if the next epoch is needed and would exceed its limit: then nothing is changed. J1 as for `commit`. Nothing
+    /// is allocated.
     #[tactic(auto, unfolding(crate::specs::Storing::UsesUp))]
     pub fn open_segment(&mut self, half: &Half) -> Result<(), Fault>
         requires whole { self.old.broken ≡ false }
@@ -228,16 +228,16 @@ impl<R: Rig, A: Allocator + Copy + Drop> Journal<R, A> {
         }
     }
 
-    /// Stores a program and what goes with it (own): the text takes the place of the program in force, and the log
-    /// begins anew. The room for a program stays the device's, as for `commit`.
+    /// Stores a program and the state that goes with it (own). The text replaces the program in force, and the log
+    /// begins again. The room for a program stays that of the device, as for `commit`.
     ///
-    /// It is written to program area 1 where area 0 is in force, else to 0; on a large device to area 3 where 2 is in
-    /// force, else to 2.
+    /// The text is written to program area 1 if area 0 is in force, and else to 0. On a large device it is written to
+    /// area 3 if 2 is in force, and else to 2.
     ///
-    /// J5 for more bytes than the device has room for: 131,072, or 1,048,576 on a large device; J4 where the entry
-    /// count or the epoch would be beyond its limit; then nothing is changed, and the device isn't called. J1 where the
-    /// device failed: the journal is broken then, and the device stands for what stood before or for the new. It takes
-    /// no memory.
+    /// J5 for more bytes than the device has room for: 131,072, or 1,048,576 on a large device. J4 if the entry count
+    /// or the epoch would exceed its limit. In both cases nothing is changed, and the device isn't called. J1 if the
+    /// device failed: then the journal is broken, and the device stands for the old state or for the new one. Nothing
+    /// is allocated.
     #[tactic(auto, unfolding(crate::specs::Storing::UsesUp))]
     pub fn load_program(&mut self, text: &[u8], stored: &Stored<A>) -> Result<(), Fault>
         requires whole { self.old.broken ≡ false }
@@ -287,8 +287,8 @@ impl<R: Rig, A: Allocator + Copy + Drop> Journal<R, A> {
         }
     }
 
-    /// Hands an item out (own). J1 where the device failed: the journal is broken then, and the item or nothing was
-    /// handed out. It takes no memory.
+    /// Hands an item out (own). J1 if the device failed: then the journal is broken, and the item or nothing was handed
+    /// out. Nothing is allocated.
     pub fn hand_out(&mut self, item: Item) -> Result<(), Fault>
         requires whole { self.old.broken ≡ false }
         ensures hands { IfHonest (R.seen self.old.rig) (R.seen self.new.rig)
@@ -311,14 +311,14 @@ impl<R: Rig, A: Allocator + Copy + Drop> Journal<R, A> {
         }
     }
 
-    /// Whether so many entries, or the next epoch, are beyond their limit.
+    /// Whether this number of entries, or the next epoch, exceeds its limit.
     fn is_used_up(&self, entries: u64) -> bool
         ensures { (result ≡ true) ↔ (greatest_count < entries ⊎ greatest_count ≤ self.now.header.epoch) }
     {
         entries > GREATEST_COUNT || self.tip.header.epoch >= GREATEST_COUNT
     }
 
-    /// Whether the log has no room for a record of so many changes, and the next epoch is beyond its limit.
+    /// Whether the log has no room for a record of this many changes, and the next epoch exceeds its limit.
     fn is_used_up_by(&self, count: usize) -> bool
         requires { count ≤ parameter_count }
         ensures { (result ≡ true) ↔ ((greatest_count ≤ self.now.header.epoch) × IsFullFor self.now.header self.now.end count) }

@@ -1,12 +1,13 @@
-//! The journal: what is stored of a controller on a device of sectors, so that a cut of power loses nothing that
-//! was acknowledged (own).
+//! The journal: what is stored of a controller on a device of sectors, so that a power cut loses nothing that was
+//! acknowledged (own).
 //!
-//! `format` makes a device fresh. `recover` finds what a device stands for; `Journal::commit`, `open_segment` and
-//! `load_program` store what stands from then on. Of each of them specs/Journal.antt says what every stop stands for,
-//! over an honest device, and that the device counted a failure exactly where the call answers J1. `hand_out` and
-//! `program_line` change nothing that is stored. specs/Storing.antt says what a call writes. Where what is stored lies
-//! is said in `ng_layout`, how a record of the log is written and read in `ng_log`; what an entry means is left out
-//! here.
+//! `format` formats a device. `recover` finds what a device stands for. `Journal::commit`, `open_segment` and
+//! `load_program` store the state from then on. For each of them `specs/Journal.antt` says what every stop stands for,
+//! over an honest device, and that the device counted a failure exactly if the call returns J1. `hand_out` and
+//! `program_line` change nothing that is stored. `specs/Storing.antt` says what a call writes.
+//!
+//! `ng_layout` defines where everything is stored, and `ng_log` how a record of the log is written and read. This crate
+//! doesn't define what an entry means.
 #![tactic(auto)]
 
 mod checkpoint;

@@ -38,16 +38,16 @@ impl Model for ProgramLine {
     ghost view = { λ l. record { text = l.text.items; next = l.next } };
 }
 
-/// Keeps these bytes as far as there is room.
+/// Keeps as many of these bytes as there is room for.
 fn keep(text: &mut ArrayVec<u8, KEPT_LINE>, bytes: &[u8])
     ensures { text.new.items ≡ take KEPT_LINE (text.old.items ++ bytes.now) }
 {
     let room = text.remaining_capacity();
-    // the answer is Ok: so many bytes have room
+    // The result is Ok: there is room for that many bytes.
     let _ = text.try_extend_from_slice(&bytes[..bytes.len().min(room)]);
 }
 
-/// Keeps the bytes before the first newline, and says where that is; else all of them.
+/// Keeps the bytes before the first newline, and returns where that is. If there is none, keeps all bytes.
 fn take_part(text: &mut ArrayVec<u8, KEPT_LINE>, part: &[u8]) -> Option<usize>
     ensures found { IfSome result (λ end. end < length part.now) }
     ensures taken { TakesPart text.old.items text.new.items part.now result }
@@ -83,7 +83,7 @@ pub(crate) fn part_of(
     &sector[place.max(start) - start..SECTOR_BYTES.min(program_end - start)]
 }
 
-/// Takes the carriage return off the end.
+/// Removes a carriage return at the end.
 fn drop_return(text: &mut ArrayVec<u8, KEPT_LINE>)
     ensures { text.new.items ≡ strip_carriage_return text.old.items }
 {
@@ -92,8 +92,8 @@ fn drop_return(text: &mut ArrayVec<u8, KEPT_LINE>)
     }
 }
 
-/// Reads the line at a place of the program in an area up to its newline, and keeps its bytes; after how many of them
-/// the newline stands, where there is one.
+/// Reads the line at a place of the program in an area up to its newline, and keeps its bytes. Returns how many of them
+/// come before the newline, if there is one.
 fn find_end<R: Rig>(
     rig: &mut R,
     area: u64,
@@ -109,7 +109,7 @@ fn find_end<R: Rig>(
     ensures read { IfHonest (R.seen rig.old) (R.seen rig.new)
         (ReadSpec result (λ image end. let program = program_text program_end (stretch (program_first area) (program_size area) image) in
         IsEnd (drop place program) text.new.items end) (R.seen rig.old).trace (R.seen rig.new).trace) }
-    // without honesty too
+    // Also for a device that isn't honest.
     ensures within { IfOk result (λ end. IfSome end (λ n. place + n < program_end)) }
     ensures call { IsCall result (R.seen rig.old) (R.seen rig.new) }
 {
@@ -124,7 +124,7 @@ fn find_end<R: Rig>(
     Ok(None)
 }
 
-/// The line that begins at a place of the program in an area, which ends here; none at its end.
+/// The line that begins at a place of the program in an area, which ends at `program_end`. `None` at that end.
 pub(crate) fn read_line<R: Rig>(
     rig: &mut R,
     area: u64,
@@ -138,7 +138,7 @@ pub(crate) fn read_line<R: Rig>(
     ensures read { IfHonest (R.seen rig.old) (R.seen rig.new)
         (ReadSpec result (λ image line. let program = program_text program_end (stretch (program_first area) (program_size area) image) in
         line ≡ program_line_at program place) (R.seen rig.old).trace (R.seen rig.new).trace) }
-    // without honesty too
+    // Also for a device that isn't honest.
     ensures next { IfOk result (λ line. IfSome line (λ l. (place < l.next) × (l.next ≤ program_end))) }
     ensures call { IsCall result (R.seen rig.old) (R.seen rig.new) }
 {

@@ -15,8 +15,8 @@ use ng_rig::{Failed, Rig};
 use ng_text::FirstLine;
 use ng_words::LineKind;
 
-/// The kind of the first line of the program in an area that isn't blank, of its bytes before a place; blank where all
-/// lines are. It reads no further than to that line's end.
+/// The kind of the first line that isn't blank, among the bytes before a place of the program in an area; blank if all
+/// lines are. It reads at most to the end of that line.
 pub(crate) fn read_first_kind<R: Rig>(
     rig: &mut R,
     area: u64,

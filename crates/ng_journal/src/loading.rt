@@ -1,4 +1,4 @@
-//! A program written to the area that isn't in force, and what is stored with it.
+//! Loading: a program is written to the area that isn't in force, and then what is stored with it.
 ghost use Rattle.std.specs.Prelude.{ℕ, true, ◌≡◌, ◌≢◌, ◌≤◌, ◌<◌, ◌+◌, length};
 ghost use Rattle.ng_rig.specs.Calls.{IfHonest, IsCall};
 ghost use Rattle.ng_layout.specs.Limits.{greatest_count};
@@ -17,7 +17,7 @@ use ng_layout::{Header, SECTOR_BYTES, Stored, program_first, text_sector};
 use ng_rig::{Failed, Rig};
 use std::alloc::Allocator;
 
-/// Writes a program's text to the sectors of the program area of this number.
+/// Writes a program's text to the sectors of a program area.
 fn write_program<R: Rig>(rig: &mut R, area: u64, text: &[u8]) -> Result<(), Failed>
     requires area { area ≤ greatest_area true }
     requires sectors { program_first area + program_size area ≤ (R.seen rig.old).sectors }
@@ -51,7 +51,7 @@ pub(crate) fn load<R: Rig, A: Allocator + Copy + Drop>(
     requires storable { IsStorable stored.now }
     requires long { stored.now.length ≡ length text.now }
     requires format { header.format ≡ Two }
-    // for any room for a program, since none is written
+    // For any room for a program, since none is written.
     ensures stops { IfHonest (R.seen rig.old) (R.seen rig.new)
         ((room : ℕ) → IsOwnImage (R.seen rig.old).trace header → (let saved = record stored.now { room = room } in
         FitsDevice (reads (R.seen rig.old).trace) (next_header header area saved.length) saved

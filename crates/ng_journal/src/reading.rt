@@ -26,7 +26,7 @@ use ng_params::Params;
 use ng_rig::{Failed, Rig};
 use std::alloc::Allocator;
 
-/// The header that sector `k` holds, on a large device or on any other, where it is valid there.
+/// The header in sector `k`, on a large device or on any other, if it is valid there.
 fn read_header<R: Rig>(rig: &mut R, large: bool, k: u64) -> Result<Option<Header>, Failed>
     requires room { least_size ≤ (R.seen rig.old).sectors }
     requires header { k < 2 }
@@ -39,7 +39,7 @@ fn read_header<R: Rig>(rig: &mut R, large: bool, k: u64) -> Result<Option<Header
     Ok(Header::read(large, k, &bytes))
 }
 
-/// Of two valid headers that of the greater epoch.
+/// Of two valid headers, the one of the greater epoch.
 fn newer(a: Option<Header>, b: Option<Header>) -> Option<Header>
     ensures value { result ≡ newer a b }
     ensures valid { (large : Bool) → IfSome a (IsValidHeader large) → IfSome b (IsValidHeader large)
@@ -67,7 +67,7 @@ pub(crate) fn header_in_force<R: Rig>(rig: &mut R, large: bool) -> Result<Option
     Ok(newer(even, odd))
 }
 
-/// What the first sector of a snapshot says by its state field.
+/// What the state field in the first sector of a snapshot says.
 fn decoded_state_of_snapshot(sector: &[u8; SECTOR_BYTES], length: u64) -> Option<DecodedState>
     ensures value { result ≡ decoded_state_of length (field_at sector.now) }
     ensures sound { IfSome result (IsSound length) }
@@ -75,8 +75,8 @@ fn decoded_state_of_snapshot(sector: &[u8; SECTOR_BYTES], length: u64) -> Option
     StateField::read(sector).report(length)
 }
 
-/// Takes over the tool table of a header, by the first sector of its snapshot; false where that is damaged. In format 1
-/// there is none.
+/// Reads the tool table of a header, given the first sector of its snapshot. False if it is damaged. In format 1 there
+/// is none.
 fn read_tools<R: Rig>(
     rig: &mut R,
     header: Header,
@@ -87,7 +87,7 @@ fn read_tools<R: Rig>(
     requires none { tools.old ≡ [] }
     ensures read { IfHonest (R.seen rig.old) (R.seen rig.new)
         (ReadSpec result (IsToolsOf header first.now tools.new) (R.seen rig.old).trace (R.seen rig.new).trace) }
-    // without honesty too
+    // Also for a device that isn't honest.
     ensures storable { IfOk result (λ is_whole. OnTrue is_whole (IsStorableTools tools.new)) }
     ensures none { IfOk result (λ is_whole. OnTrue is_whole (header.format ≡ One → tools.new ≡ [])) }
     ensures call { IsCall result (R.seen rig.old) (R.seen rig.new) }
@@ -103,7 +103,7 @@ fn read_tools<R: Rig>(
     }
 }
 
-/// Takes over the parameters of a snapshot area; false where one is beyond the range.
+/// Reads the parameters of a snapshot area. False if one of them is out of range.
 fn read_table<R: Rig, A: Allocator + Copy + Drop>(
     rig: &mut R,
     first: usize,
@@ -114,7 +114,7 @@ fn read_table<R: Rig, A: Allocator + Copy + Drop>(
     requires long { length table.old ≡ parameter_count }
     ensures read { IfHonest (R.seen rig.old) (R.seen rig.new)
         (ReadSpec result (IsTableOf first table.new) (R.seen rig.old).trace (R.seen rig.new).trace) }
-    // without honesty too
+    // Also for a device that isn't honest.
     ensures long { IfOk result (λ is_whole. OnTrue is_whole (length table.new ≡ parameter_count)) }
     ensures call { IsCall result (R.seen rig.old) (R.seen rig.new) }
 {
@@ -127,7 +127,7 @@ fn read_table<R: Rig, A: Allocator + Copy + Drop>(
     Ok(true)
 }
 
-/// Takes over the snapshot of a header; false where it is damaged.
+/// Reads the snapshot of a header. False if it is damaged.
 pub(crate) fn read_snapshot<R: Rig, A: Allocator + Copy + Drop>(
     rig: &mut R,
     header: Header,
@@ -141,7 +141,7 @@ pub(crate) fn read_snapshot<R: Rig, A: Allocator + Copy + Drop>(
     ensures read { IfHonest (R.seen rig.old) (R.seen rig.new)
         (ReadSpec result (IsSnapshotOf header stored.new) (R.seen rig.old).trace (R.seen rig.new).trace) }
     ensures none { IfOk result (λ is_whole. OnTrue is_whole (header.format ≡ One → stored.new.tools ≡ [])) }
-    // without honesty too
+    // Also for a device that isn't honest.
     ensures storable { IfOk result (λ is_whole. OnTrue is_whole (IsStorable stored.new)) }
     ensures count { IfOk result (λ is_whole. OnTrue is_whole (stored.new.entries ≤ greatest_count)) }
     ensures long { IfOk result (λ is_whole. OnTrue is_whole (stored.new.length ≡ header.length)) }

@@ -1,4 +1,4 @@
-//! Power on: what the device holds, written again under the next epoch with nothing open, and over format 1 under one
+//! Power on: what the device holds is written again under the next epoch with nothing open, and over format 1 under one
 //! more epoch in format 2.
 ghost use Rattle.std.specs.Prelude.{Bool, ◌≡◌, ◌≤◌, ◌<◌, ◌+◌, ℤ, List, [], length, IfOk, IfErr, OnOk};
 ghost use Rattle.ng_rig.specs.Calls.{IfHonest, IsCall};
@@ -25,7 +25,7 @@ use ng_offsets::Tools;
 use ng_rig::{Failed, Rig};
 use std::alloc::Allocator;
 
-/// What a device that is large or isn't stands for, with its header, or why that can't be recovered.
+/// What a device, large or not, stands for, with its header, or why that can't be recovered.
 fn found<R: Rig, A: Allocator + Copy + Drop>(
     rig: &mut R,
     large: bool,
@@ -39,7 +39,7 @@ fn found<R: Rig, A: Allocator + Copy + Drop>(
     ensures none { IfOk result (λ answer. IfOk answer (λ header. header.format ≡ One → stored.new.tools ≡ [])) }
     ensures read { IfHonest (R.seen rig.old) (R.seen rig.new)
         (ReadSpec result (IsRead stored.new) (R.seen rig.old).trace (R.seen rig.new).trace) }
-    // without honesty too
+    // Also for a device that isn't honest.
     ensures valid { IfOk result (λ answer. IfOk answer (IsValidHeader large)) }
     ensures limit { stored.new.room ≡ stored.old.room }
     ensures storable { IfOk result (λ answer. OnOk answer (IsStorable stored.new)) }
@@ -63,7 +63,7 @@ fn found<R: Rig, A: Allocator + Copy + Drop>(
     }
 }
 
-/// Stores in format 2, with a tool table, what stands under a header of format 1 whose log has no record; of format 2
+/// Stores the state under a header of format 1, whose log has no record, in format 2 with a tool table. With format 2
 /// nothing is written.
 fn modernize<R: Rig, A: Allocator + Copy + Drop>(
     rig: &mut R,
@@ -87,7 +87,7 @@ fn modernize<R: Rig, A: Allocator + Copy + Drop>(
     ensures header { IfOk result (λ last. last ≡ modern_by header.format header) }
     ensures saved { (table : List ℤ) → (header.format ≡ One → table ≡ tools.now)
         → OnOk result (stored.new ≡ saved_beside table header.format stored.old) }
-    // without honesty too
+    // Also for a device that isn't honest.
     ensures valid { (large : Bool) → IsValidHeader large header → IfOk result (IsValidHeader large) }
     ensures limit { stored.new.room ≡ stored.old.room }
     ensures format { IfOk result (λ last. last.format ≡ Two) }
@@ -107,7 +107,7 @@ fn modernize<R: Rig, A: Allocator + Copy + Drop>(
     }
 }
 
-/// How many epochs a power on takes.
+/// How many epochs a power on needs.
 fn epochs_for(format: Format) -> u64
     ensures value { result ≡ epochs_for format }
     ensures few { result ≤ 2 }
@@ -118,9 +118,9 @@ fn epochs_for(format: Format) -> u64
     }
 }
 
-/// Writes again, under the next epoch and with nothing open, what the device stands for, and over format 1 under the
-/// one after that in format 2 with the table of the settings. `Err` where the device failed; else the new header, or
-/// why nothing was recovered: before any write.
+/// Writes what the device stands for again, under the next epoch and with nothing open, and over format 1 under the one
+/// after that in format 2 with the table of the settings. `Err` if the device failed. Otherwise the new header, or why
+/// nothing was recovered, in which case nothing was written.
 pub(crate) fn restore<R: Rig, A: Allocator + Copy + Drop>(
     rig: &mut R,
     large: bool,
@@ -137,7 +137,7 @@ pub(crate) fn restore<R: Rig, A: Allocator + Copy + Drop>(
     ensures restores { IfHonest (R.seen rig.old) (R.seen rig.new)
         ((table : List ℤ) → IsTableOver tools.now table (reads (R.seen rig.old).trace)
         → RestoreSpec table result stored.new (R.seen rig.old).trace (R.seen rig.new).trace) }
-    // without honesty too
+    // Also for a device that isn't honest.
     ensures valid { IfOk result (λ answer. IfOk answer (IsValidHeader large)) }
     ensures limit { stored.new.room ≡ stored.old.room }
     ensures storable { IfOk result (λ answer. OnOk answer (IsStorable stored.new)) }

@@ -1,4 +1,4 @@
-//! What is stored, as a record; where the log has no room for it, what stands is checkpointed first.
+//! Storing a state as a record. If the log has no room for it, the old state is checkpointed first.
 ghost use Rattle.std.specs.Prelude.{◌≡◌, ◌≤◌, ◌<◌, ◌+◌, ◌⊎◌, ◌↔◌, true, Some, length, OnOk, IfOk};
 ghost use Rattle.ng_rig.specs.Calls.{IfHonest, IsCall};
 ghost use Rattle.ng_layout.specs.Limits.{greatest_count};
@@ -30,7 +30,7 @@ pub(crate) struct Tip {
 }
 
 impl Tip {
-    /// Of a log without a record.
+    /// The tip of a log without a record.
     pub(crate) fn beginning(header: Header) -> Tip
         ensures { result ≡ record { header = header; end = no_records } }
     {
@@ -40,7 +40,7 @@ impl Tip {
         }
     }
 
-    /// Whether a record of so many changes would end past the log.
+    /// Whether a record of this many changes would end past the log.
     pub(crate) fn is_full_for(self, count: usize) -> bool
         requires within { self.end.sector ≤ log_size_of self.header }
         requires few { count ≤ parameter_count }
@@ -50,7 +50,7 @@ impl Tip {
     }
 }
 
-/// How many changes make the one of the other.
+/// How many changes lead from one state to the other.
 pub(crate) fn changes_between<A: Allocator + Copy + Drop>(
     old: &Stored<A>,
     stored: &Stored<A>,
@@ -61,7 +61,7 @@ pub(crate) fn changes_between<A: Allocator + Copy + Drop>(
     difference_count(&old.state.params, &stored.state.params)
 }
 
-/// The slot whose change makes the one tool table of the other.
+/// The slot whose change leads from one tool table to the other.
 pub(crate) fn slot_between<A: Allocator + Copy + Drop>(
     old: &Stored<A>,
     stored: &Stored<A>,
@@ -71,7 +71,7 @@ pub(crate) fn slot_between<A: Allocator + Copy + Drop>(
     old.tools.change_to(&stored.tools)
 }
 
-/// Takes over all of another state but its room for a program, which stays the device's. It takes no memory.
+/// Takes over all of another state but its room for a program, which stays that of the device. Nothing is allocated.
 pub(crate) fn take_state<A: Allocator + Copy + Drop>(stored: &mut Stored<A>, other: &Stored<A>)
     requires own { length stored.old.setup.params ≡ parameter_count }
     requires other { length other.now.setup.params ≡ parameter_count }
@@ -82,7 +82,7 @@ pub(crate) fn take_state<A: Allocator + Copy + Drop>(stored: &mut Stored<A>, oth
     stored.room = room;
 }
 
-/// The same of a state whose table differs in so many parameters: with none, the table stays.
+/// Takes a state over as `take_state` does, if its table differs in `count` parameters: if that is 0, the table stays.
 pub(crate) fn take_changed<A: Allocator + Copy + Drop>(
     stored: &mut Stored<A>,
     other: &Stored<A>,
@@ -102,7 +102,7 @@ pub(crate) fn take_changed<A: Allocator + Copy + Drop>(
     }
 }
 
-/// Writes what stands under the next epoch, where the log has no room for a record of so many changes.
+/// Writes the old state under the next epoch, if the log has no room for a record of this many changes.
 fn make_room<R: Rig, A: Allocator + Copy + Drop>(
     rig: &mut R,
     tip: Tip,
@@ -121,7 +121,7 @@ fn make_room<R: Rig, A: Allocator + Copy + Drop>(
     ensures stores { IfHonest (R.seen rig.old) (R.seen rig.new)
         (StoresRoom result (ledger tip stored.now) count (R.seen rig.old).trace (R.seen rig.new).trace) }
     ensures room { IfOk result (IsRoom (ledger tip stored.now) count) }
-    // without honesty too
+    // Also for a device that isn't honest.
     ensures tip { IfOk result (λ t. IsTip stored.now.length t.header t.end) }
     ensures call { IsCall result (R.seen rig.old) (R.seen rig.new) }
 {
@@ -133,7 +133,7 @@ fn make_room<R: Rig, A: Allocator + Copy + Drop>(
     Ok(Tip::beginning(next))
 }
 
-/// Writes a record of so many changes, for which the log has room.
+/// Writes a record of this many changes, for which the log has room.
 fn append_to<R: Rig, A: Allocator + Copy + Drop>(
     rig: &mut R,
     tip: Tip,
@@ -160,7 +160,7 @@ fn append_to<R: Rig, A: Allocator + Copy + Drop>(
     ensures writes { IfHonest (R.seen rig.old) (R.seen rig.new)
         (WritesRecord result (record_of (ledger tip old.now) (record stored.now { room = old.now.room }))
         (R.seen rig.old).trace (R.seen rig.new).trace) }
-    // without honesty too
+    // Also for a device that isn't honest.
     ensures end { let saved = record stored.now { room = old.now.room } in
         IfOk result (λ t. t ≡ tip_of (with_record (ledger tip old.now) saved)) }
     ensures tip { IfOk result (λ t. IsTip stored.now.length t.header t.end) }
@@ -181,8 +181,8 @@ fn append_to<R: Rig, A: Allocator + Copy + Drop>(
     })
 }
 
-/// Writes what is stored as a record after the end of the log, or of the next epoch's where this one has no room. The
-/// count is that of the changes that make it of the old. It takes no memory.
+/// Writes a new state as a record after the end of the log or, if this log has no room, of the next epoch's. `count` is
+/// the number of changes that lead to it from the old state. Nothing is allocated.
 pub(crate) fn store<R: Rig, A: Allocator + Copy + Drop>(
     rig: &mut R,
     tip: Tip,
@@ -210,7 +210,7 @@ pub(crate) fn store<R: Rig, A: Allocator + Copy + Drop>(
     ensures stores { IfHonest (R.seen rig.old) (R.seen rig.new)
         (StoresRecord result (ledger tip old.now) (record stored.now { room = old.now.room })
         (R.seen rig.old).trace (R.seen rig.new).trace) }
-    // without honesty too
+    // Also for a device that isn't honest.
     ensures ledger { let saved = record stored.now { room = old.now.room } in
         IfOk result (λ t. IsLedgerAfter (ledger tip old.now) saved (ledger t saved)) }
     ensures tip { IfOk result (λ t. IsTip stored.now.length t.header t.end) }
@@ -220,7 +220,7 @@ pub(crate) fn store<R: Rig, A: Allocator + Copy + Drop>(
     append_to(rig, tip, old, stored, count, slot)
 }
 
-/// The same for another half-done block beside what is stored, which it takes over.
+/// Stores another half-done block, which it takes over, as `store` does.
 pub(crate) fn store_half<R: Rig, A: Allocator + Copy + Drop>(
     rig: &mut R,
     tip: Tip,
@@ -242,10 +242,10 @@ pub(crate) fn store_half<R: Rig, A: Allocator + Copy + Drop>(
         (StoresRecord result (ledger tip stored.old) (record stored.old { half = Some half.now })
         (R.seen rig.old).trace (R.seen rig.new).trace) }
     ensures saved { OnOk result (stored.new ≡ record stored.old { half = Some half.now }) }
-    // without honesty too
+    // Also for a device that isn't honest.
     ensures ledger { let saved = record stored.old { half = Some half.now } in
         IfOk result (λ t. IsLedgerAfter (ledger tip stored.old) saved (ledger t saved)) }
-    // without honesty, and after an error, too
+    // Also for a device that isn't honest, and after an error.
     ensures storable { IsStorable stored.new }
     ensures entries { stored.new.entries ≡ stored.old.entries }
     ensures length { stored.new.length ≡ stored.old.length }

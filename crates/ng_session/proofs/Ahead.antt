@@ -1,4 +1,4 @@
--- Lines that are planned, one after the other.
+-- Lines planned one after another.
 use Rattle.std.proofs.Common.{◌≡◌, ◌⊎◌, inl, inr, ℕ, ◌-◌, ◌==◌, length, Bor, MatchOption, arith, Bool, true, false, not, ◌||◌, if◌then◌else◌, List, [], ◌∷◌, ◌++◌, Option, None, Some, Result, Ok, refl, sym, ◌∙◌, ap, subst}
 use Rattle.std.specs.Prelude.{IfSome, slice_get}
 use Rattle.std.specs.Option.{is_some, option_map, option_copied}
@@ -57,7 +57,7 @@ pub end_length : (equipment : Equipment) (base : Base) (ps : List PlannedModel) 
 end_length equipment base [] plan = refl
 end_length equipment base (p ∷ ps) plan = end_length equipment (base_then base p) ps plan.1 ∙ plan.0.ready.next.same
 
--- what is held ready of the current block is what they are planned on
+-- the lines are planned on the state that the current block keeps ready to be stored
 ready_base : (x : StoredModel) (p : Prepared) (g : Stage) → IsReadyOn x p g → p.after ≡ base_on x p.block g
 ready_base x p (stage.ToApproach a) r = r.after_is ∙ ap (λ (y : StoredModel). after_current_block y p.block) r.between_is
 ready_base x p (stage.OnApproach a) r = r.after_is ∙ ap (λ (y : StoredModel). after_current_block y p.block) r.between_is
@@ -85,7 +85,7 @@ pub base_length : (x : StoredModel) (o : Option Prepared) → IsSessionInvariant
 base_length x None kept = refl
 base_length x (Some p) kept = ap (λ (y : StoredModel). y.length) (sym (ready_base x p p.block.stage kept.next)) ∙ length_on x p p.block.stage kept.next
 
--- ---- what a Tick leaves of that
+-- ---- the base after a Tick
 
 pub handed_base : (s : SessionModel) → base_of (handed s) ≡ base_of s
 handed_base s = by s.current
@@ -127,7 +127,7 @@ pub committed_base : (s : SessionModel) (c : CurrentBlockModel) → s.current �
 committed_base s c is =
     committed_on_base s c c.stage ∙ (let P : Option CurrentBlockModel → Base = λ o. record { stored = base_after s.stored o; block_delete = s.block_delete } in ap P (sym is))
 
--- ---- what the other events leave of it
+-- ---- the plan after the other events
 
 chosen : (P : Transition → Type 0) (b : Bool) (x y : Transition) → P x → P y → P (if b then x else y)
 chosen P true x y p q = p
@@ -160,7 +160,7 @@ plan_as equipment a b ps same plan = subst (λ (base : Base). IsPlan equipment b
 pub plan_none : (equipment : Equipment) (base : Base) (ps : List PlannedModel) → ps ≡ [] → IsPlan equipment base ps
 plan_none equipment base ps none = subst (λ (l : List PlannedModel). IsPlan equipment base l) (sym none) tt
 
--- a plan that such an event doesn't drop stays one
+-- a plan that the event doesn't drop stays a plan
 pub plan_answered : {A : Type 0} (equipment : Equipment) (program : List ℕ) (s t : SessionModel) (e : Event A) (ps : List PlannedModel) → IsQuiet e → (drops_plan e ≡ true → ps ≡ [])
     → t ≡ (step equipment program s e).next → IsPlan equipment (base_of s) ps → IsPlan equipment (base_of t) ps
 plan_answered {A} equipment program s t e ps quiet dropped next plan = elim (cases_of (drops_plan e)) [
@@ -187,7 +187,7 @@ planned_begins equipment program s p on kind =
     ap (λ (c : CurrentBlockModel). answers program reply.Begun (let t : SessionModel = record s { current = Some c } in t)) on.begun_is
     ∙ sym (ap (λ (does : Result Done Fault). begin_by program s line does) (planned_done equipment program s p on kind))
 
--- ---- the last of them
+-- ---- the last planned line
 
 last_behind : (x : PlannedModel) (xs : List PlannedModel) → MatchOption (slice_get (x ∷ xs) (length xs)) ⊥ (λ p. (ps : List PlannedModel) × (x ∷ xs ≡ ps ++ p ∷ []))
 last_behind x [] = ([], refl)
@@ -231,7 +231,7 @@ planned_by equipment base p text does place beginning does_is begun_is ready =
       ready = ready;
     }
 
--- at the end of what is planned
+-- the base at the end of the plan
 pub end_base : (base : Base) (ps : List PlannedModel) (x : StoredModel) → x ≡ (base_at_end base ps).stored → base_at_end base ps ≡ record { stored = x; block_delete = base.block_delete }
 end_base base ps x is = λ i. record { stored = sym is i; block_delete = end_delete base ps i }
 
@@ -252,12 +252,12 @@ lines_pushed program ps qs p place first text next lines line a b c d (inl more)
     subst (λ (l : List PlannedModel). AreLinesOf program l) (sym more) (lines_more program ps p lines one)
 lines_pushed program ps qs p place first text next lines line a b c d (inr same) = subst (λ (l : List PlannedModel). AreLinesOf program l) (sym same) lines
 
--- ---- the first of them is begun
+-- ---- the first planned line is begun
 
 pub plan_front : (equipment : Equipment) (base : Base) (ps qs : List PlannedModel) (p : PlannedModel) → ps ≡ p ∷ qs → IsPlan equipment base ps → IsPlannedOn equipment base p × IsPlan equipment (base_then base p) qs
 plan_front equipment base ps qs p is plan = subst (λ (l : List PlannedModel). IsPlan equipment base l) is plan
 
--- what stands is what the first of them is planned on, and it is what the next one is planned on then
+-- with no block, lines are planned on the stored state; the next line is planned on the state after the first
 free_base : (s : SessionModel) → s.current ≡ None → base_of s ≡ record { stored = s.stored; block_delete = s.block_delete }
 free_base s free = λ i. record { stored = base_after s.stored (free i); block_delete = s.block_delete }
 

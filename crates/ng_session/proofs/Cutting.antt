@@ -1,4 +1,4 @@
--- The law of cuts.
+-- The law of power cuts.
 use Rattle.std.proofs.Common.{◌≡◌, ◌⊎◌, ℕ, ℤ, ◌==◌, Bool, true, false, not, ◌||◌, if◌then◌else◌, Option, None, Some, List, [], ◌∷◌, ◌++◌, length, Result, Ok, Err, refl, sym, ap, subst, ◌∙◌, inl, inr, arith, append_assoc, length-append}
 use Rattle.std.specs.Prelude.{Contains}
 use Rattle.std.specs.Option.{is_some}
@@ -30,7 +30,7 @@ use Rattle.ng_session.specs.Stages as stage
 use Rattle.ng_session.proofs.Worked.{IsFresh, IsMidst, IsWorked, Tied, way_is}
 use Rattle.ng_session.proofs.Tying.{Next, Stays, Adds, Ties, next_step}
 
--- what is worked may follow the entries, where it comes next
+-- the current block may follow the entries, if it comes next
 
 block_follows : (q : Equipment) (lines : List (List ℕ)) (p : DurableState) (given : List Item) (x : StoredModel) (c : CurrentBlockModel) (done : Done) → IsBlock q lines p c.source c.text c.block_delete done
     → IsFresh p given x c done ⊎ IsMidst q p given x c done → UncommittedTail q lines p (Block c.source c.text c.block_delete ∷ []) x given
@@ -111,7 +111,7 @@ cut_events q lines x before s (e ∷ events) told es given h lawful is same t =
     (next_step q lines (after_all q x es) given s.program s.session e (λ text c. told text (Contains-append_left (given_by e) (lines_given events) text c)) same t)
     (cut_events q lines x before (session_of_transition (leads_to q s e)) events (λ text c. told text (Contains-append_right (given_by e) (lines_given events) text c)))
 
--- ---- an entry is committed just where Done is answered
+-- ---- an entry is committed exactly if the reply is Done
 
 abbrev Counts : Transition → Type 0
 Counts out = length out.entries ≡ done_count out.reply
@@ -209,7 +209,7 @@ crash_after_events A q x before events =
 
 -- ---- what is under way comes next
 
--- the entry that a session comes to next stays the one that it comes to, until it is committed
+-- the next entry of a session stays the next one until it is committed
 abbrev Keeps : Entry → Transition → Type 0
 Keeps next out = ((out.entries ≡ []) × (entry_of out.next.current ≡ next ∷ [])) ⊎ (out.entries ≡ next ∷ [])
 
@@ -217,7 +217,7 @@ keeps_if : (next : Entry) (b : Bool) (x y : Transition) → Keeps next x → Kee
 keeps_if next true x y p q = p
 keeps_if next false x y p q = q
 
--- an answer that leaves the block as it is
+-- a reply that leaves the block unchanged
 keeps_block : (P : List ℕ) (r : Reply) (u : SessionModel) (next : Entry) → entry_of u.current ≡ next ∷ [] → Keeps next (answers P r u)
 keeps_block P r u next is = inl (refl, is)
 
@@ -245,7 +245,7 @@ keeps q P s c (event.BlockDelete on) = inl (refl, refl)
 keeps q P s c event.Status = inl (refl, refl)
 keeps q P s c event.Tick = keeps_if _ s.held _ _ (inl (refl, refl)) (keeps_work q P s c c.stage c.items c.left)
 
--- what a session commits and then has under way begins with what it has under way now
+-- what a session commits from now on, and then has under way, begins with what it has under way now
 abbrev pub Follows : {A : Type 0} → Equipment → ProgramSession → Entry → List (Event A) → Type 0
 Follows q s next events = (later : List Entry) × (entries_of q s events ++ under_way q s events ≡ next ∷ later)
 
@@ -281,7 +281,7 @@ tail_later q lines x s events _ _ (Segment_open from text block_delete done befo
     let more = follow_all q s (Block from text block_delete) later events next in
     Segment_open from text block_delete done before segment rest begun left more.0 more.1 is split whole
 
--- a cut after some events is one too where all that comes of later ones comes next
+-- a cut is still one if everything that later events lead to comes next
 pub cut_later : {A : Type 0} (q : Equipment) (lines : List (List ℕ)) (x : DurableState) (before : List Item) (entries : List Entry) (s : ProgramSession) (events : List (Event A)) (left : CrashState)
     → IsCut q lines x before entries (entry_of s.session.current) left → IsCut q lines x before entries (entries_of q s events ++ under_way q s events) left
 cut_later q lines x before entries s events left cut = record {

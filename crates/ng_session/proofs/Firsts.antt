@@ -1,4 +1,4 @@
--- What a cursor gave, and what it has left then.
+-- What a cursor returned, and what it has left after that.
 use Rattle.std.proofs.Common.{◌≡◌, List, [], ◌∷◌, Option, Some, None, MatchOption, sym, ◌∙◌, ap}
 use Rattle.ng_canon.specs.declared.item.Item.{Item}
 use Rattle.ng_session.specs.Session.{first_of, rest_of}

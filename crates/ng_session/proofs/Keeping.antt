@@ -1,4 +1,4 @@
--- What is held ready of a block, and a session that has none.
+-- The invariant of a session is kept, with a block and without one.
 use Rattle.std.proofs.Common.{◌≡◌, ◌≢◌, ◌≤◌, ◌<◌, ◌+◌, ℕ, ℤ, Bool, true, not, ◌&&◌, List, [], ◌∷◌, Option, None, Some, refl, sym, ◌∙◌, ap, subst, arith}
 use Rattle.std.specs.Option.{is_none, option_map}
 use Rattle.ng_layout.specs.Stored.{HalfModel, StoredModel}
@@ -24,11 +24,11 @@ ready_on x p g is r = subst (IsReadyOn x p) (sym is) r
 pub kept_ready : (x : StoredModel) (o : Option Prepared) (p : Prepared) → IsSessionInvariant x o → p.block.stage ≡ stage.OnBlock → IsReady x p → IsSessionInvariant x (Some p)
 kept_ready x o p k is r = record { count = k.count; storable = k.storable; next = ready_on x p p.block.stage is r }
 
--- one with its approach
+-- a block was begun, with its approach
 pub kept_again : (x : StoredModel) (o : Option Prepared) (p : Prepared) (a : Approach) → IsSessionInvariant x o → p.block.stage ≡ stage.ToApproach a → IsBeforeBlock x p a → IsSessionInvariant x (Some p)
 kept_again x o p a k is r = record { count = k.count; storable = k.storable; next = subst (IsReadyOn x p) (sym is) r }
 
--- something of the block is opened
+-- the approach or a segment of the block is opened
 opened_ready : (geometry : Geometry) (x : StoredModel) (half : HalfModel) (p : Prepared) (g : Stage) → p.block.stage ≡ g → IsReadyOn x p g
     → IsReadyOn (record x { half = Some half }) (record p { block = opened_on geometry p.block g }) (opened_on geometry p.block g).stage
 opened_ready geometry x half p (stage.ToApproach a) is r = record {
@@ -60,12 +60,12 @@ kept_open geometry x half p r k waits is = record {
   next = subst (λ (z : Prepared). IsReadyOn (record x { half = Some half }) z z.block.stage) (sym is) (opened_ready geometry x half p p.block.stage refl k.next);
 }
 
--- a session with no block
+-- a session with no block stores another state
 pub kept_report : (x y : StoredModel) (o : Option Prepared) → option_map block_of o ≡ None → y.entries ≤ 1_000_000_000_000 → IsStorable y → IsSessionInvariant y o
 kept_report x y None none count storable = record { count = count; storable = storable; next = tt }
 kept_report x y (Some p) none count storable = cc
 
--- a session with no block, another table and another number of entries
+-- a session with no block gets another table and another number of entries
 pub kept_tools : (x : StoredModel) (o : Option Prepared) (tools : List ℤ) (entries : ℕ) → option_map block_of o ≡ None → entries ≤ 1_000_000_000_000 → AreTools tools → IsSessionInvariant x o
     → IsSessionInvariant (record x { entries = entries; tools = tools }) o
 kept_tools x None tools entries none count few kept = record { count = count; storable = tool_storable x tools entries kept.storable few; next = tt }
@@ -79,7 +79,7 @@ kept_between x between p count next on ready = record {
   next = ready_on between p p.block.stage on ready;
 }
 
--- what comes next to be stored
+-- what is stored next
 pub next_is : (s : SessionModel) (p : Prepared) (g : Stage) (y : StoredModel) → g ≡ p.block.stage → IsReadyOn s.stored p g → (g ≡ stage.OnBlock → y ≡ p.after) → ((between : StoredModel) → p.approached ≡ Some between → g ≢ stage.OnBlock → y ≡ between)
     → y ≡ (committed_on s p.block g).stored
 next_is s p (stage.ToApproach a) y is r on way = way r.between r.held (λ (e : stage.ToApproach a ≡ stage.OnBlock). cc) ∙ r.between_is

@@ -1,4 +1,4 @@
--- A line that is carried out keeps feed and speed from 0, and the slots among those of the tool table.
+-- A line that is executed keeps feed and speed from falling below 0, and the slots within the tool table.
 use Rattle.std.proofs.Common.{◌≡◌, ℕ, ◌*◌, ◌≤◌, ℤ, pos, negsuc, Bool, true, false, Option, Some, None, Result, Ok, Err, refl, sym, subst, arith, rules}
 use Rattle.std.specs.Prelude.{◌≤ℤ◌, cond, unsigned_abs, nat_le, unwrap_or, IfSome}
 use Rattle.ng_num.specs.declared.fault.Fault.{Fault}

@@ -1,4 +1,4 @@
--- What a line is refused for is its own: never want of memory, a counter of the journal, or a device that failed.
+-- A line is refused only for faults of its own: never because memory, a counter of the journal or the device fails.
 use Rattle.std.proofs.Common.{◌≡◌, ℕ, zero, suc, ℤ, pos, negsuc, ◌+ℤ◌, ◌-ℤ◌, ◌*ℤ◌, Bool, true, false, ◌&&◌, if◌then◌else◌, List, [], ◌∷◌, ◌++◌, length, Option, Some, None, Result, Ok, Err, refl, subst}
 use Rattle.std.specs.Prelude.{unsigned_abs, nat_eq, nat_le}
 use Rattle.std.specs.Option.{ok_or, option_and_then}
@@ -41,7 +41,7 @@ use Rattle.ng_block.specs.Program.{TermsModel, deleted, executed_unless_deleted,
 use Rattle.ng_block.specs.declared.effect.ProgramFlow.{ProgramFlow}
 use Rattle.ng_block.proofs.CauseLemmas.{first_of}
 
--- not want of memory, not a counter, not a device that fails or failed
+-- neither out of memory, nor a counter, nor a device that fails or has failed
 abbrev pub is_own : Fault → Bool
 is_own DeviceFailed = false
 is_own CountersUsed = false
@@ -49,12 +49,12 @@ is_own OutOfMemory = false
 is_own Broken = false
 is_own _ = true
 
--- of an answer, that its fault is its own
+-- if a result is a fault, it is the line's own
 abbrev pub RefusesOwn : {X : Type 0} → Result X Fault → Type 0
 RefusesOwn (Ok x) = Unit {0}
 RefusesOwn (Err fault) = is_own fault ≡ true
 
--- of faults with their causes, that all are
+-- the faults of a list, each with its cause, are all the line's own
 abbrev AreOwn : List (Bool × Fault) → Type 0
 AreOwn [] = Unit {0}
 AreOwn (f ∷ fs) = (is_own f.1 ≡ true) × AreOwn fs
@@ -228,7 +228,7 @@ own_framed : (flow : Option ProgramFlow) (s : StateModel) (r : Result Done Fault
 own_framed None s r own = own
 own_framed (Some flow) s r own = tt
 
--- as a line of a program, by the operator, and of a half-done block
+-- a line of a program, a line of the operator, and a half-done block
 pub own_done : (equipment : Equipment) (program : List ℕ) (x : StoredModel) (source : Source) (text : List ℕ) (block_delete : Bool) → RefusesOwn (done_of equipment program x source text block_delete)
 unfolding done_of
 own_done equipment program x Program text block_delete =

@@ -1,4 +1,4 @@
--- What a session refuses, it refuses for its own causes: its replies tell neither of memory nor of a counter or a
+-- A session refuses only for causes of its own: its replies report neither a lack of memory, nor a counter, nor a
 -- failed device.
 use Rattle.std.proofs.Common.{◌≡◌, ◌==◌, ℕ, ℤ, Bool, true, false, not, ◌||◌, if◌then◌else◌, nat_lt, List, length, Option, Some, None, Result, Ok, Err, refl}
 use Rattle.std.specs.Option.{is_some, is_none}
@@ -26,7 +26,7 @@ use Rattle.ng_session.specs.declared.reply.Reply.{Reply}
 use Rattle.ng_session.specs.declared.reply.Reply.TheVariants as reply
 use Rattle.ng_session.proofs.OwnFaults.{is_own, RefusesOwn, own_done, own_again}
 
--- a reply that is no refusal, or one for a cause of the session's own
+-- a reply that isn't a refusal, or a refusal for a cause of the session's own
 abbrev pub TellsOwn : Reply → Type 0
 TellsOwn (reply.Refused fault) = is_own fault ≡ true
 TellsOwn _ = Unit {0}
@@ -62,7 +62,7 @@ own_mdi equipment program s text =
     own_if (refuses_mdi s) _ _ refl (own_if (not s.stored.setup.machine.point_known) _ _ refl
     (own_mdi_by program s text (done_of equipment program s.stored source.Mdi text s.block_delete) (own_done equipment program s.stored source.Mdi text s.block_delete)))
 
--- why something is refused, if it is
+-- the reason why something is refused, if it is, is the session's own
 abbrev IsOwn : Option Fault → Type 0
 IsOwn None = Unit {0}
 IsOwn (Some fault) = is_own fault ≡ true

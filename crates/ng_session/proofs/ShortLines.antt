@@ -17,12 +17,12 @@ short_by (Ok x) l does done long h = elim (cases_lt 256 (length l)) [
 ]
 short_by (Err fault) l does done long h = tt
 
--- of a line by itself
+-- a line by itself
 pub alone_short : {T : Type 0} (r : Result T Fault) (t : TermsModel) (s : StateModel) (l : List ℕ) (done : Done)
     → MatchResult r (λ x. executed_unless_deleted t s l ≡ Ok done) (λ fault. executed_unless_deleted t s l ≡ Err fault) → OnOk r (length l ≤ 256)
 alone_short r t s l done h = short_by r l _ done (executed_unless_deleted-long t s l) h
 
--- of a line after others
+-- a line after others
 pub after_short : {T : Type 0} (r : Result T Fault) (t : TermsModel) (first : LineKind) (s : StateModel) (l : List ℕ) (done : Done)
     → MatchResult r (λ x. executed_after t first s l ≡ Ok done) (λ fault. executed_after t first s l ≡ Err fault) → OnOk r (length l ≤ 256)
 after_short r t first s l done h = short_by r l _ done (executed_after-long t first s l) h

@@ -1,4 +1,4 @@
--- What stands after a line can be stored where what stood before it could be.
+-- The state after a line can be stored if the state before it can be.
 use Rattle.std.proofs.Common.{◌≡◌, ℕ, ◌-◌, ◌≤◌, ℤ, Bool, true, false, cond, List, [], ◌∷◌, length, Option, Some, None, Result, Ok, Err, refl, sym, ◌∙◌, ap, subst, arith}
 use Rattle.std.specs.Prelude.{◌&&◌, MatchResult, OnOk, IfSome}
 use Rattle.ng_num.specs.declared.point.Point.{Point}
@@ -44,7 +44,7 @@ use Rattle.ng_session.specs.Entries.{place_by, place_after, after_block, after_l
 use Rattle.ng_session.specs.SessionInvariant.{IsNextEntry}
 use Rattle.ng_session.proofs.Limits.{found, same, block-stands}
 
--- what a line leads to can stand where what it began with could
+-- the state that a line leads to can be stored if the state that it begins with can be
 abbrev Keeps : StateModel → Result Done Fault → Type 0
 Keeps s does = (done : Done) → does ≡ Ok done → IsStorableMachine s.machine → IsStorableMachine done.setup.machine
 
@@ -117,7 +117,7 @@ pub after-stands : {T : Type 0} (r : Result T Fault) (t : TermsModel) (first : L
     → MatchResult r (λ x. executed_after t first s text ≡ Ok done) (λ fault. executed_after t first s text ≡ Err fault) → OnOk r (IsStorableMachine s.machine → IsStorableMachine done.setup.machine)
 after-stands r t first s text done few = kept r s (executed_after t first s text) done (after-keeps t first s text few)
 
--- a half-done one
+-- a half-done block
 pub again-stands : {T : Type 0} (r : Result T Fault) (s : StateModel) (tools : List ℤ) (geometry : Geometry) (text : List ℕ) (done : Done) → length tools ≤ greatest_slot
     → MatchResult r (λ x. executed s tools geometry text ≡ Ok done) (λ fault. executed s tools geometry text ≡ Err fault) → OnOk r (IsStorableMachine s.machine → IsStorableMachine done.setup.machine)
 again-stands r s tools geometry text done few = kept r s (executed s tools geometry text) done (line-keeps s tools geometry text few)
@@ -164,7 +164,7 @@ load_storable x length_new was short = record {
   tools = was.tools;
 }
 
--- with a half-done block besides
+-- with a half-done block in addition
 pub half_storable : (x : StoredModel) (half : HalfModel) → IsStorable x → IsStorableHalf half → IsStorable (record x { half = Some half })
 half_storable x half was waits = record { table = was.table; machine = was.machine; half = waits; place = was.place; program = was.program; room = was.room; tools = was.tools }
 
@@ -178,7 +178,7 @@ approach_storable x half point was short = record {
   storable = record { table = was.table; machine = was.machine; half = record { unknown = λ none. let e : false ≡ true = none in cc; text = short }; place = was.place; program = was.program; room = was.room; tools = was.tools };
 }
 
--- the machine is known to stand at a point
+-- after a reference to a point
 pub reference_storable : (x y : StoredModel) (point : Point) → IsStorable x → y ≡ after_reference x point → IsStorable y
 reference_storable x y point was is = subst IsStorable (sym is) (by x.half refl)
   where
@@ -188,7 +188,7 @@ reference_storable x y point was is = subst IsStorable (sym is) (by x.half refl)
         let waits : IsStorableHalf half = subst (λ (o : Option HalfModel). IfSome o IsStorableHalf) held was.half in
         record { table = was.table; machine = was.machine; half = record { unknown = λ none. let e : false ≡ true = none in cc; text = waits.text }; place = was.place; program = was.program; room = was.room; tools = was.tools }
 
--- a half-done block is given up
+-- after a half-done block is given up
 pub abandon_storable : (x y : StoredModel) → IsStorable x → y ≡ after_abandon x → IsStorable y
 abandon_storable x y was is = subst IsStorable (sym is) (by x.half)
   where

@@ -1,4 +1,4 @@
--- One event keeps what is worked tied to the fold.
+-- Each event keeps the session tied to the fold.
 use Rattle.std.proofs.Common.{◌≡◌, ◌⊎◌, ◌≤◌, ℕ, ℤ, ◌==◌, nat_lt, Bool, true, false, not, ◌&&◌, ◌||◌, if◌then◌else◌, List, [], ◌∷◌, ◌++◌, drop, length, Option, None, Some, Result, Ok, Err, refl, sym, ap, subst, ◌∙◌, inl, inr, arith}
 use Rattle.std.specs.Prelude.{Contains}
 use Rattle.std.specs.Option.{is_some, is_none}
@@ -32,13 +32,14 @@ use Rattle.ng_session.specs.Stages as stage
 use Rattle.ng_session.proofs.Worked.{IsOnBlock, IsWorked, Tied, worked_item, worked_segment, worked_way, worked_block, way_is, way_done, all_given, after_is_it}
 use Rattle.ng_text.proofs.PlaceLemmas.{line_next}
 
--- an event leaves what stands where it is, or adds an entry that may be committed and whose items are those given
+-- an event leaves the fold's state as it is, or adds an entry that may be committed and whose items are those handed
+-- out
 pub data Next (q : Equipment) (lines : List (List ℕ)) (p : DurableState) (given : List Item) (out : Transition) : Type 0 where
   Stays : out.entries ≡ [] → out.program ≡ p.program → Tied q lines p (given ++ out.items) out.next.stored out.next.activity out.next.current → Next q lines p given out
   Adds : (entry : Entry) → out.entries ≡ entry ∷ [] → out.items ≡ [] → FollowsFold q lines p entry → out.program ≡ (after q p entry).program → given ≡ items q p entry
       → Tied q lines (after q p entry) [] out.next.stored out.next.activity out.next.current → Next q lines p given out
 
--- the session is tied
+-- the session is tied to the fold
 abbrev pub Ties : Equipment → List (List ℕ) → DurableState → List Item → SessionModel → Type 0
 Ties q lines p given s = Tied q lines p given s.stored s.activity s.current
 
@@ -46,7 +47,7 @@ by_if : (q : Equipment) (lines : List (List ℕ)) (p : DurableState) (given : Li
 by_if q lines p given true x y f g = f refl
 by_if q lines p given false x y f g = g refl
 
--- an answer that leaves what is worked as it is
+-- a reply that leaves the current block unchanged
 stays : (q : Equipment) (lines : List (List ℕ)) (p : DurableState) (given : List Item) (P : List ℕ) (r : Reply) (u : SessionModel) → P ≡ p.program → Ties q lines p given u → Next q lines p given (answers P r u)
 stays q lines p given P r u is tied = Stays refl is (subst (λ l. Ties q lines p l u) (sym (append-nil given)) tied)
 
@@ -86,7 +87,7 @@ or_right false b h = h
 rest_none : (s : SessionModel) → is_at_rest s ≡ true → s.current ≡ None
 rest_none s rests = none_of s.current (and_left _ _ (and_left _ _ rests))
 
--- with no block, what stands is the fold's
+-- with no block, the stored state is the fold's
 stands_at : (q : Equipment) (lines : List (List ℕ)) (p : DurableState) (given : List Item) (s : SessionModel) → s.current ≡ None → Ties q lines p given s → Tied q lines p given s.stored s.activity None
 stands_at q lines p given s none t = subst (Tied q lines p given s.stored s.activity) none t
 
@@ -106,11 +107,11 @@ runs_busy activity.Stopped h = cc
 abbrev here : List ℕ → SessionModel → DurableState
 here P s = record { saved = s.stored; program = P }
 
--- a session with no block stands where the fold does
+-- a session with no block has the fold's state
 here_is : (q : Equipment) (lines : List (List ℕ)) (p : DurableState) (given : List Item) (P : List ℕ) (x : StoredModel) (a : Activity) → P ≡ p.program → Tied q lines p given x a None → record { saved = x; program = P } ≡ p
 here_is q lines p given P x a is t = ap (λ (z : StoredModel). let s : DurableState = record { saved = z; program = P } in s) t.0 ∙ ap (λ (z : List ℕ). let s : DurableState = record { saved = p.saved; program = z } in s) is
 
--- from what stands here to what the fold has
+-- from the session's state to the fold's
 to_fold : (q : Equipment) (lines : List (List ℕ)) (p : DurableState) (given : List Item) (P : List ℕ) (s : SessionModel) (out : Transition) → P ≡ p.program → s.current ≡ None → Ties q lines p given s
     → (Tied q lines (here P s) [] s.stored s.activity None → Next q lines (here P s) [] out) → Next q lines p given out
 to_fold q lines p given P s out is none t f =
@@ -119,7 +120,7 @@ to_fold q lines p given P s out is none t f =
     let third : (is_idle s.activity ≡ true) ⊎ (s.stored.half ≡ None) = subst (λ (z : DurableState). (is_idle s.activity ≡ true) ⊎ (z.saved.half ≡ None)) (sym same) at.2 in
     subst (λ l. Next q lines p l out) (sym at.1) (subst (λ z. Next q lines z [] out) same (f (refl, refl, third)))
 
--- the same, with no block still
+-- a session that still has no block stays tied
 ties_here : (q : Equipment) (lines : List (List ℕ)) (P : List ℕ) (s : SessionModel) → s.current ≡ None → Tied q lines (here P s) [] s.stored s.activity None → Ties q lines (here P s) [] s
 ties_here q lines P s none t = subst (Tied q lines (here P s) [] s.stored s.activity) (sym none) t
 
@@ -346,7 +347,7 @@ next_resume q lines p given P s is t =
 
 -- ---- a Tick
 
--- the entry of a block stands for what was worked
+-- the entry of a block has the same effect as the block that was worked
 block_after : (q : Equipment) (lines : List (List ℕ)) (p : DurableState) (given : List Item) (x : StoredModel) (c : CurrentBlockModel) (w : IsOnBlock q lines p given x c)
     → after q p (Block c.source c.text c.block_delete) ≡ record p { saved = after_block (next_line_start p.program p.saved.place) p.saved c.source w.done }
 block_after q lines p given x c w = ap (durable_state_after p c.source) w.block.does

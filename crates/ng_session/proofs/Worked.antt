@@ -1,4 +1,4 @@
--- How what is worked stands to the fold over what was committed.
+-- How the current block relates to the fold over what was committed.
 use Rattle.std.proofs.Common.{◌≡◌, ◌⊎◌, ℕ, ◌+◌, min, true, false, List, [], ◌∷◌, ◌++◌, drop, length, Option, None, Some, Ok, refl, sym, ap, subst, ◌∙◌, inl, inr, append_assoc}
 use Rattle.std.proofs.lemmas.List.{append-nil}
 use Rattle.ng_num.specs.declared.point.Point.{Point}
@@ -26,7 +26,7 @@ pub record IsFresh (p : DurableState) (given : List Item) (x : StoredModel) (c :
   pub left : c.left ≡ still_to_do p done
   pub index : c.index ≡ first_to_do p.saved.half
 
--- what is stored of the block while its segment of a number is open
+-- what is stored while a given segment of the block is open
 abbrev half_at : DurableState → CurrentBlockModel → ℕ → StoredModel
 half_at p c n = record p.saved { half = Some (record { text = c.text; source = c.source; index = n; at = None; opened = Some open_part.Segment }) }
 
@@ -41,7 +41,7 @@ pub record IsMidst (q : Equipment) (p : DurableState) (given : List Item) (x : S
   pub index : c.index ≡ number_after (first_to_do p.saved.half) (before ++ segment ∷ [])
   pub stands : x ≡ record p.saved { half = Some (record { text = c.text; source = c.source; index = number_after (first_to_do p.saved.half) before; at = None; opened = Some open_part.Segment }) }
 
--- what the block leaves is what its line does
+-- the state after the block is the one that its line leads to
 pub record Leaves (p : DurableState) (c : CurrentBlockModel) (done : Done) : Type 0 where
   pub setup : c.setup ≡ done.setup
   pub place : c.place ≡ place_after (next_line_start p.program p.saved.place) p.saved.place c.source done.stop
@@ -84,7 +84,7 @@ IsWorked q lines p given x c (stage.ToApproach a) = IsBeforeWay q p given x c a
 IsWorked q lines p given x c (stage.OnApproach a) = IsOnWay q p given x c a
 IsWorked q lines p given x c stage.OnBlock = IsOnBlock q lines p given x c
 
--- with no block: where a half-done one stands, the program was not started since
+-- with no current block: if a block is half-done, the program wasn't started since
 abbrev pub Tied : Equipment → List (List ℕ) → DurableState → List Item → StoredModel → Activity → Option CurrentBlockModel → Type 0
 Tied q lines p given x activity None = (x ≡ p.saved) × (given ≡ []) × ((is_idle activity ≡ true) ⊎ (p.saved.half ≡ None))
 Tied q lines p given x activity (Some c) = IsWorked q lines p given x c c.stage
@@ -195,7 +195,7 @@ all_given q p given x c done (inr m) =
     let whole : m.begun ≡ hand m.segment q.geometry = sym (append-nil m.begun) ∙ m.rest in
     m.given_is ∙ ap (λ l. hand_all q m.before ++ l) whole ∙ sym (hand_all-more q m.before m.segment) ∙ ap (hand_all q) (sym m.split)
 
--- what stands after the block
+-- the state after the block
 leaves_block : (p : DurableState) (x : StoredModel) (c : CurrentBlockModel) (done : Done) → x.entries ≡ p.saved.entries → x.length ≡ p.saved.length → x.tools ≡ p.saved.tools → x.room ≡ p.saved.room → Leaves p c done
     → after_current_block x c ≡ after_block (next_line_start p.program p.saved.place) p.saved c.source done
 leaves_block p x c done entries length tools room l = λ i. record { entries = entries i + 1; setup = l.setup i; tools = tools i; place = l.place i; length = length i; room = room i; half = None }
@@ -221,7 +221,7 @@ way_is q p c a r =
     ap (approach_to q p.saved) r.held ∙ ap (λ (o : Option Point). approach_from p.saved r.half o (done_again q p.saved r.half.text)) r.from
     ∙ ap (approach_from p.saved r.half (Some a.from)) r.does ∙ (λ i. Some (record { from = a.from; to = sym r.to i }))
 
--- where the fold stands after it
+-- the fold's state after the approach
 abbrev stands_reached : DurableState → HalfModel → Point → DurableState
 stands_reached p half point = record p { saved = reached p.saved half point }
 

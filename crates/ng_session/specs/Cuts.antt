@@ -1,4 +1,4 @@
--- What a cut of power leaves (own), by the fold alone; and the law that events keep to it.
+-- What a power cut leaves (own), in terms of the fold alone; and the law that every list of events obeys.
 use Rattle.std.specs.Prelude.{◌≡◌, ◌+◌, ℕ, min, List, [], ◌∷◌, ◌++◌, length, Bool, Some, None}
 use Rattle.ng_canon.specs.declared.item.Item.{Item}
 use Rattle.ng_canon.specs.declared.segment.Segment.{Segment}
@@ -14,15 +14,16 @@ use Rattle.ng_session.specs.Runs.{CrashState, session_at_power_on, replies_of, e
 use Rattle.ng_session.specs.declared.event.Event.{Event}
 use Rattle.ng_session.specs.declared.stage.Approach.{Approach}
 
--- the number of the segment after these, counted up to the greatest of 64 bits
+-- the number of the segment after these, but at most the greatest number of 64 bits
 abbrev pub number_after : ℕ → List Segment → ℕ
 number_after first [] = first
 number_after first (segment ∷ segments) = number_after (min (first + 1) greatest_index) segments
 
--- What may stand and have been handed out after the entries, from what stands then, of an operator who gave these
--- lines, where these come next: nothing more; or, where an approach comes next, a beginning of that of the half-done
--- block; or, where a block comes next that may be worked, the whole segments of it before one, from the first that is
--- still to do, and a beginning of that one. What was begun is stored as open.
+-- What may be stored and may have been handed out after the committed entries. Given are the state after them, the
+-- lines that the operator gave, and the entries that come next. There are three cases. Nothing more; or, if an approach
+-- comes next, a beginning of that of the half-done block; or, if a block comes next that may be worked, the whole
+-- segments of it before one, from the first that is still to do, and a beginning of that one. What was begun is stored
+-- as open.
 pub data UncommittedTail (equipment : Equipment) (lines : List (List ℕ)) (x : DurableState) (next : List Entry) : StoredModel → List Item → Type 0 where
   Nothing_open : UncommittedTail equipment lines x next x.saved []
   Approach_open : (half : HalfModel) (approach : Approach) (begun left : List Item) (later : List Entry)
@@ -40,8 +41,8 @@ pub data UncommittedTail (equipment : Equipment) (lines : List (List ℕ)) (x : 
       (record x.saved { half = Some (record { text = text; source = source; index = number_after (first_to_do x.saved.half) before; at = None; opened = Some open_part.Segment }) })
       (hand_all equipment before ++ begun)
 
--- A cut is of these entries, from what stood at first, where these come next: each may be committed where it comes,
--- what stands is the fold's, and what was handed out too, with what follows.
+-- What a power cut leaves, given the committed entries and those that come next. Each entry may be committed where it
+-- comes. The stored state is the fold's, and so are the items handed out, each with what may follow.
 pub record IsCut (equipment : Equipment) (lines : List (List ℕ)) (x : DurableState) (before : List Item) (entries next : List Entry) (left : CrashState) : Type 0 where
   pub lawful : FollowFold equipment lines x entries
   pub program : left.standing.program ≡ (after_all equipment x entries).program
@@ -49,8 +50,8 @@ pub record IsCut (equipment : Equipment) (lines : List (List ℕ)) (x : DurableS
   pub items : left.items ≡ (before ++ items_all equipment x entries) ++ more
   pub follows : UncommittedTail equipment lines (after_all equipment x entries) next left.standing.saved more
 
--- After each list of events, a cut is of the entries that they committed, where what is under way comes next, and each
--- of these was acknowledged.
+-- After any list of events, a power cut leaves a cut of the entries that the events committed, with what is under way
+-- coming next. Each of these entries was acknowledged.
 abbrev pub CrashAfterEvents : Type 0 → Type 0
 CrashAfterEvents A = (equipment : Equipment) (x : DurableState) (before : List Item) (events : List (Event A)) →
     IsCut equipment (lines_given events) x before (entries_of equipment (session_at_power_on x) events) (under_way equipment (session_at_power_on x) events) (crash_after equipment (session_at_power_on x) before events)

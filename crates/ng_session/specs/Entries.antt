@@ -1,4 +1,4 @@
--- What is committed, and what stands after it (own).
+-- What is committed, and the state after it (own).
 use Rattle.std.specs.Prelude.{ℕ, ◌+◌, ℤ, List, ◌++◌, take, Bool, false, true, Result, Option, None, Some, unwrap_or, length, if◌then◌else◌}
 use Rattle.std.specs.Option.{is_some}
 use Rattle.ng_num.specs.declared.fault.Fault.{Fault}
@@ -25,12 +25,12 @@ use Rattle.ng_layout.specs.declared.half.Source.TheVariants.{Program, Mdi}
 use Rattle.ng_text.specs.Programs.{lines_before}
 use Rattle.ng_session.specs.declared.stage.Approach.{Approach}
 
--- the geometry: it stays as it is
+-- the geometry, which never changes
 pub record Equipment : Type 0 where
   pub geometry : Geometry
 
 -- what is committed: a line of the program or of the operator, begun with block delete on or off; a program; the point
--- at which the machine stands; the way back to where a half-done block goes on; that such a block is given up; a tool's
+-- at which the machine is; the approach to where a half-done block goes on; that such a block is given up; a tool's
 -- length, in a slot of the table
 pub data Entry : Type 0 where
   Block : Source → List ℕ → Bool → Entry
@@ -43,18 +43,18 @@ pub data Entry : Type 0 where
 abbrev pub terms_of : Equipment → List ℤ → Bool → TermsModel
 terms_of equipment tools block_delete = record { block_delete = block_delete; tools = tools; geometry = equipment.geometry }
 
--- what a line does with the tool table that stands, or why it is refused: a line of the program is one after those
--- before its place
+-- what a line does with the stored tool table, or why it is refused; a line of the program comes after those before its
+-- place
 unfoldable pub done_of : Equipment → List ℕ → StoredModel → Source → List ℕ → Bool → Result Done Fault
 done_of equipment program x Program text block_delete = executed_in_program (terms_of equipment x.tools block_delete) (lines_before program x.place) x.setup text
 done_of equipment program x Mdi text block_delete = executed_unless_deleted (terms_of equipment x.tools block_delete) x.setup text
 
--- what a half-done block does from its beginning, or why it is refused: none is deleted and none is a percent line,
--- since it had a segment
+-- what a half-done block does from its beginning, or why it is refused; it is neither deleted nor a percent line, since
+-- it had a segment
 unfoldable pub done_again : Equipment → StoredModel → List ℕ → Result Done Fault
 done_again equipment x text = executed x.setup x.tools equipment.geometry text
 
--- where the program goes on after a block: a line of the program goes on at the next one, and the program's end at its
+-- where the program goes on after a block: after a line of the program at the next line, after the program's end at the
 -- beginning
 abbrev pub place_by : ℕ → ℕ → Source → ℕ
 place_by next place Program = next
@@ -63,19 +63,19 @@ place_by next place Mdi = place
 abbrev pub place_after : ℕ → ℕ → Source → ProgramFlow → ℕ
 place_after next place source stop = if is_end stop then 0 else place_by next place source
 
--- what stands after a block, where the next line of the program begins at this place
+-- the state after a block, given the place at which the next line of the program begins
 abbrev pub after_block : ℕ → StoredModel → Source → Done → StoredModel
 after_block next x source done =
     record x { entries = x.entries + 1; setup = done.setup; place = place_after next x.place source done.stop; half = None }
 
--- what stands after the load of a program of this length
+-- the state after the load of a program of this length
 abbrev pub after_load : StoredModel → ℕ → StoredModel
 after_load x length =
     record x { entries = x.entries + 1; setup = record { params = cleared x.setup.params; machine = x.setup.machine }; place = 0; length = length; half = None }
 
 -- ---- a half-done block
 
--- how the machine stands before the segment of a number of a block that is begun in a state
+-- the machine's position and outputs before a given segment of a block, if the block begins in a given state
 abbrev pub stance_before : StateModel → Done → ℕ → Stance
 stance_before setup done n = after_segments (record { point = setup.machine.point; outputs = done.before }) (take n done.segments)
 
@@ -83,15 +83,15 @@ stance_before setup done n = after_segments (record { point = setup.machine.poin
 abbrev pub hand_approach : Geometry → Approach → List Item
 hand_approach geometry a = hand (segment.Switch a.to.outputs) geometry ++ hand (line_to pace.Traverse a.from a.to.point) geometry
 
--- the machine stands at a point of the operator's
+-- the machine at a point that the operator gave
 abbrev pub placed : StateModel → Point → StateModel
 placed setup point = record { params = setup.params; machine = record setup.machine { point = point; point_known = true } }
 
--- a half-done block whose machine stands at a point
+-- a half-done block whose machine is at a point
 abbrev pub placed_at : Point → HalfModel → HalfModel
 placed_at point half = record half { at = Some point; opened = None }
 
--- what stands after a reference: with a half-done block it says where that one's machine stands, and nothing else
+-- the state after a reference; if a block is half-done, only the point of that block's machine changes
 abbrev pub referenced : StoredModel → Point → Option HalfModel → StoredModel
 referenced x point None = record x { entries = x.entries + 1; setup = placed x.setup point; half = None }
 referenced x point (Some half) = record x { entries = x.entries + 1; half = Some (placed_at point half) }
@@ -99,7 +99,7 @@ referenced x point (Some half) = record x { entries = x.entries + 1; half = Some
 abbrev pub after_reference : StoredModel → Point → StoredModel
 after_reference x point = referenced x point x.half
 
--- what stands after an approach of a half-done block that ended at a point
+-- the state after an approach of a half-done block that ended at a point
 abbrev pub reached : StoredModel → HalfModel → Point → StoredModel
 reached x half point = record x { entries = x.entries + 1; half = Some (placed_at point half) }
 
@@ -114,7 +114,7 @@ after_approach x point = reached_by x x.half point
 abbrev pub turned_off : Outputs → Outputs
 turned_off o = record o { spindle = spindle.Stopped; mist = false; flood = false }
 
--- the machine where a half-done block is given up: it stands where that one says, if it says so
+-- the machine after a half-done block is given up: at the point of that block's machine, if that is known
 abbrev pub given_up : Machine → HalfModel → Machine
 given_up m half = record m { outputs = turned_off m.outputs; point = unwrap_or half.at m.point; point_known = is_some half.at }
 
@@ -122,12 +122,12 @@ abbrev pub abandoned : StoredModel → Option HalfModel → StoredModel
 abandoned x None = x
 abandoned x (Some half) = record x { entries = x.entries + 1; setup = record { params = x.setup.params; machine = given_up x.setup.machine half }; half = None }
 
--- what stands after a half-done block that is given up
+-- the state after a half-done block is given up
 abbrev pub after_abandon : StoredModel → StoredModel
 after_abandon x = abandoned x x.half
 
 -- ---- the tool table
 
--- what stands after a tool's length was put into a slot: the length in force stays until the next G43
+-- the state after a tool's length was put into a slot; the length in force stays until the next G43
 abbrev pub after_tool : StoredModel → ℕ → ℤ → StoredModel
 after_tool x slot nm = record x { entries = x.entries + 1; tools = with_slot (record { slot = slot; length = nm }) x.tools }

@@ -1,4 +1,4 @@
--- The plain interpreter (own): one fold over what was committed. It knows no session.
+-- The plain interpreter (own): one fold over what was committed. It knows nothing of sessions.
 use Rattle.std.specs.Prelude.{◌≡◌, ◌≤◌, ℕ, List, [], ◌∷◌, ◌++◌, drop, Bool, true, false, Option, Some, None, Result, Ok, Err, length}
 use Rattle.std.specs.List.{Contains}
 use Rattle.ng_num.specs.declared.fault.Fault.{Fault}
@@ -17,7 +17,7 @@ use Rattle.ng_text.specs.Programs.{ProgramLineModel, program_line_at, next_line_
 use Rattle.ng_session.specs.Entries.{Equipment, Entry, Block, Loaded, Referenced, Approached, Abandoned, Tooled, done_of, done_again, after_block, after_load, stance_before, hand_approach, after_reference, after_approach, after_abandon, after_tool}
 use Rattle.ng_session.specs.declared.stage.Approach.{Approach}
 
--- what a block does: the half-done one where there is one
+-- what a block does: the half-done block, if there is one
 abbrev pub block_done : Equipment → DurableState → Option HalfModel → Source → List ℕ → Bool → Result Done Fault
 block_done equipment x None source text block_delete = done_of equipment x.program x.saved source text block_delete
 block_done equipment x (Some half) source text block_delete = done_again equipment x.saved text
@@ -33,8 +33,8 @@ first_to_do (Some half) = half.index
 abbrev pub still_to_do : DurableState → Done → List Segment
 still_to_do x done = drop (first_to_do x.saved.half) done.segments
 
--- the approach that the half-done block needs, from where its machine stands; none where that isn't known, or its text
--- is refused
+-- the approach that the half-done block needs, from its machine's point; `None` if that isn't known, or if the block's
+-- text is refused
 abbrev pub approach_from : StoredModel → HalfModel → Option Point → Result Done Fault → Option Approach
 approach_from x half None done = None
 approach_from x half (Some from) (Err fault) = None
@@ -47,9 +47,9 @@ approach_to equipment x (Some half) = approach_from x half half.at (done_again e
 abbrev pub approach_in : Equipment → DurableState → Option Approach
 approach_in equipment x = approach_to equipment x.saved x.saved.half
 
--- ---- what stands after an entry
+-- ---- the state after an entry
 
--- one that is refused is never committed
+-- a block that is refused is never committed
 abbrev pub durable_state_after : DurableState → Source → Result Done Fault → DurableState
 durable_state_after x source (Err fault) = x
 durable_state_after x source (Ok done) = record x { saved = after_block (next_line_start x.program x.saved.place) x.saved source done }
@@ -68,7 +68,7 @@ after equipment x (Tooled slot nm) = record x { saved = after_tool x.saved slot 
 
 -- ---- what an entry hands out
 
--- the items of some segments, one after the other
+-- the items of some segments, in order
 abbrev pub hand_all : Equipment → List Segment → List Item
 hand_all equipment [] = []
 hand_all equipment (segment ∷ segments) = hand segment equipment.geometry ++ hand_all equipment segments
@@ -97,9 +97,9 @@ abbrev pub items_all : Equipment → DurableState → List Entry → List Item
 items_all equipment x [] = []
 items_all equipment x (entry ∷ entries) = items equipment x entry ++ items_all equipment (after equipment x entry) entries
 
--- ---- what may be committed where this stands, of an operator who gave these lines
+-- ---- what may be committed in a state, given the operator's lines
 
--- a half-done block goes on where its machine stands before its next segment
+-- a half-done block goes on if its machine is at the point before its next segment
 abbrev pub ResumesHalf : StoredModel → HalfModel → List ℕ → Done → Type 0
 ResumesHalf x half text done = (text ≡ half.text) × (half.at ≡ Some (stance_before x.setup done half.index).point)
 
@@ -111,8 +111,8 @@ abbrev pub IsGiven : List (List ℕ) → DurableState → Source → List ℕ �
 IsGiven lines x source.Program text = IsLineAt (program_line_at x.program x.saved.place) text
 IsGiven lines x source.Mdi text = Contains lines text
 
--- the text is the half-done block's own, which goes on where its machine stands; else the line of the program at its
--- place, or one that the operator gave
+-- the text is that of the half-done block, which goes on from its machine's point; else that of the program's line at
+-- its place, or of a line that the operator gave
 abbrev pub IsTextOf : List (List ℕ) → DurableState → Option HalfModel → Source → List ℕ → Bool → Done → Type 0
 IsTextOf lines x None source text block_delete done = IsGiven lines x source text
 IsTextOf lines x (Some half) source text block_delete done = (source ≡ half.source) × (block_delete ≡ false) × ResumesHalf x.saved half text done

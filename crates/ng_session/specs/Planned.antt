@@ -32,7 +32,7 @@ pub record KnownModel : Type 0 where
   pub before : LinesBefore
   pub ahead : List PlannedModel
 
--- that line is the program's
+-- the line is one of the program's
 abbrev pub IsLineOf : List ℕ → PlannedModel → Type 0
 IsLineOf program p = IsLineBetween program p.place p.first p.prepared.block.text p.next
 
@@ -40,12 +40,12 @@ abbrev pub AreLinesOf : List ℕ → List PlannedModel → Type 0
 AreLinesOf program [] = Unit {0}
 AreLinesOf program (p ∷ ps) = IsLineOf program p × AreLinesOf program ps
 
--- all of it is so of a program
+-- everything known is true of a program
 abbrev pub IsKnownOf : List ℕ → KnownModel → Type 0
 IsKnownOf program known = IsTrueOf program known.before × AreLinesOf program known.ahead
 
--- what is planned doesn't come any more after such an event: another line comes first, or another program, or the lines
--- do something else
+-- events after which the planned lines no longer come: another line comes first, or another program, or the lines do
+-- something else
 abbrev pub drops_plan : {A : Type 0} → Event A → Bool
 drops_plan (event.Load text) = true
 drops_plan event.Start = false
@@ -61,7 +61,7 @@ drops_plan (event.BlockDelete on) = true
 drops_plan event.Status = false
 drops_plan event.Tick = false
 
--- what is known is known without the lines that were read ahead too
+-- what is known, without the lines that were read ahead
 abbrev pub forgotten : KnownModel → KnownModel
 forgotten known = record known { ahead = [] }
 
@@ -94,7 +94,7 @@ abbrev pub base_at_end : Base → List PlannedModel → Base
 base_at_end base [] = base
 base_at_end base (p ∷ ps) = base_at_end (base_then base p) ps
 
--- whether the program ends then: by the last of them, or else by the current block
+-- whether the program ends there: by the last planned line, or else by the current block
 abbrev pub ends_after : Option CurrentBlockModel → Bool
 ends_after None = false
 ends_after (Some c) = is_end c.stop
@@ -103,8 +103,8 @@ abbrev pub ends_at_end : Bool → List PlannedModel → Bool
 ends_at_end ends [] = ends
 ends_at_end ends (p ∷ ps) = ends_at_end (is_end p.prepared.block.stop) ps
 
--- The line at the place that will be stored is valid then, and its block is what it does then; no line is before the
--- program's beginning.
+-- The line at the place that will be stored is valid then, and the block is what the line does then. There is no line
+-- before the program's beginning.
 pub record IsPlannedOn (equipment : Equipment) (base : Base) (p : PlannedModel) : Type 0 where
   pub place : p.place ≡ base.stored.place
   pub beginning : p.place ≡ 0 → p.first ≡ Blank
@@ -113,12 +113,12 @@ pub record IsPlannedOn (equipment : Equipment) (base : Base) (p : PlannedModel) 
   pub begun_is : p.prepared.block ≡ begun base.stored source.Program p.prepared.block.text base.block_delete p.next does
   pub ready : IsReady base.stored p.prepared
 
--- each is planned on what the one before it leaves
+-- each line is planned on the state after the one before it
 abbrev pub IsPlan : Equipment → Base → List PlannedModel → Type 0
 IsPlan equipment base [] = Unit {0}
 IsPlan equipment base (p ∷ ps) = IsPlannedOn equipment base p × IsPlan equipment (base_then base p) ps
 
--- the first of them is begun as it is when it is read then, and the others stay planned
+-- the first planned line is begun just as if it were read then, and the others stay planned
 pub record IsBegunAhead (equipment : Equipment) (told : Reply) (old new : SessionModel) (known_old known_new : KnownModel) : Type 0 where
   pub planned : PlannedModel
   pub front : known_old.ahead ≡ planned ∷ known_new.ahead

@@ -14,7 +14,7 @@ pub record ProgramSession : Type 0 where
   pub program : List ℕ
   pub session : SessionModel
 
--- as power on leaves it
+-- a session at power on
 abbrev pub session_at_power_on : DurableState → ProgramSession
 session_at_power_on x = record { program = x.program; session = resting x.saved }
 
@@ -40,7 +40,7 @@ abbrev pub session_after : {A : Type 0} → Equipment → ProgramSession → Lis
 session_after equipment s [] = s
 session_after equipment s (event ∷ events) = session_after equipment (session_of_transition (leads_to equipment s event)) events
 
--- the entry that the current block, or the approach before it, is committed as
+-- the entry as which the current block, or the approach before it, is committed
 abbrev pub entry_of : Option CurrentBlockModel → List Entry
 entry_of None = []
 entry_of (Some c) = entry_on c c.stage ∷ []
@@ -49,7 +49,7 @@ entry_of (Some c) = entry_on c c.stage ∷ []
 abbrev pub under_way : {A : Type 0} → Equipment → ProgramSession → List (Event A) → List Entry
 under_way equipment s events = entry_of (session_after equipment s events).session.current
 
--- what a cut of power leaves: what stands, and what was handed out
+-- what a power cut leaves: the stored state, and the items handed out
 pub record CrashState : Type 0 where
   pub standing : DurableState
   pub items : List Item
@@ -57,7 +57,7 @@ pub record CrashState : Type 0 where
 abbrev pub crash_in : ProgramSession → List Item → CrashState
 crash_in s items = record { standing = record { saved = s.session.stored; program = s.program }; items = items }
 
--- after some events, where these items were handed out before
+-- what a power cut leaves after some events, given the items handed out before
 abbrev pub crash_after : {A : Type 0} → Equipment → ProgramSession → List Item → List (Event A) → CrashState
 crash_after equipment s before events = crash_in (session_after equipment s events) (before ++ items_of equipment s events)
 

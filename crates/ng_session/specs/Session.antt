@@ -1,4 +1,4 @@
--- What a session answers, hands out, commits and goes on to, for each event (own).
+-- For each event: the reply, what is handed out and committed, and the session after it (own).
 use Rattle.std.specs.Prelude.{◌≡◌, ℕ, ℤ, ◌+◌, ◌==◌, nat_lt, min, Bool, true, false, not, ◌&&◌, ◌||◌, if◌then◌else◌, Option, None, Some, unwrap_or, Result, Ok, Err, List, [], ◌∷◌, drop, length}
 use Rattle.std.specs.Option.{is_some, is_none, option_map}
 use Rattle.ng_num.specs.declared.point.Point.{Point}
@@ -37,7 +37,7 @@ use Rattle.ng_session.specs.declared.stage.Approach.{Approach}
 use Rattle.ng_session.specs.Stages.{Stage}
 use Rattle.ng_session.specs.Stages as stage
 
--- the block that is worked, as it was begun, and what is left of it
+-- the current block, as it was begun, and what is left of it
 pub record CurrentBlockModel : Type 0 where
   pub source : Source
   pub text : List ℕ
@@ -45,17 +45,17 @@ pub record CurrentBlockModel : Type 0 where
   pub stage : Stage
   -- the number of the segment that opens next, after the approach if there is one
   pub index : ℕ
-  -- the segments that weren't opened yet, and the items of what is open that weren't handed out
+  -- the segments that weren't opened yet, and the items of the open one that weren't handed out
   pub left : List Segment
   pub items : List Item
-  -- the state that it leaves, where the next line of the program begins then, and how the program goes on
+  -- the state after it, where the next line of the program begins then, and how the program goes on
   pub setup : StateModel
   pub place : ℕ
   pub stop : ProgramFlow
 
 -- a session: what a controller keeps between two events
 pub record SessionModel : Type 0 where
-  -- what the device stands for
+  -- the stored state
   pub stored : StoredModel
   pub activity : Activity
   pub held : Bool
@@ -66,18 +66,18 @@ pub record SessionModel : Type 0 where
 -- what an event leads to
 pub record Transition : Type 0 where
   pub reply : Reply
-  -- none or one
+  -- at most one
   pub items : List Item
-  -- none or one
+  -- at most one
   pub entries : List Entry
   pub program : List ℕ
   pub next : SessionModel
 
--- as power on leaves it
+-- a session at power on
 abbrev pub resting : StoredModel → SessionModel
 resting x = record { stored = x; activity = activity.Idle; held = false; optional_stop = false; block_delete = false; current = None }
 
--- an answer, and the session goes on to this
+-- a reply, and the session after it
 abbrev pub answers : List ℕ → Reply → SessionModel → Transition
 answers program reply next = record { reply = reply; items = []; entries = []; program = program; next = next }
 
@@ -85,7 +85,7 @@ answers program reply next = record { reply = reply; items = []; entries = []; p
 abbrev pub refuses : List ℕ → Fault → SessionModel → Transition
 refuses program fault s = answers program (reply.Refused fault) s
 
--- an entry is committed, and this stands
+-- an entry is committed, and this is the stored state after it
 abbrev pub commits : List ℕ → Entry → SessionModel → Transition
 commits program entry next = record { reply = reply.Done next.stored.entries; items = []; entries = entry ∷ []; program = program; next = next }
 
@@ -162,7 +162,7 @@ mdi_by program s text (Ok done) = answers program reply.Begun (record s {
 abbrev pub refuses_mdi : SessionModel → Bool
 refuses_mdi s = is_some s.current || (is_running s.activity && not s.held) || is_some s.stored.half
 
--- block delete is looked at here, when the line is begun
+-- block delete takes effect here, when the line is begun
 abbrev pub mdi : Equipment → List ℕ → SessionModel → List ℕ → Transition
 mdi equipment program s text =
     if refuses_mdi s then refuses program fault.Busy s
@@ -185,9 +185,9 @@ load_unless program s text None = commits text (Loaded text) (loaded s (after_lo
 abbrev pub load : List ℕ → SessionModel → List ℕ → Transition
 load program s text = load_unless program s text (load_refusal s text)
 
--- ---- a half-done block: where its machine stands is told, it goes on, or it is given up
+-- ---- a half-done block: the point of its machine is given, it goes on, or it is given up
 
--- the point is told while a block is half-done or none is
+-- the point may be given whether or not a block is half-done
 abbrev pub reference_refusal : Geometry → SessionModel → Point → Option Fault
 reference_refusal geometry s point =
     if not (is_at_rest s) then Some fault.Busy
@@ -201,7 +201,7 @@ reference_unless program s point None = commits program (Referenced point) (reco
 abbrev pub reference : Equipment → List ℕ → SessionModel → Point → Transition
 reference equipment program s point = reference_unless program s point (reference_refusal equipment.geometry s point)
 
--- why no half-done block can be given up
+-- why a half-done block can't be given up
 abbrev pub abandon_refusal : SessionModel → Option Fault
 abandon_refusal s =
     if not (is_at_rest s) then Some fault.Busy
@@ -215,8 +215,8 @@ abandon_unless program s None = commits program Abandoned (record s { stored = a
 abbrev pub abandon : List ℕ → SessionModel → Transition
 abandon program s = abandon_unless program s (abandon_refusal s)
 
--- The half-done block from its index on, and before that the approach, from a point. What it leaves is what the whole
--- block leaves.
+-- The half-done block from its index on, after the approach from a point. The state after it is that after the whole
+-- block.
 abbrev pub begun_again : StoredModel → HalfModel → Point → ℕ → Done → CurrentBlockModel
 begun_again x half from next done = record {
   source = half.source;
@@ -231,12 +231,12 @@ begun_again x half from next done = record {
   stop = done.stop;
 }
 
--- a line of the program goes on with the program
+-- if the block is a line of the program, the program goes on too
 abbrev pub activity_again : Source → Activity → Activity
 activity_again source.Program before = activity.Running
 activity_again source.Mdi before = before
 
--- where the next line of the program begins then: after its own, where that came from the program
+-- where the next line of the program begins then: after the block's line, if that came from the program
 abbrev pub next_place_after : List ℕ → ℕ → Source → ℕ
 next_place_after program place source.Program = next_line_start program place
 next_place_after program place source.Mdi = place
@@ -254,8 +254,8 @@ abbrev pub waiting_refusal : Equipment → StoredModel → Option HalfModel → 
 waiting_refusal equipment x None = Some fault.NothingHalfDone
 waiting_refusal equipment x (Some half) = half_refusal equipment x half half.at
 
--- why no half-done block goes on: the session isn't at rest, none is half-done, it isn't known where its machine
--- stands, or its line is refused
+-- why a half-done block can't go on: the session isn't at rest, no block is half-done, the point of its machine isn't
+-- known, or its line is refused
 abbrev pub resume_refusal : Equipment → SessionModel → Option Fault
 resume_refusal equipment s = if not (is_at_rest s) then Some fault.Busy else waiting_refusal equipment s.stored s.stored.half
 
@@ -279,7 +279,7 @@ resume equipment program s = if not (is_at_rest s) then refuses program fault.Bu
 
 -- ---- the tool table
 
--- why a tool's length isn't taken: the session isn't at rest or a block is half-done, there is no such slot, or the
+-- why a tool's length is refused: the session isn't at rest or a block is half-done, there is no such slot, or the
 -- length isn't a tool's
 abbrev pub tool_refusal : SessionModel → ℕ → ℤ → Option Fault
 tool_refusal s slot nm =
@@ -324,9 +324,9 @@ session_status s = record {
   condition = if s.held then condition.Held else condition_of s.activity;
 }
 
--- ---- what a Tick is made of
+-- ---- the parts of a Tick
 
--- 1. an item of what is open that is left is handed out
+-- 1. the next item of what is open is handed out, if one is left
 abbrev pub first_of : List Item → Option Item
 first_of [] = None
 first_of (item ∷ items) = Some item
@@ -348,8 +348,8 @@ handed s = record s { current = option_map handed_on s.current }
 abbrev pub hand_out : List ℕ → SessionModel → Item → Transition
 hand_out program s item = record { reply = reply.Moved; items = item ∷ []; entries = []; program = program; next = handed s }
 
--- 2. the approach or a segment that is left is opened: its block is stored as half-done. Indices are counted up to the
--- greatest of 64 bits
+-- 2. the approach or the next segment is opened, if one is left: its block is stored as half-done. Indices are counted
+-- up to the greatest number of 64 bits
 abbrev pub greatest_index : ℕ
 greatest_index = 18_446_744_073_709_551_615
 
@@ -392,10 +392,9 @@ opening_reply index (Some open_part.Approach) = reply.Approaching
 abbrev pub open_part_of : Equipment → List ℕ → SessionModel → HalfModel → Transition
 open_part_of equipment program s half = answers program (opening_reply half.index half.opened) (opened equipment.geometry s half)
 
--- 3. an approach of which nothing is left is committed: the half-done block's machine stands where the approach ends.
--- So is a block of
--- which nothing is left. Optional stop is looked at here. M2, M30 and the closing percent line end the program, M0, M1
--- and M60 stop it; by the operator the last three do nothing
+-- 3. an approach with nothing left is committed: the half-done block's machine is then where the approach ends. A block
+-- with nothing left is committed too. Optional stop takes effect here. M2, M30 and the closing percent line end the
+-- program, and M0, M1 and M60 stop it; in a line of the operator, these three do nothing
 abbrev pub stopped_by : Source → Bool → Activity → Activity
 stopped_by source.Program wanted before = if wanted then activity.Stopped else before
 stopped_by source.Mdi wanted before = before
@@ -406,11 +405,11 @@ activity_after source stop.Stops optional_stop before = stopped_by source true b
 activity_after source stop.StopsIfWanted optional_stop before = stopped_by source optional_stop before
 activity_after source stop.Ends optional_stop before = activity.Idle
 
--- what stands after the current block
+-- the state after the current block
 abbrev pub after_current_block : StoredModel → CurrentBlockModel → StoredModel
 after_current_block x c = record x { entries = x.entries + 1; setup = c.setup; place = c.place; half = None }
 
--- what stands after the approach of the current block, which ends at a point
+-- the state after the approach of the current block, which ends at a point
 abbrev pub after_current_approach : StoredModel → CurrentBlockModel → Point → StoredModel
 after_current_approach x c point = record x {
   entries = x.entries + 1;
@@ -420,7 +419,7 @@ after_current_approach x c point = record x {
 abbrev pub approach_done : SessionModel → CurrentBlockModel → Approach → SessionModel
 approach_done s c a = record s { stored = after_current_approach s.stored c a.to.point; current = Some (record c { stage = stage.OnBlock }) }
 
--- an approach is opened before it is committed, so of the first of these no Tick makes use
+-- an approach is opened before it is committed, so no Tick uses the first of these cases
 abbrev pub committed_on : SessionModel → CurrentBlockModel → Stage → SessionModel
 committed_on s c (stage.ToApproach a) = approach_done s c a
 committed_on s c (stage.OnApproach a) = approach_done s c a
@@ -441,13 +440,13 @@ entry_on c stage.OnBlock = Block c.source c.text c.block_delete
 abbrev pub commit : List ℕ → SessionModel → CurrentBlockModel → Transition
 commit program s c = commits program (entry_on c c.stage) (committed s c)
 
--- 4. a line of the program is begun; one that is refused stops the program before it
+-- 4. a line of the program is begun; if it is refused, the program stops before it
 abbrev pub begin_by : List ℕ → SessionModel → ProgramLineModel → Result Done Fault → Transition
 begin_by program s line (Err fault) = answers program (reply.Refused fault) (record s { activity = activity.Stopped })
 begin_by program s line (Ok done) =
     answers program reply.Begun (record s { current = Some (begun s.stored source.Program line.text s.block_delete line.next done) })
 
--- a program that ends before its end stops there
+-- a program whose text ends without a program end stops there
 abbrev pub break_off : List ℕ → SessionModel → Transition
 break_off program s = answers program (reply.Refused (missing_end (first_kind (lines_before program s.stored.place)))) (record s { activity = activity.Stopped })
 
@@ -455,11 +454,11 @@ abbrev pub begin : Equipment → List ℕ → SessionModel → Option ProgramLin
 begin equipment program s None = break_off program s
 begin equipment program s (Some line) = begin_by program s line (done_of equipment program s.stored source.Program line.text s.block_delete)
 
--- 5. nothing is to do
+-- 5. there is nothing to do
 abbrev pub rest : List ℕ → SessionModel → Transition
 rest program s = answers program (idleness s.activity) s
 
--- ---- a Tick: held, or the first that applies
+-- ---- a Tick: nothing if held, else the first part that applies
 
 abbrev pub if_some : {T : Type 0} → Option T → (found : T → Transition) → (otherwise : Transition) → Transition
 if_some None found otherwise = otherwise
@@ -474,7 +473,7 @@ tick equipment program s =
     (if is_running s.activity then begin equipment program s (program_line_at program s.stored.place)
     else rest program s)))
 
--- a Tick from its third and from its second case on
+-- a Tick from its third part on, and from its second part on
 abbrev pub end : Equipment → List ℕ → SessionModel → Option CurrentBlockModel → Transition
 end equipment program s current =
     if_some current (λ c. commit program s c)
@@ -517,10 +516,10 @@ abbrev pub IsProgramsLine : Option HalfModel → Type 0
 IsProgramsLine None = ⊥
 IsProgramsLine (Some half) = half.source ≡ source.Program
 
--- Each event by its own line.
+-- For each event:
 
--- What takes memory: a program that is loaded, a line of the operator that is tried, a half-done block that goes on, a
--- Tick between two lines of a program that runs.
+-- The event needs memory: a program that is loaded, a line of the operator that is executed, a half-done block that
+-- goes on, a Tick between two lines of a program that runs.
 abbrev pub TakesMemory : {A : Type 0} → Equipment → SessionModel → Event A → Type 0
 TakesMemory equipment s (event.Load text) = load_refusal s text ≡ None
 TakesMemory equipment s event.Start = ⊥
@@ -536,8 +535,7 @@ TakesMemory equipment s (event.BlockDelete on) = ⊥
 TakesMemory equipment s event.Status = ⊥
 TakesMemory equipment s event.Tick = (s.held ≡ false) × IsBetweenLines s
 
--- What asks something of the device: what is committed, a line of the program that goes on, a Tick that finds something
--- to do.
+-- The event needs the device: what is committed, a line of the program that goes on, a Tick that finds something to do.
 abbrev pub AsksDevice : {A : Type 0} → Equipment → SessionModel → Event A → Type 0
 AsksDevice equipment s (event.Load text) = load_refusal s text ≡ None
 AsksDevice equipment s event.Start = ⊥
@@ -553,7 +551,8 @@ AsksDevice equipment s (event.BlockDelete on) = ⊥
 AsksDevice equipment s event.Status = ⊥
 AsksDevice equipment s event.Tick = (s.held ≡ false) × (has_work s ≡ true)
 
--- a line of the program is read for it: the next one, or where that begins after a half-done one
+-- A line of the program is read for the event: the next one, or the one of a half-done block, to find where the next
+-- begins.
 abbrev pub NeedsProgramLine : {A : Type 0} → Equipment → SessionModel → Event A → Type 0
 NeedsProgramLine equipment s (event.Load text) = ⊥
 NeedsProgramLine equipment s event.Start = ⊥
@@ -569,7 +568,7 @@ NeedsProgramLine equipment s (event.BlockDelete on) = ⊥
 NeedsProgramLine equipment s event.Status = ⊥
 NeedsProgramLine equipment s event.Tick = (s.held ≡ false) × IsBetweenLines s
 
--- the session answers it of itself: the device is neither read, nor written, nor given an item
+-- The session replies without the device: it is neither read nor written, and nothing is handed out.
 abbrev pub IsQuiet : {A : Type 0} → Event A → Type 0
 IsQuiet (event.Load text) = ⊥
 IsQuiet event.Start = Unit {0}

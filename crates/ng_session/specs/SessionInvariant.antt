@@ -1,4 +1,4 @@
--- What is kept of a session (own): what its block holds ready, and what holds of each session.
+-- The invariant of a session (own), and what its block keeps ready to be stored.
 use Rattle.std.specs.Prelude.{◌≡◌, ◌≤◌, ◌+◌, List, [], ◌∷◌, Option, Some, None, IfSome}
 use Rattle.ng_layout.specs.Limits.{greatest_count}
 use Rattle.ng_layout.specs.Storable.{IsStorable}
@@ -18,7 +18,7 @@ abbrev pub onto : {T : Type 0} → Option T → List T → List T
 onto None rest = rest
 onto (Some first) rest = first ∷ rest
 
--- one entry further in the same program, with the same tools and the same room for a program, which can be stored
+-- the state after one more entry: program, tools and room for a program are the same, and it can be stored
 pub record IsNextEntry (x y : StoredModel) : Type 0 where
   pub count : y.entries ≡ x.entries + 1
   pub same : y.length ≡ x.length
@@ -26,7 +26,7 @@ pub record IsNextEntry (x y : StoredModel) : Type 0 where
   pub room : y.room ≡ x.room
   pub storable : IsStorable y
 
--- a block that is worked, and what is held ready to be stored after it and after its approach
+-- the current block, and what is kept ready to be stored after it and after its approach
 pub record Prepared : Type 0 where
   pub block : CurrentBlockModel
   pub after : StoredModel
@@ -35,7 +35,7 @@ pub record Prepared : Type 0 where
 abbrev pub block_of : Prepared → CurrentBlockModel
 block_of p = p.block
 
--- an approach that isn't committed, and what stands after it; after that one the block is the next entry
+-- an approach that isn't committed, and the state after it; the entry after that is the block's
 pub record IsBeforeBlock (x : StoredModel) (p : Prepared) (a : Approach) : Type 0 where
   pub between : StoredModel
   pub held : p.approached ≡ Some between
@@ -48,13 +48,13 @@ pub record IsReady (x : StoredModel) (p : Prepared) : Type 0 where
   pub next : IsNextEntry x p.after
   pub after_is : p.after ≡ after_current_block x p.block
 
--- what is held ready is what will stand
+-- what is kept ready is what will be stored
 abbrev pub IsReadyOn : StoredModel → Prepared → Stage → Type 0
 IsReadyOn x p (stage.ToApproach a) = IsBeforeBlock x p a
 IsReadyOn x p (stage.OnApproach a) = IsBeforeBlock x p a
 IsReadyOn x p stage.OnBlock = IsReady x p
 
--- it can be stored, and what stands after the current block is the next entry
+-- the state can be stored, and the state after the current block is that after one more entry
 pub record IsSessionInvariant (x : StoredModel) (current : Option Prepared) : Type 0 where
   pub count : x.entries ≤ greatest_count
   pub storable : IsStorable x

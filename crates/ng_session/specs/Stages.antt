@@ -1,4 +1,4 @@
--- How far the work on a block has come (own).
+-- How far a block has got (own).
 use Rattle.std.specs.Prelude.{Option, None, Some}
 use Rattle.ng_layout.specs.Stored.{StoredModel}
 use Rattle.ng_session.specs.declared.stage.Approach.{Approach}
@@ -11,13 +11,13 @@ pub data Stage : Type 0 where
   OnApproach : Approach → Stage
   OnBlock : Stage
 
--- the stage of a block, without what is held ready
+-- the stage of a block, without what is kept ready
 abbrev pub stage_of : {A : Type 0} → KeptStage A → Stage
 stage_of (kept.ToApproach approach after) = ToApproach approach
 stage_of (kept.OnApproach approach after) = OnApproach approach
 stage_of kept.OnBlock = OnBlock
 
--- what is held ready to be stored after its approach, while that isn't committed
+-- what is kept ready to be stored after its approach, while that isn't committed
 abbrev pub approached_of : {A : Type 0} → KeptStage A → Option StoredModel
 approached_of (kept.ToApproach approach after) = Some after
 approached_of (kept.OnApproach approach after) = Some after

@@ -1,4 +1,4 @@
-//! What a session is about, beside its block.
+//! What a session is doing, apart from its block.
 ghost use Rattle.std.specs.Prelude.{◌≡◌, ◌&&◌, if◌then◌else◌};
 ghost use Rattle.ng_session.specs.Session.{activity_after, activity_again, condition_of, idleness, is_running, stopped_by};
 
@@ -11,7 +11,7 @@ use ng_layout::Source;
 pub enum Activity {
     /// Nothing was started, or the program has ended.
     Idle,
-    /// Its lines are begun one after the other.
+    /// Its lines are begun one after another.
     Running,
     /// It waits to go on: after a stop, before a line that was refused, at the end of a text without a program end, or
     /// since the operator's own line ended a hold.
@@ -29,7 +29,7 @@ impl Activity {
         }
     }
 
-    /// Where a line of the operator ends a hold, the program that ran waits.
+    /// The activity after a line of the operator. If the line ended a hold, a program that ran waits.
     pub(crate) fn laid_by(self, held: bool) -> Activity
         ensures { result ≡ (if held && is_running self then Activity.Stopped else self) }
     {
@@ -40,7 +40,7 @@ impl Activity {
         }
     }
 
-    /// Where a half-done block goes on: a line of the program goes on with the program.
+    /// The activity after a half-done block goes on. If the block is a line of the program, the program goes on too.
     pub(crate) fn again(self, source: Source) -> Activity
         ensures { result ≡ activity_again source self }
     {
@@ -60,7 +60,7 @@ impl Activity {
         }
     }
 
-    /// As the status shows it.
+    /// The condition that the status shows.
     pub(crate) fn condition(self) -> Condition
         ensures { result ≡ condition_of self }
     {
@@ -71,8 +71,8 @@ impl Activity {
         }
     }
 
-    /// After a block: the program's end ends it, its stops stop it, the optional one where it is wanted. A line of the
-    /// operator stops nothing.
+    /// The activity after a block. The program's end ends the program, and its stops stop it, the optional one only if
+    /// it is wanted. A line of the operator stops nothing.
     pub(crate) fn after(self, source: Source, stop: ProgramFlow, optional_stop: bool) -> Activity
         ensures { result ≡ activity_after source stop optional_stop self }
     {
@@ -84,7 +84,7 @@ impl Activity {
         }
     }
 
-    /// After a stop that may be wanted or not.
+    /// The activity after a stop that may or may not be wanted.
     fn stopped_by(self, source: Source, wanted: bool) -> Activity
         ensures { result ≡ stopped_by source wanted self }
     {

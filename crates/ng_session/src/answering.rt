@@ -1,4 +1,4 @@
-//! The events that a session answers of itself, with no device.
+//! The events that a session handles by itself, without a device.
 ghost use Rattle.std.specs.Prelude.{◌≡◌, ℕ, List, IfOk, OnOk, OnErr};
 
 use crate::event::Event;
@@ -10,9 +10,9 @@ use std::alloc::{AllocError, Allocator};
 impl<A: Allocator + Copy + Drop> Session<A> {
     ghost use Rattle.ng_session.specs.Session.{step, IsQuiet, TakesMemory};
 
-    /// Answers an event that neither writes to the device nor hands anything out: all but a Load, a Reference, a
-    /// Resume, an Abandon, a Tool and a Tick. `AllocError` where there isn't enough memory for the state after a line
-    /// of the operator: nothing is changed then.
+    /// Handles an event that neither writes to the device nor hands anything out: all but a Load, a Reference, a
+    /// Resume, an Abandon, a Tool and a Tick. `AllocError` if there is no memory for the state after a line of the
+    /// operator: then nothing is changed.
     pub fn answer(&mut self, event: &Event<A>, geometry: &Geometry) -> Result<Reply, AllocError>
         requires { IsQuiet event.now }
         ensures reply { IfOk result (λ reply. (program : List ℕ)

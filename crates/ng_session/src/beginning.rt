@@ -30,7 +30,7 @@ pub(crate) fn terms_over<'a, A: Allocator + Copy + Drop>(
     ensures terms { result ≡ terms_of (record { geometry = geometry.now }) stored.now.tools block_delete }
     ensures few { length result.tools ≤ greatest_slot }
 {
-    // called for its contract: a table has at most 128 slots, and no more are stored
+    // Called for its contract: a table has at most 128 slots, and no more are stored.
     let _ = stored.tools.slots();
     Terms {
         block_delete,
@@ -39,7 +39,7 @@ pub(crate) fn terms_over<'a, A: Allocator + Copy + Drop>(
     }
 }
 
-/// What a line of the operator does, in places, or the first fault that refuses it.
+/// What a line of the operator does, executed in the scratch space, or its first fault.
 #[tactic(auto, unfolding(crate::specs::Entries::done_of))]
 fn execute_alone<'p, A: Allocator + Copy + Drop>(
     places: &'p mut Scratch,
@@ -62,7 +62,7 @@ fn execute_alone<'p, A: Allocator + Copy + Drop>(
     }
 }
 
-/// What a line of the program does, in places, or the first fault that refuses it; `first` is the kind of the first
+/// What a line of the program does, executed in the scratch space, or its first fault. `first` is the kind of the first
 /// line before it that isn't blank.
 #[tactic(auto, unfolding(crate::specs::Entries::done_of))]
 pub(crate) fn execute_after_lines<'p, A: Allocator + Copy + Drop>(
@@ -95,10 +95,10 @@ pub(crate) fn execute_after_lines<'p, A: Allocator + Copy + Drop>(
 impl<A: Allocator + Copy + Drop> Session<A> {
     ghost use Rattle.ng_session.specs.Session.{mdi, begin, break_off, refuses_mdi};
 
-    /// Begins a line of the operator; where the session was held, that ends, and a program that ran waits. K1 where a
-    /// block is current or half-done, or the program runs and isn't held, K3 where it isn't known where the machine
-    /// stands, then the line's own faults; nothing is changed then. `AllocError` where there isn't enough memory for
-    /// the state after the line: nothing is changed then either.
+    /// Begins a line of the operator. If the session was held, the hold ends, and a program that ran waits. K1 if a
+    /// block is current or half-done, or if the program runs and isn't held; K3 if the machine's point isn't known;
+    /// then the line's own faults. `AllocError` if there is no memory for the state after the line. In all these cases
+    /// nothing is changed.
     #[tactic(auto, using(crate::proofs::Keeping::kept_ready))]
     pub(crate) fn mdi(&mut self, text: &[u8], geometry: &Geometry) -> Result<Reply, AllocError>
         ensures reply { IfOk result (λ reply. (program : List ℕ)
@@ -140,9 +140,9 @@ impl<A: Allocator + Copy + Drop> Session<A> {
         Ok(Reply::Begun)
     }
 
-    /// Begins the program's line at its place, where the next one begins at `next`; `first` is the kind of the first
-    /// line before it that isn't blank. A line that is refused, by its own faults, stops the program before it.
-    /// `AllocError` where there isn't enough memory for the state after the line: nothing is changed then.
+    /// Begins the program's line at its place. The next one begins at `next`; `first` is the kind of the first line
+    /// before it that isn't blank. If the line is refused, for faults of its own, the program stops before it.
+    /// `AllocError` if there is no memory for the state after the line: then nothing is changed.
     pub fn begin(
         &mut self,
         text: &[u8],
@@ -187,7 +187,7 @@ impl<A: Allocator + Copy + Drop> Session<A> {
         Ok(Reply::Begun)
     }
 
-    /// Stops the program at the end of its text, which has no program end: X4 where a percent line is missing, else X3.
+    /// Stops the program at the end of its text, which has no program end: X4 if a percent line is missing, else X3.
     /// `first` is the kind of its first line that isn't blank.
     pub fn break_off(&mut self, first: LineKind) -> Reply
         ensures reply { (program : List ℕ) → first ≡ first_kind (lines_before program self.old.stored.place)

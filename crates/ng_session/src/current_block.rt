@@ -1,4 +1,4 @@
-//! The block that is worked.
+//! The current block.
 ghost use Rattle.std.specs.Prelude.{◌≡◌, ◌≢◌, ◌≤◌, ◌<◌, ◌+◌, ◌^◌, length, IfOk, Some, None};
 ghost use Rattle.ng_block.specs.Effects.{in_state};
 ghost use Rattle.ng_layout.specs.Limits.{greatest_count};
@@ -22,8 +22,8 @@ use std::alloc::{AllocError, Allocator};
 use std::marker::Model;
 use std::mem;
 
-/// The block that is worked, as it was begun, and what is left of it (own). Contracts see a `Prepared`, whose block is
-/// a `CurrentBlockModel`.
+/// The current block, as it was begun, and what is left of it (own). Contracts see a `Prepared`, whose block is a
+/// `CurrentBlockModel`.
 #[derive(Drop)]
 pub struct CurrentBlock<A: Allocator> {
     pub source: Source,
@@ -40,7 +40,7 @@ pub struct CurrentBlock<A: Allocator> {
     pub left: BlockSegments,
     /// The switch of the open approach.
     pub switch: Option<Item>,
-    /// The items of what is open, after that; none before anything is opened.
+    /// The items of what is open, after that. `None` before anything is opened.
     pub items: Option<Stepper>,
     /// What is to be stored once nothing is left of it.
     pub after: Stored<A>,
@@ -73,8 +73,8 @@ impl<A: Allocator> Model for CurrentBlock<A> {
     } };
 }
 
-/// Where a block leaves the program, whose next line begins at `next`: at the program's end at the beginning, and a
-/// line of the operator leaves it where it is.
+/// The place of the program after a block, if its next line begins at `next`. After the program's end that is the
+/// beginning, and a line of the operator doesn't change it.
 fn place_after(next: u64, place: u64, source: Source, stop: ProgramFlow) -> u64
     ensures { result ≡ place_after next place source stop }
 {
@@ -95,7 +95,7 @@ fn place_by(next: u64, place: u64, source: Source) -> u64
     }
 }
 
-/// What is to be stored after a block, by its effect. `AllocError` where there isn't enough memory for its table.
+/// What is to be stored after a block, given its effect. `AllocError` if there is no memory for its table.
 #[tactic(auto, using(crate::proofs::Standing::next_storable))]
 fn after_block<A: Allocator + Copy + Drop>(
     next: u64,
@@ -123,7 +123,7 @@ fn after_block<A: Allocator + Copy + Drop>(
     })
 }
 
-/// What is to be stored after the approach of a half-done block, which ends so. `AllocError` where there isn't enough
+/// What is to be stored after the approach of a half-done block, given where it ends. `AllocError` if there is no
 /// memory for its table.
 #[tactic(auto, using(crate::proofs::Standing::approach_storable))]
 fn after_approach<A: Allocator + Copy + Drop>(
@@ -149,14 +149,14 @@ fn after_approach<A: Allocator + Copy + Drop>(
     })
 }
 
-/// Where a block begins.
+/// The point at which a block begins.
 fn start_of<A: Allocator + Copy + Drop>(stored: &Stored<A>) -> Point
     ensures { result ≡ stored.now.setup.machine.point }
 {
     stored.state.machine.point
 }
 
-/// A half-done block whose machine stands at a point.
+/// A half-done block whose machine is at a point.
 fn placed_at(point: Point, half: &Half) -> Half
     ensures { result ≡ placed_at point half.now }
 {
@@ -194,8 +194,8 @@ impl<A: Allocator + Copy + Drop> CurrentBlock<A> {
     ghost use Rattle.ng_session.specs.SessionInvariant.{IsReady, IsBeforeBlock};
     ghost use Rattle.ng_session.specs.Session.{begun, begun_again, first_of, rest_of, opening_on, opened_on};
 
-    /// The block of a line, before its first segment, by its effect. `AllocError` where there isn't enough memory for
-    /// the state after it.
+    /// The block of a line, before its first segment, given its effect. `AllocError` if there is no memory for the
+    /// state after it.
     pub fn begun(
         stored: &Stored<A>,
         source: Source,
@@ -231,8 +231,8 @@ impl<A: Allocator + Copy + Drop> CurrentBlock<A> {
         })
     }
 
-    /// The half-done block from its index on, before its approach from a point, by the effect of its whole line.
-    /// `AllocError` where there isn't enough memory for the states after it and after the approach.
+    /// The half-done block from its index on, before its approach from a point, given the effect of its whole line.
+    /// `AllocError` if there is no memory for the states after it and after the approach.
     pub fn begun_again(
         stored: &Stored<A>,
         half: &Half,
@@ -290,7 +290,7 @@ impl<A: Allocator + Copy + Drop> CurrentBlock<A> {
         items.next()
     }
 
-    /// The half-done block that it is while its approach or its next segment is open; none where nothing is left to
+    /// The half-done block that is stored while the approach or the next segment is open. `None` if nothing is left to
     /// open.
     pub fn opening(&self) -> Option<Half>
         ensures half { result ≡ opening_on self.now.block self.now.block.stage }
@@ -306,7 +306,7 @@ impl<A: Allocator + Copy + Drop> CurrentBlock<A> {
         }
     }
 
-    /// The half-done block that it is while something of it is open.
+    /// The half-done block that is stored while part of it is open.
     fn half_open(&self, opened: Opened) -> Half
         ensures half { result ≡ half_open self.now.block opened }
         ensures waits { IsStorableHalf result }
@@ -320,7 +320,7 @@ impl<A: Allocator + Copy + Drop> CurrentBlock<A> {
         }
     }
 
-    /// What is to be stored once nothing is left of it, or of its approach where that isn't committed.
+    /// What is to be stored once nothing is left of the block, or of its approach if that isn't committed.
     pub fn next_stored(&self) -> &Stored<A>
         ensures block { self.now.block.stage ≡ OnBlock → result.now ≡ self.now.after }
         ensures between { (between : StoredModel) → self.now.approached ≡ Some between
@@ -332,7 +332,7 @@ impl<A: Allocator + Copy + Drop> CurrentBlock<A> {
         }
     }
 
-    /// Opens the approach or the next segment, where one is left.
+    /// Opens the approach or the next segment, if one is left.
     pub fn open(&mut self, geometry: &Geometry)
         ensures { self.new ≡ record self.old { block = opened_on geometry.now self.old.block self.old.block.stage } }
     {
@@ -347,7 +347,7 @@ impl<A: Allocator + Copy + Drop> CurrentBlock<A> {
         }
     }
 
-    /// Opens the approach, after which a state is to be stored.
+    /// Opens the approach; `after` is to be stored after it.
     fn open_approach(&mut self, approach: Approach, after: Stored<A>, geometry: &Geometry)
         ensures { self.new ≡ record self.old {
           block = record self.old.block { stage = OnApproach approach; items = hand_approach geometry.now approach };
@@ -360,8 +360,8 @@ impl<A: Allocator + Copy + Drop> CurrentBlock<A> {
         self.items = Some(Stepper::new(&way, geometry));
     }
 
-    /// Goes on to its segments, and gives what is to be stored after its approach; none where it is past that: it stays
-    /// as it is then.
+    /// Goes on to the block's segments, and returns what is to be stored after its approach. `None` if the block is
+    /// past its approach: then nothing is changed.
     pub fn end_approach(&mut self) -> Option<Stored<A>>
         ensures way { MatchOption result (self.old.block.stage ≡ OnBlock)
             (λ between. (self.old.block.stage ≢ OnBlock) × (self.old.approached ≡ Some between)) }
@@ -373,7 +373,7 @@ impl<A: Allocator + Copy + Drop> CurrentBlock<A> {
         }
     }
 
-    /// Opens the next segment, where one is left.
+    /// Opens the next segment, if one is left.
     fn open_segment(&mut self, geometry: &Geometry)
         ensures { self.new ≡ record self.old { block = next_opened geometry.now self.old.block self.old.block.left } }
     {

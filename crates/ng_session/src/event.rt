@@ -1,4 +1,4 @@
-//! What a session is given.
+//! The events of a session.
 ghost use Rattle.std.specs.Prelude.{◌≡◌};
 
 use ng_num::{Len, Point};
@@ -20,7 +20,7 @@ impl<A: Allocator> Model for Text<A> {
 }
 
 impl<A: Allocator + Drop> Text<A> {
-    /// The text of these bytes. It takes no memory.
+    /// The text of these bytes. Nothing is allocated.
     pub fn of(bytes: Vec<u8, A>) -> Text<A>
         ensures { result ≡ bytes.items }
     {
@@ -38,7 +38,7 @@ impl<A: Allocator + Drop> Text<A> {
 /// What happens to a session (own).
 #[derive(Drop)]
 pub enum Event<A: Allocator> {
-    /// A program to be stored: one for which the device has no room is refused with J5.
+    /// A program to be stored. It is refused with J5 if the device has no room for it.
     Load(Text<A>),
     /// The program is to run from its place on.
     Start,
@@ -48,30 +48,30 @@ pub enum Event<A: Allocator> {
     Continue,
     /// A line of the operator, without its end.
     Mdi(Text<A>),
-    /// Where the machine stands, in nm of machine coordinates: a point outside the travel is refused with X2.
+    /// The machine's point, in nm of machine coordinates. A point outside the travel is refused with X2.
     Reference(Point),
     /// The half-done block is to go on, by an approach.
     Resume,
     /// The half-done block is given up.
     Abandon,
-    /// A tool's length, for a slot of the table or the one after its last: another slot is refused with B14, a length
+    /// A tool's length, for a slot of the table or the one after its last. Another slot is refused with B14, a length
     /// below 0 or above 1 m with E3.
     Tool(u16, Len),
     /// Whether the program stops at M1.
     OptionalStop(bool),
     /// Whether lines that begin with a slash are deleted.
     BlockDelete(bool),
-    /// What is stored and what the controller is about is to be told.
+    /// Asks for what is stored, and for what the controller is doing.
     Status,
-    /// The next thing that is to do is done.
+    /// The next thing to do is done.
     Tick,
 }
 
 impl<A: Allocator> Event<A> {
     ghost use Rattle.ng_session.specs.Planned.{drops_plan};
 
-    /// Whether lines that were read ahead don't come any more as they were planned: another line comes first, or
-    /// another program, or the lines do something else.
+    /// Whether lines that were read ahead no longer come as they were planned: another line comes first, or another
+    /// program, or the lines do something else.
     pub(crate) fn drops_plan(&self) -> bool
         ensures { result ≡ drops_plan self.now }
     {

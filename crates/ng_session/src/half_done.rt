@@ -1,4 +1,4 @@
-//! A half-done block (own): where its machine stands is told, it goes on, or it is given up.
+//! A half-done block (own): the point of its machine is given, it goes on, or it is given up.
 ghost use Rattle.std.specs.Prelude.{◌≡◌, ◌≤◌, not, nat_lt, false, ℕ, List, Ok, Err, IfOk, OnOk, OnErr, MatchResult, MatchOption, length};
 ghost use Rattle.ng_block.specs.Effects.{in_state};
 ghost use Rattle.ng_layout.specs.Limits.{greatest_count};
@@ -17,7 +17,7 @@ use ng_num::{Fault, Point};
 use ng_state::Machine;
 use std::alloc::{AllocError, Allocator};
 
-/// What the line of a half-done block does from its beginning, in places, or the first fault that refuses it.
+/// What the line of a half-done block does from its beginning, executed in the scratch space, or its first fault.
 #[tactic(auto, unfolding(crate::specs::Entries::done_again))]
 fn execute_again<'p, A: Allocator + Copy + Drop>(
     places: &'p mut Scratch,
@@ -49,7 +49,7 @@ fn turned_off(outputs: Outputs) -> Outputs
     }
 }
 
-/// The machine where a half-done block is given up.
+/// The machine after a half-done block is given up.
 fn given_up(machine: &Machine, half: &Half) -> Machine
     ensures { result ≡ given_up machine.now half.now }
 {
@@ -69,8 +69,8 @@ impl<A: Allocator + Copy + Drop> Session<A> {
     ghost use Rattle.ng_session.specs.Entries.{after_reference, after_abandon};
     ghost use Rattle.ng_session.specs.Session.{reference_refusal, abandon_refusal};
 
-    /// Why the machine's point, in nm of machine coordinates, isn't taken now: K1 where the session isn't at rest, X2
-    /// where the point lies outside the travel.
+    /// Why the machine's point, in nm of machine coordinates, is refused now: K1 if the session isn't at rest, X2 if
+    /// the point is outside the travel.
     pub fn reference_refusal(&self, point: Point, geometry: &Geometry) -> Option<Fault>
         ensures { result ≡ reference_refusal geometry.now self.now point }
     {
@@ -83,8 +83,8 @@ impl<A: Allocator + Copy + Drop> Session<A> {
         None
     }
 
-    /// What is to be stored once the machine is known to stand at a point, in nm of machine coordinates: where a block
-    /// is half-done that one alone says it. The session stays as it is.
+    /// What is to be stored after a reference to a point, in nm of machine coordinates. If a block is half-done, only
+    /// the point of that block's machine changes. The session stays as it is.
     #[tactic(auto, using(crate::proofs::Standing::reference_storable))]
     pub fn referenced(&self, point: Point) -> DecodedState
         requires { self.now.stored.entries < greatest_count }
@@ -119,7 +119,7 @@ impl<A: Allocator + Copy + Drop> Session<A> {
         }
     }
 
-    /// Why no half-done block is given up now: K1 where the session isn't at rest, K4 where none is half-done.
+    /// Why a half-done block can't be given up now: K1 if the session isn't at rest, K4 if no block is half-done.
     pub fn abandon_refusal(&self) -> Option<Fault>
         ensures { result ≡ abandon_refusal self.now }
     {
@@ -132,9 +132,9 @@ impl<A: Allocator + Copy + Drop> Session<A> {
         None
     }
 
-    /// What is to be stored once the half-done block is given up: spindle stopped, coolant off, and the machine where
-    /// that block says that it stands, else no longer known; none where no block is half-done. The session stays as it
-    /// is.
+    /// What is to be stored after the half-done block is given up: spindle stopped, coolant off, and the machine at the
+    /// point of that block's machine. If that isn't known, the machine's point no longer is. `None` if no block is
+    /// half-done. The session stays as it is.
     #[tactic(auto, using(crate::proofs::Standing::abandon_storable))]
     pub fn abandoned(&self) -> Option<DecodedState>
         requires { self.now.stored.entries < greatest_count }
@@ -159,8 +159,8 @@ impl<A: Allocator + Copy + Drop> Session<A> {
     ghost use Rattle.std.specs.Prelude.{IfSome, true};
     ghost use Rattle.ng_session.specs.Session.{next_place_after, resume, resume_refusal, IsProgramsLine};
 
-    /// Why no half-done block goes on now: K1 where the session isn't at rest, K4 where no block is half-done, K3 where
-    /// it isn't known where its machine stands, then its line's own faults. The session stays as it is.
+    /// Why a half-done block can't go on now: K1 if the session isn't at rest, K4 if no block is half-done, K3 if the
+    /// point of its machine isn't known, then its line's own faults. The session stays as it is.
     pub fn resume_refusal(&mut self, geometry: &Geometry) -> Option<Fault>
         ensures refusal { result ≡ resume_refusal (record { geometry = geometry.now }) self.old }
         ensures same { self.new ≡ self.old }
@@ -180,8 +180,8 @@ impl<A: Allocator + Copy + Drop> Session<A> {
         }
     }
 
-    /// Whether the half-done block is a line of the program: then, where it goes on, it is looked up where the next
-    /// line begins.
+    /// Whether the half-done block is a line of the program. If it is, the place of the next line is looked up before
+    /// the block goes on.
     pub fn is_programs_line(&self) -> bool
         ensures yes { result ≡ true → IsProgramsLine self.now.stored.half }
         ensures no { result ≡ false → IsProgramsLine self.now.stored.half → ⊥ }
@@ -197,15 +197,14 @@ impl<A: Allocator + Copy + Drop> Session<A> {
         }
     }
 
-    /// Whether an entry more would be beyond the greatest count.
+    /// Whether one more entry would exceed the greatest count.
     pub fn is_count_used_up(&self) -> bool
         ensures { result ≡ not (nat_lt self.now.stored.entries greatest_count) }
     {
         !(self.stored.entries < GREATEST_COUNT)
     }
 
-    /// Puts a report in the place of what is stored of it, and gives that back: put in its place again, that takes the
-    /// report back.
+    /// Replaces what is stored by a report, and returns what was stored. Putting that back undoes it.
     #[tactic(auto, using(crate::proofs::Keeping::kept_report))]
     pub fn exchange(&mut self, report: DecodedState) -> DecodedState
         requires free { self.old.current ≡ None }
@@ -242,10 +241,10 @@ impl<A: Allocator + Copy + Drop> Session<A> {
         }
     }
 
-    /// The half-done block goes on, by its approach, where the next line of the program begins at the byte `next`. K1
-    /// where the session isn't at rest, K4 where no block is half-done, K3 where it isn't known where its machine
-    /// stands, then its line's own faults; nothing is changed then. `AllocError` where there isn't enough memory for
-    /// the states after it and after its approach: nothing is changed then either.
+    /// Makes the half-done block go on, beginning with its approach. The next line of the program begins at the byte
+    /// `next`. K1 if the session isn't at rest, K4 if no block is half-done, K3 if the point of its machine isn't
+    /// known, then its line's own faults. `AllocError` if there is no memory for the states after it and after its
+    /// approach. In all these cases nothing is changed.
     #[tactic(auto, using(crate::proofs::Keeping::kept_again))]
     pub fn resume(&mut self, next: u64, geometry: &Geometry) -> Result<Reply, AllocError>
         requires { next ≤ self.old.stored.length }

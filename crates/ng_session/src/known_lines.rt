@@ -14,11 +14,11 @@ const MOST_AHEAD: usize = 16;
 /// What is known of the program in force (own). Contracts see a `KnownModel`.
 #[derive(Drop)]
 pub struct KnownLines<A: Allocator> {
-    /// Of the lines before a place.
+    /// What is known of the lines before a place.
     before: LinesBefore,
     /// The lines that were read ahead, in order.
     ahead: HeapCircularBuffer<Planned<A>, A>,
-    /// Whether the line after these can't be planned on what they leave: it is refused, or none comes.
+    /// Whether the line after these can't be planned on the state after them: it is refused, or there is none.
     ended: bool,
 }
 
@@ -33,8 +33,8 @@ impl<A: Allocator> Model for KnownLines<A> {
 impl<A: Allocator + Copy + Drop> KnownLines<A> {
     ghost use Rattle.ng_session.specs.Planned.{PlannedModel, IsKnownOf, forgotten, forgotten_for};
 
-    /// What is known of every program, with room for all that is read ahead. `AllocError` where there isn't enough
-    /// memory for that.
+    /// What is known of every program, with room for all lines that are read ahead. `AllocError` if there is no memory
+    /// for that.
     pub fn none(alloc: A) -> Result<KnownLines<A>, AllocError>
         ensures ahead { IfOk result (λ k. k.ahead ≡ []) }
         ensures holds { IfOk result (λ k. (program : List ℕ) → IsKnownOf program k) }
@@ -53,14 +53,14 @@ impl<A: Allocator + Copy + Drop> KnownLines<A> {
         &self.before
     }
 
-    /// Other lines before a place are known from now on.
+    /// Replaces what is known of the lines before a place.
     pub fn set_before(&mut self, before: LinesBefore)
         ensures { self.new ≡ record self.old { before = before } }
     {
         self.before = before;
     }
 
-    /// Drops what was read ahead.
+    /// Drops the lines that were read ahead.
     pub fn forget_ahead(&mut self)
         ensures { self.new ≡ forgotten self.old }
     {
@@ -68,7 +68,7 @@ impl<A: Allocator + Copy + Drop> KnownLines<A> {
         self.ended = false;
     }
 
-    /// Drops what was read ahead where it doesn't come any more after an event.
+    /// Drops the lines that were read ahead, if they no longer come after an event.
     pub fn forget_for(&mut self, event: &Event<A>)
         ensures { self.new ≡ forgotten_for event.now self.old }
     {
@@ -77,7 +77,7 @@ impl<A: Allocator + Copy + Drop> KnownLines<A> {
         }
     }
 
-    /// Another program is in force: nothing is known but what is known of every program.
+    /// Another program is in force: only what is true of every program is known.
     pub fn forget(&mut self)
         ensures ahead { self.new.ahead ≡ [] }
         ensures holds { (program : List ℕ) → IsKnownOf program self.new }
@@ -86,12 +86,12 @@ impl<A: Allocator + Copy + Drop> KnownLines<A> {
         self.forget_ahead();
     }
 
-    /// Whether no further line is to be planned: there is no room, or the next one can't be.
+    /// Whether no more lines can be planned: there is no room, or the next line can't be.
     pub(crate) fn is_done(&self) -> bool {
         self.ended || self.ahead.is_full()
     }
 
-    /// No further line can be planned until these are begun or dropped.
+    /// No more lines can be planned until these are begun or dropped.
     pub fn end(&mut self)
         ensures { self.new ≡ self.old }
     {
@@ -105,7 +105,7 @@ impl<A: Allocator + Copy + Drop> KnownLines<A> {
         self.ahead.back()
     }
 
-    /// Keeps a line that was read ahead, where there is room.
+    /// Adds a line that was read ahead, if there is room.
     pub(crate) fn push(&mut self, planned: Planned<A>)
         ensures before { self.new.before ≡ self.old.before }
         ensures ahead { (self.new.ahead ≡ self.old.ahead ++ planned ∷ []) ⊎ (self.new.ahead ≡ self.old.ahead) }

@@ -1,10 +1,10 @@
 //! A session: what a controller keeps between two events, and what each event leads to.
 //!
-//! `specs/Session.antt` says by `step` what an event answers, hands out and commits and what the session is then, and
-//! `specs/Fold.antt` what the plain interpreter makes of what was committed. `Session` has a method for each deed of
-//! which an event is made, and its contract says that it is the definition's. No device is named here: what is to be
-//! written is given to the caller, and the session changes once that is done. An item goes the other way round:
-//! `next_item` takes it from the session, and the caller hands it out after that.
+//! `step` in `specs/Session.antt` defines for each event the reply, what is handed out and committed, and the session
+//! after it. `specs/Fold.antt` defines what the plain interpreter makes of what was committed. `Session` has a method
+//! for each operation of which an event consists, and its contract says that it does what the definition says. The
+//! crate names no device. What is to be written is returned to the caller, and the session changes after that is
+//! written. Items go the other way: `next_item` takes one from the session, and then the caller hands it out.
 #![tactic(auto)]
 
 mod activity;

@@ -11,7 +11,7 @@ use ng_layout::Stored;
 use ng_num::Fault;
 use std::alloc::{AllocError, Allocator};
 
-/// What is to be stored beside a program of this length. `AllocError` where there isn't enough memory for its table.
+/// What is to be stored with a program of this length. `AllocError` if there is no memory for its table.
 fn after_load<A: Allocator + Copy + Drop>(
     stored: &Stored<A>,
     length: u64,
@@ -37,8 +37,8 @@ impl<A: Allocator + Copy + Drop> Session<A> {
     ghost use Rattle.ng_session.specs.SessionInvariant.{IsSessionInvariant};
     ghost use Rattle.ng_session.specs.Session.{accepts_load, load, load_refusal, loaded};
 
-    /// Why a program of these bytes isn't loaded now: K1 where the session isn't at rest or a block is half-done, J5
-    /// where the device has no room for them.
+    /// Why a program of these bytes can't be loaded now: K1 if the session isn't at rest or a block is half-done, J5 if
+    /// the device has no room for them.
     pub fn load_refusal(&self, text: &[u8]) -> Option<Fault>
         ensures value { result ≡ load_refusal self.now text.now }
         ensures none { IfNone result ((accepts_load self.now ≡ true) × (length text.now ≤ self.now.stored.room)) }
@@ -52,8 +52,8 @@ impl<A: Allocator + Copy + Drop> Session<A> {
         None
     }
 
-    /// What is to be stored with a program of these bytes; it can be stored unless they are too many. The session stays
-    /// as it is. `AllocError` where there isn't enough memory for its table.
+    /// What is to be stored with a program of these bytes. It can be stored unless there are too many bytes. The
+    /// session stays as it is. `AllocError` if there is no memory for its table.
     #[tactic(auto, using(crate::proofs::Standing::load_storable))]
     pub fn loading(&self, text: &[u8]) -> Result<Stored<A>, AllocError>
         ensures value { IfOk result (λ x. x ≡ after_load self.now.stored (length text.now)) }

@@ -31,14 +31,14 @@ impl<A: Allocator> Model for Planned<A> {
 impl<A: Allocator + Copy + Drop> Planned<A> {
     ghost use Rattle.ng_block.specs.Program.{is_end};
 
-    /// What is to be stored once nothing is left of it.
+    /// What is to be stored once nothing is left of its block.
     pub(crate) fn after(&self) -> &Stored<A>
         ensures { result.now ≡ self.now.prepared.after }
     {
         &self.block.after
     }
 
-    /// Whether it ends the program.
+    /// Whether the line ends the program.
     pub(crate) fn ends(&self) -> bool
         ensures { result ≡ is_end self.now.prepared.block.stop }
     {

@@ -19,8 +19,8 @@ use ng_layout::{GREATEST_COUNT, Source, Stored};
 use ng_words::LineKind;
 use std::alloc::Allocator;
 
-/// The line at the place of what will be stored, as it will be begun then; none where it is refused or there isn't
-/// enough memory for its state.
+/// The line at the place of the state that will be stored, as it will be begun then. `None` if it is refused, or if
+/// there is no memory for its state.
 fn plan_line<A: Allocator + Copy + Drop>(
     places: &mut Scratch,
     base: &Stored<A>,
@@ -56,7 +56,7 @@ fn plan_line<A: Allocator + Copy + Drop>(
     }
 }
 
-/// What will be stored once nothing is left of the current block and of what was read ahead.
+/// What will be stored once nothing is left of the current block and of the lines that were read ahead.
 fn stored_at_end<'a, A: Allocator + Copy + Drop>(
     stored: &'a Stored<A>,
     current: &'a Option<CurrentBlock<A>>,
@@ -76,7 +76,7 @@ fn stored_at_end<'a, A: Allocator + Copy + Drop>(
     }
 }
 
-/// Whether the program ends by the last line that was read ahead, or else by the current block.
+/// Whether the program ends by the last line that was read ahead or, if there is none, by the current block.
 fn ends_at_end<A: Allocator + Copy + Drop>(
     current: &Option<CurrentBlock<A>>,
     lines: &KnownLines<A>,
@@ -98,8 +98,8 @@ impl<A: Allocator + Copy + Drop> Session<A> {
     ghost use Rattle.ng_session.specs.Entries.{Equipment};
     ghost use Rattle.ng_session.specs.Planned.{AreLinesOf, IsPlan, IsBegunAhead, base_of};
 
-    /// The byte of the program at which the next line begins that can be planned, by what is known of its lines:
-    /// nothing is planned past the program's end.
+    /// The byte of the program at which the next line to be planned begins, given what is known of the lines. Nothing
+    /// is planned past the program's end.
     pub fn place_ahead(&self, lines: &KnownLines<A>) -> Option<u64>
         requires { (equipment : Equipment) × IsPlan equipment (base_of self.now) lines.now.ahead }
         ensures place { IfSome result (λ place. place ≡ (base_at_end (base_of self.now) lines.now.ahead).stored.place) }
@@ -112,9 +112,9 @@ impl<A: Allocator + Copy + Drop> Session<A> {
         Some(stored_at_end(&self.stored, &self.current, lines).place)
     }
 
-    /// Plans the line at the place that `place_ahead` gave, where the next one begins at `next`; `first` is the kind of
-    /// the first line before it that isn't blank. Nothing is planned where the line is refused, or where there isn't
-    /// enough memory for the state after it: neither shows. The session stays as it is.
+    /// Plans the line at the place that `place_ahead` returned. The next one begins at `next`; `first` is the kind of
+    /// the first line before it that isn't blank. Nothing is planned if the line is refused, or if there is no memory
+    /// for the state after it; no reply shows this. The session stays as it is.
     pub fn plan(
         &mut self,
         lines: &mut KnownLines<A>,
@@ -151,7 +151,7 @@ impl<A: Allocator + Copy + Drop> Session<A> {
         }
     }
 
-    /// Begins the first line that was read ahead; none where none was: then nothing is changed.
+    /// Begins the first line that was read ahead. `None` if there is none: then nothing is changed.
     pub fn begin_ahead(&mut self, lines: &mut KnownLines<A>) -> Option<Reply>
         requires plan { (equipment : Equipment) × IsPlan equipment (base_of self.old) lines.old.ahead }
         requires free { self.old.current ≡ None }

@@ -1,4 +1,4 @@
-//! What a session answers.
+//! The replies of a session.
 use ng_layout::Source;
 use ng_num::{Fault, Point};
 
@@ -11,55 +11,55 @@ pub struct HalfShown {
     pub index: u64,
 }
 
-/// What a controller is about, as the status shows it: the last of these that holds.
+/// What a controller is doing, as the status shows it: the last of these that applies.
 #[derive(Clone, Copy, Debug, PartialEq, Eq)]
 pub enum Condition {
     /// No program was started, or it has ended.
     Idle,
-    /// The program's lines are begun one after the other.
+    /// The program's lines are begun one after another.
     Running,
     /// The program waits to go on.
     Stopped,
-    /// It is held: a Tick does nothing.
+    /// The session is held: a Tick does nothing.
     Held,
-    /// The device failed: all but a Status is refused.
+    /// The device failed: all events but Status are refused.
     Broken,
 }
 
-/// What is stored and what the controller is about, as an event Status asks for it (own).
+/// What is stored and what the controller is doing, as an event Status asks for it (own).
 #[derive(Clone, Copy, Debug, PartialEq, Eq)]
 pub struct Status {
-    /// The number of entries that were committed.
+    /// The number of committed entries.
     pub entries: u64,
     /// The byte of the program at which the next line begins.
     pub place: u64,
-    /// In nm of machine coordinates: where the half-done block says that the machine stands, if there is one and it
-    /// says so; else the stored point.
+    /// In nm of machine coordinates: the point of the half-done block's machine, if there is such a block and the point
+    /// is known; else the stored point.
     pub point: Point,
-    /// Whether the machine is known to stand there.
+    /// Whether the machine is known to be at that point.
     pub point_known: bool,
-    /// The half-done block; one with an open segment counts as such.
+    /// The half-done block. A block with an open segment counts as one.
     pub half: Option<HalfShown>,
-    /// What the controller is about.
+    /// What the controller is doing.
     pub condition: Condition,
 }
 
 /// The reply to an event (own).
 #[derive(Clone, Copy, Debug, PartialEq, Eq)]
 pub enum Reply {
-    /// An entry was committed, and so many are.
+    /// An entry was committed; the number is that of all committed entries.
     Done(u64),
     /// The program runs, or what was held goes on.
     Going,
-    /// It is held: a Tick does nothing until it goes on.
+    /// The session is held: a Tick does nothing until it goes on.
     Held,
-    /// Nothing is to do.
+    /// There is nothing to do.
     Idle,
-    /// Nothing is to do until the program, which waits, goes on.
+    /// There is nothing to do until the program, which waits, goes on.
     Stopped,
     /// A line was begun.
     Begun,
-    /// A switch of the operator was taken.
+    /// A switch of the operator was set.
     Taken,
     /// An item was handed out.
     Moved,
@@ -69,6 +69,6 @@ pub enum Reply {
     Approaching,
     /// What an event Status asked for.
     Status(Status),
-    /// Why the event is refused, or the line of the program that was to begin.
+    /// Why the event, or the line of the program that was to begin, is refused.
     Refused(Fault),
 }

@@ -17,14 +17,14 @@ use std::marker::Model;
 /// What a controller keeps between two events (own). Contracts see a `SessionModel`.
 #[derive(Drop)]
 pub struct Session<A: Allocator> {
-    /// What the device stands for.
+    /// The stored state.
     pub(crate) stored: Stored<A>,
     pub(crate) activity: Activity,
     pub(crate) held: bool,
     pub(crate) optional_stop: bool,
     pub(crate) block_delete: bool,
     pub(crate) current: Option<CurrentBlock<A>>,
-    /// The places that each line is executed in.
+    /// The scratch space in which each line is executed.
     pub(crate) places: Scratch,
 }
 
@@ -53,7 +53,7 @@ impl<A: Allocator + Copy + Drop> Session<A> {
     ghost use Rattle.ng_session.specs.SessionInvariant.{IsSessionInvariant};
     ghost use Rattle.ng_session.specs.Session.{resting, is_at_rest, accepts_load, refuses_mdi, start, hold, resume_held, session_status};
 
-    /// A session as power on leaves it: at rest, over what the device stands for. It takes no memory.
+    /// A session at power on: at rest, over the stored state. Nothing is allocated.
     pub fn new(stored: Stored<A>) -> Session<A>
         requires { IsSessionInvariant stored None }
         ensures { result ≡ resting stored }
@@ -69,7 +69,7 @@ impl<A: Allocator + Copy + Drop> Session<A> {
         }
     }
 
-    /// What the device stands for.
+    /// The stored state.
     pub fn stored(&self) -> &Stored<A>
         ensures value { result.now ≡ self.now.stored }
         ensures count { self.now.stored.entries ≤ greatest_count }
@@ -85,15 +85,15 @@ impl<A: Allocator + Copy + Drop> Session<A> {
         self.current.is_none() && !self.activity.is_running() && !self.held
     }
 
-    /// Whether it is at rest with no half-done block.
+    /// Whether the session is at rest with no half-done block.
     pub(crate) fn accepts_load(&self) -> bool
         ensures { result ≡ accepts_load self.now }
     {
         self.is_at_rest() && self.stored.half.is_none()
     }
 
-    /// Whether a block is current or half-done, or the program runs and isn't held: then no line of the operator
-    /// begins.
+    /// Whether a block is current or half-done, or the program runs and isn't held: then no line of the operator can
+    /// begin.
     pub(crate) fn refuses_mdi(&self) -> bool
         ensures { result ≡ refuses_mdi self.now }
     {
@@ -102,7 +102,7 @@ impl<A: Allocator + Copy + Drop> Session<A> {
             || self.stored.half.is_some()
     }
 
-    /// Whether it is known where the machine stands.
+    /// Whether the machine's point is known.
     pub(crate) fn is_place_known(&self) -> bool
         ensures { result ≡ self.now.stored.setup.machine.point_known }
     {
@@ -117,8 +117,8 @@ impl<A: Allocator + Copy + Drop> Session<A> {
         self.stored.place
     }
 
-    /// The program is to run from its place on. K1 where the session isn't at rest or a block is half-done, K3 where it
-    /// isn't known where the machine stands, K2 where the program is empty; nothing is changed then.
+    /// The program is to run from its place on. K1 if the session isn't at rest or a block is half-done, K3 if the
+    /// machine's point isn't known, K2 if the program is empty; then nothing is changed.
     pub(crate) fn start(&mut self) -> Reply
         ensures reply { (program : List ℕ) → result ≡ (start program self.old).reply }
         ensures next { (program : List ℕ) → self.new ≡ (start program self.old).next }
@@ -136,8 +136,8 @@ impl<A: Allocator + Copy + Drop> Session<A> {
         Reply::Going
     }
 
-    /// Nothing more is to be handed out for now. The reply is Held where the program runs or a block is current; else
-    /// it is Stopped where the program waits to go on and Idle where it doesn't, and nothing is changed.
+    /// Nothing more is to be handed out for now. The reply is Held if the program runs or a block is current. Otherwise
+    /// it is Stopped if the program waits to go on and Idle if it doesn't, and nothing is changed.
     pub(crate) fn hold(&mut self) -> Reply
         ensures reply { (program : List ℕ) → result ≡ (hold program self.old).reply }
         ensures next { (program : List ℕ) → self.new ≡ (hold program self.old).next }
@@ -149,8 +149,8 @@ impl<A: Allocator + Copy + Drop> Session<A> {
         self.activity.idleness()
     }
 
-    /// What was held goes on, or the program that was stopped. Unless it is held, K1 where the program runs or a block
-    /// is current, and else K2 where it is Idle; nothing is changed then.
+    /// What was held goes on, or else the program that was stopped. If nothing is held, K1 if the program runs or a
+    /// block is current, and K2 if the program is idle; then nothing is changed.
     pub(crate) fn resume_held(&mut self) -> Reply
         ensures reply { (program : List ℕ) → result ≡ (resume_held program self.old).reply }
         ensures next { (program : List ℕ) → self.new ≡ (resume_held program self.old).next }
@@ -189,7 +189,7 @@ impl<A: Allocator + Copy + Drop> Session<A> {
         Reply::Taken
     }
 
-    /// What the status shows: what is stored, and what the session is about. A block with an open segment counts as
+    /// What the status shows: what is stored, and what the session is doing. A block with an open segment counts as
     /// half-done.
     pub fn status(&self) -> Status
         ensures { result ≡ session_status self.now }
@@ -211,7 +211,7 @@ impl<A: Allocator + Copy + Drop> Session<A> {
     }
 }
 
-/// Where the machine stands, beside a half-done block.
+/// The point that the status shows, given the half-done block.
 fn point_shown(point: Point, half: Option<&Half>) -> Point
     ensures { result ≡ point_shown point (option_map (λ h. h.now) half.entry) }
 {
@@ -221,7 +221,7 @@ fn point_shown(point: Point, half: Option<&Half>) -> Point
     }
 }
 
-/// Whether it is known that it stands there.
+/// Whether that point is known, given the half-done block.
 fn point_known_shown(known: bool, half: Option<&Half>) -> bool
     ensures { result ≡ point_known_shown known (option_map (λ h. h.now) half.entry) }
 {
@@ -231,7 +231,7 @@ fn point_known_shown(known: bool, half: Option<&Half>) -> bool
     }
 }
 
-/// A half-done block, as it is shown.
+/// A half-done block, as the status shows it.
 fn half_shown(half: Option<&Half>) -> Option<HalfShown>
     ensures { result ≡ option_map half_shown (option_map (λ h. h.now) half.entry) }
 {

@@ -1,20 +1,20 @@
-//! How far the work on a block has come.
+//! How far a block has got.
 use ng_cycles::MotionState;
 use ng_layout::Stored;
 use ng_num::Point;
 use std::alloc::Allocator;
 
-/// The way back to where a half-done block goes on: from where the machine stands to how it is to stand there (own).
+/// The way back to where a half-done block goes on, from the machine's point to the position and outputs there (own).
 #[derive(Clone, Copy)]
 pub struct Approach {
-    /// Where the machine stands, in nm of machine coordinates.
+    /// The machine's point, in nm of machine coordinates.
     pub from: Point,
-    /// How it stands before the segment that goes on.
+    /// The position and outputs before the segment that goes on.
     pub to: MotionState,
 }
 
-/// How far the work on a block has come (own). While its approach isn't committed, `after` is to be stored once nothing
-/// is left of that. Contracts see a `Stage` of `specs/Stages.antt`, and that state beside it.
+/// How far a block has got (own). While its approach isn't committed, `after` is what is to be stored after the
+/// approach. Contracts see a `Stage` of `specs/Stages.antt`, and that state separately.
 #[derive(Drop)]
 pub enum Stage<A: Allocator> {
     /// Its approach opens next.

@@ -1,4 +1,4 @@
-//! What a Tick is made of: an item, an approach, a segment, an entry.
+//! The parts of a Tick: an item, an approach, a segment, an entry.
 ghost use Rattle.std.specs.Prelude.{◌≡◌, ◌≤◌, ◌<◌, List, ℕ, None, Some, MatchOption, IfSome, IfNone};
 ghost use Rattle.ng_layout.specs.Limits.{greatest_count};
 
@@ -18,7 +18,7 @@ impl<A: Allocator + Copy + Drop> Session<A> {
     ghost use Rattle.ng_session.specs.SessionInvariant.{IsReady};
     ghost use Rattle.ng_session.specs.Stages.{OnBlock};
 
-    /// Whether it is held: then a Tick moves, opens, commits and begins nothing.
+    /// Whether the session is held. Then a Tick moves, opens, commits and begins nothing.
     pub fn is_held(&self) -> bool
         ensures held { result ≡ self.now.held }
         ensures tick { (equipment : Equipment) (program : List ℕ) → result ≡ true
@@ -27,15 +27,15 @@ impl<A: Allocator + Copy + Drop> Session<A> {
         self.held
     }
 
-    /// Whether the program runs: then its lines are begun one after the other, unless it is held.
+    /// Whether the program runs. Then its lines are begun one after another, unless the session is held.
     pub fn is_running(&self) -> bool
         ensures { result ≡ is_running self.now.activity }
     {
         self.activity.is_running()
     }
 
-    /// Takes the next item of the open approach or segment, to be handed out; none where none is left: the session
-    /// stays as it is then.
+    /// Takes the next item of the open approach or segment, to be handed out. `None` if none is left: then the session
+    /// stays as it is.
     pub fn next_item(&mut self) -> Option<Item>
         ensures item { result ≡ item_of self.old.current }
         ensures next { self.new ≡ handed self.old }
@@ -47,7 +47,7 @@ impl<A: Allocator + Copy + Drop> Session<A> {
         current.next_item()
     }
 
-    /// What is to be stored before the approach or the next segment is opened: its block, half-done; none where neither
+    /// What is to be stored before the approach or the next segment is opened: its block, half-done. `None` if neither
     /// is left. The session stays as it is.
     pub fn opening(&self) -> Option<Half>
         ensures half { result ≡ opening_of self.now.current }
@@ -59,8 +59,8 @@ impl<A: Allocator + Copy + Drop> Session<A> {
         }
     }
 
-    /// Opens that approach or segment, once the half-done block is stored. The reply is Approaching, or Opened with the
-    /// segment's number.
+    /// Opens that approach or segment, after the half-done block is stored. The reply is Approaching, or Opened with
+    /// the segment's number.
     #[tactic(auto, using(crate::proofs::Keeping::kept_open))]
     pub fn open(&mut self, half: Half, geometry: &Geometry) -> Reply
         requires { IsStorableHalf half }
@@ -79,8 +79,8 @@ impl<A: Allocator + Copy + Drop> Session<A> {
         }
     }
 
-    /// What is to be stored once nothing is left of the current block, or of its approach where that isn't committed;
-    /// none where no block is current. The session stays as it is.
+    /// What is to be stored once nothing is left of the current block, or of its approach if that isn't committed.
+    /// `None` if no block is current. The session stays as it is.
     pub fn after(&self) -> Option<&Stored<A>>
         ensures after { MatchOption result (self.now.current ≡ None) (λ stored. (c : CurrentBlockModel)
             × (self.now.current ≡ Some c) × (stored.now ≡ (committed self.now c).stored)) }
@@ -92,8 +92,8 @@ impl<A: Allocator + Copy + Drop> Session<A> {
         }
     }
 
-    /// Goes on after the current block or its approach, once that is stored. Where no block is current the reply is
-    /// that of a session that has nothing to do, and the session stays as it is.
+    /// Goes on after the current block or its approach, once that is stored. If no block is current, the reply is that
+    /// of a session that has nothing to do, and the session stays as it is.
     pub fn commit(&mut self) -> Reply
         requires { IfSome self.old.current (λ c. self.old.stored.entries < greatest_count) }
         ensures reply { (c : CurrentBlockModel) → self.old.current ≡ Some c
@@ -112,7 +112,7 @@ impl<A: Allocator + Copy + Drop> Session<A> {
         Reply::Done(self.stored.entries)
     }
 
-    /// Goes on after the block that was taken from it.
+    /// Goes on after the block that was taken from the session.
     fn end_block(&mut self, current: CurrentBlock<A>)
         requires count { self.old.stored.entries < greatest_count }
         requires none { self.old.current ≡ None }
@@ -128,7 +128,7 @@ impl<A: Allocator + Copy + Drop> Session<A> {
         self.stored = current.after;
     }
 
-    /// Goes on with the block that was taken from it, after its approach, where `between` is stored.
+    /// Goes on with the block that was taken from the session, after its approach, once `between` is stored.
     #[tactic(auto, using(crate::proofs::Keeping::kept_between))]
     fn go_on(&mut self, current: CurrentBlock<A>, between: Stored<A>)
         requires count { self.old.stored.entries < greatest_count }

@@ -12,7 +12,7 @@ use std::alloc::Allocator;
 /// The greatest length of a tool, in nm.
 const LONGEST_TOOL: i64 = 1_000_000_000;
 
-/// Whether a length is a tool's.
+/// Whether a length is in the range of tools' lengths.
 fn is_tool_length(tool_length: Len) -> bool
     ensures { result ≡ is_tool_length tool_length }
 {
@@ -26,8 +26,8 @@ impl<A: Allocator + Copy + Drop> Session<A> {
     ghost use Rattle.ng_layout.specs.Tools.{takes_slot};
     ghost use Rattle.ng_session.specs.Session.{accepts_load, tool_refusal};
 
-    /// Why a tool's length isn't taken for a slot now: K1 where the session isn't at rest or a block is half-done, B14
-    /// where the table has no such slot and it isn't the one after its last, or past the greatest; E3 where it isn't
+    /// Why a tool's length for a slot is refused now: K1 if the session isn't at rest or a block is half-done; B14 if
+    /// the slot is neither in the table nor the one after its last, or is past the greatest; E3 if the length isn't
     /// from 0 to 1 m.
     pub fn tool_refusal(&self, slot: u16, tool_length: Len) -> Option<Fault>
         ensures value { result ≡ tool_refusal self.now slot tool_length }
@@ -46,7 +46,7 @@ impl<A: Allocator + Copy + Drop> Session<A> {
         None
     }
 
-    /// Whether the table has a slot, or it is the one after its last.
+    /// Whether a slot is in the table or is the one after its last.
     fn takes_slot(&self, slot: usize) -> bool
         ensures { result ≡ takes_slot self.now.stored.tools slot }
     {
@@ -69,8 +69,8 @@ impl<A: Allocator + Copy + Drop> Session<A> {
         tools
     }
 
-    /// Replaces the stored tool table and number of entries, and gives the table that stood: with that one and the old
-    /// number it is undone. It takes no memory.
+    /// Replaces the stored tool table and number of entries, and returns the old table. Replacing these again by the
+    /// old ones undoes it. Nothing is allocated.
     #[tactic(auto, using(crate::proofs::Keeping::kept_tools))]
     pub fn exchange_tools(&mut self, tools: Tools, entries: u64) -> Tools
         requires free { self.old.current ≡ None }
@@ -78,7 +78,7 @@ impl<A: Allocator + Copy + Drop> Session<A> {
         ensures next { self.new ≡ record self.old { stored = record self.old.stored { entries = entries; tools = tools } } }
         ensures before { result ≡ self.old.stored.tools }
     {
-        // called for its contract: a table has at most 128 slots, and no more are stored
+        // Called for its contract: a table has at most 128 slots, and no more are stored.
         let _ = tools.slots();
         self.stored.entries = entries;
         std::mem::replace(&mut self.stored.tools, tools)

@@ -1,5 +1,5 @@
-//! A block's course from one of its segments on, and how the machine stands before that. The segments of a cycle that
-//! are passed aren't walked, so it takes no time that grows with their number.
+//! A block from one of its segments on, and the machine's position and outputs before that. The segments of a cycle
+//! that are skipped aren't walked, so the time doesn't grow with their number.
 ghost use Rattle.std.specs.Prelude.{◌≡◌, ◌<◌, ◌-◌, ◌∷◌, ◌++◌, [], take, drop, length, IfSome, MatchOption};
 ghost use Rattle.ng_cycles.specs.Segments.{after_segments};
 ghost use Rattle.ng_block.specs.BlockSegments.{plan_of, rest_of};
@@ -22,11 +22,12 @@ use ng_num::Point;
 pub struct Resumed {
     /// The segments from there on.
     pub block_segments: BlockSegments,
-    /// Where the machine stands before them, and its outputs there.
+    /// The machine's position and outputs before them.
     pub standing: MotionState,
 }
 
-/// What is left of a course, how the machine stands before that, and how many segments of it are still to be passed.
+/// What is left of a block, the machine's position and outputs before that, and how many segments are still to be
+/// skipped.
 #[derive(Drop)]
 struct Passing {
     rest: BlockSegmentsLeft,
@@ -34,7 +35,7 @@ struct Passing {
     left: u64,
 }
 
-/// How many of n segments are left to pass after so many.
+/// How many of `n` segments are left to skip after `count`.
 fn left_after(n: u64, count: u128) -> u64
     ensures { result ≡ n - count }
 {
@@ -46,7 +47,7 @@ fn left_after(n: u64, count: u128) -> u64
 }
 
 impl BlockSegmentsLeft {
-    /// Takes the next step out of those that haven't begun.
+    /// Takes the next of the steps that haven't begun.
     fn take_step(&mut self) -> Option<BlockStep>
         ensures next { MatchOption result
             ((rest_of self.old ≡ self.old.moves) × (self.new ≡ self.old))
@@ -64,7 +65,7 @@ impl BlockSegmentsLeft {
 }
 
 impl Passing {
-    /// Passes segments of the motion.
+    /// Skips segments of the motion.
     fn pass_moves(&mut self)
         ensures { SkipSpec (path_segments self.old.rest.path) self.old self.new }
     {
@@ -74,7 +75,7 @@ impl Passing {
         self.left = left_after(self.left, path.count());
     }
 
-    /// Passes the segment of a step but the motion, where it has one.
+    /// Skips the segment of a step other than the motion, if it has one.
     fn pass_task(&mut self, step: BlockStep)
         requires some { 0 < self.old.left }
         requires moves { self.old.rest.moves ≡ [] }
@@ -86,7 +87,7 @@ impl Passing {
         }
     }
 
-    /// Begins a step, and passes segments of it.
+    /// Begins a step, and skips segments of it.
     fn pass(&mut self, step: BlockStep)
         requires some { 0 < self.old.left }
         requires moves { self.old.rest.moves ≡ [] }
@@ -100,7 +101,7 @@ impl Passing {
         }
     }
 
-    /// Passes so many segments as are to be passed, or all.
+    /// Skips as many segments as are to be skipped, or all.
     fn advance(&mut self)
         requires { self.old.rest.moves ≡ [] }
         ensures rest { rest_of self.new.rest ≡ drop self.old.left (rest_of self.old.rest) }
@@ -116,10 +117,10 @@ impl Passing {
 }
 
 impl Effect {
-    /// Its segments from segment n on, counted from 0, kept without it, and how the machine stands before that one:
-    /// where it begins, and its outputs as the last switch before it left them. `start` is where the machine stands
-    /// before the block. Where it has no more than n segments, none is left, and the machine stands where the block
-    /// leaves it. The time that it takes doesn't grow with n.
+    /// Its segments from segment `n` on, counted from 0, kept without the effect; and the machine's position and
+    /// outputs before that segment. The position is where the segment begins, and the outputs are as the last switch
+    /// before it left them. `start` is the machine's position before the block. If the block has no more than `n`
+    /// segments, none is left, and the position is that after the block. The time doesn't grow with `n`.
     pub fn block_segments_from(&self, start: Point, n: u64) -> Resumed
         ensures block_segments { result.block_segments ≡ drop n (segments_by self.now) }
         ensures standing { result.standing ≡ standing_at self.now start n }

@@ -1,4 +1,4 @@
-//! The later segments of a path, and how the machine stands before them. Those of a cycle aren't walked.
+//! The later segments of a path, and the machine's position and outputs before them. Those of a cycle aren't walked.
 ghost use Rattle.std.specs.Prelude.{◌≡◌, length, take, drop};
 ghost use Rattle.ng_cycles.specs.Segments.{after_segments, after_segment};
 ghost use Rattle.ng_block.specs.Paths.{path_segments};
@@ -8,7 +8,7 @@ use ng_canon::Segment;
 use ng_cycles::{Cycle, MotionState};
 use ng_num::Point;
 
-/// How the machine stands at another point, with the outputs as they are.
+/// Another position, with unchanged outputs.
 fn moved(before: MotionState, point: Point) -> MotionState
     ensures { result ≡ record before { point = point } }
 {
@@ -18,7 +18,7 @@ fn moved(before: MotionState, point: Point) -> MotionState
     }
 }
 
-/// How the machine stands after a segment.
+/// The machine's position and outputs after a segment.
 pub fn after_segment(before: MotionState, segment: &Segment) -> MotionState
     ensures { result ≡ after_segment before segment.now }
 {
@@ -34,7 +34,7 @@ pub fn after_segment(before: MotionState, segment: &Segment) -> MotionState
 }
 
 impl Path {
-    /// How many segments it has.
+    /// How many segments the path has.
     pub fn count(&self) -> u128
         ensures { result ≡ length (path_segments self.now) }
     {
@@ -48,7 +48,7 @@ impl Path {
         }
     }
 
-    /// How the machine stands after so many of its segments, or after them all, from how it stood before them.
+    /// The machine's position and outputs after its first `n` segments, or after all of them, given those before.
     #[tactic(auto, using(crate::proofs::LaterLemmas::one_taken, crate::proofs::LaterLemmas::two_taken))]
     pub fn motion_state_after(&self, before: MotionState, n: u64) -> MotionState
         ensures { result ≡ after_segments before (take n (path_segments self.now)) }

@@ -9,7 +9,7 @@ use Rattle.ng_journal.specs.Journal.{IsBrokenBy, CountsFailure}
 use Rattle.ng_journal.specs.Storing.{ledger_of}
 use Rattle.ng_core.specs.Model.{ControllerModel, IsAtRestWith}
 
--- nothing is stored and nothing handed out; the controller rests as before, unless the device failed
+-- nothing is stored and nothing handed out; the controller is at rest as before, unless the device failed
 pub record StaysAtRest {R : Type 0} (answer : Result Unit Fault) (program : List ℕ) (new : ControllerModel R) (trace_old trace_new : Trace) : Type 0 where
   pub same : trace_new ≡ trace_old
   pub rests : IfOk answer (λ _. IsAtRestWith trace_new new program)

@@ -1,4 +1,4 @@
--- What writing a program's text leaves, and a load.
+-- What writing a program's text leaves, and what a load leaves.
 use Rattle.std.specs.Prelude.{◌≡◌, ◌+◌, ◌*◌, ◌<◌, ℕ, List, Result, Ok, OnOk}
 use Rattle.ng_rig.specs.Trace.{Trace, reads, items}
 use Rattle.ng_rig.specs.Continuation.{IsContinuation}
@@ -22,8 +22,8 @@ pub record WritesText {T E : Type 0} (result : Result T E) (area : ℕ) (text : 
   pub writes : WritesOnly (λ m bytes. BelongsToText text area m bytes) old new
   pub parts : OnOk result (IsTextAt area text (reads new))
 
--- Each stop since stands for what stood before or for the new with its program, after Ok for that alone, and its log
--- has no record.
+-- Each stop since stands for the old state or for the new one with its program, and after Ok only for the latter; its
+-- log has no record.
 pub record LoadSpec {T E : Type 0} (result : Result T E) (area : ℕ) (header : Header) (loaded : DurableState) (old new : Trace) : Type 0 where
   pub stops : IsContinuation old new (IsEither (stands (reads old)) (Ok loaded) (items old))
   pub items_are : items new ≡ items old

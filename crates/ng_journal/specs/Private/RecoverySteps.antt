@@ -21,7 +21,7 @@ use Rattle.ng_journal.specs.Recovery.{HasCause, IsFound, IsNextEpoch, Renews, Is
 abbrev pub IsRefusal : Fault → Type 0
 IsRefusal fault = (fault ≡ NotFormatted) ⊎ ((fault ≡ Damaged) ⊎ (fault ≡ CountersUsed))
 
--- under this header, this stands with its program
+-- under this header, the image stands for this state with its program
 pub record StandsUnder (header : Header) (saved : StoredModel) (image : Image) : Type 0 where
   pub force : in_force image ≡ Some header
   pub state : stands image ≡ Ok (beside saved header.area image)
@@ -37,20 +37,21 @@ abbrev pub RecoveryOutcome : List ℤ → Result Header Fault → StoredModel �
 RecoveryOutcome tools (Ok header) saved image = IsFound tools saved image × IsNextEpoch header image
 RecoveryOutcome tools (Err fault) saved image = HasCause fault image
 
--- at rest, under this header, with the recovered of what stood and no record
+-- at rest, under this header, with the recovered state and no record
 pub record IsReady (tools : List ℤ) (header : Header) (saved : StoredModel) (old new : Trace) : Type 0 where
   pub standing : DurableState
   pub at : IsAtEnd new header standing no_records
   pub is : recovered_of (stands_beside tools (reads old)) ≡ Ok standing
   pub saved_is : saved ≡ standing.saved
 
--- Each stop since stands for what stood before or for its recovered.
+-- Each stop since stands for the old state or for the recovered one.
 pub record KeepsStanding {E : Type 0} (tools : List ℤ) (result : Result (Result Header Fault) E) (saved : StoredModel) (old new : Trace) : Type 0 where
   pub stops : IsContinuation old new (IsEitherBeside tools (stands_beside tools (reads old)) (recovered_of (stands_beside tools (reads old))) (items old))
   pub ready : IfOk result (λ answer. IfOk answer (λ header. IsReady tools header saved old new))
 
--- What is found, or why nothing is, and what is written, over any image: nothing where there is a reason to recover
--- nothing, else what was found, all of it synced. What stops leave over an image that only this journal wrote.
+-- What is found, or why nothing is, and what is written, for any image. Nothing is written if there is a reason to
+-- recover nothing; otherwise what was found is written, and all of it is synced. Also what stops leave over an image
+-- that only this journal wrote.
 pub record RestoreSpec {E : Type 0} (tools : List ℤ) (result : Result (Result Header Fault) E) (saved : StoredModel) (old new : Trace) : Type 0 where
   pub outcome : IfOk result (λ answer. RecoveryOutcome tools answer saved (reads old))
   pub refused : IfOk result (λ answer. IfErr answer (λ fault. new ≡ Synced old))
@@ -64,17 +65,17 @@ abbrev pub modern_by : Format → Header → Header
 modern_by One header = migrated header
 modern_by Two header = header
 
--- Each stop since stands for the same beside the table, after Ok in format 2, whose log has no record.
+-- Each stop since stands for the same state with the table, and after Ok in format 2; its log has no record.
 pub record ModernizeSpec {E : Type 0} (tools : List ℤ) (result : Result Header E) (header : Header) (standing : DurableState) (old new : Trace) : Type 0 where
   pub stops : IsContinuation old new (StandsBeside tools (beside_format tools header.format standing) (items old))
   pub items_are : items new ≡ items old
   pub at : IfOk result (λ last. IsAtEnd new last (beside_format tools header.format standing) no_records)
 
--- what is written of it: in format 2 nothing
+-- what is written of it: nothing in format 2
 abbrev pub BelongsToModern : List ℤ → Header → StoredModel → ℕ → List ℕ → Type 0
 BelongsToModern tools header saved n bytes = (header.format ≡ One) × BelongsTo (migrated header) (record saved { tools = tools }) n bytes
 
--- Only that is written, and nothing is handed out. What was laid out and synced is so after Ok, beside the table.
+-- Only that is written, and nothing is handed out. After Ok, what was there and synced is so with the table.
 pub record StoresModern {E : Type 0} (tools : List ℤ) (result : Result Header E) (header : Header) (saved : StoredModel) (old new : Trace) : Type 0 where
   pub writes : WritesOnly (λ n bytes. BelongsToModern tools header saved n bytes) old new
   pub laid : IsLaidOut header saved (reads old) → IfOk result (λ last. IsLaidOut last (saved_beside tools header.format saved) (reads new))

@@ -22,10 +22,10 @@ use std::alloc::Allocator;
 impl<R: Rig, A: Allocator + Copy + Drop> Journal<R, A> {
     ghost use Rattle.ng_journal.specs.Journal.{IsDurablyAt, IsBrokenBy};
 
-    /// The kind of the first line before a place of the program in force that isn't blank; blank where all are (own).
-    /// It reads no further than to that line's end.
+    /// The kind of the first line before a place of the program in force that isn't blank; blank if all lines are
+    /// (own). It reads at most to the end of that line.
     ///
-    /// J1 where the device failed: the journal is broken then. Nothing is written. It takes no memory.
+    /// J1 if the device failed: then the journal is broken. Nothing is written, and nothing is allocated.
     pub fn first_kind(&mut self, place: u64) -> Result<LineKind, Fault>
         requires whole { self.old.broken ≡ false }
         requires place { place ≤ self.old.saved.length }
@@ -51,10 +51,10 @@ impl<R: Rig, A: Allocator + Copy + Drop> Journal<R, A> {
         }
     }
 
-    /// The line of the program in force that begins at a place, and where the next one begins; none at the program's
+    /// The line of the program in force that begins at a place, and where the next one begins; `None` at the program's
     /// end (own). A place in the middle of a line begins a line there.
     ///
-    /// J1 where the device failed: the journal is broken then. Nothing is written. It takes no memory.
+    /// J1 if the device failed: then the journal is broken. Nothing is written, and nothing is allocated.
     pub fn program_line(&mut self, place: u64) -> Result<Option<ProgramLine>, Fault>
         requires whole { self.old.broken ≡ false }
         requires place { place ≤ self.old.saved.length }

@@ -15,7 +15,7 @@ use Rattle.ng_core.proofs.Reporting.{keeps, keeps_none}
 use Rattle.ng_core.proofs.Storing.{kept_whole}
 use Rattle.ng_core.proofs.controller.Controller.keep_tools.Goals as goal
 
--- another table, with one entry more
+-- another table, with one more entry
 abbrev with_table : SessionModel → List ℤ → SessionModel
 with_table s tools = record s { stored = record s.stored { entries = s.stored.entries + 1; tools = tools } }
 
