@@ -53,7 +53,7 @@ in_state s e = record { setup = changed s e.machine e.changes.items; before = e.
 
 -- ---- what a line does
 
--- what there is, where there is no fault
+-- a result, unless there is a fault
 abbrev pub lawful : {X : Type 0} → Option Fault → Result X Fault → Result X Fault
 lawful None answer = answer
 lawful (Some fault) answer = Err fault
@@ -61,7 +61,7 @@ lawful (Some fault) answer = Err fault
 abbrev pub plan_of : List CanonModel → Option ℤ → Tasks → Goal → Machine → Plan
 plan_of remark feed tasks goal m = record { remark = remark; feed = feed; tasks = tasks; shown = goal.shown; path = goal.path; origin = goal.offsets.origin; before = m.outputs }
 
--- what a lawful block does
+-- what a valid block does
 abbrev pub block_done : Block → Goal → List CanonModel → StateModel → Done
 block_done b goal remark s =
     let mode = feed_mode_after b s.machine.modes in
@@ -69,7 +69,7 @@ block_done b goal remark s =
     let plan = plan_of remark (feed_set b mode goal.feed_per_min) tasks goal s.machine in
     record { setup = changed s (machine_after b goal tasks s.machine) goal.changes; before = plan.before; segments = segments_of plan; commands = commands_of plan; stop = stop_of b.m.stop }
 
--- what a block with a goal does; or why its move is refused (X1, X2)
+-- what a block with a goal does, or why its move is refused (X1, X2)
 abbrev pub finished : Block → Goal → List CanonModel → StateModel → Geometry → Result Done Fault
 finished b goal remark s geometry = lawful (first_fault (path_faults goal.path geometry)) (Ok (block_done b goal remark s))
 

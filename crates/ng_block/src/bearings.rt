@@ -1,5 +1,5 @@
-//! All lengths that a line computes, found before any of its commands: its feed, the offsets after it, the parameters
-//! that it sets, and its path.
+//! All lengths of a line, computed before any of its commands: its feed, the offsets after it, the parameters that it
+//! sets, and its path.
 ghost use Rattle.std.specs.Prelude.{◌≡◌, ◌≤◌, ◌+◌, ◌++◌, length, Ok, Err, MatchResult, OnOk};
 ghost use Rattle.ng_modal.specs.Accepted.{IsSlot};
 ghost use Rattle.ng_block.specs.Paths.{moving_at};
@@ -56,7 +56,7 @@ fn put_stored(stored: &Option<[Change; 3]>, changes: &mut Changes)
 }
 
 impl Effect {
-    /// Finds the offsets after a block's axis data, and adds the changes of parameters to those of the settings.
+    /// Finds the offsets after a block's axis data, and adds its changes of parameters to those of the assignments.
     fn find_bearings<A: Allocator + Copy + Drop>(
         &mut self,
         state: &State<A>,
@@ -80,7 +80,7 @@ impl Effect {
         Ok(())
     }
 
-    /// Takes a straight path at a pace; without one, that it is missing.
+    /// Sets a straight path at a pace, or that the pace is missing.
     #[inline]
     fn go_straight(&mut self, pace: Option<Pace>, start: Point, end: Point)
         ensures { self.new ≡ record self.old { plan = record self.old.plan { path = moving_at pace start end } } }
@@ -91,8 +91,8 @@ impl Effect {
         }
     }
 
-    /// Finds the offsets and the path of a block that has a word for offsets or of group 0. A call of its own, so that
-    /// nearly all lines pass by its places.
+    /// Finds the offsets and the path of a block that has a word for offsets or of group 0. It isn't inlined, so that
+    /// most lines don't pay for its local variables.
     #[inline(never)]
     fn find_path<A: Allocator + Copy + Drop>(
         &mut self,
@@ -122,7 +122,7 @@ impl Effect {
         Ok(())
     }
 
-    /// Finds the offsets and the path of a block. Most lines leave the offsets as they are, so this is looked at first.
+    /// Finds the offsets and the path of a block. Most lines leave the offsets as they are, so that is checked first.
     #[inline]
     #[tactic(auto, using(crate::proofs::BearingLemmas::bearings_kept, crate::proofs::BearingLemmas::end_kept))]
     fn find_any_path<A: Allocator + Copy + Drop>(
@@ -165,7 +165,7 @@ impl Effect {
         Ok(())
     }
 
-    /// Puts system 1 in force, and drops the G92 offset, as the program's end does.
+    /// Puts system 1 in force and drops the G92 offset, as the program's end does.
     #[inline(never)]
     fn end_bearings<A: Allocator + Copy + Drop>(&mut self, params: &Params<A>)
         requires { length self.old.changes.items ≤ 132 }
@@ -180,9 +180,9 @@ impl Effect {
         self.changes.push(System::first().selection());
     }
 
-    /// Finds all lengths that a block's words come to in a state: the feed and the offsets after it, the parameters
-    /// that it sets, its path, and the words that a cycle keeps after it. E3 where one of them is beyond the range;
-    /// else C1 to C4 of an arc, and Y1 to Y8, X1, X2 of a cycle.
+    /// Finds all lengths of a block in a state: the feed and the offsets after it, the parameters that it sets, its
+    /// path, and the words that a cycle keeps after it. E3 if one of them is out of range; else C1 to C4 of an arc, and
+    /// Y1 to Y8, X1, X2 of a cycle.
     pub(crate) fn find_goal<A: Allocator + Copy + Drop>(
         &mut self,
         terms: &Terms<'_>,

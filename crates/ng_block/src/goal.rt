@@ -1,5 +1,5 @@
-//! What a line does to motion: its feed, its pace and where it goes (NISTIR 6556, 3.5.1, 3.5.2, 3.5.12, 3.5.17,
-//! 3.5.19). E3 where a length that it computes is beyond the range.
+//! The motion of a line: its feed, its pace and its path (NISTIR 6556, 3.5.1, 3.5.2, 3.5.12, 3.5.17, 3.5.19). E3 if a
+//! computed length is out of range.
 ghost use Rattle.std.specs.Prelude.{◌≡◌, ◌-ℤ◌, false};
 ghost use Rattle.ng_params.specs.Changes.{with_changes};
 ghost use Rattle.ng_modal.specs.Causes.{is_machine};
@@ -20,7 +20,7 @@ use ng_params::Change;
 use ng_state::{Distance, FeedMode, Machine, Modes, Motion, State};
 use std::alloc::Allocator;
 
-/// What a line's axis words are read by.
+/// How a line's axis words are read.
 #[derive(Clone, Copy)]
 struct Reading {
     unit: Unit,
@@ -108,7 +108,7 @@ fn fed_pace(mode: FeedMode, feed_per_min: Feed, word: Option<Num>) -> Option<Pac
     }
 }
 
-/// How fast a line's move goes; `None` where its feed or its time is missing.
+/// The pace of a line's move. `None` if its feed or its time is missing.
 #[inline]
 pub fn pace_by(
     motion: Option<Motion>,
@@ -124,7 +124,7 @@ pub fn pace_by(
     }
 }
 
-/// The program coordinate that a length names.
+/// The program coordinate that an axis word names.
 #[inline]
 fn program_coordinate(
     distance: Distance,
@@ -158,7 +158,7 @@ fn coordinate(word: Option<Num>, reading: Reading, shift: Shift, machine: Len) -
     }
 }
 
-/// The end of a move under offsets. Nearly every line comes by here, so it stands in its caller.
+/// The end of a move under offsets. Nearly every line needs it, so it is always inlined.
 #[inline(always)]
 pub fn end_of(block: &Block, machine: &Machine, offsets: &Offsets) -> Result<Point, Fault>
     ensures { result ≡ end_of block.now machine.now offsets.now }
@@ -241,9 +241,9 @@ fn straight_to(block: &Block, machine: &Machine, feed_per_min: Feed, end: Point)
     Path::moving_at(pace, machine.point, end)
 }
 
-/// Where a line's motion goes that isn't straight, under offsets, with the feed after the line, in the table that its
-/// settings leave. E3 where a coordinate of it is beyond the range; of an arc else C1 to C4, of a cycle Y1 to Y8, X1,
-/// X2.
+/// The path of a line's motion that isn't straight: under offsets, with the feed after the line, in the table that its
+/// assignments leave. E3 if one of its coordinates is out of range; else C1 to C4 of an arc, Y1 to Y8, X1, X2 of a
+/// cycle.
 #[inline(never)]
 pub fn path_unless_straight<A: Allocator + Copy + Drop>(
     block: &Block,
@@ -268,8 +268,8 @@ pub fn path_unless_straight<A: Allocator + Copy + Drop>(
     home_path(block, machine, offsets, home)
 }
 
-/// Where a line's motion goes under offsets, with the feed after the line, in the table that its settings leave. E3
-/// where a coordinate of it is beyond the range; of an arc else C1 to C4, of a cycle Y1 to Y8, X1, X2.
+/// The path of a line's motion: under offsets, with the feed after the line, in the table that its assignments leave. E3
+/// if one of its coordinates is out of range; else C1 to C4 of an arc, Y1 to Y8, X1, X2 of a cycle.
 pub fn path_of<A: Allocator + Copy + Drop>(
     block: &Block,
     state: &State<A>,

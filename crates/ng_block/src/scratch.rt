@@ -1,4 +1,4 @@
-//! What a line does in a state: one way for all lines, through places that serve one after the other.
+//! What a line does in a state. All lines go the same way, through one scratch space.
 ghost use Rattle.std.specs.Prelude.{◌≡◌, MatchResult, Ok, Err};
 ghost use Rattle.ng_num.specs.Causes.{NoneHolds, IsFirstFault};
 ghost use Rattle.ng_block.specs.Causes.{causes};
@@ -21,15 +21,14 @@ use ng_state::{Machine, State};
 use ng_words::{Line, LineKind, is_deletable, is_too_long};
 use std::alloc::Allocator;
 
-/// The places that a line is read into, its values are found in and its effect is put into. They serve any number of
-/// lines, one after the other, and take no memory.
+/// The space that a line is read into, in which its values are found, and in which its effect is left. It serves any
+/// number of lines, one after another, and nothing is allocated.
 #[derive(Drop)]
 pub struct Scratch {
     line: Line,
     values: Values,
     sorted: Sorted,
-    /// What the last line did that was lawful; after a fault it may hold anything, so it is handed out with an answer
-    /// alone.
+    /// What the last valid line did. After a fault it may be anything, so it is only lent out with a result.
     effect: Effect,
 }
 
@@ -37,7 +36,7 @@ impl Scratch {
     ghost use Rattle.ng_block.specs.Effects.{commands_by, segments_by};
     ghost use Rattle.std.specs.Prelude.{[]};
 
-    /// Places that no line was put into, over a machine.
+    /// The space before the first line, over a modal state.
     pub fn new(machine: Machine) -> Scratch
         ensures commands { commands_by result.effect ≡ [] }
         ensures segments { segments_by result.effect ≡ [] }
@@ -50,8 +49,8 @@ impl Scratch {
         }
     }
 
-    /// Puts what the values of a line do in a state into the effect, or finds the first fault that refuses them: B1 to
-    /// B19, E3, C1 to C4, Y1 to Y8, X1, X2.
+    /// Puts into the effect what the values of a line do in a state, or returns their first fault: B1 to B19, E3, C1 to
+    /// C4, Y1 to Y8, X1, X2.
     #[tactic(auto, unfolding(crate::specs::Effects::executed_values))]
     fn take_values<A: Allocator + Copy + Drop>(
         &mut self,
@@ -72,8 +71,7 @@ impl Scratch {
         self.effect.finish(state, block, comment, terms.geometry)
     }
 
-    /// Puts what a line does in a state into the effect, or finds the first fault that refuses it: E1 to E5, then those
-    /// of its values.
+    /// Puts into the effect what a line does in a state, or returns its first fault: E1 to E5, then those of its values.
     #[inline]
     #[tactic(auto, unfolding(crate::specs::Effects::executed, crate::specs::Effects::executed_pieces), using(crate::proofs::CauseLemmas::first_of))]
     fn take_line<A: Allocator + Copy + Drop>(
@@ -94,7 +92,7 @@ impl Scratch {
         self.take_values(terms, state)
     }
 
-    /// Puts into the effect that a deleted line does nothing. E2 where it is too long: nothing else of it is looked at.
+    /// Puts into the effect that a deleted line does nothing. E2 if it is too long: nothing else of it is looked at.
     fn delete_line<A: Allocator + Copy + Drop>(
         &mut self,
         state: &State<A>,
@@ -111,10 +109,9 @@ impl Scratch {
         Ok(())
     }
 
-    /// What a line does in a state, or the first fault that refuses it, in the order of docs/LANGUAGE.md, whether lines
-    /// are deleted or not; the state stays as it is. What it does lies in these places until the next line comes; after
-    /// a fault there is nothing to be had. A dry run and the controller run this for each line. Source: NISTIR 6556,
-    /// 3.8, and own.
+    /// What a line does in a state, or its first fault, in the order of docs/LANGUAGE.md. The state stays as it is, and
+    /// block delete isn't looked at. The effect is kept here until the next line comes; after a fault there is none. A
+    /// dry run and the controller run this for each line. Source: NISTIR 6556, 3.8, and own.
     #[inline(always)]
     pub fn execute<A: Allocator + Copy + Drop>(
         &mut self,
@@ -133,7 +130,7 @@ impl Scratch {
         Ok(&self.effect)
     }
 
-    /// What a line does in a state, or the first fault that refuses it: nothing, where it is deleted.
+    /// What a line does in a state, or its first fault. It does nothing if it is deleted.
     #[inline(always)]
     pub fn execute_unless_deleted<A: Allocator + Copy + Drop>(
         &mut self,
@@ -152,8 +149,8 @@ impl Scratch {
         self.execute(terms, state, text)
     }
 
-    /// What a line does in a state, or the first fault that refuses it, after lines before it, whose first that isn't
-    /// blank is of a kind: so it may be a percent line, or deleted.
+    /// What a line of a program does in a state, or its first fault. It may be a percent line, which depends on the kind
+    /// of the first line before it that isn't blank, or it may be deleted.
     #[inline(always)]
     pub fn execute_after<A: Allocator + Copy + Drop>(
         &mut self,
@@ -176,7 +173,7 @@ impl Scratch {
     }
 }
 
-/// What a line does in a state, or the first fault that refuses it: `Scratch::execute`, in places of its own.
+/// What a line does in a state, or its first fault: `Scratch::execute`, in a scratch space of its own.
 pub fn execute<A: Allocator + Copy + Drop>(
     state: &State<A>,
     text: &[u8],
