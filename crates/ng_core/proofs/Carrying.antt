@@ -28,7 +28,7 @@ abbrev needs_of_tick : SessionModel → Needs
 needs_of_tick s = needs ((s.held ≡ false) × IsBetweenLines s) ((s.held ≡ false) × (has_work s ≡ true)) ((s.held ≡ false) × IsBetweenLines s)
 
 module _ {R : Type 0} (seen : R → Device) where
-  -- ---- the same by other words
+  -- ---- equal controllers and outcomes
 
   -- from an equal controller
   pub carried_as : (memory device reads : ControllerModel R → Type 0) (out : ControllerModel R → List ℕ → Transition) (answer : Result Reply Fault) (old mid new : ControllerModel R)

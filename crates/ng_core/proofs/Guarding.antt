@@ -115,8 +115,7 @@ take_told zero (r ∷ told) more is = absurd (omega (arith, is))
 take_told (suc n) [] more is = absurd (omega (arith, is))
 take_told {X} (suc n) (r ∷ told) more is = ap (λ (l : List X). r ∷ l) (take_told n told more (omega (arith, is)))
 
--- A stop within an event has all entries that were acknowledged before it: by `past` of `on`, and by nothing else that
--- is said of `on`.
+-- A stop within an event has all entries that were acknowledged before it. This follows from `past` of `on` alone.
 pub none_taken_away : {A R : Type 0} (seen : R → Device) (e : Event A) (r : Reply) (old new : ControllerModel R)
     → AddsToPast {A = A} seen (e ∷ []) (r ∷ []) (moment (seen new.journal.rig).trace ∷ []) old new
     → (x : DurableState) (events : List (Event A)) (told : List Reply) (before : List ℕ) (first : ControllerModel R) → (seen first.journal.rig).honest → IsPast seen x events told before first old

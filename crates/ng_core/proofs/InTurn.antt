@@ -77,7 +77,7 @@ turned seen all (event ∷ events) done (r ∷ replies) moments old now new t p 
     (turned seen all events (done ++ r ∷ []) replies (moments ++ at ∷ []) old t.0 new t.1.1
     (goes_next seen all event events done moments r now.journal.broken old now t.0 refl t.1.0.serves t.1.0.refuses p)))
 
--- they have a history, whatever program rests there, by the moments at which they were answered
+-- they have a history, whatever program is stored there, with the moments at which they were answered
 pub turns_history : {A R : Type 0} (seen : R → Device) (events : List (Event A)) (replies : List Reply) (old new : ControllerModel R)
     → (t : AreAnsweredEvents seen events replies old new)
     → IfHonest (seen old.journal.rig) (seen new.journal.rig) ((program : List ℕ) → (old.journal.broken ≡ false → IsAtRestWith (seen old.journal.rig).trace old program) → History seen events replies (answered_at seen events replies old new t) program old new)
@@ -92,7 +92,7 @@ turns_ran seen events replies old new t =
     meaning (turns_history seen events replies old new t)
     (λ h program whole rests. passes seen events replies (answered_at seen events replies old new t) program old new (h program (λ _. rests)) whole rests)
 
--- the same of a device that is known to be honest
+-- what they lead to with a device that is known to be honest
 pub turns_lead : {A R : Type 0} (seen : R → Device) (events : List (Event A)) (replies : List Reply) (program : List ℕ) (old new : ControllerModel R)
     → (seen old.journal.rig).honest → (t : AreAnsweredEvents seen events replies old new) → old.journal.broken ≡ false → IsAtRestWith (seen old.journal.rig).trace old program
     → PassesAsSession seen events replies (answered_at seen events replies old new t) old.equipment (program_session_of program old) (seen old.journal.rig).trace new

@@ -33,7 +33,7 @@ adds_to_past seen events replies old new t = record {
       (whole, accounts seen x (past ++ events) (told ++ replies) (before ++ moments) first new ((turns_ran seen past told first old is.turns).back h) whole);
 }
 
--- all that is said of events that are answered in turn, by the moments at which they were
+-- all that is said of events answered in turn, with the moments at which they were answered
 pub are_run : {A R : Type 0} (seen : R → Device) (events : List (Event A)) (replies : List Reply) (moments : List ℕ) (old new : ControllerModel R)
     → (t : AreAnsweredEvents seen events replies old new) → moments ≡ answered_at seen events replies old new t
     → AreRun seen events replies moments old new

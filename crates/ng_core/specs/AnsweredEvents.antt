@@ -7,12 +7,12 @@ use Rattle.ng_session.specs.declared.reply.Reply.{Reply}
 use Rattle.ng_core.specs.Events.{Handles, reply_to, broken_answer}
 use Rattle.ng_core.specs.Model.{ControllerModel}
 
--- An event with its reply: a whole controller serves it, a broken one refuses it.
+-- An event with its reply: a whole controller handles it, a broken one refuses it.
 pub record IsAnsweredEvent {A R : Type 0} (seen : R → Device) (event : Event A) (r : Reply) (old new : ControllerModel R) : Type 0 where
   pub serves : old.journal.broken ≡ false → Handles seen event r old new
   pub refuses : old.journal.broken ≡ true → (new ≡ old) × (r ≡ reply_to (broken_answer old.session event))
 
--- events with their replies, each from where the one before left controller and device
+-- events with their replies, each from the controller and device that the one before left
 abbrev pub AreAnsweredEvents : {A R : Type 0} → (R → Device) → List (Event A) → List Reply → ControllerModel R → ControllerModel R → Type 0
 AreAnsweredEvents seen [] [] old new = new ≡ old
 AreAnsweredEvents seen [] (r ∷ replies) old new = ⊥

@@ -110,9 +110,9 @@ IsCarriedOutIfHonest seen answer out old new =
 abbrev pub handing : Item → List ℕ → SessionModel → Transition
 handing item program s = record { reply = reply.Moved; items = item ∷ []; entries = []; program = program; next = s }
 
--- An answer to what leads to this, and what it leaves: of an honest device, and of any; where a line is read for it, it
--- is that line's. An error has its cause, by what the answer needs. The journal is broken, and the device counted a
--- failure, exactly where that failed; the device keeps its size.
+-- The answer to an outcome and what it leaves, of an honest device and of any. If a line is read for it, it is that
+-- line's. An error has its cause, depending on what the answer needs. The journal is broken, and the device counted a
+-- failure, exactly if the device failed. The device keeps its size.
 pub record CarriesOut {R : Type 0} (seen : R → Device) (needs : Needs) (out : List ℕ → Transition) (answer : Result Reply Fault) (old new : ControllerModel R) : Type 0 where
   pub does : IsCarriedOutIfHonest seen answer out old new
   pub comes : IsAnsweredAnyway needs.reads answer out old new
@@ -123,12 +123,12 @@ pub record CarriesOut {R : Type 0} (seen : R → Device) (needs : Needs) (out : 
   pub size : (seen new.journal.rig).sectors ≡ (seen old.journal.rig).sectors
   pub failures : CountsFailure answer (seen old.journal.rig).failed (seen new.journal.rig).failed
 
--- An answer to an event, by what that leads to and needs.
+-- The answer to an event, given its outcome and what it needs.
 abbrev pub CarriesOutEvent : {A R : Type 0} → (R → Device) → Event A → Result Reply Fault → ControllerModel R → ControllerModel R → Type 0
 CarriesOutEvent seen event answer old new =
     CarriesOut seen (needs_of old.equipment old.session event) (λ program. transition_of old program event) answer old new
 
--- A reply to an event, and what became of that.
+-- The reply to an event, and what the event did.
 pub record Handles {A R : Type 0} (seen : R → Device) (event : Event A) (told : Reply) (old new : ControllerModel R) : Type 0 where
   pub answer : Result Reply Fault
   pub told_is : told ≡ reply_to answer

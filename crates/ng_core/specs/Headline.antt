@@ -29,7 +29,7 @@ pub record IsPoweredOn {R : Type 0} (seen : R → Device) (x : DurableState) (c 
   pub session : c.session ≡ resting x.saved
   pub rests : IsAtRestWith (seen c.journal.rig).trace c x.program
 
--- What came from there until now: these events, each with its reply and with the moment at which it was answered.
+-- What happened from there until now: these events, each with its reply and with the moment at which it was answered.
 pub record IsPast {A R : Type 0} (seen : R → Device) (x : DurableState) (events : List (Event A)) (replies : List Reply) (moments : List ℕ) (first now : ControllerModel R) : Type 0 where
   pub began : IsPoweredOn seen x first
   pub turns : AreAnsweredEvents seen events replies first now
@@ -67,21 +67,21 @@ CountsAcknowledged seen x replies moments first now = (t : ℕ) (image : Image) 
 
 -- ---- the contracts of the calls
 
--- Power on gives the first past, of no event: over the recovered of what stood, beside these tools if it was of format
--- 1, where only such a controller wrote it.
+-- Power on begins the first past, with no event: over the recovered state of an image that only such a controller
+-- wrote, with these tools if the image was of format 1.
 abbrev pub BeginsPast : {R : Type 0} → Type 0 → List ℤ → (R → Device) → PowerOnResult R → Trace → Type 0
 BeginsPast {R} A tools seen result old =
     IsWritten (reads old) → IfOk result (λ c. (x : DurableState) → recovered_of (stands_beside tools (reads old)) ≡ Ok x → IsPast {A = A} seen x [] [] [] c c)
 
--- Each past has these events, replies and moments at its end now, after its own as they were, and all of it is
--- accounted for.
+-- Each past now ends with these events, replies and moments, after its own, which are unchanged. All of it is accounted
+-- for.
 abbrev pub AddsToPast : {A R : Type 0} → (R → Device) → List (Event A) → List Reply → (moments : List ℕ) → ControllerModel R → ControllerModel R → Type 0
 AddsToPast {A} {R} seen events replies moments old new = (x : DurableState) (past : List (Event A)) (told : List Reply) (before : List ℕ) (first : ControllerModel R)
     → IsPast seen x past told before first old
     → IsPast seen x (past ++ events) (told ++ replies) (before ++ moments) first new × Accounts seen x (past ++ events) (told ++ replies) (before ++ moments) first new
 
--- What a list of events does, each answered in turn at its moment of the device's trace, one of these: over an honest
--- device they pass as the session does, and each past has them at its end.
+-- What a list of events does, each answered in turn at its moment of the device's trace. Over an honest device they
+-- proceed as the session does, and each past ends with them.
 pub record AreRun {A R : Type 0} (seen : R → Device) (events : List (Event A)) (replies : List Reply) (moments : List ℕ) (old new : ControllerModel R) : Type 0 where
   pub turns : AreAnsweredEvents seen events replies old new
   pub answered : moments ≡ answered_at seen events replies old new turns

@@ -44,8 +44,8 @@ pub record PowerOnSpecIfHonest {R : Type 0} (tools : List ℤ) (result : PowerOn
   pub recovers : RecoverSpec tools (journal_result result) old new
   pub rests : IsWritten (reads old) → IfOk result (λ c. IsControllerRecovered tools c old new)
 
--- What power on gives, of any device: a whole controller at rest with what stands, or a fault and the device. A device
--- of format 1 is given the tools of the settings; with one of format 2 they aren't looked at.
+-- What power on returns, with any device: a whole controller at rest with the stored state, or a fault and the device.
+-- A device of format 1 gets the tools of the settings; with format 2 these aren't used.
 pub record PowerOnSpec {R : Type 0} (seen : R → Device) (settings : Settings) (rig : R) (answer : PowerOnResult R) : Type 0 where
   pub powers : least_size ≤ (seen rig).sectors → (tools : List ℤ) → IsTableOver settings.tools tools (reads (seen rig).trace) → IfHonest (seen rig) (seen (power_on_rig answer)) (PowerOnSpecIfHonest tools answer (seen rig).trace (seen (power_on_rig answer)).trace)
   pub rests : IfOk answer (λ c. (c.journal.broken ≡ false) × (c.session ≡ resting c.journal.saved) × IsStorable c.session.stored)

@@ -14,7 +14,7 @@ pub record StaysAtRest {R : Type 0} (answer : Result Unit Fault) (program : List
   pub same : trace_new ≡ trace_old
   pub rests : IfOk answer (λ _. IsAtRestWith trace_new new program)
 
--- The session stays as it is; what was read is the program's. An error is the device's.
+-- The session is unchanged, and what was read is the program's. An error is the device's.
 pub record PlansAhead {R : Type 0} (seen : R → Device) (answer : Result Unit Fault) (old new : ControllerModel R) : Type 0 where
   pub does : IfHonest (seen old.journal.rig) (seen new.journal.rig) ((program : List ℕ) → IsAtRestWith (seen old.journal.rig).trace old program
       → StaysAtRest answer program new (seen old.journal.rig).trace (seen new.journal.rig).trace)

@@ -31,7 +31,7 @@ returns-clause-gives g c =
       failures = c.in_ok-journal.ensures.failures;
     }
 
--- what is told of a fault is told of the answer that gives it
+-- what holds of a fault holds of the result that has it
 gave : {R : Type 0} (seen : R → Device) (settings : Settings) (rig : R) (e : Fault × R) (answer : PowerOnResult R)
     → IsErrAnd answer (λ f. f ≡ e) → (let err : PowerOnResult R = Err e in PowerOnSpec seen settings rig err) → PowerOnSpec seen settings rig answer
 gave seen settings rig e (Ok c) is spec = absurd is
