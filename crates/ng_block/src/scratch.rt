@@ -51,7 +51,8 @@ impl Scratch {
     }
 
     /// Puts what the values of a line do in a state into the effect, or finds the first fault that refuses them: B1 to
-    /// B19, E3, C1 to C4, Y1 to Y8, X1, X2.
+    /// B19, E3, C1 to C4, Y1 to Y8, X1, X2. A method of its own, and the comment is taken first: after five `?` in one
+    /// method the last calls count as rare, they aren't inlined, and each line costs 30 instructions more.
     #[tactic(auto, unfolding(crate::specs::Effects::executed_values))]
     fn take_values<A: Allocator + Copy + Drop>(
         &mut self,
