@@ -268,8 +268,8 @@ pub fn path_unless_straight<A: Allocator + Copy + Drop>(
     home_path(block, machine, offsets, home)
 }
 
-/// The path of a line's motion: under offsets, with the feed after the line, in the table that its assignments leave. E3
-/// if one of its coordinates is out of range; else C1 to C4 of an arc, Y1 to Y8, X1, X2 of a cycle.
+/// The path of a line's motion: under offsets, with the feed after the line, in the table that its assignments leave.
+/// E3 if one of its coordinates is out of range; else C1 to C4 of an arc, Y1 to Y8, X1, X2 of a cycle.
 pub fn path_of<A: Allocator + Copy + Drop>(
     block: &Block,
     state: &State<A>,

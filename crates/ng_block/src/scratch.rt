@@ -50,7 +50,9 @@ impl Scratch {
     }
 
     /// Puts into the effect what the values of a line do in a state, or returns their first fault: B1 to B19, E3, C1 to
-    /// C4, Y1 to Y8, X1, X2.
+    /// C4, Y1 to Y8, X1, X2. It is a method of its own, and the comment is found first, for speed: after five `?` in one
+    /// method the compiler takes the last calls for rare ones, doesn't inline them, and a line costs 30 instructions
+    /// more.
     #[tactic(auto, unfolding(crate::specs::Effects::executed_values))]
     fn take_values<A: Allocator + Copy + Drop>(
         &mut self,
@@ -71,7 +73,8 @@ impl Scratch {
         self.effect.finish(state, block, comment, terms.geometry)
     }
 
-    /// Puts into the effect what a line does in a state, or returns its first fault: E1 to E5, then those of its values.
+    /// Puts into the effect what a line does in a state, or returns its first fault: E1 to E5, then those of its
+    /// values.
     #[inline]
     #[tactic(auto, unfolding(crate::specs::Effects::executed, crate::specs::Effects::executed_pieces), using(crate::proofs::CauseLemmas::first_of))]
     fn take_line<A: Allocator + Copy + Drop>(
@@ -149,8 +152,8 @@ impl Scratch {
         self.execute(terms, state, text)
     }
 
-    /// What a line of a program does in a state, or its first fault. It may be a percent line, which depends on the kind
-    /// of the first line before it that isn't blank, or it may be deleted.
+    /// What a line of a program does in a state, or its first fault. It may be deleted, or be a percent line, which
+    /// depends on the kind of the first line before it that isn't blank.
     #[inline(always)]
     pub fn execute_after<A: Allocator + Copy + Drop>(
         &mut self,
