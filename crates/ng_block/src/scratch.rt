@@ -50,9 +50,9 @@ impl Scratch {
     }
 
     /// Puts into the effect what the values of a line do in a state, or returns their first fault: B1 to B19, E3, C1 to
-    /// C4, Y1 to Y8, X1, X2. It is a method of its own, and the comment is found first, for speed: after five `?` in one
-    /// method the compiler takes the last calls for rare ones, doesn't inline them, and a line costs 30 instructions
-    /// more.
+    /// C4, Y1 to Y8, X1, X2. It is a method of its own, and the comment is found first, for speed: after five `?` in
+    /// one method the compiler takes the last calls for rare ones, doesn't inline them, and a line costs 30
+    /// instructions more.
     #[tactic(auto, unfolding(crate::specs::Effects::executed_values))]
     fn take_values<A: Allocator + Copy + Drop>(
         &mut self,
