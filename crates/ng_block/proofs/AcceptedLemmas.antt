@@ -20,7 +20,7 @@ use Rattle.ng_block.specs.declared.path.Path.{Path}
 use Rattle.ng_block.specs.Asked.{Move, move_by}
 use Rattle.ng_block.specs.Blocks.{feed_of, feed_mode_after}
 use Rattle.ng_block.specs.Cycles.{kept_of}
-use Rattle.ng_block.specs.Effects.{Done, lawful, plan_of, block_done, executed_values, executed_pieces, executed}
+use Rattle.ng_block.specs.Effects.{Done, unless_refused, plan_of, block_done, executed_values, executed_pieces, executed}
 use Rattle.ng_block.specs.Faults.{path_faults}
 use Rattle.ng_block.specs.Goals.{Bearings, bearings_of, bearings_after, Goal, goal_with, goal_of, path_of, path_after_bearings}
 use Rattle.ng_block.specs.Order.{Plan}
@@ -38,9 +38,9 @@ then_ok (Err fault) next y e = absurd (cc e)
 pub same_ok : {X : Type 0} (x y : X) → (let found : Result X Fault = Ok x in found ≡ Ok y) → x ≡ y
 same_ok x y e = cc e
 
-lawful_ok : {X : Type 0} (found : Option Fault) (x y : X) → lawful found (Ok x) ≡ Ok y → (found ≡ None) × (x ≡ y)
-lawful_ok None x y e = (refl, cc e)
-lawful_ok (Some fault) x y e = absurd (cc e)
+unless_refused_ok : {X : Type 0} (found : Option Fault) (x y : X) → unless_refused found (Ok x) ≡ Ok y → (found ≡ None) × (x ≡ y)
+unless_refused_ok None x y e = (refl, cc e)
+unless_refused_ok (Some fault) x y e = absurd (cc e)
 
 -- ---- a line
 
@@ -50,72 +50,72 @@ pub record IsAccepted (s : StateModel) (tools : List ℤ) (geometry : Geometry) 
   pub values : Settled
   pub settled_is : settled_pieces line.pieces s.params ≡ Ok values
   pub block : Block
-  pub block_is : block ≡ block_of values.words s.machine.modes
+  pub block_is : block ≡ block_of values.words s.modal.modes
   pub goal : Goal
-  pub goal_is : goal_of block values.settings s tools geometry ≡ Ok goal
+  pub goal_is : goal_of block values.assignments s tools geometry ≡ Ok goal
   pub none : first_fault (path_faults goal.path geometry) ≡ None
   pub done_is : block_done block goal (remark_of (last_comment line.pieces)) s ≡ done
 
 -- the plan of its block
 abbrev pub plan_for : Block → Goal → List CanonModel → StateModel → Plan
 plan_for b goal remark s =
-    let mode = feed_mode_after b s.machine.modes in
-    plan_of remark (feed_set b mode goal.feed_per_min) (tasks_of b mode s.machine.outputs) goal s.machine
+    let mode = feed_mode_after b s.modal.modes in
+    plan_of remark (feed_set b mode goal.feed_per_min) (tasks_of b mode s.modal.outputs) goal s.modal
 
 pub accepted : (s : StateModel) (tools : List ℤ) (geometry : Geometry) (text : List ℕ) (done : Done) → executed s tools geometry text ≡ Ok done → IsAccepted s tools geometry text done
 unfolding executed executed_pieces executed_values
 accepted s tools geometry text done e =
     let line = then_ok (read text) (λ line. executed_pieces s line.pieces tools geometry) done e in
     let values = then_ok (settled_pieces line.0.pieces s.params) (λ values. executed_values s (remark_of (last_comment line.0.pieces)) values tools geometry) done line.2 in
-    let block = then_ok (checked values.0.words s.machine.modes (length tools)) (λ b.
-    and_then (goal_of b values.0.settings s tools geometry) (λ goal.
-    lawful (first_fault (path_faults goal.path geometry)) (Ok (block_done b goal (remark_of (last_comment line.0.pieces)) s)))) done values.2 in
-    let goal = then_ok (goal_of block.0 values.0.settings s tools geometry) (λ goal.
-    lawful (first_fault (path_faults goal.path geometry)) (Ok (block_done block.0 goal (remark_of (last_comment line.0.pieces)) s))) done block.2 in
-    let lawful' = lawful_ok (first_fault (path_faults goal.0.path geometry)) (block_done block.0 goal.0 (remark_of (last_comment line.0.pieces)) s) done goal.2 in
+    let block = then_ok (checked values.0.words s.modal.modes (length tools)) (λ b.
+    and_then (goal_of b values.0.assignments s tools geometry) (λ goal.
+    unless_refused (first_fault (path_faults goal.path geometry)) (Ok (block_done b goal (remark_of (last_comment line.0.pieces)) s)))) done values.2 in
+    let goal = then_ok (goal_of block.0 values.0.assignments s tools geometry) (λ goal.
+    unless_refused (first_fault (path_faults goal.path geometry)) (Ok (block_done block.0 goal (remark_of (last_comment line.0.pieces)) s))) done block.2 in
+    let unrefused = unless_refused_ok (first_fault (path_faults goal.0.path geometry)) (block_done block.0 goal.0 (remark_of (last_comment line.0.pieces)) s) done goal.2 in
     record {
       line = line.0;
       read_is = line.1;
       values = values.0;
       settled_is = values.1;
       block = block.0;
-      block_is = sym (unless_ok (first_fault (faults values.0.words s.machine.modes (length tools))) (block_of values.0.words s.machine.modes) block.0 block.1).1;
+      block_is = sym (unless_ok (first_fault (faults values.0.words s.modal.modes (length tools))) (block_of values.0.words s.modal.modes) block.0 block.1).1;
       goal = goal.0;
       goal_is = goal.1;
-      none = lawful'.0;
-      done_is = lawful'.1;
+      none = unrefused.0;
+      done_is = unrefused.1;
     }
 
 -- ---- its goal
 
-pub record IsReached (b : Block) (settings : List Change) (s : StateModel) (tools : List ℤ) (geometry : Geometry) (goal : Goal) : Type 0 where
+pub record IsReached (b : Block) (assignments : List Change) (s : StateModel) (tools : List ℤ) (geometry : Geometry) (goal : Goal) : Type 0 where
   pub feed : ℤ
   pub at : Bearings
-  pub path_found : path_of b s.machine at.offsets (with_changes s.params settings) feed geometry ≡ Ok goal.path
+  pub path_found : path_of b s.modal at.offsets (with_changes s.params assignments) feed geometry ≡ Ok goal.path
   pub move : Move
-  pub move_is : move_by b s.machine at.offsets (with_changes s.params settings) feed ≡ Ok move
-  pub path_found_by : path_by s.machine.point geometry move ≡ Ok goal.path
-  pub kept_is : kept_of b s.machine ≡ Ok goal.kept
+  pub move_is : move_by b s.modal at.offsets (with_changes s.params assignments) feed ≡ Ok move
+  pub path_found_by : path_by s.modal.point geometry move ≡ Ok goal.path
+  pub kept_is : kept_of b s.modal ≡ Ok goal.kept
   pub goal_is : goal_with feed (bearings_after b s.params at) goal.path goal.kept ≡ goal
 
-pub reached : (b : Block) (settings : List Change) (s : StateModel) (tools : List ℤ) (geometry : Geometry) (goal : Goal) → goal_of b settings s tools geometry ≡ Ok goal → IsReached b settings s tools geometry goal
-reached b settings s tools geometry goal e =
-    let table = with_changes s.params settings in
-    let feed = then_ok (feed_of b s.machine) (λ feed.
-    and_then (path_after_bearings b settings s tools feed geometry) (λ way.
-    and_then (kept_of b s.machine) (λ kept. Ok (goal_with feed (bearings_after b s.params way.0) way.1 kept)))) goal e in
-    let way = then_ok (path_after_bearings b settings s tools feed.0 geometry) (λ way.
-    and_then (kept_of b s.machine) (λ kept. Ok (goal_with feed.0 (bearings_after b s.params way.0) way.1 kept))) goal feed.2 in
-    let kept = then_ok (kept_of b s.machine) (λ kept. Ok (goal_with feed.0 (bearings_after b s.params way.0.0) way.0.1 kept)) goal way.2 in
-    let at = then_ok (bearings_of b settings s tools) (λ at. and_then (path_of b s.machine at.offsets table feed.0 geometry) (λ path. Ok (at, path))) way.0 way.1 in
-    let path = then_ok (path_of b s.machine at.0.offsets table feed.0 geometry) (λ path. Ok (at.0, path)) way.0 at.2 in
+pub reached : (b : Block) (assignments : List Change) (s : StateModel) (tools : List ℤ) (geometry : Geometry) (goal : Goal) → goal_of b assignments s tools geometry ≡ Ok goal → IsReached b assignments s tools geometry goal
+reached b assignments s tools geometry goal e =
+    let table = with_changes s.params assignments in
+    let feed = then_ok (feed_of b s.modal) (λ feed.
+    and_then (path_after_bearings b assignments s tools feed geometry) (λ way.
+    and_then (kept_of b s.modal) (λ kept. Ok (goal_with feed (bearings_after b s.params way.0) way.1 kept)))) goal e in
+    let way = then_ok (path_after_bearings b assignments s tools feed.0 geometry) (λ way.
+    and_then (kept_of b s.modal) (λ kept. Ok (goal_with feed.0 (bearings_after b s.params way.0) way.1 kept))) goal feed.2 in
+    let kept = then_ok (kept_of b s.modal) (λ kept. Ok (goal_with feed.0 (bearings_after b s.params way.0.0) way.0.1 kept)) goal way.2 in
+    let at = then_ok (bearings_of b assignments s tools) (λ at. and_then (path_of b s.modal at.offsets table feed.0 geometry) (λ path. Ok (at, path))) way.0 way.1 in
+    let path = then_ok (path_of b s.modal at.0.offsets table feed.0 geometry) (λ path. Ok (at.0, path)) way.0 at.2 in
     let both : Bearings × Path = (at.0, path.0) in
     let way_is : both ≡ way.0 = same_ok both way.0 path.2 in
     let made = goal_with feed.0 (bearings_after b s.params way.0.0) way.0.1 kept.0 in
     let same : made ≡ goal = same_ok made goal kept.2 in
     let there : path.0 ≡ goal.path = ap (λ (w : Bearings × Path). w.1) way_is ∙ ap (λ (g : Goal). g.path) same in
-    let found : path_of b s.machine at.0.offsets table feed.0 geometry ≡ Ok goal.path = path.1 ∙ ap {B = Result Path Fault} Ok there in
-    let move = then_ok (move_by b s.machine at.0.offsets table feed.0) (path_by s.machine.point geometry) goal.path (sym (path_is b s.machine at.0.offsets table feed.0 geometry) ∙ found) in
+    let found : path_of b s.modal at.0.offsets table feed.0 geometry ≡ Ok goal.path = path.1 ∙ ap {B = Result Path Fault} Ok there in
+    let move = then_ok (move_by b s.modal at.0.offsets table feed.0) (path_by s.modal.point geometry) goal.path (sym (path_is b s.modal at.0.offsets table feed.0 geometry) ∙ found) in
     record {
       feed = feed.0;
       at = at.0;

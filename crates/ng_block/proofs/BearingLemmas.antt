@@ -1,4 +1,4 @@
--- A block without a word for offsets or of group 0 leaves the offsets as they are, and sets what its settings set.
+-- A block without a word for offsets or of group 0 leaves the offsets as they are, and sets what its assignments set.
 use Rattle.std.proofs.Common.{◌≡◌, ℕ, ℤ, true, Option, Some, None, Ok, List, refl}
 use Rattle.std.specs.Prelude.{not, ◌||◌}
 use Rattle.std.specs.Option.{is_some}
@@ -7,7 +7,7 @@ use Rattle.ng_modal.specs.declared.asks.NonModal.{NonModal}
 use Rattle.ng_modal.specs.declared.asks.ToolLength.{ToolLength}
 use Rattle.ng_modal.specs.declared.block.Block.{Block}
 use Rattle.ng_offsets.specs.declared.offsets.Offsets.{Offsets}
-use Rattle.ng_state.specs.declared.machine.Machine.{Machine}
+use Rattle.ng_state.specs.declared.modal_state.ModalState.{ModalState}
 use Rattle.ng_block.specs.Blocks.{end_of, straight_end_of}
 use Rattle.ng_block.specs.Goals.{bearings_of}
 use Rattle.ng_state.specs.State.{StateModel}
@@ -25,12 +25,12 @@ missing (Some _) system word h = absurd (cc h)
 missing None (Some _) word h = absurd (cc h)
 missing None None (Some _) h = absurd (cc h)
 
-pub bearings_kept : (b : Block) (settings : List Change) (s : StateModel) (lengths : List ℤ) → keeps_offsets b ≡ true →
-    bearings_of b settings s lengths ≡ Ok (record { offsets = s.machine.offsets; shown = nothing_shown; changes = settings })
-bearings_kept b settings s lengths h =
+pub bearings_kept : (b : Block) (assignments : List Change) (s : StateModel) (lengths : List ℤ) → keeps_offsets b ≡ true →
+    bearings_of b assignments s lengths ≡ Ok (record { offsets = s.modal.offsets; shown = nothing_shown; changes = assignments })
+bearings_kept b assignments s lengths h =
     let n = missing b.g.tool_length b.g.system b.g.non_modal h in
     rw (n.length_is, n.system_is, n.word_is) refl
 
 -- and it isn't under G53
-pub end_kept : (b : Block) (m : Machine) (o : Offsets) → keeps_offsets b ≡ true → straight_end_of b m o ≡ end_of b m o
+pub end_kept : (b : Block) (m : ModalState) (o : Offsets) → keeps_offsets b ≡ true → straight_end_of b m o ≡ end_of b m o
 end_kept b m o h = let n = missing b.g.tool_length b.g.system b.g.non_modal h in rw (n.word_is) refl

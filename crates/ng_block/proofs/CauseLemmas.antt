@@ -36,7 +36,7 @@ use Rattle.ng_cycles.specs.Faults as cycle
 use Rattle.ng_cycles.specs.declared.drill.Drill.{Drill}
 use Rattle.ng_state.specs.declared.kept_words.KeptWords.{KeptWords}
 use Rattle.ng_cycles.specs.declared.words.CycleKind.{CycleKind}
-use Rattle.ng_state.specs.declared.machine.Machine.{Machine}
+use Rattle.ng_state.specs.declared.modal_state.ModalState.{ModalState}
 use Rattle.ng_block.specs.declared.path.Path.{Path}
 use Rattle.ng_block.specs.declared.path.Path.TheVariants as path
 use Rattle.ng_block.specs.declared.shifts.Shifted.{Shifted}
@@ -44,8 +44,8 @@ use Rattle.ng_block.specs.Arcs.{turn_of, centre_offsets_on, asked_by, turned_whe
 use Rattle.ng_block.specs.Asked.{written_on, pieces_in, values_of, offsets_found, Move, Stays, Goes, Turns, GoesHome, Drills, straight, round, in_cycle, homeward, pace_of, move_by}
 use Rattle.ng_block.specs.Blocks.{feed_of, end_of, straight_end_of}
 use Rattle.ng_block.specs.Causes.{value_cause, value_causes, reaches_far, computes_beyond, arc_faults, cycle_faults, has_no_feed, goes_outside, causes}
-use Rattle.ng_block.specs.Cycles.{kind_of, kept_for, kept_where, kept_of, own_words, cycle_words, setting_of, cycle_where, cycle_path}
-use Rattle.ng_block.specs.Effects.{Done, lawful, block_done, executed_values, executed_pieces, executed}
+use Rattle.ng_block.specs.Cycles.{kind_of, kept_for, kept_where, kept_of, own_words, cycle_words, context_of, cycle_where, cycle_path}
+use Rattle.ng_block.specs.Effects.{Done, unless_refused, block_done, executed_values, executed_pieces, executed}
 use Rattle.ng_block.specs.Faults.{path_faults}
 use Rattle.ng_block.specs.Goals.{Bearings, storing, selecting, Goal, goal_with, bearings_after, straight_to, path_of}
 use Rattle.ng_block.specs.Homes.{home_on, home_path}
@@ -71,9 +71,9 @@ stage : {X Y : Type 0} (found : Option Fault) (x : X) (next : X → Result Y Fau
 stage None x next front rest e h = h ∙ sym (first_none front rest (sym e))
 stage (Some fault) x next front rest e h = sym (first_some front rest fault (sym e))
 
-lawful_err : {X : Type 0} (found : Option Fault) (x : X) → result_err (lawful found (Ok x)) ≡ found
-lawful_err None x = refl
-lawful_err (Some fault) x = refl
+unless_refused_err : {X : Type 0} (found : Option Fault) (x : X) → result_err (unless_refused found (Ok x)) ≡ found
+unless_refused_err None x = refl
+unless_refused_err (Some fault) x = refl
 
 -- ---- the path that a move becomes
 
@@ -99,32 +99,32 @@ either : {X Y : Type 0} (c : Bool) (a b : Result X Fault) (a' b' : Result Y Faul
 either true a b a' b' next p q = p
 either false a b a' b' next p q = q
 
-round_is : (turn : Option ArcDirection) (b : Block) (m : Machine) (o : Offsets) (feed : ℤ) (geometry : Geometry) →
+round_is : (turn : Option ArcDirection) (b : Block) (m : ModalState) (o : Offsets) (feed : ℤ) (geometry : Geometry) →
     turned_where turn b m o feed ≡ and_then (round turn b m o feed) (path_by m.point geometry)
 unfolding path_by
 round_is None b m o feed geometry = refl
 round_is (Some turn) b m o feed geometry =
     after_two (end_of b m o) (λ _. centre_offsets_on b m.modes) (λ end offsets. Turns (pace_of b m feed) (asked_by b m turn end offsets (pace_of b m feed))) (path_by m.point geometry)
 
-in_cycle_is : (kind : Option CycleKind) (b : Block) (m : Machine) (o : Offsets) (feed : ℤ) (geometry : Geometry) →
+in_cycle_is : (kind : Option CycleKind) (b : Block) (m : ModalState) (o : Offsets) (feed : ℤ) (geometry : Geometry) →
     cycle_where kind b m o feed geometry ≡ and_then (in_cycle kind b m o feed) (path_by m.point geometry)
 unfolding path_by
 in_cycle_is None b m o feed geometry = refl
 in_cycle_is (Some kind) b m o feed geometry =
-    after_two (own_words b m.modes) (λ own. cycle_words b m.modes kind own) (λ own words. Drills words (setting_of b m o feed (kept_for kind m))) (path_by m.point geometry)
+    after_two (own_words b m.modes) (λ own. cycle_words b m.modes kind own) (λ own words. Drills words (context_of b m o feed (kept_for kind m))) (path_by m.point geometry)
 
-homeward_is : (home : Option Point) (b : Block) (m : Machine) (o : Offsets) (geometry : Geometry) →
+homeward_is : (home : Option Point) (b : Block) (m : ModalState) (o : Offsets) (geometry : Geometry) →
     home_path b m o home ≡ and_then (homeward home b m o) (path_by m.point geometry)
 unfolding path_by
 homeward_is None b m o geometry = refl
 homeward_is (Some home) b m o geometry = either (has_axis b.values) _ _ _ _ (path_by m.point geometry) (after_one (end_of b m o) (λ between. GoesHome between home) (path_by m.point geometry)) refl
 
-straight_is : (b : Block) (m : Machine) (o : Offsets) (feed : ℤ) (geometry : Geometry) →
+straight_is : (b : Block) (m : ModalState) (o : Offsets) (feed : ℤ) (geometry : Geometry) →
     and_then (straight_end_of b m o) (λ end. Ok (straight_to b m feed end)) ≡ and_then (straight b m o feed) (path_by m.point geometry)
 unfolding path_by
 straight_is b m o feed geometry = after_one (straight_end_of b m o) (λ end. Goes (pace_of b m feed) end) (path_by m.point geometry)
 
-pub path_is : (b : Block) (m : Machine) (o : Offsets) (table : List ℤ) (feed : ℤ) (geometry : Geometry) →
+pub path_is : (b : Block) (m : ModalState) (o : Offsets) (table : List ℤ) (feed : ℤ) (geometry : Geometry) →
     path_of b m o table feed geometry ≡ and_then (move_by b m o table feed) (path_by m.point geometry)
 unfolding path_along_arc cycle_path
 path_is b m o table feed geometry =
@@ -141,13 +141,13 @@ move_causes move geometry = arc_faults move ++ (cycle_faults move ++ ((has_no_fe
 
 -- what a path does, if its move has no fault
 abbrev moved : {X : Type 0} → Geometry → (Path → X) → Result Path Fault → Result X Fault
-moved geometry done found = and_then found (λ path. lawful (first_fault (path_faults path geometry)) (Ok (done path)))
+moved geometry done found = and_then found (λ path. unless_refused (first_fault (path_faults path geometry)) (Ok (done path)))
 
 turn_first : {X : Type 0} (pace : Option Pace) (asked : AskedArc) (geometry : Geometry) (done : Path → X) →
-    result_err (lawful (first_fault (path_faults (turning_at pace (arc_of asked)) geometry)) (Ok (done (turning_at pace (arc_of asked)))))
+    result_err (unless_refused (first_fault (path_faults (turning_at pace (arc_of asked)) geometry)) (Ok (done (turning_at pace (arc_of asked)))))
     ≡ first_fault ((has_no_feed (Turns pace asked), NoFeed) ∷ ((goes_outside (Turns pace asked) geometry, OutsideTravel) ∷ []))
 turn_first None asked geometry done = refl
-turn_first (Some pace) asked geometry done = lawful_err _ _
+turn_first (Some pace) asked geometry done = unless_refused_err _ _
 
 drill_first : {X : Type 0} (r : Result Drill Fault) (geometry : Geometry) (done : Path → X) →
     result_err (moved geometry done (and_then r (λ drill. Ok (path.Cycle drill)))) ≡ result_err r
@@ -168,8 +168,8 @@ move_first : {X : Type 0} (move : Move) (start : Point) (geometry : Geometry) (d
 unfolding path_by
 move_first Stays start geometry done = refl
 move_first (Goes None end) start geometry done = refl
-move_first (Goes (Some pace) end) start geometry done = lawful_err _ _
-move_first (GoesHome between home) start geometry done = lawful_err _ _
+move_first (Goes (Some pace) end) start geometry done = unless_refused_err _ _
+move_first (GoesHome between home) start geometry done = unless_refused_err _ _
 move_first (Turns pace asked) start geometry done =
     ap result_err (moved_turning (arc.checked asked) pace geometry done)
     ∙ stage (first_fault (arc.causes asked)) (arc_of asked) (λ arc. moved geometry done (Ok (turning_at pace arc))) (arc.causes asked)
@@ -215,7 +215,7 @@ own_found : (r : Result KeptWords Fault) (next : KeptWords → Result Move Fault
 own_found (Ok own) next keep move e = (keep own, refl)
 own_found (Err fault) next keep move e = absurd (cc e)
 
-kept_by_kind : (goes turns : Bool) (kind : Option CycleKind) (b : Block) (m : Machine) (o : Offsets) (feed : ℤ) (x y z : Result Move Fault) (move : Move) →
+kept_by_kind : (goes turns : Bool) (kind : Option CycleKind) (b : Block) (m : ModalState) (o : Offsets) (feed : ℤ) (x y z : Result Move Fault) (move : Move) →
     (goes ≡ true → kind ≡ None) → (turns ≡ true → kind ≡ None) →
     (if goes then x else if turns then y else if is_some kind then in_cycle kind b m o feed else z) ≡ Ok move →
     (kept : KeptWords) × (kept_where kind b m ≡ Ok kept)
@@ -224,13 +224,13 @@ kept_by_kind true turns (Some kind) b m o feed x y z move p q e = absurd (cc (p 
 kept_by_kind false true (Some kind) b m o feed x y z move p q e = absurd (cc (q refl))
 kept_by_kind false false (Some kind) b m o feed x y z move p q e = own_found (own_words b m.modes) _ _ move e
 
-kept_found : (b : Block) (m : Machine) (o : Offsets) (table : List ℤ) (feed : ℤ) (move : Move) → move_by b m o table feed ≡ Ok move → (kept : KeptWords) × (kept_of b m ≡ Ok kept)
+kept_found : (b : Block) (m : ModalState) (o : Offsets) (table : List ℤ) (feed : ℤ) (move : Move) → move_by b m o table feed ≡ Ok move → (kept : KeptWords) × (kept_of b m ≡ Ok kept)
 kept_found b m o table feed move e =
     kept_by_kind (is_straight b.motion) (is_arc b.motion) (kind_of b.motion) b m o feed _ _ _ move (straight_none b.motion) (arc_none b.motion) e
 
 -- what a valid goal does
 abbrev reached : Geometry → (Goal → Done) → Result Goal Fault → Result Done Fault
-reached geometry done found = and_then found (λ goal. lawful (first_fault (path_faults goal.path geometry)) (Ok (done goal)))
+reached geometry done found = and_then found (λ goal. unless_refused (first_fault (path_faults goal.path geometry)) (Ok (done goal)))
 
 -- the goal, from its path and its kept words
 abbrev goal_found : Block → StateModel → ℤ → Bearings → Result Path Fault → Result KeptWords Fault → Result Goal Fault
@@ -244,7 +244,7 @@ goal_first b s feed at geometry done (Err fault) kept r e = refl
 
 -- once the feed and the offsets are found
 way_first : (b : Block) (s : StateModel) (feed : ℤ) (at : Bearings) (geometry : Geometry) (done : Goal → Done) (r : Result Move Fault) (paths : Result Path Fault) (kept : Result KeptWords Fault) →
-    OnlyFar r → paths ≡ and_then r (path_by s.machine.point geometry) → ((move : Move) → r ≡ Ok move → (words : KeptWords) × (kept ≡ Ok words)) →
+    OnlyFar r → paths ≡ and_then r (path_by s.modal.point geometry) → ((move : Move) → r ≡ Ok move → (words : KeptWords) × (kept ≡ Ok words)) →
     result_err (reached geometry done (goal_found b s feed at paths kept))
     ≡ first_fault ((is_err r || reaches_far (result_unwrap_or r Stays), OutOfRange) ∷ move_causes (result_unwrap_or r Stays) geometry)
 way_first b s feed at geometry done (Err fault) paths kept far is words =
@@ -252,28 +252,28 @@ way_first b s feed at geometry done (Err fault) paths kept far is words =
 way_first b s feed at geometry done (Ok move) paths kept far is words =
     let found = words move refl in
     ap (λ (p : Result Path Fault). result_err (reached geometry done (goal_found b s feed at p kept))) is
-    ∙ goal_first b s feed at geometry done (path_by s.machine.point geometry move) found.0 kept found.1
-    ∙ move_first move s.machine.point geometry _
+    ∙ goal_first b s feed at geometry done (path_by s.modal.point geometry move) found.0 kept found.1
+    ∙ move_first move s.modal.point geometry _
 
 -- the whole goal
 abbrev goal_by_parts : Block → List Change → StateModel → Result ℤ Fault → Result Shifted Fault → (Offsets → ℤ → Result Path Fault) → Result KeptWords Fault → Result Goal Fault
-goal_by_parts b settings s feeds shifts paths kept =
+goal_by_parts b assignments s feeds shifts paths kept =
     and_then feeds (λ feed.
-    and_then {X = Bearings × Path} (and_then {X = Bearings} (and_then shifts (λ at. Ok (record { offsets = at.offsets; shown = at.shown; changes = storing at.stored (selecting b.g.system settings) })))
+    and_then {X = Bearings × Path} (and_then {X = Bearings} (and_then shifts (λ at. Ok (record { offsets = at.offsets; shown = at.shown; changes = storing at.stored (selecting b.g.system assignments) })))
     (λ at. and_then (paths at.offsets feed) (λ path. Ok (at, path))))
     (λ way. and_then kept (λ kept. Ok (goal_with feed (bearings_after b s.params way.0) way.1 kept))))
 
-parts_first : (b : Block) (settings : List Change) (s : StateModel) (geometry : Geometry) (done : Goal → Done)
+parts_first : (b : Block) (assignments : List Change) (s : StateModel) (geometry : Geometry) (done : Goal → Done)
     (feeds : Result ℤ Fault) (shifts : Result Shifted Fault) (moves : Offsets → ℤ → Result Move Fault) (paths : Offsets → ℤ → Result Path Fault) (kept : Result KeptWords Fault) →
     OnlyFar feeds → OnlyFar shifts → ((o : Offsets) (feed : ℤ) → OnlyFar (moves o feed)) →
-    ((o : Offsets) (feed : ℤ) → paths o feed ≡ and_then (moves o feed) (path_by s.machine.point geometry)) →
+    ((o : Offsets) (feed : ℤ) → paths o feed ≡ and_then (moves o feed) (path_by s.modal.point geometry)) →
     ((o : Offsets) (feed : ℤ) (move : Move) → moves o feed ≡ Ok move → (words : KeptWords) × (kept ≡ Ok words)) →
-    result_err (reached geometry done (goal_by_parts b settings s feeds shifts paths kept))
-    ≡ (let found = moves (offsets_found shifts s.machine.offsets) (result_unwrap_or feeds s.machine.feed_per_min) in
+    result_err (reached geometry done (goal_by_parts b assignments s feeds shifts paths kept))
+    ≡ (let found = moves (offsets_found shifts s.modal.offsets) (result_unwrap_or feeds s.modal.feed_per_min) in
     first_fault ((is_err feeds || (is_err shifts || (is_err found || reaches_far (result_unwrap_or found Stays))), OutOfRange) ∷ move_causes (result_unwrap_or found Stays) geometry))
-parts_first b settings s geometry done (Err fault) shifts moves paths kept far_f far_s far_m is words = ap {B = Option Fault} Some (far_f.fault_is fault refl)
-parts_first b settings s geometry done (Ok feed) (Err fault) moves paths kept far_f far_s far_m is words = ap {B = Option Fault} Some (far_s.fault_is fault refl)
-parts_first b settings s geometry done (Ok feed) (Ok at) moves paths kept far_f far_s far_m is words =
+parts_first b assignments s geometry done (Err fault) shifts moves paths kept far_f far_s far_m is words = ap {B = Option Fault} Some (far_f.fault_is fault refl)
+parts_first b assignments s geometry done (Ok feed) (Err fault) moves paths kept far_f far_s far_m is words = ap {B = Option Fault} Some (far_s.fault_is fault refl)
+parts_first b assignments s geometry done (Ok feed) (Ok at) moves paths kept far_f far_s far_m is words =
     way_first b s feed _ geometry done (moves at.offsets feed) (paths at.offsets feed) kept (far_m at.offsets feed) (is at.offsets feed) (words at.offsets feed)
 
 -- ---- the stages of a line
@@ -281,33 +281,33 @@ parts_first b settings s geometry done (Ok feed) (Ok at) moves paths kept far_f 
 -- E3 of what is computed, and the causes after it
 abbrev block_causes : Block → StateModel → List ℤ → List ℤ → Geometry → Causes
 block_causes b s table tools geometry =
-    let found = move_by b s.machine (offsets_found (shift_of b s.machine table tools) s.machine.offsets) table (result_unwrap_or (feed_of b s.machine) s.machine.feed_per_min) in
-    (computes_beyond b s.machine table tools, OutOfRange) ∷ move_causes (result_unwrap_or found Stays) geometry
+    let found = move_by b s.modal (offsets_found (shift_of b s.modal table tools) s.modal.offsets) table (result_unwrap_or (feed_of b s.modal) s.modal.feed_per_min) in
+    (computes_beyond b s.modal table tools, OutOfRange) ∷ move_causes (result_unwrap_or found Stays) geometry
 
 abbrev causes_of_values : StateModel → Settled → List ℤ → Geometry → Causes
 causes_of_values s values tools geometry =
-    let b = block_of values.words s.machine.modes in
-    faults values.words s.machine.modes (length tools) ++ block_causes b s (with_changes s.params values.settings) tools geometry
+    let b = block_of values.words s.modal.modes in
+    faults values.words s.modal.modes (length tools) ++ block_causes b s (with_changes s.params values.assignments) tools geometry
 
 abbrev causes_of_pieces : StateModel → List Piece → List ℤ → Geometry → Causes
 causes_of_pieces s pieces tools geometry = value_causes pieces s.params ++ causes_of_values s (values_of pieces s.params) tools geometry
 
-block_first : (b : Block) (settings : List Change) (s : StateModel) (tools : List ℤ) (geometry : Geometry) (done : Goal → Done) →
-    result_err (reached geometry done (goal_by_parts b settings s (feed_of b s.machine) (shift_of b s.machine (with_changes s.params settings) tools) (λ o feed. path_of b s.machine o (with_changes s.params settings) feed geometry) (kept_of b s.machine)))
-    ≡ first_fault (block_causes b s (with_changes s.params settings) tools geometry)
-block_first b settings s tools geometry done =
-    let table = with_changes s.params settings in
-    parts_first b settings s geometry done (feed_of b s.machine) (shift_of b s.machine table tools) (λ o feed. move_by b s.machine o table feed) (λ o feed. path_of b s.machine o table feed geometry) (kept_of b s.machine)
-    (far_feed b s.machine) (far_shift b s.machine table tools) (λ o feed. far_move b s.machine o table feed)
-    (λ o feed. path_is b s.machine o table feed geometry) (λ o feed. kept_found b s.machine o table feed)
+block_first : (b : Block) (assignments : List Change) (s : StateModel) (tools : List ℤ) (geometry : Geometry) (done : Goal → Done) →
+    result_err (reached geometry done (goal_by_parts b assignments s (feed_of b s.modal) (shift_of b s.modal (with_changes s.params assignments) tools) (λ o feed. path_of b s.modal o (with_changes s.params assignments) feed geometry) (kept_of b s.modal)))
+    ≡ first_fault (block_causes b s (with_changes s.params assignments) tools geometry)
+block_first b assignments s tools geometry done =
+    let table = with_changes s.params assignments in
+    parts_first b assignments s geometry done (feed_of b s.modal) (shift_of b s.modal table tools) (λ o feed. move_by b s.modal o table feed) (λ o feed. path_of b s.modal o table feed geometry) (kept_of b s.modal)
+    (far_feed b s.modal) (far_shift b s.modal table tools) (λ o feed. far_move b s.modal o table feed)
+    (λ o feed. path_is b s.modal o table feed geometry) (λ o feed. kept_found b s.modal o table feed)
 
 values_first : (s : StateModel) (remark : List CanonModel) (values : Settled) (tools : List ℤ) (geometry : Geometry) →
     result_err (executed_values s remark values tools geometry) ≡ first_fault (causes_of_values s values tools geometry)
 unfolding executed_values
 values_first s remark values tools geometry =
-    let b = block_of values.words s.machine.modes in
-    stage (first_fault (faults values.words s.machine.modes (length tools))) b _ (faults values.words s.machine.modes (length tools)) (block_causes b s (with_changes s.params values.settings) tools geometry) refl
-    (block_first b values.settings s tools geometry (λ goal. block_done b goal remark s))
+    let b = block_of values.words s.modal.modes in
+    stage (first_fault (faults values.words s.modal.modes (length tools))) b _ (faults values.words s.modal.modes (length tools)) (block_causes b s (with_changes s.params values.assignments) tools geometry) refl
+    (block_first b values.assignments s tools geometry (λ goal. block_done b goal remark s))
 
 -- the values of the pieces, if each has one
 followed_if_ok_is : (first : Settled) (found : Option Fault) (rest : Settled) → and_then (unless found rest) (λ b. Ok (followed first b)) ≡ unless found (followed first rest)

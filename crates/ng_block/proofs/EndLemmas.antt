@@ -26,7 +26,7 @@ use Rattle.ng_state.specs.KeptWords.{no_words, in_force}
 use Rattle.ng_state.specs.declared.kept_words.KeptWords.{KeptWords}
 use Rattle.ng_cycles.specs.declared.words.CycleKind.{CycleKind}
 use Rattle.ng_block.specs.declared.effect.ProgramFlow.TheVariants.{Ends}
-use Rattle.ng_state.specs.declared.machine.Machine.{Machine}
+use Rattle.ng_state.specs.declared.modal_state.ModalState.{ModalState}
 use Rattle.ng_block.specs.declared.path.Path.{Path}
 use Rattle.ng_block.specs.declared.path.Path.TheVariants.{Still}
 use Rattle.ng_block.specs.Cycles.{kind_of, own_words, kept_for, kept_beside, kept_where}
@@ -64,7 +64,7 @@ no_home (Some Dwell) table e = refl
 no_home (Some Home) table e = absurd (cc e)
 no_home (Some SecondHome) table e = absurd (cc e)
 
-stays : (b : Block) (m : Machine) (o : Offsets) (table : List ℤ) (feed : ℤ) (geometry : Geometry) → b.motion ≡ None → home_on b.g.non_modal table ≡ None →
+stays : (b : Block) (m : ModalState) (o : Offsets) (table : List ℤ) (feed : ℤ) (geometry : Geometry) → b.motion ≡ None → home_on b.g.non_modal table ≡ None →
     path_of b m o table feed geometry ≡ Ok Still
 stays b m o table feed geometry e h = rw (e, h) refl
 
@@ -74,19 +74,19 @@ same_block s tools geometry text done b a asks =
     let line : asks.line ≡ a.line = same_ok asks.line a.line (sym ((reads_iff text asks.line).1 asks.is_line) ∙ a.read_is) in
     let values : asks.values ≡ a.values =
     same_ok asks.values a.values (sym asks.have_values ∙ ap (λ (w : ParsedLine). settled_pieces w.pieces s.params) line ∙ a.settled_is) in
-    asks.block_is ∙ ap (λ (v : Settled). block_of v.words s.machine.modes) values ∙ sym a.block_is
+    asks.block_is ∙ ap (λ (v : Settled). block_of v.words s.modal.modes) values ∙ sym a.block_is
 
 pub alone : (s : StateModel) (tools : List ℤ) (geometry : Geometry) (text : List ℕ) (done : Done) (b : Block) → executed s tools geometry text ≡ Ok done → AsksFor s text b → SetsOffsetsAlone b →
-    done.setup.machine.point ≡ s.machine.point
+    done.setup.modal.point ≡ s.modal.point
 alone s tools geometry text done b e asks h =
     let a = accepted s tools geometry text done e in
-    let g = reached a.block a.values.settings s tools geometry a.goal a.goal_is in
-    let motion : b.motion ≡ None = ap (λ (x : Block). x.motion) asks.block_is ∙ no_motion asks.values.words s.machine.modes (subst SetsOffsetsAlone asks.block_is h) in
-    let table = with_changes s.params a.values.settings in
-    let path : path_of b s.machine g.at.offsets table g.feed geometry ≡ Ok Still = stays b s.machine g.at.offsets table g.feed geometry motion (no_home b.g.non_modal table h.no_way_home) in
+    let g = reached a.block a.values.assignments s tools geometry a.goal a.goal_is in
+    let motion : b.motion ≡ None = ap (λ (x : Block). x.motion) asks.block_is ∙ no_motion asks.values.words s.modal.modes (subst SetsOffsetsAlone asks.block_is h) in
+    let table = with_changes s.params a.values.assignments in
+    let path : path_of b s.modal g.at.offsets table g.feed geometry ≡ Ok Still = stays b s.modal g.at.offsets table g.feed geometry motion (no_home b.g.non_modal table h.no_way_home) in
     let same : a.goal.path ≡ Still =
-    same_ok a.goal.path Still (sym g.path_found ∙ ap (λ (x : Block). path_of x s.machine g.at.offsets table g.feed geometry) (sym (same_block s tools geometry text done b a asks)) ∙ path) in
-    ap (λ (d : Done). d.setup.machine.point) (sym a.done_is) ∙ ap (λ (p : Path). point_after p s.machine.point) same
+    same_ok a.goal.path Still (sym g.path_found ∙ ap (λ (x : Block). path_of x s.modal g.at.offsets table g.feed geometry) (sym (same_block s tools geometry text done b a asks)) ∙ path) in
+    ap (λ (d : Done). d.setup.modal.point) (sym a.done_is) ∙ ap (λ (p : Path). point_after p s.modal.point) same
 
 -- ---- the program's end
 
@@ -118,7 +118,7 @@ dropped_words true c kept e = refl
 dropped_words false true kept e = refl
 dropped_words false false kept e = absurd (cc e)
 
-kept_none : (kind : Option CycleKind) (b : Block) (m : Machine) (kept : KeptWords) → ends b.m.stop ≡ true → kept_where kind b m ≡ Ok kept → kept ≡ no_words
+kept_none : (kind : Option CycleKind) (b : Block) (m : ModalState) (kept : KeptWords) → ends b.m.stop ≡ true → kept_where kind b m ≡ Ok kept → kept ≡ no_words
 kept_none None b m kept e h = sym (same_ok (kept_beside b m) kept h) ∙ dropped_words (is_some b.g.motion) (ends b.m.stop) m.kept e
 kept_none (Some kind) b m kept e h =
     let own = then_ok (own_words b m.modes) (λ own. Ok (if ends b.m.stop then no_words else in_force own (kept_for kind m))) kept h in
@@ -129,7 +129,7 @@ pub ended_by : (s : StateModel) (tools : List ℤ) (geometry : Geometry) (text :
 ended_by s tools geometry text done all e stop =
     let a = accepted s tools geometry text done e in
     let b = a.block in
-    let g = reached b a.values.settings s tools geometry a.goal a.goal_is in
+    let g = reached b a.values.assignments s tools geometry a.goal a.goal_is in
     let end : ends b.m.stop ≡ true = ends_is b.m.stop (ap (λ (d : Done). d.stop) a.done_is ∙ stop) in
     let after = after_end b s.params g.at end in
     let offsets : a.goal.offsets ≡ (ended s.params g.at).offsets = ap (λ (x : Goal). x.offsets) (sym g.goal_is) ∙ ap (λ (w : Bearings). w.offsets) after in
@@ -148,5 +148,5 @@ ended_by s tools geometry text done all e stop =
       m9_mist = rw end refl;
       m9_flood = rw end refl;
       g1 = rw end refl;
-      no_cycle = kept_none (kind_of b.motion) b s.machine a.goal.kept end g.kept_is;
+      no_cycle = kept_none (kind_of b.motion) b s.modal a.goal.kept end g.kept_is;
     })

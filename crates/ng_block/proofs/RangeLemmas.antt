@@ -28,7 +28,7 @@ use Rattle.ng_offsets.specs.Points.{shift_x, shift_y, shift_z, point_of}
 use Rattle.ng_offsets.specs.declared.named.Named.{Named}
 use Rattle.ng_offsets.specs.declared.offsets.Offsets.{Offsets}
 use Rattle.ng_cycles.specs.declared.words.CycleKind.{CycleKind}
-use Rattle.ng_state.specs.declared.machine.Machine.{Machine}
+use Rattle.ng_state.specs.declared.modal_state.ModalState.{ModalState}
 use Rattle.ng_block.specs.Arcs.{turn_of, centre_offsets_on}
 use Rattle.ng_block.specs.Asked.{straight, round, in_cycle, homeward, move_by}
 use Rattle.ng_block.specs.AxisData.{unit_after, no_axis_data, named_on, system_after, with_system, with_origin, with_offset, axis_data_by, axis_data_of, offsets_after}
@@ -84,7 +84,7 @@ far_coordinate (Some word) unit distance shift machine =
     far_then (in_range (nm_of word unit)) _ (far_in_range (nm_of word unit)) (λ length.
     far_then (program_coordinate distance (machine -ℤ shift) length) _ (far_program distance (machine -ℤ shift) length) (λ program. far_in_range (program +ℤ shift)))
 
-far_end : (b : Block) (m : Machine) (o : Offsets) → OnlyFar (end_of b m o)
+far_end : (b : Block) (m : ModalState) (o : Offsets) → OnlyFar (end_of b m o)
 far_end b m o =
     let unit = unit_after b m.modes in
     let distance = unwrap_or b.g.distance m.modes.distance in
@@ -95,7 +95,7 @@ far_end b m o =
 far_named_on : (b : Block) (m : Modes) → OnlyFar (named_on b m)
 far_named_on b m = far_named b.values.x b.values.y b.values.z (unit_after b m)
 
-far_straight_end : (b : Block) (m : Machine) (o : Offsets) → OnlyFar (straight_end_of b m o)
+far_straight_end : (b : Block) (m : ModalState) (o : Offsets) → OnlyFar (straight_end_of b m o)
 far_straight_end b m o = far_if (is_machine b.g.non_modal) _ _ (far_then (named_on b m.modes) _ (far_named_on b m.modes) (λ _. found _)) (far_end b m o)
 
 -- ---- the feed
@@ -104,7 +104,7 @@ far_feed_by : (f : Option ℤ) (unit : LengthUnit) (old : ℤ) → OnlyFar (feed
 far_feed_by None unit old = found _
 far_feed_by (Some f) unit old = far_in_range (nm_of f unit)
 
-pub far_feed : (b : Block) (m : Machine) → OnlyFar (feed_of b m)
+pub far_feed : (b : Block) (m : ModalState) → OnlyFar (feed_of b m)
 far_feed b m = far_feed_by (feed_word (feed_mode_after b m.modes) b.values.f) m.modes.unit m.feed_per_min
 
 -- ---- the offsets
@@ -178,7 +178,7 @@ far_axis_data (Some RestoreOffset) b m machine o table =
     let new : Offsets = record o { g92 = g92_stored table } in
     far_then (printed new) _ (far_printed new) (λ restored. found (record { new = Some restored; stored = None }))
 
-pub far_shift : (b : Block) (m : Machine) (table lengths : List ℤ) → OnlyFar (shift_of b m table lengths)
+pub far_shift : (b : Block) (m : ModalState) (table lengths : List ℤ) → OnlyFar (shift_of b m table lengths)
 far_shift b m table lengths =
     let o = offsets_after_length b.g.tool_length b.values.h lengths m.offsets in
     far_then (with_system b.g.system o table) _ (far_system b.g.system o table) (λ system.
@@ -192,26 +192,26 @@ far_own b m =
     far_then (length_by b.values.z (unit_after b m)) _ (far_length b.values.z (unit_after b m)) (λ _.
     far_then (length_by b.values.q (unit_after b m)) _ (far_length b.values.q (unit_after b m)) (λ _. found _)))
 
-far_straight : (b : Block) (m : Machine) (o : Offsets) (feed : ℤ) → OnlyFar (straight b m o feed)
+far_straight : (b : Block) (m : ModalState) (o : Offsets) (feed : ℤ) → OnlyFar (straight b m o feed)
 far_straight b m o feed = far_then (straight_end_of b m o) _ (far_straight_end b m o) (λ _. found _)
 
-far_round : (turn : Option ArcDirection) (b : Block) (m : Machine) (o : Offsets) (feed : ℤ) → OnlyFar (round turn b m o feed)
+far_round : (turn : Option ArcDirection) (b : Block) (m : ModalState) (o : Offsets) (feed : ℤ) → OnlyFar (round turn b m o feed)
 far_round None b m o feed = found _
 far_round (Some turn) b m o feed =
     far_then (end_of b m o) _ (far_end b m o) (λ _.
     far_then (centre_offsets_on b m.modes) _ (far_then (named_by b.values.i b.values.j b.values.k (unit_after b m.modes)) _ (far_named b.values.i b.values.j b.values.k (unit_after b m.modes)) (λ _. found _)) (λ _. found _))
 
-far_in_cycle : (kind : Option CycleKind) (b : Block) (m : Machine) (o : Offsets) (feed : ℤ) → OnlyFar (in_cycle kind b m o feed)
+far_in_cycle : (kind : Option CycleKind) (b : Block) (m : ModalState) (o : Offsets) (feed : ℤ) → OnlyFar (in_cycle kind b m o feed)
 far_in_cycle None b m o feed = found _
 far_in_cycle (Some kind) b m o feed =
     far_then (own_words b m.modes) _ (far_own b m.modes) (λ own.
     far_then (cycle_words b m.modes kind own) _ (far_then (named_on b m.modes) _ (far_named_on b m.modes) (λ _. found _)) (λ _. found _))
 
-far_homeward : (home : Option Point) (b : Block) (m : Machine) (o : Offsets) → OnlyFar (homeward home b m o)
+far_homeward : (home : Option Point) (b : Block) (m : ModalState) (o : Offsets) → OnlyFar (homeward home b m o)
 far_homeward None b m o = found _
 far_homeward (Some home) b m o = far_if (has_axis b.values) _ _ (far_then (end_of b m o) _ (far_end b m o) (λ _. found _)) (found _)
 
-pub far_move : (b : Block) (m : Machine) (o : Offsets) (table : List ℤ) (feed : ℤ) → OnlyFar (move_by b m o table feed)
+pub far_move : (b : Block) (m : ModalState) (o : Offsets) (table : List ℤ) (feed : ℤ) → OnlyFar (move_by b m o table feed)
 far_move b m o table feed =
     far_if (is_straight b.motion) _ _ (far_straight b m o feed)
     (far_if (is_arc b.motion) _ _ (far_round (turn_of b.motion) b m o feed)

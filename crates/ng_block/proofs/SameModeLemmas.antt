@@ -71,17 +71,17 @@ modes_of_same one other m same =
     })
 
 modes_left : (s : StateModel) (tools : List ℤ) (geometry : Geometry) (text : List ℕ) (done : Done) (b : Block) → executed s tools geometry text ≡ Ok done → AsksFor s text b
-    → done.setup.machine.modes ≡ modes_after b s.machine.modes
+    → done.setup.modal.modes ≡ modes_after b s.modal.modes
 modes_left s tools geometry text done b e asks =
     let a = accepted s tools geometry text done e in
-    ap (λ (d : Done). d.setup.machine.modes) (sym a.done_is) ∙ ap (λ (x : Block). modes_after x s.machine.modes) (sym (same_block s tools geometry text done b a asks))
+    ap (λ (d : Done). d.setup.modal.modes) (sym a.done_is) ∙ ap (λ (x : Block). modes_after x s.modal.modes) (sym (same_block s tools geometry text done b a asks))
 
 pub modes_kept : (s : StateModel) (tools : List ℤ) (geometry : Geometry) (text again : List ℕ) (done next : Done) (one other : Block) → executed s tools geometry text ≡ Ok done → AsksFor s text one
-    → executed done.setup tools geometry again ≡ Ok next → AsksFor done.setup again other → HasSameModes one other → next.setup.machine.modes ≡ done.setup.machine.modes
+    → executed done.setup tools geometry again ≡ Ok next → AsksFor done.setup again other → HasSameModes one other → next.setup.modal.modes ≡ done.setup.modal.modes
 modes_kept s tools geometry text again done next one other e asks f asks_again same =
-    let left : done.setup.machine.modes ≡ modes_after one s.machine.modes = modes_left s tools geometry text done one e asks in
+    let left : done.setup.modal.modes ≡ modes_after one s.modal.modes = modes_left s tools geometry text done one e asks in
     modes_left done.setup tools geometry again next other f asks_again
-    ∙ modes_of_same one other done.setup.machine.modes same
+    ∙ modes_of_same one other done.setup.modal.modes same
     ∙ ap (modes_after one) left
-    ∙ modes_again one s.machine.modes
+    ∙ modes_again one s.modal.modes
     ∙ sym left

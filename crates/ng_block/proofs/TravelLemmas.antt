@@ -35,8 +35,8 @@ use Rattle.ng_cycles.specs.declared.drill.Drill.{Drill}
 use Rattle.ng_cycles.specs.declared.motion_state.MotionState.{MotionState}
 use Rattle.ng_cycles.specs.declared.words.CycleWords.{CycleWords}
 use Rattle.ng_cycles.specs.declared.words.CycleKind.{CycleKind}
-use Rattle.ng_cycles.specs.declared.words.Setting.{Setting}
-use Rattle.ng_state.specs.declared.machine.Machine.{Machine}
+use Rattle.ng_cycles.specs.declared.words.CycleContext.{CycleContext}
+use Rattle.ng_state.specs.declared.modal_state.ModalState.{ModalState}
 use Rattle.ng_block.specs.declared.path.Path.{Path}
 use Rattle.ng_block.specs.declared.path.Path.TheVariants as path
 use Rattle.ng_block.specs.declared.steps.BlockStep.{BlockStep}
@@ -45,7 +45,7 @@ use Rattle.ng_block.specs.declared.tasks.Tasks.{Tasks}
 use Rattle.ng_block.specs.Arcs.{turn_of, turning_at, centre_offsets_on, asked_by}
 use Rattle.ng_block.specs.Asked.{Move, Stays, Goes, Turns, GoesHome, Drills, pace_of, straight, round, in_cycle, homeward, move_by}
 use Rattle.ng_block.specs.Blocks.{end_of, straight_end_of}
-use Rattle.ng_block.specs.Cycles.{kind_of, own_words, cycle_words, kept_for, setting_of}
+use Rattle.ng_block.specs.Cycles.{kind_of, own_words, cycle_words, kept_for, context_of}
 use Rattle.ng_block.specs.Effects.{Done, executed}
 use Rattle.ng_block.specs.Faults.{stays_inside, path_faults}
 use Rattle.ng_block.specs.Homes.{home_on}
@@ -234,28 +234,28 @@ begins_then : {X : Type 0} (start : Point) (r : Result X Fault) (next : X → Re
 begins_then start (Ok x) next h move e = h x move e
 begins_then start (Err fault) next h move e = absurd (cc e)
 
-straight_begins : (b : Block) (m : Machine) (o : Offsets) (feed : ℤ) → Begins m.point (straight b m o feed)
+straight_begins : (b : Block) (m : ModalState) (o : Offsets) (feed : ℤ) → Begins m.point (straight b m o feed)
 straight_begins b m o feed = begins_then m.point (straight_end_of b m o) _ (λ end. begins_ok m.point (Goes (pace_of b m feed) end) tt)
 
-round_begins : (turn : Option ArcDirection) (b : Block) (m : Machine) (o : Offsets) (feed : ℤ) → Begins m.point (round turn b m o feed)
+round_begins : (turn : Option ArcDirection) (b : Block) (m : ModalState) (o : Offsets) (feed : ℤ) → Begins m.point (round turn b m o feed)
 round_begins None b m o feed = begins_ok m.point Stays tt
 round_begins (Some turn) b m o feed =
     begins_then m.point (end_of b m o) _ (λ end.
     begins_then m.point (centre_offsets_on b m.modes) _ (λ offsets.
     begins_ok m.point (Turns (pace_of b m feed) (asked_by b m turn end offsets (pace_of b m feed))) refl))
 
-in_cycle_begins : (kind : Option CycleKind) (b : Block) (m : Machine) (o : Offsets) (feed : ℤ) → Begins m.point (in_cycle kind b m o feed)
+in_cycle_begins : (kind : Option CycleKind) (b : Block) (m : ModalState) (o : Offsets) (feed : ℤ) → Begins m.point (in_cycle kind b m o feed)
 in_cycle_begins None b m o feed = begins_ok m.point Stays tt
 in_cycle_begins (Some kind) b m o feed =
     begins_then m.point (own_words b m.modes) _ (λ own.
-    begins_then m.point (cycle_words b m.modes kind own) _ (λ words. begins_ok m.point (Drills words (setting_of b m o feed (kept_for kind m))) refl))
+    begins_then m.point (cycle_words b m.modes kind own) _ (λ words. begins_ok m.point (Drills words (context_of b m o feed (kept_for kind m))) refl))
 
-homeward_begins : (home : Option Point) (b : Block) (m : Machine) (o : Offsets) → Begins m.point (homeward home b m o)
+homeward_begins : (home : Option Point) (b : Block) (m : ModalState) (o : Offsets) → Begins m.point (homeward home b m o)
 homeward_begins None b m o = begins_ok m.point Stays tt
 homeward_begins (Some home) b m o =
     begins_if m.point (has_axis b.values) _ _ (begins_then m.point (end_of b m o) _ (λ between. begins_ok m.point (GoesHome between home) tt)) (begins_ok m.point (Goes (Some pace.Traverse) home) tt)
 
-move_begins : (b : Block) (m : Machine) (o : Offsets) (table : List ℤ) (feed : ℤ) → Begins m.point (move_by b m o table feed)
+move_begins : (b : Block) (m : ModalState) (o : Offsets) (table : List ℤ) (feed : ℤ) → Begins m.point (move_by b m o table feed)
 move_begins b m o table feed =
     begins_if m.point (is_straight b.motion) _ _ (straight_begins b m o feed)
     (begins_if m.point (is_arc b.motion) _ _ (round_begins (turn_of b.motion) b m o feed)
@@ -268,20 +268,20 @@ move_begins b m o table feed =
 joins_before : (p q : Point) (xs ys : List Segment) → Joins p xs q → NoneMoves ys → Joins p (xs ++ ys) q
 joins_before p q xs ys h k = joins_on p q q xs ys h (still_joins q ys k)
 
-pub joined : (s : StateModel) (tools : List ℤ) (geometry : Geometry) (text : List ℕ) (done : Done) → executed s tools geometry text ≡ Ok done → Joins s.machine.point done.segments done.setup.machine.point
+pub joined : (s : StateModel) (tools : List ℤ) (geometry : Geometry) (text : List ℕ) (done : Done) → executed s tools geometry text ≡ Ok done → Joins s.modal.point done.segments done.setup.modal.point
 joined s tools geometry text done e =
     let a = accepted s tools geometry text done e in
-    let g = reached a.block a.values.settings s tools geometry a.goal a.goal_is in
-    let h = path_joins s.machine.point geometry g.move a.goal.path (move_begins a.block s.machine g.at.offsets (with_changes s.params a.values.settings) g.feed g.move g.move_is) g.path_found_by in
-    let start = s.machine.point in
+    let g = reached a.block a.values.assignments s tools geometry a.goal a.goal_is in
+    let h = path_joins s.modal.point geometry g.move a.goal.path (move_begins a.block s.modal g.at.offsets (with_changes s.params a.values.assignments) g.feed g.move g.move_is) g.path_found_by in
+    let start = s.modal.point in
     let end = point_after a.goal.path start in
-    subst (λ (d : Done). Joins start d.segments d.setup.machine.point) a.done_is
+    subst (λ (d : Done). Joins start d.segments d.setup.modal.point) a.done_is
     (of_path (λ xs. Joins start xs end) (λ xs ys still k. joins_on start start end xs ys (still_joins start xs still) k) (plan_for a.block a.goal (remark_of (last_comment a.line.pieces)) s)
     (λ ys still. joins_before start end (path_segments a.goal.path) ys h still))
 
 pub still : (s : StateModel) (tools : List ℤ) (geometry : Geometry) (text : List ℕ) (done : Done) → executed s tools geometry text ≡ Ok done → NoneMoves done.segments →
-    done.setup.machine.point ≡ s.machine.point
-still s tools geometry text done e h = joins_still s.machine.point done.setup.machine.point done.segments (joined s tools geometry text done e) h
+    done.setup.modal.point ≡ s.modal.point
+still s tools geometry text done e h = joins_still s.modal.point done.setup.modal.point done.segments (joined s tools geometry text done e) h
 
 -- ---- they stay inside the travel
 
@@ -323,8 +323,8 @@ traced_inside g d at (s ∷ ss) e =
     inside_on g here (traced d next ss) (stroke_inside g d at s parts.0) (traced_inside g d next ss parts.1)
 
 -- a valid cycle stays within the travel
-lawful_stays : (w : CycleWords) (s : Setting) (g : Geometry) → first_fault (cycle.causes w s g) ≡ None → cycle.leaves_travel g (cycle.drill_of w s) ≡ false
-lawful_stays w s g e = (none_holds (cycle.causes w s g) e).1.1.1.1.1.1.1.1.1.1.0
+valid_stays : (w : CycleWords) (s : CycleContext) (g : Geometry) → first_fault (cycle.causes w s g) ≡ None → cycle.leaves_travel g (cycle.drill_of w s) ≡ false
+valid_stays w s g e = (none_holds (cycle.causes w s g) e).1.1.1.1.1.1.1.1.1.1.0
 
 no_drill_goes : (pace : Option Pace) (start end : Point) (d : Drill) → moving_at pace start end ≡ path.Cycle d → ⊥
 no_drill_goes None start end d e = cc e
@@ -346,7 +346,7 @@ drilled start g (Drills w s) d e =
     let found = then_ok (cycle.canned_of w s g) (λ x. Ok (path.Cycle x)) (path.Cycle d) e in
     let is = unless_ok (first_fault (cycle.causes w s g)) (cycle.drill_of w s) found.0 found.1 in
     let same : found.0 ≡ d = cc (found.2) in
-    subst (λ (x : Drill). cycle.leaves_travel g x ≡ false) (is.1 ∙ same) (lawful_stays w s g is.0)
+    subst (λ (x : Drill). cycle.leaves_travel g x ≡ false) (is.1 ∙ same) (valid_stays w s g is.0)
 
 path_inside : (g : Geometry) (p : Path) → first_fault (path_faults p g) ≡ None → ((d : Drill) → p ≡ path.Cycle d → cycle.leaves_travel g d ≡ false) → AreInside g (path_segments p)
 unfolding stays_inside
@@ -365,8 +365,8 @@ path_inside g (path.Cycle d) e h = traced_inside g d (begin d) (strokes d) (h d 
 pub inside : (s : StateModel) (tools : List ℤ) (geometry : Geometry) (text : List ℕ) (done : Done) → executed s tools geometry text ≡ Ok done → All (StaysInside geometry) done.segments
 inside s tools geometry text done e =
     let a = accepted s tools geometry text done e in
-    let g = reached a.block a.values.settings s tools geometry a.goal a.goal_is in
-    let h = path_inside geometry a.goal.path a.none (λ d is. drilled s.machine.point geometry g.move d (g.path_found_by ∙ ap {B = Result Path Fault} Ok is)) in
+    let g = reached a.block a.values.assignments s tools geometry a.goal a.goal_is in
+    let h = path_inside geometry a.goal.path a.none (λ d is. drilled s.modal.point geometry g.move d (g.path_found_by ∙ ap {B = Result Path Fault} Ok is)) in
     let plan = plan_for a.block a.goal (remark_of (last_comment a.line.pieces)) s in
     subst (λ (d : Done). All (StaysInside geometry) d.segments) a.done_is
     (all_inside geometry (segments_of plan) (of_path (AreInside geometry) (λ xs ys still k. inside_on geometry xs ys (still_inside geometry xs still) k) plan

@@ -8,7 +8,7 @@ use Rattle.ng_state.specs.declared.modes.Modes.{Modes}
 use Rattle.ng_state.specs.declared.modes.Motion.TheVariants.{Feed}
 use Rattle.ng_state.specs.declared.modes.Distance.TheVariants.{Absolute}
 use Rattle.ng_state.specs.declared.modes.FeedMode.TheVariants.{PerMinute}
-use Rattle.ng_state.specs.declared.machine.Machine.{Machine}
+use Rattle.ng_state.specs.declared.modal_state.ModalState.{ModalState}
 use Rattle.ng_block.specs.declared.tasks.Tasks.{Tasks}
 use Rattle.ng_block.specs.AxisData.{system_after}
 use Rattle.ng_block.specs.Blocks.{feed_mode_after}
@@ -38,8 +38,8 @@ keeps_modes b =
     not (is_some b.g.plane || is_some b.g.distance || is_some b.g.feed_mode || is_some b.g.unit || is_some b.g.retract || is_some b.g.path || is_some b.g.system
     || is_some b.m.overrides || is_some b.m.stop)
 
-abbrev pub machine_after : Block → Goal → Tasks → Machine → Machine
-machine_after b goal tasks m = record {
+abbrev pub modal_state_after : Block → Goal → Tasks → ModalState → ModalState
+modal_state_after b goal tasks m = record {
   modes = modes_after b m.modes;
   feed_per_min = goal.feed_per_min;
   outputs = outputs_after tasks m.outputs order;

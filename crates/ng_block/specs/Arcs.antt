@@ -21,7 +21,7 @@ use Rattle.ng_state.specs.declared.modes.Motion.{Motion}
 use Rattle.ng_state.specs.declared.modes.Motion.TheVariants.{ClockwiseArc, CounterclockwiseArc}
 use Rattle.ng_offsets.specs.Named.{named_by}
 use Rattle.ng_offsets.specs.declared.offsets.Offsets.{Offsets}
-use Rattle.ng_state.specs.declared.machine.Machine.{Machine}
+use Rattle.ng_state.specs.declared.modal_state.ModalState.{ModalState}
 use Rattle.ng_block.specs.declared.path.Path.{Path}
 use Rattle.ng_block.specs.declared.path.Path.TheVariants.{Still, WithoutFeed, Round}
 use Rattle.ng_block.specs.AxisData.{unit_after}
@@ -44,7 +44,7 @@ centre_offsets_on b m =
     Ok (record { i = named.x; j = named.y; k = named.z }))
 
 -- the arc from the machine's position; its pace doesn't affect the faults that its shape may have
-abbrev pub asked_by : Block → Machine → ArcDirection → Point → CentreOffsets → Option Pace → AskedArc
+abbrev pub asked_by : Block → ModalState → ArcDirection → Point → CentreOffsets → Option Pace → AskedArc
 asked_by b m turn end offsets pace = record {
   plane = plane_after b m.modes;
   turn = turn;
@@ -63,7 +63,7 @@ turning_at (Some pace) arc = Round arc
 
 -- around to the line's end; or E3 if a computed length, also of the centre, is out of range, or else the first of C1 to
 -- C4
-abbrev pub turned : Block → Machine → Offsets → Option Pace → ArcDirection → Result Path Fault
+abbrev pub turned : Block → ModalState → Offsets → Option Pace → ArcDirection → Result Path Fault
 turned b m o pace turn =
     and_then (end_of b m o) (λ end.
     and_then (centre_offsets_on b m.modes) (λ offsets.
@@ -71,9 +71,9 @@ turned b m o pace turn =
     Ok (turning_at pace arc))))
 
 -- the path of a line's motion, with the feed after the line; still if the motion isn't an arc
-abbrev pub turned_where : Option ArcDirection → Block → Machine → Offsets → ℤ → Result Path Fault
+abbrev pub turned_where : Option ArcDirection → Block → ModalState → Offsets → ℤ → Result Path Fault
 turned_where None b m o feed = Ok Still
 turned_where (Some turn) b m o feed = turned b m o (pace_by b.motion (feed_mode_after b m.modes) feed b.values.f) turn
 
-unfoldable pub path_along_arc : Block → Machine → Offsets → ℤ → Result Path Fault
+unfoldable pub path_along_arc : Block → ModalState → Offsets → ℤ → Result Path Fault
 path_along_arc b m o feed = turned_where (turn_of b.motion) b m o feed

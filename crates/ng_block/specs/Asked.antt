@@ -20,12 +20,12 @@ use Rattle.ng_modal.specs.declared.block.Block.{Block}
 use Rattle.ng_offsets.specs.declared.offsets.Offsets.{Offsets}
 use Rattle.ng_cycles.specs.declared.words.CycleWords.{CycleWords}
 use Rattle.ng_cycles.specs.declared.words.CycleKind.{CycleKind}
-use Rattle.ng_cycles.specs.declared.words.Setting.{Setting}
-use Rattle.ng_state.specs.declared.machine.Machine.{Machine}
+use Rattle.ng_cycles.specs.declared.words.CycleContext.{CycleContext}
+use Rattle.ng_state.specs.declared.modal_state.ModalState.{ModalState}
 use Rattle.ng_block.specs.declared.shifts.Shifted.{Shifted}
 use Rattle.ng_block.specs.Arcs.{turn_of, centre_offsets_on, asked_by}
 use Rattle.ng_block.specs.Blocks.{feed_of, feed_mode_after, pace_by, end_of, straight_end_of}
-use Rattle.ng_block.specs.Cycles.{kind_of, kept_for, own_words, cycle_words, setting_of}
+use Rattle.ng_block.specs.Cycles.{kind_of, kept_for, own_words, cycle_words, context_of}
 use Rattle.ng_block.specs.Homes.{home_on}
 use Rattle.ng_block.specs.Shifts.{shift_of}
 
@@ -47,7 +47,7 @@ values_of (p ∷ pieces) table = followed (result_unwrap_or (given table p) noth
 -- ---- its feed and its offsets
 
 -- the feed at its motion; if that is out of range, the one before the line
-abbrev pub feed_at_motion : Block → Machine → ℤ
+abbrev pub feed_at_motion : Block → ModalState → ℤ
 feed_at_motion b m = result_unwrap_or (feed_of b m) m.feed_per_min
 
 -- the offsets at its motion; if one of them is out of range, those before the line
@@ -55,7 +55,7 @@ abbrev pub offsets_found : Result Shifted Fault → Offsets → Offsets
 offsets_found (Ok found) before = found.offsets
 offsets_found (Err fault) before = before
 
-abbrev pub offsets_at_motion : Block → Machine → List ℤ → List ℤ → Offsets
+abbrev pub offsets_at_motion : Block → ModalState → List ℤ → List ℤ → Offsets
 offsets_at_motion b m table lengths = offsets_found (shift_of b m table lengths) m.offsets
 
 -- ---- its move
@@ -65,29 +65,29 @@ pub data Move : Type 0 where
   Goes : Option Pace → Point → Move  -- straight to an end, at a pace if there is one
   Turns : Option Pace → AskedArc → Move  -- around an arc
   GoesHome : Point → Point → Move  -- to an intermediate point, and on from there to the home
-  Drills : CycleWords → Setting → Move  -- in a canned cycle
+  Drills : CycleWords → CycleContext → Move  -- in a canned cycle
 
-abbrev pub pace_of : Block → Machine → ℤ → Option Pace
+abbrev pub pace_of : Block → ModalState → ℤ → Option Pace
 pace_of b m feed = pace_by b.motion (feed_mode_after b m.modes) feed b.values.f
 
-abbrev pub straight : Block → Machine → Offsets → ℤ → Result Move Fault
+abbrev pub straight : Block → ModalState → Offsets → ℤ → Result Move Fault
 straight b m o feed = and_then (straight_end_of b m o) (λ end. Ok (Goes (pace_of b m feed) end))
 
-abbrev pub round : Option ArcDirection → Block → Machine → Offsets → ℤ → Result Move Fault
+abbrev pub round : Option ArcDirection → Block → ModalState → Offsets → ℤ → Result Move Fault
 round None b m o feed = Ok Stays
 round (Some turn) b m o feed =
     and_then (end_of b m o) (λ end.
     and_then (centre_offsets_on b m.modes) (λ offsets.
     Ok (Turns (pace_of b m feed) (asked_by b m turn end offsets (pace_of b m feed)))))
 
-abbrev pub in_cycle : Option CycleKind → Block → Machine → Offsets → ℤ → Result Move Fault
+abbrev pub in_cycle : Option CycleKind → Block → ModalState → Offsets → ℤ → Result Move Fault
 in_cycle None b m o feed = Ok Stays
 in_cycle (Some kind) b m o feed =
     and_then (own_words b m.modes) (λ own.
     and_then (cycle_words b m.modes kind own) (λ words.
-    Ok (Drills words (setting_of b m o feed (kept_for kind m)))))
+    Ok (Drills words (context_of b m o feed (kept_for kind m)))))
 
-abbrev pub homeward : Option Point → Block → Machine → Offsets → Result Move Fault
+abbrev pub homeward : Option Point → Block → ModalState → Offsets → Result Move Fault
 homeward None b m o = Ok Stays
 homeward (Some home) b m o =
     if has_axis b.values
@@ -96,12 +96,12 @@ homeward (Some home) b m o =
 
 -- the move from the machine's position, under these offsets and at this feed; or E3 if a length that its words name is
 -- out of range
-abbrev pub move_by : Block → Machine → Offsets → List ℤ → ℤ → Result Move Fault
+abbrev pub move_by : Block → ModalState → Offsets → List ℤ → ℤ → Result Move Fault
 move_by b m o table feed =
     if is_straight b.motion then straight b m o feed
     else if is_arc b.motion then round (turn_of b.motion) b m o feed
     else if is_some (kind_of b.motion) then in_cycle (kind_of b.motion) b m o feed
     else homeward (home_on b.g.non_modal table) b m o
 
-abbrev pub move_on : Block → Machine → List ℤ → List ℤ → Result Move Fault
+abbrev pub move_on : Block → ModalState → List ℤ → List ℤ → Result Move Fault
 move_on b m table lengths = move_by b m (offsets_at_motion b m table lengths) table (feed_at_motion b m)

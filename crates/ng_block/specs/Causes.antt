@@ -19,8 +19,8 @@ use Rattle.ng_cycles.specs.Faults.{drill_of, names_no_axis, work_causes, leaves_
 use Rattle.ng_cycles.specs.Lengths.{lengths, is_far}
 use Rattle.ng_state.specs.KeptWords.{in_force}
 use Rattle.ng_cycles.specs.declared.words.CycleWords.{CycleWords}
-use Rattle.ng_cycles.specs.declared.words.Setting.{Setting}
-use Rattle.ng_state.specs.declared.machine.Machine.{Machine}
+use Rattle.ng_cycles.specs.declared.words.CycleContext.{CycleContext}
+use Rattle.ng_state.specs.declared.modal_state.ModalState.{ModalState}
 use Rattle.ng_block.specs.Asked.{written_on, pieces_in, values_of, Move, Stays, Goes, Turns, GoesHome, Drills, move_on}
 use Rattle.ng_block.specs.Blocks.{feed_of}
 use Rattle.ng_block.specs.Faults.{ends_outside, turns_outside, homes_outside}
@@ -43,7 +43,7 @@ reaches_far (Drills w s) = list_any is_far (lengths w (in_force w.own s.kept) s)
 reaches_far _ = false
 
 -- E3: the feed, an offset, or a length of the move is out of range
-abbrev pub computes_beyond : Block → Machine → List ℤ → List ℤ → Bool
+abbrev pub computes_beyond : Block → ModalState → List ℤ → List ℤ → Bool
 computes_beyond b m table tools =
     is_err (feed_of b m) || (is_err (shift_of b m table tools)
     || (is_err (move_on b m table tools) || reaches_far (result_unwrap_or (move_on b m table tools) Stays)))
@@ -54,7 +54,7 @@ arc_faults (Turns pace asked) = arc_causes asked (arc_of asked)
 arc_faults _ = []
 
 -- Y1 to Y8 of a canned cycle
-abbrev pub cycle_causes : CycleWords → Setting → List (Bool × Fault)
+abbrev pub cycle_causes : CycleWords → CycleContext → List (Bool × Fault)
 cycle_causes w s =
     let words = in_force w.own s.kept in
     let d = drill_of w s in
@@ -89,14 +89,14 @@ unfoldable pub causes : StateModel → List ℤ → Geometry → List ℕ → Li
 causes s tools geometry text =
     let pieces = pieces_in (written_on text) in
     let values = values_of pieces s.params in
-    let b = block_of values.words s.machine.modes in
-    let table = with_changes s.params values.settings in
-    let move = result_unwrap_or (move_on b s.machine table tools) Stays in
+    let b = block_of values.words s.modal.modes in
+    let table = with_changes s.params values.assignments in
+    let move = result_unwrap_or (move_on b s.modal table tools) Stays in
     (is_too_long text, LineTooLong)
     ∷ ((is_none (written_on text), Unreadable)
     ∷ (value_causes pieces s.params
-    ++ (faults values.words s.machine.modes (length tools)
-    ++ ((computes_beyond b s.machine table tools, OutOfRange)
+    ++ (faults values.words s.modal.modes (length tools)
+    ++ ((computes_beyond b s.modal table tools, OutOfRange)
     ∷ (arc_faults move
     ++ (cycle_faults move
     ++ ((has_no_feed move, NoFeed)

@@ -22,8 +22,8 @@ use Rattle.ng_cycles.specs.declared.words.CycleWords.{CycleWords}
 use Rattle.ng_state.specs.declared.kept_words.KeptWords.{KeptWords}
 use Rattle.ng_cycles.specs.declared.words.CycleKind.{CycleKind}
 use Rattle.ng_cycles.specs.declared.words.CycleKind.TheVariants.{Drilling, DrillingWithDwell, PeckDrilling, Boring, BoringWithStop, BoringWithDwell}
-use Rattle.ng_cycles.specs.declared.words.Setting.{Setting}
-use Rattle.ng_state.specs.declared.machine.Machine.{Machine}
+use Rattle.ng_cycles.specs.declared.words.CycleContext.{CycleContext}
+use Rattle.ng_state.specs.declared.modal_state.ModalState.{ModalState}
 use Rattle.ng_block.specs.declared.path.Path.{Path}
 use Rattle.ng_block.specs.declared.path.Path.TheVariants.{Still, Cycle}
 use Rattle.ng_block.specs.AxisData.{unit_after, named_on}
@@ -67,23 +67,23 @@ abbrev pub kept_by : CycleKind → Option CycleKind → KeptWords → KeptWords
 kept_by kind None kept = no_words
 kept_by kind (Some before) kept = if is_same kind before then kept else no_words
 
-abbrev pub kept_for : CycleKind → Machine → KeptWords
+abbrev pub kept_for : CycleKind → ModalState → KeptWords
 kept_for kind m = kept_by kind (kind_of (Some m.modes.motion)) m.kept
 
 -- another motion, G80 and the program's end drop the words that were kept
-abbrev pub kept_beside : Block → Machine → KeptWords
+abbrev pub kept_beside : Block → ModalState → KeptWords
 kept_beside b m = if is_some b.g.motion || ends b.m.stop then no_words else m.kept
 
 -- a cycle keeps its own words and, for those that the line doesn't have, the words that were kept for it
-abbrev pub kept_in : CycleKind → Block → Machine → Result KeptWords Fault
+abbrev pub kept_in : CycleKind → Block → ModalState → Result KeptWords Fault
 kept_in kind b m = and_then (own_words b m.modes) (λ own. Ok (if ends b.m.stop then no_words else in_force own (kept_for kind m)))
 
 -- the words kept after the line
-abbrev pub kept_where : Option CycleKind → Block → Machine → Result KeptWords Fault
+abbrev pub kept_where : Option CycleKind → Block → ModalState → Result KeptWords Fault
 kept_where None b m = Ok (kept_beside b m)
 kept_where (Some kind) b m = kept_in kind b m
 
-abbrev pub kept_of : Block → Machine → Result KeptWords Fault
+abbrev pub kept_of : Block → ModalState → Result KeptWords Fault
 kept_of b m = kept_where (kind_of b.motion) b m
 
 -- ---- the cycle
@@ -102,13 +102,13 @@ is_old_z OldZ = true
 is_old_z ToR = false
 
 -- the outputs at the motion: after the line's spindle, tool and coolant words
-abbrev pub outputs_at_motion : Block → Machine → Outputs
+abbrev pub outputs_at_motion : Block → ModalState → Outputs
 outputs_at_motion b m = outputs_after (tasks_of b (feed_mode_after b m.modes) m.outputs) m.outputs before_motion
 
 -- the state in which the cycle is executed: the offsets, the feed, the modes and the outputs after the line's other
 -- words
-abbrev pub setting_of : Block → Machine → Offsets → ℤ → KeptWords → Setting
-setting_of b m o feed kept = record {
+abbrev pub context_of : Block → ModalState → Offsets → ℤ → KeptWords → CycleContext
+context_of b m o feed kept = record {
   point = m.point;
   offsets = o;
   is_incremental = is_incremental (unwrap_or b.g.distance m.modes.distance);
@@ -120,17 +120,17 @@ setting_of b m o feed kept = record {
 }
 
 -- the cycle; or E3 if a computed length is out of range, or else the first of Y1 to Y8, X1 and X2
-abbrev pub cycle_of : Block → Machine → Offsets → ℤ → Geometry → CycleKind → Result Path Fault
+abbrev pub cycle_of : Block → ModalState → Offsets → ℤ → Geometry → CycleKind → Result Path Fault
 cycle_of b m o feed geometry kind =
     and_then (own_words b m.modes) (λ own.
     and_then (cycle_words b m.modes kind own) (λ words.
-    and_then (canned_of words (setting_of b m o feed (kept_for kind m)) geometry) (λ drill.
+    and_then (canned_of words (context_of b m o feed (kept_for kind m)) geometry) (λ drill.
     Ok (Cycle drill))))
 
 -- the path of a line's motion; still if the motion isn't a cycle
-abbrev pub cycle_where : Option CycleKind → Block → Machine → Offsets → ℤ → Geometry → Result Path Fault
+abbrev pub cycle_where : Option CycleKind → Block → ModalState → Offsets → ℤ → Geometry → Result Path Fault
 cycle_where None b m o feed geometry = Ok Still
 cycle_where (Some kind) b m o feed geometry = cycle_of b m o feed geometry kind
 
-unfoldable pub cycle_path : Block → Machine → Offsets → ℤ → Geometry → Result Path Fault
+unfoldable pub cycle_path : Block → ModalState → Offsets → ℤ → Geometry → Result Path Fault
 cycle_path b m o feed geometry = cycle_where (kind_of b.motion) b m o feed geometry

@@ -15,7 +15,7 @@ use Rattle.ng_modal.specs.Check.{checked}
 use Rattle.ng_modal.specs.declared.block.Block.{Block}
 use Rattle.ng_block.specs.declared.effect.Effect.{Effect}
 use Rattle.ng_block.specs.declared.effect.ProgramFlow.{ProgramFlow}
-use Rattle.ng_state.specs.declared.machine.Machine.{Machine}
+use Rattle.ng_state.specs.declared.modal_state.ModalState.{ModalState}
 use Rattle.ng_block.specs.declared.tasks.Tasks.{Tasks}
 use Rattle.ng_state.specs.State.{StateModel, changed}
 use Rattle.ng_block.specs.Remarks.{remark_of, said_by}
@@ -24,7 +24,7 @@ use Rattle.ng_block.specs.Ends.{stop_of}
 use Rattle.ng_block.specs.Goals.{Goal, goal_of}
 use Rattle.ng_block.specs.Faults.{path_faults}
 use Rattle.ng_block.specs.Tasks.{feed_set, tasks_of, tasks_in}
-use Rattle.ng_block.specs.After.{machine_after}
+use Rattle.ng_block.specs.After.{modal_state_after}
 use Rattle.ng_block.specs.Shifts.{shown_in}
 use Rattle.ng_block.specs.Order.{Plan, commands_of, segments_of}
 
@@ -39,7 +39,7 @@ pub record Done : Type 0 where
 
 -- what is kept of a line
 abbrev pub plan_by : Effect → Plan
-plan_by e = record { remark = said_by e.plan.remark; feed = e.plan.feed; tasks = tasks_in e.plan.tasks; shown = shown_in e.plan.shown; path = e.plan.path; origin = e.machine.offsets.origin; before = e.plan.before }
+plan_by e = record { remark = said_by e.plan.remark; feed = e.plan.feed; tasks = tasks_in e.plan.tasks; shown = shown_in e.plan.shown; path = e.plan.path; origin = e.modal.offsets.origin; before = e.plan.before }
 
 abbrev pub commands_by : Effect → List CanonModel
 commands_by e = commands_of (plan_by e)
@@ -49,37 +49,37 @@ segments_by e = segments_of (plan_by e)
 
 -- an effect, in the state that it was found in
 abbrev pub in_state : StateModel → Effect → Done
-in_state s e = record { setup = changed s e.machine e.changes.items; before = e.plan.before; segments = segments_by e; commands = commands_by e; stop = e.stop }
+in_state s e = record { setup = changed s e.modal e.changes.items; before = e.plan.before; segments = segments_by e; commands = commands_by e; stop = e.stop }
 
 -- ---- what a line does
 
 -- a result, unless there is a fault
-abbrev pub lawful : {X : Type 0} → Option Fault → Result X Fault → Result X Fault
-lawful None answer = answer
-lawful (Some fault) answer = Err fault
+abbrev pub unless_refused : {X : Type 0} → Option Fault → Result X Fault → Result X Fault
+unless_refused None answer = answer
+unless_refused (Some fault) answer = Err fault
 
-abbrev pub plan_of : List CanonModel → Option ℤ → Tasks → Goal → Machine → Plan
+abbrev pub plan_of : List CanonModel → Option ℤ → Tasks → Goal → ModalState → Plan
 plan_of remark feed tasks goal m = record { remark = remark; feed = feed; tasks = tasks; shown = goal.shown; path = goal.path; origin = goal.offsets.origin; before = m.outputs }
 
 -- what a valid block does
 abbrev pub block_done : Block → Goal → List CanonModel → StateModel → Done
 block_done b goal remark s =
-    let mode = feed_mode_after b s.machine.modes in
-    let tasks = tasks_of b mode s.machine.outputs in
-    let plan = plan_of remark (feed_set b mode goal.feed_per_min) tasks goal s.machine in
-    record { setup = changed s (machine_after b goal tasks s.machine) goal.changes; before = plan.before; segments = segments_of plan; commands = commands_of plan; stop = stop_of b.m.stop }
+    let mode = feed_mode_after b s.modal.modes in
+    let tasks = tasks_of b mode s.modal.outputs in
+    let plan = plan_of remark (feed_set b mode goal.feed_per_min) tasks goal s.modal in
+    record { setup = changed s (modal_state_after b goal tasks s.modal) goal.changes; before = plan.before; segments = segments_of plan; commands = commands_of plan; stop = stop_of b.m.stop }
 
 -- what a block with a goal does, or why its move is refused (X1, X2)
 abbrev pub finished : Block → Goal → List CanonModel → StateModel → Geometry → Result Done Fault
-finished b goal remark s geometry = lawful (first_fault (path_faults goal.path geometry)) (Ok (block_done b goal remark s))
+finished b goal remark s geometry = unless_refused (first_fault (path_faults goal.path geometry)) (Ok (block_done b goal remark s))
 
 -- what the values of a line do. It is refused by B1 to B19 of its words, then for a computed length or offset (E3),
 -- then for the shape of its arc (C1 to C4) or for its cycle (Y1 to Y8), then for its move (X1, X2); of each of these by
 -- the first whose cause holds
 unfoldable pub executed_values : StateModel → List CanonModel → Settled → List ℤ → Geometry → Result Done Fault
 executed_values s remark values tools geometry =
-    and_then (checked values.words s.machine.modes (length tools)) (λ b.
-    and_then (goal_of b values.settings s tools geometry) (λ goal. finished b goal remark s geometry))
+    and_then (checked values.words s.modal.modes (length tools)) (λ b.
+    and_then (goal_of b values.assignments s tools geometry) (λ goal. finished b goal remark s geometry))
 
 -- what the pieces of a line do: the faults of their values come first
 unfoldable pub executed_pieces : StateModel → List Piece → List ℤ → Geometry → Result Done Fault

@@ -9,7 +9,7 @@ use Rattle.ng_modal.specs.declared.asks.NonModal.{NonModal}
 use Rattle.ng_modal.specs.declared.asks.NonModal.TheVariants.{Home, SecondHome}
 use Rattle.ng_modal.specs.declared.block.Block.{Block}
 use Rattle.ng_offsets.specs.declared.offsets.Offsets.{Offsets}
-use Rattle.ng_state.specs.declared.machine.Machine.{Machine}
+use Rattle.ng_state.specs.declared.modal_state.ModalState.{ModalState}
 use Rattle.ng_block.specs.declared.path.Path.{Path}
 use Rattle.ng_block.specs.declared.path.Path.TheVariants.{Still, Straight, Homing}
 use Rattle.ng_block.specs.Blocks.{end_of}
@@ -22,7 +22,7 @@ home_on (Some SecondHome) table = Some (second_home table)
 home_on _ table = None
 
 -- first to the programmed point, if any axis is named, and then home; both at the traverse rate
-abbrev pub home_path : Block → Machine → Offsets → Option Point → Result Path Fault
+abbrev pub home_path : Block → ModalState → Offsets → Option Point → Result Path Fault
 home_path b m o None = Ok Still
 home_path b m o (Some home) =
     if has_axis b.values

@@ -16,7 +16,7 @@ pub record AsksFor (s : StateModel) (text : List ℕ) (b : Block) : Type 0 where
   pub is_line : IsLineOf text line
   pub values : Settled
   pub have_values : settled_pieces line.pieces s.params ≡ Ok values
-  pub block_is : b ≡ block_of values.words s.machine.modes
+  pub block_is : b ≡ block_of values.words s.modal.modes
 
 -- there is no word of group 0 but G10 and G92 to G92.3
 abbrev pub sets_at_most : Option NonModal → Bool

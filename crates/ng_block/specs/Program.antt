@@ -23,7 +23,7 @@ pub record TermsModel : Type 0 where
 
 -- a line without an effect
 abbrev pub idle : StateModel → ProgramFlow → Done
-idle setup stop = record { setup = setup; before = setup.machine.outputs; segments = []; commands = []; stop = stop }
+idle setup stop = record { setup = setup; before = setup.modal.outputs; segments = []; commands = []; stop = stop }
 
 -- a deleted line does nothing; only its length is checked
 abbrev pub deleted : StateModel → List ℕ → Result Done Fault

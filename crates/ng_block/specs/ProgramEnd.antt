@@ -14,16 +14,16 @@ use Rattle.ng_state.specs.State.{StateModel}
 
 -- for G40 there is nothing to say: there is no cutter radius compensation
 pub record IsEnded (s : StateModel) : Type 0 where
-  pub g92_2 : s.machine.offsets.g92 ≡ zero_point
-  pub g54 : s.machine.modes.system ≡ 1
+  pub g92_2 : s.modal.offsets.g92 ≡ zero_point
+  pub g54 : s.modal.modes.system ≡ 1
   pub g54_stored : at s.params system_in_force ≡ pos 1_000_000
-  pub g54_origin : s.machine.offsets.origin ≡ origin_of s.params 1
-  pub g17 : s.machine.modes.plane ≡ Xy
-  pub g90 : s.machine.modes.distance ≡ Absolute
-  pub g94 : s.machine.modes.feed_mode ≡ PerMinute
-  pub m48 : s.machine.modes.overrides ≡ true
-  pub m5 : s.machine.outputs.spindle ≡ Stopped
-  pub m9_mist : s.machine.outputs.mist ≡ false
-  pub m9_flood : s.machine.outputs.flood ≡ false
-  pub g1 : s.machine.modes.motion ≡ Feed
-  pub no_cycle : s.machine.kept ≡ no_words  -- own
+  pub g54_origin : s.modal.offsets.origin ≡ origin_of s.params 1
+  pub g17 : s.modal.modes.plane ≡ Xy
+  pub g90 : s.modal.modes.distance ≡ Absolute
+  pub g94 : s.modal.modes.feed_mode ≡ PerMinute
+  pub m48 : s.modal.modes.overrides ≡ true
+  pub m5 : s.modal.outputs.spindle ≡ Stopped
+  pub m9_mist : s.modal.outputs.mist ≡ false
+  pub m9_flood : s.modal.outputs.flood ≡ false
+  pub g1 : s.modal.modes.motion ≡ Feed
+  pub no_cycle : s.modal.kept ≡ no_words  -- own

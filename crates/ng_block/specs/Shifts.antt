@@ -6,14 +6,14 @@ use Rattle.std.specs.Option.{is_some}
 use Rattle.ng_num.specs.Results.{and_then}
 use Rattle.ng_num.specs.declared.fault.Fault.{Fault}
 use Rattle.ng_modal.specs.declared.block.Block.{Block}
-use Rattle.ng_state.specs.declared.machine.Machine.{Machine}
+use Rattle.ng_state.specs.declared.modal_state.ModalState.{ModalState}
 use Rattle.ng_block.specs.declared.shifts.Shown.{Shown}
 use Rattle.ng_block.specs.declared.shifts.Shifted.{Shifted}
 use Rattle.ng_block.specs.ToolLength.{offsets_after_length, length_shown}
 use Rattle.ng_block.specs.AxisData.{with_system, axis_data_of, offsets_after, offsets_shown}
 
 -- the offsets, what each step prints of them, and the changes that store them; or E3 if an offset is out of range
-abbrev pub shift_of : Block → Machine → List ℤ → List ℤ → Result Shifted Fault
+abbrev pub shift_of : Block → ModalState → List ℤ → List ℤ → Result Shifted Fault
 shift_of b m table lengths =
     let o = offsets_after_length b.g.tool_length b.values.h lengths m.offsets in
     and_then (with_system b.g.system o table) (λ system.

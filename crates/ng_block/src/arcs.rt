@@ -10,7 +10,7 @@ use ng_canon::{ArcDirection, Feed, Pace};
 use ng_modal::{Block, ByLetter};
 use ng_num::{Fault, Point};
 use ng_offsets::{Named, Offsets};
-use ng_state::{Machine, Modes, Motion};
+use ng_state::{ModalState, Modes, Motion};
 
 /// The direction in which a motion turns. `None` if it isn't an arc.
 fn turn_of(motion: Option<Motion>) -> Option<ArcDirection>
@@ -50,22 +50,22 @@ fn centre_offsets_on(block: &Block, modes: &Modes) -> Result<CentreOffsets, Faul
 /// The arc that a line asks for, from the machine's position.
 fn asked_by(
     block: &Block,
-    machine: &Machine,
+    modal: &ModalState,
     turn: ArcDirection,
     end: Point,
     offsets: CentreOffsets,
     pace: &Option<Pace>,
 ) -> AskedArc
-    ensures { result ≡ asked_by block.now machine.now turn end offsets pace.now }
+    ensures { result ≡ asked_by block.now modal.now turn end offsets pace.now }
 {
     AskedArc {
-        plane: block.plane_after(&machine.modes),
+        plane: block.plane_after(&modal.modes),
         turn,
-        start: machine.point,
+        start: modal.point,
         end,
         named: axes_on(&block.values),
         offsets,
-        unit: unit_after(block, &machine.modes),
+        unit: unit_after(block, &modal.modes),
         pace: match pace {
             Some(pace) => *pace,
             None => Pace::Traverse,
@@ -76,16 +76,16 @@ fn asked_by(
 /// Around to the end of a line. E3 if a coordinate of its end or its centre is out of range, else C1 to C4.
 fn turned(
     block: &Block,
-    machine: &Machine,
+    modal: &ModalState,
     offsets: &Offsets,
     pace: Option<Pace>,
     turn: ArcDirection,
 ) -> Result<Path, Fault>
-    ensures { result ≡ turned block.now machine.now offsets.now pace turn }
+    ensures { result ≡ turned block.now modal.now offsets.now pace turn }
 {
-    let end = end_of(block, machine, offsets)?;
-    let centre = centre_offsets_on(block, &machine.modes)?;
-    let asked = asked_by(block, machine, turn, end, centre, &pace);
+    let end = end_of(block, modal, offsets)?;
+    let centre = centre_offsets_on(block, &modal.modes)?;
+    let asked = asked_by(block, modal, turn, end, centre, &pace);
     let arc = check_arc(&asked)?;
     match pace {
         Some(_) => Ok(Path::Round(arc)),
@@ -100,16 +100,16 @@ fn turned(
 #[tactic(auto, unfolding(crate::specs::Arcs::path_along_arc))]
 pub fn path_along_arc(
     block: &Block,
-    machine: &Machine,
+    modal: &ModalState,
     offsets: &Offsets,
     feed_per_min: Feed,
 ) -> Result<Path, Fault>
-    ensures { result ≡ path_along_arc block.now machine.now offsets.now feed_per_min }
+    ensures { result ≡ path_along_arc block.now modal.now offsets.now feed_per_min }
 {
     let Some(turn) = turn_of(block.motion) else {
         return Ok(Path::Still);
     };
-    let mode = feed_mode_after(block, &machine.modes);
+    let mode = feed_mode_after(block, &modal.modes);
     let pace = pace_by(block.motion, mode, feed_per_min, block.values.f);
-    turned(block, machine, offsets, pace, turn)
+    turned(block, modal, offsets, pace, turn)
 }

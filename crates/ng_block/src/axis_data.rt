@@ -7,7 +7,7 @@ use ng_modal::{Block, NonModal};
 use ng_num::{Fault, Point, Unit};
 use ng_offsets::{Named, NewOffsets, Offsets};
 use ng_params::{Change, Params, System};
-use ng_state::{Machine, Modes};
+use ng_state::{ModalState, Modes};
 use std::alloc::Allocator;
 
 /// What axis data do.
@@ -50,9 +50,9 @@ fn with_origin<A: Allocator + Copy + Drop>(
     modes: &Modes,
     offsets: &Offsets,
     params: &Params<A>,
-    settings: &[Change],
+    assignments: &[Change],
 ) -> Result<AxisData, Fault>
-    ensures { result ≡ with_origin system block.now modes.now offsets.now (with_changes params.now settings.now) }
+    ensures { result ≡ with_origin system block.now modes.now offsets.now (with_changes params.now assignments.now) }
 {
     let Some(system) = system else {
         return Ok(AxisData {
@@ -62,7 +62,7 @@ fn with_origin<A: Allocator + Copy + Drop>(
     };
     let named = named_on(block, modes)?;
     let in_force = system_after(block, modes);
-    let found = offsets.g10(system, in_force, &named, params, settings)?;
+    let found = offsets.g10(system, in_force, &named, params, assignments)?;
     Ok(AxisData {
         new: found.0,
         stored: Some(found.1),
@@ -90,27 +90,27 @@ fn with_offset(
 /// assignments. E3 if an offset, or a sum that is printed, is out of range.
 pub fn axis_data_of<A: Allocator + Copy + Drop>(
     block: &Block,
-    machine: &Machine,
+    modal: &ModalState,
     offsets: &Offsets,
     params: &Params<A>,
-    settings: &[Change],
+    assignments: &[Change],
 ) -> Result<AxisData, Fault>
-    ensures { result ≡ axis_data_of block.now machine.now.modes machine.now.point offsets.now (with_changes params.now settings.now) }
+    ensures { result ≡ axis_data_of block.now modal.now.modes modal.now.point offsets.now (with_changes params.now assignments.now) }
 {
     let (new, stored) = match block.g.non_modal {
         Some(NonModal::SetOrigin) => {
             let system = block.origin_system();
-            return with_origin(system, block, &machine.modes, offsets, params, settings);
+            return with_origin(system, block, &modal.modes, offsets, params, assignments);
         }
         Some(NonModal::SetOffset) => {
-            return with_offset(block, &machine.modes, machine.point, offsets);
+            return with_offset(block, &modal.modes, modal.point, offsets);
         }
         Some(NonModal::ClearOffset) => {
             let (new, stored) = offsets.g92_1();
             (Some(new), Some(stored))
         }
         Some(NonModal::DropOffset) => (Some(offsets.g92_2()), None),
-        Some(NonModal::RestoreOffset) => (Some(offsets.g92_3(params, settings)?), None),
+        Some(NonModal::RestoreOffset) => (Some(offsets.g92_3(params, assignments)?), None),
         _ => (None, None),
     };
     Ok(AxisData { new, stored })

@@ -61,19 +61,19 @@ impl Effect {
         &mut self,
         state: &State<A>,
         block: &Block,
-        settings: &[Change],
+        assignments: &[Change],
         tools: &Tools,
     ) -> Result<(), Fault>
-        requires short { length settings.now ≤ 128 }
-        requires settings { self.old.changes.items ≡ settings.now }
+        requires short { length assignments.now ≤ 128 }
+        requires assignments { self.old.changes.items ≡ assignments.now }
         requires slot { IsSlot block.now.values.h (length tools.now) }
         ensures value { MatchResult result
-            (λ _. bearings_of block.now settings.now state.now tools.now ≡ Ok (bearings_by self.new))
-            (λ fault. bearings_of block.now settings.now state.now tools.now ≡ Err fault) }
+            (λ _. bearings_of block.now assignments.now state.now tools.now ≡ Ok (bearings_by self.new))
+            (λ fault. bearings_of block.now assignments.now state.now tools.now ≡ Err fault) }
         ensures room { OnOk result (length self.new.changes.items ≤ 132) }
     {
-        let at = shift_of(block, &state.machine, &state.params, settings, tools)?;
-        self.machine.offsets = at.offsets;
+        let at = shift_of(block, &state.modal, &state.params, assignments, tools)?;
+        self.modal.offsets = at.offsets;
         self.plan.shown = Some(at.shown);
         put_selection(block.g.system, &mut self.changes);
         put_stored(&at.stored, &mut self.changes);
@@ -99,22 +99,22 @@ impl Effect {
         terms: &Terms<'_>,
         state: &State<A>,
         block: &Block,
-        settings: &[Change],
+        assignments: &[Change],
         feed_per_min: Feed,
     ) -> Result<(), Fault>
-        requires short { length settings.now ≤ 128 }
-        requires settings { self.old.changes.items ≡ settings.now }
+        requires short { length assignments.now ≤ 128 }
+        requires assignments { self.old.changes.items ≡ assignments.now }
         requires slot { IsSlot block.now.values.h (length terms.now.tools) }
-        ensures value { let way = path_after_bearings block.now settings.now state.now terms.now.tools feed_per_min terms.now.geometry in
+        ensures value { let way = path_after_bearings block.now assignments.now state.now terms.now.tools feed_per_min terms.now.geometry in
             MatchResult result (λ _. way ≡ Ok (path_with_bearings self.new)) (λ fault. way ≡ Err fault) }
         ensures room { OnOk result (length self.new.changes.items ≤ 132) }
     {
-        self.find_bearings(state, block, settings, terms.tools)?;
-        let offsets = &self.machine.offsets;
+        self.find_bearings(state, block, assignments, terms.tools)?;
+        let offsets = &self.modal.offsets;
         self.plan.path = path_of(
             block,
             state,
-            settings,
+            assignments,
             offsets,
             feed_per_min,
             terms.geometry,
@@ -130,38 +130,38 @@ impl Effect {
         terms: &Terms<'_>,
         state: &State<A>,
         block: &Block,
-        settings: &[Change],
+        assignments: &[Change],
         feed_per_min: Feed,
     ) -> Result<(), Fault>
-        requires short { length settings.now ≤ 128 }
+        requires short { length assignments.now ≤ 128 }
         requires slot { IsSlot block.now.values.h (length terms.now.tools) }
-        ensures value { let way = path_after_bearings block.now settings.now state.now terms.now.tools feed_per_min terms.now.geometry in
+        ensures value { let way = path_after_bearings block.now assignments.now state.now terms.now.tools feed_per_min terms.now.geometry in
             MatchResult result (λ _. way ≡ Ok (path_with_bearings self.new)) (λ fault. way ≡ Err fault) }
         ensures room { OnOk result (length self.new.changes.items ≤ 132) }
     {
         self.changes.clear();
-        put_changes(settings, &mut self.changes);
+        put_changes(assignments, &mut self.changes);
         if !keeps_offsets(block) {
-            return self.find_path(terms, state, block, settings, feed_per_min);
+            return self.find_path(terms, state, block, assignments, feed_per_min);
         }
-        self.machine.offsets = state.machine.offsets;
+        self.modal.offsets = state.modal.offsets;
         self.plan.shown = None;
-        let machine = &state.machine;
+        let modal = &state.modal;
         if !is_straight(block.motion) {
             self.plan.path = path_unless_straight(
                 block,
                 state,
-                settings,
-                &machine.offsets,
+                assignments,
+                &modal.offsets,
                 feed_per_min,
                 terms.geometry,
             )?;
             return Ok(());
         }
-        let end = end_of(block, machine, &machine.offsets)?;
-        let mode = feed_mode_after(block, &machine.modes);
+        let end = end_of(block, modal, &modal.offsets)?;
+        let mode = feed_mode_after(block, &modal.modes);
         let pace = pace_by(block.motion, mode, feed_per_min, block.values.f);
-        self.go_straight(pace, machine.point, end);
+        self.go_straight(pace, modal.point, end);
         Ok(())
     }
 
@@ -172,10 +172,10 @@ impl Effect {
         ensures path { self.new.plan.path ≡ self.old.plan.path }
         ensures value { bearings_by self.new ≡ ended params.now (bearings_by self.old) }
     {
-        self.machine.offsets = Offsets {
+        self.modal.offsets = Offsets {
             origin: params.origin_after(System::first(), self.changes.as_slice()),
             g92: Point::zero(),
-            tool_length: self.machine.offsets.tool_length,
+            tool_length: self.modal.offsets.tool_length,
         };
         self.changes.push(System::first().selection());
     }
@@ -188,23 +188,23 @@ impl Effect {
         terms: &Terms<'_>,
         state: &State<A>,
         block: &Block,
-        settings: &[Change],
+        assignments: &[Change],
     ) -> Result<(), Fault>
-        requires short { length settings.now ≤ 128 }
+        requires short { length assignments.now ≤ 128 }
         requires slot { IsSlot block.now.values.h (length terms.now.tools) }
         ensures { MatchResult result
-            (λ _. goal_of block.now settings.now state.now terms.now.tools terms.now.geometry ≡ Ok (goal_by self.new))
-            (λ fault. goal_of block.now settings.now state.now terms.now.tools terms.now.geometry ≡ Err fault) }
+            (λ _. goal_of block.now assignments.now state.now terms.now.tools terms.now.geometry ≡ Ok (goal_by self.new))
+            (λ fault. goal_of block.now assignments.now state.now terms.now.tools terms.now.geometry ≡ Err fault) }
     {
-        let feed_per_min = feed_of(block, &state.machine)?;
-        self.find_any_path(terms, state, block, settings, feed_per_min)?;
+        let feed_per_min = feed_of(block, &state.modal)?;
+        self.find_any_path(terms, state, block, assignments, feed_per_min)?;
         if ends(block.m.stop) {
             self.end_bearings(&state.params);
         }
-        self.machine.feed_per_min = feed_per_min;
+        self.modal.feed_per_min = feed_per_min;
         match kind_of(block.motion) {
-            None => self.machine.kept = kept_beside(block, &state.machine),
-            Some(kind) => self.machine.kept = kept_in(kind, block, &state.machine)?,
+            None => self.modal.kept = kept_beside(block, &state.modal),
+            Some(kind) => self.modal.kept = kept_in(kind, block, &state.modal)?,
         }
         Ok(())
     }

@@ -230,7 +230,7 @@ impl<'a> CommandsLeft<'a> {
         self.waiting.clear();
         self.taken = 0;
         let plan = &self.effect.plan;
-        let origin = self.effect.machine.offsets.origin;
+        let origin = self.effect.modal.offsets.origin;
         match step {
             BlockStep::Feed => put_feed(plan.feed, &mut self.waiting),
             BlockStep::ToolLength => put_length(&plan.shown, &mut self.waiting),

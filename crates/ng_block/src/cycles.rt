@@ -1,7 +1,7 @@
 //! G81 to G89: the canned cycle that a line asks for, and the words that it keeps (NISTIR 6556, 3.5.16).
 ghost use Rattle.std.specs.Prelude.{◌≡◌, ◌≤◌, IfOk};
 ghost use Rattle.ng_offsets.specs.Named.{length_by};
-ghost use Rattle.ng_block.specs.Cycles.{kind_of, is_same, own_words, kept_for, kept_beside, kept_in, cycle_words, is_incremental, is_old_z, outputs_at_motion, setting_of, cycle_path};
+ghost use Rattle.ng_block.specs.Cycles.{kind_of, is_same, own_words, kept_for, kept_beside, kept_in, cycle_words, is_incremental, is_old_z, outputs_at_motion, context_of, cycle_path};
 
 use crate::axis_data::{named_on, unit_after};
 use crate::ends::ends;
@@ -10,11 +10,11 @@ use crate::path::Path;
 use crate::switches::outputs_before_motion;
 use crate::tasks::Tasks;
 use ng_canon::{Feed, Geometry, Outputs};
-use ng_cycles::{Canned, CycleKind, CycleWords, Setting};
+use ng_cycles::{Canned, CycleContext, CycleKind, CycleWords};
 use ng_modal::Block;
 use ng_num::{Fault, Len, Num, Unit, nm_of};
 use ng_offsets::Offsets;
-use ng_state::{Distance, KeptWords, Machine, Modes, Motion, Retract};
+use ng_state::{Distance, KeptWords, ModalState, Modes, Motion, Retract};
 
 /// The kind of cycle of a motion. `None` if it isn't a cycle.
 #[inline]
@@ -74,13 +74,13 @@ fn own_words(block: &Block, modes: &Modes) -> Result<KeptWords, Fault>
 }
 
 /// The words that were kept for a cycle. There are none if the motion mode before the line was another.
-fn kept_for(kind: CycleKind, machine: &Machine) -> KeptWords
-    ensures { result ≡ kept_for kind machine.now }
+fn kept_for(kind: CycleKind, modal: &ModalState) -> KeptWords
+    ensures { result ≡ kept_for kind modal.now }
 {
-    match kind_of(Some(machine.modes.motion)) {
+    match kind_of(Some(modal.modes.motion)) {
         None => KeptWords::none(),
         Some(before) => if is_same(kind, before) {
-            machine.kept
+            modal.kept
         } else {
             KeptWords::none()
         },
@@ -89,27 +89,27 @@ fn kept_for(kind: CycleKind, machine: &Machine) -> KeptWords
 
 /// The words kept after a line that has no cycle: another motion, G80 and the program's end drop those that were kept.
 #[inline]
-pub fn kept_beside(block: &Block, machine: &Machine) -> KeptWords
-    ensures { result ≡ kept_beside block.now machine.now }
+pub fn kept_beside(block: &Block, modal: &ModalState) -> KeptWords
+    ensures { result ≡ kept_beside block.now modal.now }
 {
     if block.g.motion.is_some() || ends(block.m.stop) {
         KeptWords::none()
     } else {
-        machine.kept
+        modal.kept
     }
 }
 
 /// The words kept after a cycle's line: its own and, for those that the line doesn't have, the words that were kept for
 /// it. The program's end drops them. E3 if one of its own lengths is out of range.
 #[inline(never)]
-pub fn kept_in(kind: CycleKind, block: &Block, machine: &Machine) -> Result<KeptWords, Fault>
-    ensures { result ≡ kept_in kind block.now machine.now }
+pub fn kept_in(kind: CycleKind, block: &Block, modal: &ModalState) -> Result<KeptWords, Fault>
+    ensures { result ≡ kept_in kind block.now modal.now }
 {
-    let own = own_words(block, &machine.modes)?;
+    let own = own_words(block, &modal.modes)?;
     if ends(block.m.stop) {
         Ok(KeptWords::none())
     } else {
-        Ok(own.over(&kept_for(kind, machine)))
+        Ok(own.over(&kept_for(kind, modal)))
     }
 }
 
@@ -152,34 +152,34 @@ fn is_old_z(retract: Retract) -> bool
 }
 
 /// The outputs at a line's motion: after its spindle, tool and coolant words.
-fn outputs_at_motion(block: &Block, machine: &Machine) -> Outputs
-    ensures { result ≡ outputs_at_motion block.now machine.now }
+fn outputs_at_motion(block: &Block, modal: &ModalState) -> Outputs
+    ensures { result ≡ outputs_at_motion block.now modal.now }
 {
-    let mode = feed_mode_after(block, &machine.modes);
-    let tasks = Tasks::of(block, mode, &machine.outputs);
-    outputs_before_motion(&tasks, machine.outputs)
+    let mode = feed_mode_after(block, &modal.modes);
+    let tasks = Tasks::of(block, mode, &modal.outputs);
+    outputs_before_motion(&tasks, modal.outputs)
 }
 
 /// The state in which a cycle is executed: the offsets, the feed, the modes and the outputs after the line's other
 /// words.
-fn setting_of(
+fn context_of(
     block: &Block,
-    machine: &Machine,
+    modal: &ModalState,
     offsets: &Offsets,
     feed_per_min: Feed,
     kept: KeptWords,
-) -> Setting
-    ensures { result ≡ setting_of block.now machine.now offsets.now feed_per_min kept }
+) -> CycleContext
+    ensures { result ≡ context_of block.now modal.now offsets.now feed_per_min kept }
 {
-    let modes = &machine.modes;
-    Setting {
-        point: machine.point,
+    let modes = &modal.modes;
+    CycleContext {
+        point: modal.point,
         offsets: *offsets,
         is_incremental: is_incremental(block.g.distance.unwrap_or(modes.distance)),
         keeps_old_z: is_old_z(block.g.retract.unwrap_or(modes.retract)),
         is_inverse_time: is_inverse(feed_mode_after(block, modes)),
         feed_per_min,
-        outputs: outputs_at_motion(block, machine),
+        outputs: outputs_at_motion(block, modal),
         kept,
     }
 }
@@ -191,20 +191,20 @@ fn setting_of(
 #[tactic(auto, unfolding(crate::specs::Cycles::cycle_path))]
 pub fn cycle_path(
     block: &Block,
-    machine: &Machine,
+    modal: &ModalState,
     offsets: &Offsets,
     feed_per_min: Feed,
     geometry: &Geometry,
 ) -> Result<Path, Fault>
-    ensures { result ≡ cycle_path block.now machine.now offsets.now feed_per_min geometry.now }
+    ensures { result ≡ cycle_path block.now modal.now offsets.now feed_per_min geometry.now }
 {
     let Some(kind) = kind_of(block.motion) else {
         return Ok(Path::Still);
     };
-    let own = own_words(block, &machine.modes)?;
-    let words = cycle_words(block, &machine.modes, kind, own)?;
-    let kept = kept_for(kind, machine);
-    let setting = setting_of(block, machine, offsets, feed_per_min, kept);
-    let canned = Canned::of(&words, &setting, geometry)?;
+    let own = own_words(block, &modal.modes)?;
+    let words = cycle_words(block, &modal.modes, kind, own)?;
+    let kept = kept_for(kind, modal);
+    let context = context_of(block, modal, offsets, feed_per_min, kept);
+    let canned = Canned::of(&words, &context, geometry)?;
     Ok(Path::Cycle(canned))
 }

@@ -25,7 +25,7 @@ use ng_canon::{CanonicalCommand, Feed, Geometry, StraightMove};
 use ng_modal::Block;
 use ng_num::Fault;
 use ng_params::Change;
-use ng_state::{Machine, State};
+use ng_state::{ModalState, State};
 use std::alloc::Allocator;
 
 /// The most changes of parameters that a line makes: an assignment for each of its pieces, and those of its words.
@@ -49,7 +49,7 @@ pub enum ProgramFlow {
 /// What a line does: all that it changes and, by `commands` and `segments`, what it prints and moves, in order.
 #[derive(Drop)]
 pub struct Effect {
-    pub machine: Machine,
+    pub modal: ModalState,
     /// The parameters that it sets, in order.
     pub changes: Changes,
     pub stop: ProgramFlow,
@@ -58,16 +58,16 @@ pub struct Effect {
 
 impl Effect {
     /// No effect on a modal state.
-    pub fn none(machine: Machine) -> Effect
-        ensures machine { result.machine ≡ machine }
+    pub fn none(modal: ModalState) -> Effect
+        ensures modal { result.modal ≡ modal }
         ensures changes { result.changes.items ≡ [] }
-        ensures before { result.plan.before ≡ machine.outputs }
+        ensures before { result.plan.before ≡ modal.outputs }
         ensures segments { segments_by result ≡ [] }
         ensures commands { commands_by result ≡ [] }
         ensures stop { result.stop ≡ GoesOn }
     {
         Effect {
-            machine,
+            modal,
             changes: Changes::new(),
             stop: ProgramFlow::GoesOn,
             plan: Plan {
@@ -76,7 +76,7 @@ impl Effect {
                 tasks: None,
                 shown: None,
                 path: Path::Still,
-                before: machine.outputs,
+                before: modal.outputs,
             },
         }
     }
@@ -106,7 +106,7 @@ impl Effect {
     pub(crate) fn leave<A: Allocator + Copy + Drop>(&mut self, state: &State<A>, stop: ProgramFlow)
         ensures { in_state state.now self.new ≡ idle state.now stop }
     {
-        self.machine = state.machine;
+        self.modal = state.modal;
         self.changes.clear();
         self.stop = stop;
         self.plan.remark.clear();
@@ -114,7 +114,7 @@ impl Effect {
         self.plan.tasks = None;
         self.plan.shown = None;
         self.plan.path = Path::Still;
-        self.plan.before = state.machine.outputs;
+        self.plan.before = state.modal.outputs;
     }
 
     /// Becomes the effect of a valid block in a state. It has the block's goal already.
@@ -128,23 +128,19 @@ impl Effect {
         ensures { let remark = remark_of (option_map (λ text. text.now) comment.entry) in
             in_state state.now self.new ≡ block_done block.now (goal_by self.old) remark state.now }
     {
-        let machine = &state.machine;
-        let mode = feed_mode_after(block, &machine.modes);
-        put_tasks(block, mode, &machine.outputs, &mut self.plan.tasks);
-        put_outputs_after(
-            &self.plan.tasks,
-            &machine.outputs,
-            &mut self.machine.outputs,
-        );
-        put_modes_after(block, &machine.modes, &mut self.machine.modes);
+        let modal = &state.modal;
+        let mode = feed_mode_after(block, &modal.modes);
+        put_tasks(block, mode, &modal.outputs, &mut self.plan.tasks);
+        put_outputs_after(&self.plan.tasks, &modal.outputs, &mut self.modal.outputs);
+        put_modes_after(block, &modal.modes, &mut self.modal.modes);
         self.plan
             .path
-            .put_point_after(&machine.point, &mut self.machine.point);
-        self.machine.point_known = machine.point_known;
+            .put_point_after(&modal.point, &mut self.modal.point);
+        self.modal.point_known = modal.point_known;
         self.stop = stop_of(block.m.stop);
         self.plan.remark.take(comment);
-        self.plan.feed = feed_set(block, mode, self.machine.feed_per_min);
-        self.plan.before = machine.outputs;
+        self.plan.feed = feed_set(block, mode, self.modal.feed_per_min);
+        self.plan.before = modal.outputs;
     }
 
     /// Becomes that of a block in a state, whose goal it has. X1 where its move has no feed or no time, else X2 where

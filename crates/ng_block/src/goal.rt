@@ -17,7 +17,7 @@ use ng_modal::{Block, NonModal};
 use ng_num::{Fault, Len, Num, Point, Unit, nm_of};
 use ng_offsets::{Offsets, Shift};
 use ng_params::Change;
-use ng_state::{Distance, FeedMode, Machine, Modes, Motion, State};
+use ng_state::{Distance, FeedMode, ModalState, Modes, Motion, State};
 use std::alloc::Allocator;
 
 /// How a line's axis words are read.
@@ -80,12 +80,12 @@ pub fn time_word(mode: FeedMode, motion: Option<Motion>, word: Option<Num>) -> O
 
 /// The feed after a line.
 #[inline]
-pub fn feed_of(block: &Block, machine: &Machine) -> Result<Feed, Fault>
-    ensures { result ≡ feed_of block.now machine.now }
+pub fn feed_of(block: &Block, modal: &ModalState) -> Result<Feed, Fault>
+    ensures { result ≡ feed_of block.now modal.now }
 {
-    match feed_word(feed_mode_after(block, &machine.modes), block.values.f) {
-        None => Ok(machine.feed_per_min),
-        Some(feed) => Ok(Feed::of(nm_of(feed, machine.modes.unit)?)),
+    match feed_word(feed_mode_after(block, &modal.modes), block.values.f) {
+        None => Ok(modal.feed_per_min),
+        Some(feed) => Ok(Feed::of(nm_of(feed, modal.modes.unit)?)),
     }
 }
 
@@ -160,15 +160,15 @@ fn coordinate(word: Option<Num>, reading: Reading, shift: Shift, machine: Len) -
 
 /// The end of a move under offsets. Nearly every line needs it, so it is always inlined.
 #[inline(always)]
-pub fn end_of(block: &Block, machine: &Machine, offsets: &Offsets) -> Result<Point, Fault>
-    ensures { result ≡ end_of block.now machine.now offsets.now }
+pub fn end_of(block: &Block, modal: &ModalState, offsets: &Offsets) -> Result<Point, Fault>
+    ensures { result ≡ end_of block.now modal.now offsets.now }
 {
     let reading = Reading {
-        unit: unit_after(block, &machine.modes),
-        distance: block.g.distance.unwrap_or(machine.modes.distance),
+        unit: unit_after(block, &modal.modes),
+        distance: block.g.distance.unwrap_or(modal.modes.distance),
     };
     let values = &block.values;
-    let point = &machine.point;
+    let point = &modal.point;
     let x = coordinate(values.x, reading, offsets.x(), point.x)?;
     let y = coordinate(values.y, reading, offsets.y(), point.y)?;
     let z = coordinate(values.z, reading, offsets.z(), point.z)?;
@@ -188,24 +188,24 @@ fn is_machine(word: Option<NonModal>) -> bool
 
 /// The end of a move under G53.
 #[inline(never)]
-fn machine_end_of(block: &Block, machine: &Machine) -> Result<Point, Fault>
-    ensures { result ≡ machine_end_of block.now machine.now }
+fn machine_end_of(block: &Block, modal: &ModalState) -> Result<Point, Fault>
+    ensures { result ≡ machine_end_of block.now modal.now }
 {
-    match named_on(block, &machine.modes) {
-        Ok(named) => Ok(named.put(machine.point)),
+    match named_on(block, &modal.modes) {
+        Ok(named) => Ok(named.put(modal.point)),
         Err(fault) => Err(fault),
     }
 }
 
 /// The end of a straight move.
 #[inline]
-fn straight_end_of(block: &Block, machine: &Machine, offsets: &Offsets) -> Result<Point, Fault>
-    ensures { result ≡ straight_end_of block.now machine.now offsets.now }
+fn straight_end_of(block: &Block, modal: &ModalState, offsets: &Offsets) -> Result<Point, Fault>
+    ensures { result ≡ straight_end_of block.now modal.now offsets.now }
 {
     if is_machine(block.g.non_modal) {
-        machine_end_of(block, machine)
+        machine_end_of(block, modal)
     } else {
-        end_of(block, machine, offsets)
+        end_of(block, modal, offsets)
     }
 }
 
@@ -233,12 +233,12 @@ fn is_arc(motion: Option<Motion>) -> bool
 
 /// A straight path to a point, with the feed after the line.
 #[inline]
-fn straight_to(block: &Block, machine: &Machine, feed_per_min: Feed, end: Point) -> Path
-    ensures { result ≡ straight_to block.now machine.now feed_per_min end }
+fn straight_to(block: &Block, modal: &ModalState, feed_per_min: Feed, end: Point) -> Path
+    ensures { result ≡ straight_to block.now modal.now feed_per_min end }
 {
-    let mode = feed_mode_after(block, &machine.modes);
+    let mode = feed_mode_after(block, &modal.modes);
     let pace = pace_by(block.motion, mode, feed_per_min, block.values.f);
-    Path::moving_at(pace, machine.point, end)
+    Path::moving_at(pace, modal.point, end)
 }
 
 /// The path of a line's motion that isn't straight: under offsets, with the feed after the line, in the table that its
@@ -248,24 +248,24 @@ fn straight_to(block: &Block, machine: &Machine, feed_per_min: Feed, end: Point)
 pub fn path_unless_straight<A: Allocator + Copy + Drop>(
     block: &Block,
     state: &State<A>,
-    settings: &[Change],
+    assignments: &[Change],
     offsets: &Offsets,
     feed_per_min: Feed,
     geometry: &Geometry,
 ) -> Result<Path, Fault>
     requires { is_straight block.now.motion ≡ false }
-    ensures { let table = with_changes state.now.params settings.now in
-        result ≡ path_of block.now state.now.machine offsets.now table feed_per_min geometry.now }
+    ensures { let table = with_changes state.now.params assignments.now in
+        result ≡ path_of block.now state.now.modal offsets.now table feed_per_min geometry.now }
 {
-    let machine = &state.machine;
+    let modal = &state.modal;
     if is_arc(block.motion) {
-        return path_along_arc(block, machine, offsets, feed_per_min);
+        return path_along_arc(block, modal, offsets, feed_per_min);
     }
     if kind_of(block.motion).is_some() {
-        return cycle_path(block, machine, offsets, feed_per_min, geometry);
+        return cycle_path(block, modal, offsets, feed_per_min, geometry);
     }
-    let home = home_on(block.g.non_modal, &state.params, settings);
-    home_path(block, machine, offsets, home)
+    let home = home_on(block.g.non_modal, &state.params, assignments);
+    home_path(block, modal, offsets, home)
 }
 
 /// The path of a line's motion: under offsets, with the feed after the line, in the table that its assignments leave.
@@ -273,18 +273,18 @@ pub fn path_unless_straight<A: Allocator + Copy + Drop>(
 pub fn path_of<A: Allocator + Copy + Drop>(
     block: &Block,
     state: &State<A>,
-    settings: &[Change],
+    assignments: &[Change],
     offsets: &Offsets,
     feed_per_min: Feed,
     geometry: &Geometry,
 ) -> Result<Path, Fault>
-    ensures { let table = with_changes state.now.params settings.now in
-        result ≡ path_of block.now state.now.machine offsets.now table feed_per_min geometry.now }
+    ensures { let table = with_changes state.now.params assignments.now in
+        result ≡ path_of block.now state.now.modal offsets.now table feed_per_min geometry.now }
 {
     if !is_straight(block.motion) {
-        return path_unless_straight(block, state, settings, offsets, feed_per_min, geometry);
+        return path_unless_straight(block, state, assignments, offsets, feed_per_min, geometry);
     }
-    let machine = &state.machine;
-    let end = straight_end_of(block, machine, offsets)?;
-    Ok(straight_to(block, machine, feed_per_min, end))
+    let modal = &state.modal;
+    let end = straight_end_of(block, modal, offsets)?;
+    Ok(straight_to(block, modal, feed_per_min, end))
 }

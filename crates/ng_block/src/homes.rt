@@ -12,7 +12,7 @@ use ng_modal::{Block, NonModal};
 use ng_num::{Fault, Len, Point};
 use ng_offsets::Offsets;
 use ng_params::{Change, Index, Params};
-use ng_state::Machine;
+use ng_state::ModalState;
 use std::alloc::Allocator;
 
 /// The length in a parameter, which holds millimetres.
@@ -50,13 +50,13 @@ fn point_after<A: Allocator + Copy + Drop>(
 pub fn home_on<A: Allocator + Copy + Drop>(
     word: Option<NonModal>,
     params: &Params<A>,
-    settings: &[Change],
+    assignments: &[Change],
 ) -> Option<Point>
-    ensures { result ≡ home_on word (with_changes params.now settings.now) }
+    ensures { result ≡ home_on word (with_changes params.now assignments.now) }
 {
     match word {
-        Some(NonModal::Home) => Some(point_after(params, settings, 5161)),
-        Some(NonModal::SecondHome) => Some(point_after(params, settings, 5181)),
+        Some(NonModal::Home) => Some(point_after(params, assignments, 5161)),
+        Some(NonModal::SecondHome) => Some(point_after(params, assignments, 5181)),
         _ => None,
     }
 }
@@ -66,20 +66,20 @@ pub fn home_on<A: Allocator + Copy + Drop>(
 #[inline(never)]
 pub fn home_path(
     block: &Block,
-    machine: &Machine,
+    modal: &ModalState,
     offsets: &Offsets,
     home: Option<Point>,
 ) -> Result<Path, Fault>
-    ensures { result ≡ home_path block.now machine.now offsets.now home }
+    ensures { result ≡ home_path block.now modal.now offsets.now home }
 {
     let Some(home) = home else {
         return Ok(Path::Still);
     };
-    let start = machine.point;
+    let start = modal.point;
     if !block.values.has_axis() {
         return Ok(Path::Straight(traverse(start, home)));
     }
-    let between = end_of(block, machine, offsets)?;
+    let between = end_of(block, modal, offsets)?;
     Ok(Path::Homing(HomePath {
         start,
         between,

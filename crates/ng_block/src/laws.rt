@@ -36,7 +36,7 @@ pub fn refusals()
 pub fn segments_join()
     ensures { (setup : StateModel) (tools : List ℤ) (geometry : Geometry) (text : List ℕ) (done : Done)
         → executed setup tools geometry text ≡ Ok done
-        → Joins setup.machine.point done.segments done.setup.machine.point }
+        → Joins setup.modal.point done.segments done.setup.modal.point }
 {}
 
 /// No offset moves the machine: a valid block without a segment that moves keeps the machine's position, and so does
@@ -44,10 +44,10 @@ pub fn segments_join()
 pub fn offsets_move_nothing()
     ensures still { (setup : StateModel) (tools : List ℤ) (geometry : Geometry) (text : List ℕ) (done : Done)
         → executed setup tools geometry text ≡ Ok done → NoneMoves done.segments
-        → done.setup.machine.point ≡ setup.machine.point }
+        → done.setup.modal.point ≡ setup.modal.point }
     ensures alone { (setup : StateModel) (tools : List ℤ) (geometry : Geometry) (text : List ℕ) (done : Done) (block : Block)
         → executed setup tools geometry text ≡ Ok done → AsksFor setup text block → SetsOffsetsAlone block
-        → done.setup.machine.point ≡ setup.machine.point }
+        → done.setup.modal.point ≡ setup.modal.point }
 {}
 
 /// Each segment of a valid block stays inside the travel (own).
@@ -70,5 +70,5 @@ pub fn modes_stay()
     ensures { (setup : StateModel) (tools : List ℤ) (geometry : Geometry) (text again : List ℕ) (done next : Done) (one other : Block)
         → executed setup tools geometry text ≡ Ok done → AsksFor setup text one
         → executed done.setup tools geometry again ≡ Ok next → AsksFor done.setup again other → HasSameModes one other
-        → next.setup.machine.modes ≡ done.setup.machine.modes }
+        → next.setup.modal.modes ≡ done.setup.modal.modes }
 {}

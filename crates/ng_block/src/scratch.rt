@@ -17,7 +17,7 @@ use ng_expr::Values;
 use ng_modal::Sorted;
 use ng_num::Fault;
 use ng_offsets::Tools;
-use ng_state::{Machine, State};
+use ng_state::{ModalState, State};
 use ng_words::{Line, LineKind, is_deletable, is_too_long};
 use std::alloc::Allocator;
 
@@ -37,7 +37,7 @@ impl Scratch {
     ghost use Rattle.std.specs.Prelude.{[]};
 
     /// The space before the first line, over a modal state.
-    pub fn new(machine: Machine) -> Scratch
+    pub fn new(modal: ModalState) -> Scratch
         ensures commands { commands_by result.effect ≡ [] }
         ensures segments { segments_by result.effect ≡ [] }
     {
@@ -45,7 +45,7 @@ impl Scratch {
             line: Line::new(),
             values: Values::new(),
             sorted: Sorted::nothing(),
-            effect: Effect::none(machine),
+            effect: Effect::none(modal),
         }
     }
 
@@ -65,11 +65,10 @@ impl Scratch {
     {
         let comment = self.line.last_comment();
         let slots = terms.tools.slots() as u8;
-        self.sorted
-            .check(&self.values, &state.machine.modes, slots)?;
+        self.sorted.check(&self.values, &state.modal.modes, slots)?;
         let block = &self.sorted.block;
-        let settings = self.values.settings.as_slice();
-        self.effect.find_goal(terms, state, block, settings)?;
+        let assignments = self.values.assignments.as_slice();
+        self.effect.find_goal(terms, state, block, assignments)?;
         self.effect.finish(state, block, comment, terms.geometry)
     }
 
@@ -195,7 +194,7 @@ pub fn execute<A: Allocator + Copy + Drop>(
         tools,
         geometry,
     };
-    let mut places = Scratch::new(state.machine);
+    let mut places = Scratch::new(state.modal);
     match places.take_line(&terms, state, text) {
         Ok(()) => Ok(places.effect),
         Err(fault) => Err(fault),

@@ -13,7 +13,7 @@ use ng_modal::{Block, ToolLength};
 use ng_num::{Fault, Len, Point};
 use ng_offsets::{NewOffsets, Offsets, Tools};
 use ng_params::{Change, Params, System};
-use ng_state::Machine;
+use ng_state::ModalState;
 use std::alloc::Allocator;
 
 /// What the steps of a line print of the offsets. `None` if a step leaves them unchanged.
@@ -101,14 +101,14 @@ fn with_system<A: Allocator + Copy + Drop>(
     system: Option<System>,
     offsets: &Offsets,
     params: &Params<A>,
-    settings: &[Change],
+    assignments: &[Change],
 ) -> Result<Option<NewOffsets>, Fault>
-    ensures { result ≡ with_system system offsets.now (with_changes params.now settings.now) }
+    ensures { result ≡ with_system system offsets.now (with_changes params.now assignments.now) }
 {
     match system {
         None => Ok(None),
         Some(system) => {
-            let selected = offsets.select(system, params, settings)?;
+            let selected = offsets.select(system, params, assignments)?;
             Ok(Some(selected.0))
         }
     }
@@ -119,18 +119,18 @@ fn with_system<A: Allocator + Copy + Drop>(
 #[inline(never)]
 pub fn shift_of<A: Allocator + Copy + Drop>(
     block: &Block,
-    machine: &Machine,
+    modal: &ModalState,
     params: &Params<A>,
-    settings: &[Change],
+    assignments: &[Change],
     tools: &Tools,
 ) -> Result<Shifted, Fault>
     requires { IsSlot block.now.values.h (length tools.now) }
-    ensures { result ≡ shift_of block.now machine.now (with_changes params.now settings.now) tools.now }
+    ensures { result ≡ shift_of block.now modal.now (with_changes params.now assignments.now) tools.now }
 {
-    let lengthened = offsets_after_length(block, tools, &machine.offsets);
-    let system = with_system(block.g.system, &lengthened, params, settings)?;
+    let lengthened = offsets_after_length(block, tools, &modal.offsets);
+    let system = with_system(block.g.system, &lengthened, params, assignments)?;
     let placed = offsets_after(&system, lengthened);
-    let data = axis_data_of(block, machine, &placed, params, settings)?;
+    let data = axis_data_of(block, modal, &placed, params, assignments)?;
     Ok(Shifted {
         offsets: offsets_after(&data.new, placed),
         shown: Shown {

@@ -255,14 +255,14 @@ module _ (rules : List Rule) where
   -- a use with values, or of a flag without values
   used_full : (a : Rule) (values : List Text) (rows : List Row) → IsDistinct a → (has_place a.id ≡ true → 0 < length values)
       → (is_switch a.id ≡ true → values ≡ []) → Full rows → Full (used a values rows)
-  used_full a values rows lawful some bare h = go (action_of a) lawful.counts_nothing
+  used_full a values rows valid some bare h = go (action_of a) valid.counts_nothing
     where
       flagged : (vs : List Text) → vs ≡ [] → IsFlag a → SayBy (reading_by a) (values_or_missing a vs)
       flagged [] none flag = flag.used
       flagged (v ∷ vs) none flag = cc
 
       right : Right a.id (reading_by a) (values_or_missing a values)
-      right = (λ placed. given_some a values (some placed), λ switch. flagged values (bare switch) (lawful.flag switch))
+      right = (λ placed. given_some a values (some placed), λ switch. flagged values (bare switch) (valid.flag switch))
 
       alone : Full (with_values a.id (reading_by a) CommandLine (values_or_missing a values) (without a.id rows))
       alone = set_full a.id (reading_by a) CommandLine (values_or_missing a values) (without a.id rows) right (without_full a.id rows h)

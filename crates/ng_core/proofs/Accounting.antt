@@ -12,7 +12,8 @@ use Rattle.ng_block.specs.Effects.{Done}
 use Rattle.ng_layout.specs.Stored.{HalfModel, StoredModel, DurableState}
 use Rattle.ng_layout.specs.declared.half.Source.{Source}
 use Rattle.ng_layout.specs.declared.half.Source.TheVariants as source
-use Rattle.ng_session.specs.Entries.{Equipment, Entry, Block, Loaded, Referenced, Approached, Abandoned, Tooled}
+use Rattle.ng_canon.specs.declared.geometry.Geometry.{Geometry}
+use Rattle.ng_session.specs.Entries.{Entry, Block, Loaded, Referenced, Approached, Abandoned, Tooled}
 use Rattle.ng_session.specs.Fold.{after, IsTextOf, IsBlock, FollowFold}
 use Rattle.ng_session.specs.Session.{SessionModel}
 use Rattle.ng_session.specs.Runs.{ProgramSession, CrashState, session_at_power_on, leads_to, session_of_transition, session_after, entries_of, entry_of, under_way, crash_after, dones, given_by, lines_given}
@@ -34,33 +35,33 @@ use Rattle.ng_core.proofs.Timing.{weaker_said}
 abbrev AreAmong : List (List ℕ) → List (List ℕ) → Type 0
 AreAmong lines more = (text : List ℕ) → Contains lines text → Contains more text
 
-module _ (equipment : Equipment) (lines more : List (List ℕ)) (among : AreAmong lines more) where
+module _ (geometry : Geometry) (lines more : List (List ℕ)) (among : AreAmong lines more) where
   more_text : (x : DurableState) (half : Option HalfModel) (from : Source) (text : List ℕ) (block_delete : Bool) (done : Done) → IsTextOf lines x half from text block_delete done → IsTextOf more x half from text block_delete done
   more_text x None source.Program text block_delete done is = is
   more_text x None source.Mdi text block_delete done is = among text is
   more_text x (Some half) from text block_delete done is = is
 
-  more_block : (x : DurableState) (from : Source) (text : List ℕ) (block_delete : Bool) (done : Done) → IsBlock equipment lines x from text block_delete done → IsBlock equipment more x from text block_delete done
+  more_block : (x : DurableState) (from : Source) (text : List ℕ) (block_delete : Bool) (done : Done) → IsBlock geometry lines x from text block_delete done → IsBlock geometry more x from text block_delete done
   more_block x from text block_delete done is = record { does = is.does; text_is = more_text x x.saved.half from text block_delete done is.text_is }
 
-  more_lawful : (x : DurableState) (entries : List Entry) → FollowFold equipment lines x entries → FollowFold equipment more x entries
-  more_lawful x [] are = tt
-  more_lawful x (Block from text block_delete ∷ entries) are = ((are.0.0, more_block x from text block_delete are.0.0 are.0.1), more_lawful (after equipment x (Block from text block_delete)) entries are.1)
-  more_lawful x (Loaded text ∷ entries) are = (are.0, more_lawful (after equipment x (Loaded text)) entries are.1)
-  more_lawful x (Referenced point ∷ entries) are = (are.0, more_lawful (after equipment x (Referenced point)) entries are.1)
-  more_lawful x (Approached ∷ entries) are = (are.0, more_lawful (after equipment x Approached) entries are.1)
-  more_lawful x (Abandoned ∷ entries) are = (are.0, more_lawful (after equipment x Abandoned) entries are.1)
-  more_lawful x (Tooled slot nm ∷ entries) are = (are.0, more_lawful (after equipment x (Tooled slot nm)) entries are.1)
+  more_valid : (x : DurableState) (entries : List Entry) → FollowFold geometry lines x entries → FollowFold geometry more x entries
+  more_valid x [] are = tt
+  more_valid x (Block from text block_delete ∷ entries) are = ((are.0.0, more_block x from text block_delete are.0.0 are.0.1), more_valid (after geometry x (Block from text block_delete)) entries are.1)
+  more_valid x (Loaded text ∷ entries) are = (are.0, more_valid (after geometry x (Loaded text)) entries are.1)
+  more_valid x (Referenced point ∷ entries) are = (are.0, more_valid (after geometry x (Referenced point)) entries are.1)
+  more_valid x (Approached ∷ entries) are = (are.0, more_valid (after geometry x Approached) entries are.1)
+  more_valid x (Abandoned ∷ entries) are = (are.0, more_valid (after geometry x Abandoned) entries are.1)
+  more_valid x (Tooled slot nm ∷ entries) are = (are.0, more_valid (after geometry x (Tooled slot nm)) entries are.1)
 
-  more_follows : (x : DurableState) (next : List Entry) (saved : StoredModel) (given : List Item) → UncommittedTail equipment lines x next saved given → UncommittedTail equipment more x next saved given
+  more_follows : (x : DurableState) (next : List Entry) (saved : StoredModel) (given : List Item) → UncommittedTail geometry lines x next saved given → UncommittedTail geometry more x next saved given
   more_follows x next _ _ Nothing_open = Nothing_open
   more_follows x next _ _ (Approach_open half approach begun left later comes held way whole) = Approach_open half approach begun left later comes held way whole
   more_follows x next _ _ (Segment_open from text block_delete done before segment rest begun left later comes is split whole) =
       Segment_open from text block_delete done before segment rest begun left later comes (more_block x from text block_delete done is) split whole
 
-  more_cut : (x : DurableState) (before : List Item) (entries next : List Entry) (left : CrashState) → IsCut equipment lines x before entries next left → IsCut equipment more x before entries next left
+  more_cut : (x : DurableState) (before : List Item) (entries next : List Entry) (left : CrashState) → IsCut geometry lines x before entries next left → IsCut geometry more x before entries next left
   more_cut x before entries next left cut = record {
-    lawful = more_lawful x entries cut.lawful;
+    valid = more_valid x entries cut.valid;
     program = cut.program;
     more = cut.more;
     items = cut.items;
@@ -96,42 +97,42 @@ drop_begun : {X : Type 0} (some rest last : List X) → drop (length some) ((som
 drop_begun [] rest last = refl
 drop_begun (x ∷ some) rest last = drop_begun some rest last
 
-entries_more : {A : Type 0} (equipment : Equipment) (scene : ProgramSession) (some rest : List (Event A)) → entries_of equipment scene (some ++ rest) ≡ entries_of equipment scene some ++ entries_of equipment (session_after equipment scene some) rest
-entries_more equipment scene [] rest = refl
-entries_more equipment scene (event ∷ some) rest =
-    let out = leads_to equipment scene event in
-    ap (λ (l : List Entry). out.entries ++ l) (entries_more equipment (session_of_transition out) some rest)
-    ∙ sym (append_assoc out.entries (entries_of equipment (session_of_transition out) some) (entries_of equipment (session_after equipment (session_of_transition out) some) rest))
+entries_more : {A : Type 0} (geometry : Geometry) (scene : ProgramSession) (some rest : List (Event A)) → entries_of geometry scene (some ++ rest) ≡ entries_of geometry scene some ++ entries_of geometry (session_after geometry scene some) rest
+entries_more geometry scene [] rest = refl
+entries_more geometry scene (event ∷ some) rest =
+    let out = leads_to geometry scene event in
+    ap (λ (l : List Entry). out.entries ++ l) (entries_more geometry (session_of_transition out) some rest)
+    ∙ sym (append_assoc out.entries (entries_of geometry (session_of_transition out) some) (entries_of geometry (session_after geometry (session_of_transition out) some) rest))
 
-session_more : {A : Type 0} (equipment : Equipment) (scene : ProgramSession) (some rest : List (Event A)) → session_after equipment scene (some ++ rest) ≡ session_after equipment (session_after equipment scene some) rest
-session_more equipment scene [] rest = refl
-session_more equipment scene (event ∷ some) rest = session_more equipment (session_of_transition (leads_to equipment scene event)) some rest
+session_more : {A : Type 0} (geometry : Geometry) (scene : ProgramSession) (some rest : List (Event A)) → session_after geometry scene (some ++ rest) ≡ session_after geometry (session_after geometry scene some) rest
+session_more geometry scene [] rest = refl
+session_more geometry scene (event ∷ some) rest = session_more geometry (session_of_transition (leads_to geometry scene event)) some rest
 
 -- ---- a stop
 
-accounted : {A : Type 0} (equipment : Equipment) (x : DurableState) (given : List Item) (events : List (Event A)) (answers : List (Result Reply Fault)) (replies : List Reply) (n : ℕ) (image : Image) (handed : List Item)
-    → IsLeftBy equipment (session_at_power_on x) given events answers replies n image handed
+accounted : {A : Type 0} (geometry : Geometry) (x : DurableState) (given : List Item) (events : List (Event A)) (answers : List (Result Reply Fault)) (replies : List Reply) (n : ℕ) (image : Image) (handed : List Item)
+    → IsLeftBy geometry (session_at_power_on x) given events answers replies n image handed
     → let tried = tried_events (take (suc n) events) answers in
-    IsAccounted equipment (lines_given (take (suc n) events)) x given (entries_of equipment (session_at_power_on x) tried) (under_way equipment (session_at_power_on x) tried) (dones (take n replies)) image handed
-accounted {A} equipment x given events answers replies n image handed p =
+    IsAccounted geometry (lines_given (take (suc n) events)) x given (entries_of geometry (session_at_power_on x) tried) (under_way geometry (session_at_power_on x) tried) (dones (take n replies)) image handed
+accounted {A} geometry x given events answers replies n image handed p =
     let scene = session_at_power_on x in
     let lines = lines_given (take (suc n) events) in
     let tried = tried_events (take (suc n) events) answers in
     let some = take p.after.count tried in
     let rest = drop p.after.count tried in
-    let there = session_after equipment scene some in
-    let entries = entries_of equipment scene some in
-    let later = entries_of equipment there rest in
-    let last = under_way equipment there rest in
-    let executed = entries_of equipment scene tried in
-    let cut = crash_after_events A equipment x given some in
-    let left = crash_after equipment scene given some in
+    let there = session_after geometry scene some in
+    let entries = entries_of geometry scene some in
+    let later = entries_of geometry there rest in
+    let last = under_way geometry there rest in
+    let executed = entries_of geometry scene tried in
+    let cut = crash_after_events A geometry x given some in
+    let left = crash_after geometry scene given some in
     let split : some ++ rest ≡ tried = take-append-drop p.after.count tried in
-    let first : executed ≡ entries ++ later = ap (λ (l : List (Event A)). entries_of equipment scene l) (sym split) ∙ entries_more equipment scene some rest in
-    let ends : under_way equipment scene tried ≡ last =
-    ap (λ (s : ProgramSession). entry_of s.session.current) (ap (λ (l : List (Event A)). session_after equipment scene l) (sym split) ∙ session_more equipment scene some rest) in
+    let first : executed ≡ entries ++ later = ap (λ (l : List (Event A)). entries_of geometry scene l) (sym split) ∙ entries_more geometry scene some rest in
+    let ends : under_way geometry scene tried ≡ last =
+    ap (λ (s : ProgramSession). entry_of s.session.current) (ap (λ (l : List (Event A)). session_after geometry scene l) (sym split) ∙ session_more geometry scene some rest) in
     let same : take (length entries) executed ≡ entries = ap (λ (l : List Entry). take (length entries) l) first ∙ take_begun entries later in
-    let next : drop (length entries) (executed ++ under_way equipment scene tried) ≡ later ++ last =
+    let next : drop (length entries) (executed ++ under_way geometry scene tried) ≡ later ++ last =
     (λ i. drop (length entries) (first i ++ ends i)) ∙ drop_begun entries later last in
     let long : length executed ≡ length (entries ++ later) = ap (λ (l : List Entry). length l) first in
     record {
@@ -140,19 +141,19 @@ accounted {A} equipment x given events answers replies n image handed p =
       few = omega (arith, p.few, cut.1);
       within = omega (arith, long, length-append entries later);
       left = left;
-      cut = subst (λ (l : List Entry). IsCut equipment lines x given l (drop (length entries) (executed ++ under_way equipment scene tried)) left) (sym same)
-          (subst (λ (l : List Entry). IsCut equipment lines x given entries l left) (sym next)
-          (more_cut equipment (lines_given some) lines (λ text is. tried_lines (take (suc n) events) answers text (taken_lines p.after.count tried text is)) x given entries (later ++ last) left
-          (cut_later equipment (lines_given some) x given entries there rest left cut.0)));
+      cut = subst (λ (l : List Entry). IsCut geometry lines x given l (drop (length entries) (executed ++ under_way geometry scene tried)) left) (sym same)
+          (subst (λ (l : List Entry). IsCut geometry lines x given entries l left) (sym next)
+          (more_cut geometry (lines_given some) lines (λ text is. tried_lines (take (suc n) events) answers text (taken_lines p.after.count tried text is)) x given entries (later ++ last) left
+          (cut_later geometry (lines_given some) x given entries there rest left cut.0)));
       stands_for = p.after.stands_for;
     }
 
 from_rest : {A R : Type 0} (seen : R → Device) (x : DurableState) (events : List (Event A)) (replies : List Reply) (moments : List ℕ) (first now : ControllerModel R)
-    → Leads seen events replies moments first.equipment (session_at_power_on x) (seen first.journal.rig).trace now → Accounts seen x events replies moments first now
+    → Leads seen events replies moments first.geometry (session_at_power_on x) (seen first.journal.rig).trace now → Accounts seen x events replies moments first now
 from_rest seen x events replies moments first now p = record {
-  passes = passed seen events replies moments first.equipment (session_at_power_on x) (seen first.journal.rig).trace now p;
+  passes = passed seen events replies moments first.geometry (session_at_power_on x) (seen first.journal.rig).trace now p;
   stops = weaker_said (seen first.journal.rig).trace (seen now.journal.rig).trace _ _ p.stops
-      (λ t image handed from l. accounted first.equipment x (items (seen first.journal.rig).trace) events p.answers replies (answered_by t moments) image handed l);
+      (λ t image handed from l. accounted first.geometry x (items (seen first.journal.rig).trace) events p.answers replies (answered_by t moments) image handed l);
 }
 
 pub accounts : {A R : Type 0} (seen : R → Device) (x : DurableState) (events : List (Event A)) (replies : List Reply) (moments : List ℕ) (first now : ControllerModel R)
@@ -160,6 +161,6 @@ pub accounts : {A R : Type 0} (seen : R → Device) (x : DurableState) (events :
 accounts seen x events replies moments first now h p =
     let history = (turns_history seen events replies first now p.turns).holds h x.program (λ _. p.began.rests) in
     from_rest seen x events replies moments first now
-    (subst (λ (s : SessionModel). Leads seen events replies moments first.equipment (record { program = x.program; session = s }) (seen first.journal.rig).trace now) p.began.session
+    (subst (λ (s : SessionModel). Leads seen events replies moments first.geometry (record { program = x.program; session = s }) (seen first.journal.rig).trace now) p.began.session
     (leads seen events replies moments x.program first now
     (subst (λ (l : List ℕ). History seen events replies l x.program first now) (sym p.answered) history) p.began.whole p.began.rests))

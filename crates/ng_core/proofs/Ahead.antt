@@ -14,7 +14,8 @@ use Rattle.ng_text.specs.Percent.{first_kind}
 use Rattle.ng_text.specs.Programs.{ProgramLineModel, program_line_at, lines_before}
 use Rattle.ng_journal.specs.Journal.{JournalModel, IsDurablyAt, IsBrokenBy, CountsFailure}
 use Rattle.ng_journal.specs.Storing.{ledger_of}
-use Rattle.ng_session.specs.Entries.{Equipment, done_of}
+use Rattle.ng_canon.specs.declared.geometry.Geometry.{Geometry}
+use Rattle.ng_session.specs.Entries.{done_of}
 use Rattle.ng_session.specs.Session.{SessionModel, Transition, step, begin, begin_by, is_running, session_status, TakesMemory, AsksDevice, NeedsProgramLine}
 use Rattle.ng_session.specs.Planned.{PlannedModel, KnownModel, IsKnownOf, IsLineOf, AreLinesOf, IsBegunAhead, forgotten_for, forgotten, drops_plan}
 use Rattle.ng_session.specs.declared.event.Event.{Event}
@@ -37,7 +38,7 @@ use Rattle.ng_core.proofs.Quiet.{still_begin}
 
 -- a controller with this knowledge of the lines
 abbrev pub with_lines : {R : Type 0} → ControllerModel R → KnownModel → ControllerModel R
-with_lines c known = record { journal = c.journal; session = c.session; lines = known; equipment = c.equipment }
+with_lines c known = record { journal = c.journal; session = c.session; lines = known; geometry = c.geometry }
 
 answered_from : {R : Type 0} (answer : Result Reply Fault) (out : Transition) (old new : ControllerModel R) (known : KnownModel) → IsAnsweredBy answer out (with_lines old known) new → IsAnsweredBy answer out old new
 answered_from (Ok r) out old new known a = a
@@ -67,7 +68,7 @@ module _ {R : Type 0} (seen : R → Device) where
     line = λ read. line_from answer out old new known (c.line read);
     hindered = c.hindered;
     broken = c.broken;
-    equipment = c.equipment;
+    geometry = c.geometry;
     size = c.size;
     failures = c.failures;
   }
@@ -94,10 +95,10 @@ module _ {R : Type 0} (seen : R → Device) where
         record { same = refl; at = rests; first_is = line.kind; line_is = sym line.line };
   }
 
-  pub carried_ahead : (told : Reply) (old new : ControllerModel R) → old.journal.broken ≡ false → is_running old.session.activity ≡ true → new.journal ≡ old.journal → new.equipment ≡ old.equipment
-      → IsBegunAhead old.equipment told old.session new.session old.lines new.lines
-      → CarriesOut seen needs_line (λ program. begin old.equipment program old.session (program_line_at program old.session.stored.place)) (Ok told) old new
-  carried_ahead told old new whole runs same equipment b =
+  pub carried_ahead : (told : Reply) (old new : ControllerModel R) → old.journal.broken ≡ false → is_running old.session.activity ≡ true → new.journal ≡ old.journal → new.geometry ≡ old.geometry
+      → IsBegunAhead old.geometry told old.session new.session old.lines new.lines
+      → CarriesOut seen needs_line (λ program. begin old.geometry program old.session (program_line_at program old.session.stored.place)) (Ok told) old new
+  carried_ahead told old new whole runs same geometry b =
       let p = b.planned in
       let line : ProgramLineModel = record { text = p.prepared.block.text; next = p.next } in
       let found : FindingBoth seen p.first (Some line) old.lines p.place old.journal new.journal =
@@ -105,11 +106,11 @@ module _ {R : Type 0} (seen : R → Device) where
       record {
         does = does_begin seen told p.first (Some line) p.place old new b.place found (λ program known at kind. still_lines program old.lines new.lines p b.front b.before known) b.told_is b.next;
         comes = λ none. absurd (none tt);
-        line = λ read. begun_line told (λ (program : List ℕ). begin old.equipment program old.session (program_line_at program old.session.stored.place)) p.first (Some line) p.place old new runs b.place b.beginning b.told_is b.next
+        line = λ read. begun_line told (λ (program : List ℕ). begin old.geometry program old.session (program_line_at program old.session.stored.place)) p.first (Some line) p.place old new runs b.place b.beginning b.told_is b.next
             (ap (λ (j : JournalModel R). ledger_of j) same);
         hindered = tt;
         broken = ap (λ (j : JournalModel R). j.broken) same ∙ whole;
-        equipment = equipment;
+        geometry = geometry;
         size = ap (λ (j : JournalModel R). (seen j.rig).sectors) same;
         failures = ap (λ (j : JournalModel R). (seen j.rig).failed) same;
       }
@@ -123,7 +124,7 @@ module _ {R : Type 0} (seen : R → Device) where
     ledger = refl;
     errors = tt;
     broken = whole;
-    equipment = refl;
+    geometry = refl;
     size = refl;
     failures = refl;
   }
@@ -131,9 +132,9 @@ module _ {R : Type 0} (seen : R → Device) where
   -- both reads succeeded
   pub plans_found : (first : LineKind) (line : Option ProgramLineModel) (place : ℕ) (old new : ControllerModel R) → FindingBoth seen first line old.lines place old.journal new.journal
       → ((program : List ℕ) → IsKnownOf program old.lines → line ≡ program_line_at program place → first ≡ first_kind (lines_before program place) → IsKnownOf program new.lines)
-      → new.session ≡ old.session → new.equipment ≡ old.equipment → ledger_of new.journal ≡ ledger_of old.journal → new.journal.broken ≡ false
+      → new.session ≡ old.session → new.geometry ≡ old.geometry → ledger_of new.journal ≡ ledger_of old.journal → new.journal.broken ≡ false
       → (seen new.journal.rig).sectors ≡ (seen old.journal.rig).sectors → (seen new.journal.rig).failed ≡ (seen old.journal.rig).failed → PlansAhead seen (Ok tt) old new
-  plans_found first line place old new p known same equipment ledger whole size failures = record {
+  plans_found first line place old new p known same geometry ledger whole size failures = record {
     does = record {
       keeps = p.keeps;
       back = p.back;
@@ -148,7 +149,7 @@ module _ {R : Type 0} (seen : R → Device) where
     ledger = ledger;
     errors = tt;
     broken = whole;
-    equipment = equipment;
+    geometry = geometry;
     size = size;
     failures = failures;
   }
@@ -156,16 +157,16 @@ module _ {R : Type 0} (seen : R → Device) where
   -- the device failed
   pub plans_lost : (fault e : Fault) (old new : ControllerModel R) → fault ≡ e
       → IfHonest (seen old.journal.rig) (seen new.journal.rig) ((program : List ℕ) → IsAtRestWith (seen old.journal.rig).trace old program → (seen new.journal.rig).trace ≡ (seen old.journal.rig).trace)
-      → e ≡ DeviceFailed → new.session ≡ old.session → new.equipment ≡ old.equipment → ledger_of new.journal ≡ ledger_of old.journal → IsBrokenBy {T = Unit {0}} (Err e) new.journal.broken
+      → e ≡ DeviceFailed → new.session ≡ old.session → new.geometry ≡ old.geometry → ledger_of new.journal ≡ ledger_of old.journal → IsBrokenBy {T = Unit {0}} (Err e) new.journal.broken
       → (seen new.journal.rig).sectors ≡ (seen old.journal.rig).sectors → CountsFailure {T = Unit {0}} (Err e) (seen old.journal.rig).failed (seen new.journal.rig).failed → PlansAhead seen (Err fault) old new
-  plans_lost fault e old new is p lost same equipment ledger broken size failures =
+  plans_lost fault e old new is p lost same geometry ledger broken size failures =
       subst (λ (f : Fault). PlansAhead seen (Err f) old new) (sym is) (record {
         does = meaning p (λ f program rests. record { same = f program rests; rests = tt });
         session = same;
         ledger = ledger;
         errors = lost;
         broken = broken;
-        equipment = equipment;
+        geometry = geometry;
         size = size;
         failures = failures;
       })
@@ -210,7 +211,7 @@ module _ {R : Type 0} (seen : R → Device) where
     line = λ read. let l = c.line read in record { program = l.program; line = l.line; comes = (l.comes.0, p.session ∙ l.comes.1); ledger = p.ledger ∙ l.ledger };
     hindered = tt;
     broken = p.broken;
-    equipment = p.equipment ∙ c.equipment;
+    geometry = p.geometry ∙ c.geometry;
     size = p.size ∙ c.size;
     failures = p.failures ∙ c.failures;
   }
@@ -220,22 +221,22 @@ module _ {R : Type 0} (seen : R → Device) where
   begun_by_status program s line (Ok done) told = refl
   begun_by_status program s line (Err fault) told = cc
 
-  begun_status : (q : Equipment) (program : List ℕ) (s : SessionModel) (line : Option ProgramLineModel) → reply.Begun ≡ (begin q program s line).reply → session_status (begin q program s line).next ≡ session_status s
+  begun_status : (q : Geometry) (program : List ℕ) (s : SessionModel) (line : Option ProgramLineModel) → reply.Begun ≡ (begin q program s line).reply → session_status (begin q program s line).next ≡ session_status s
   begun_status q program s None told = cc
   begun_status q program s (Some line) told = begun_by_status program s line (done_of q program s.stored source.Program line.text s.block_delete) told
 
   -- the device failed while planning: the line is begun all the same
   pub carried_unplanned : (fault e : Fault) (old mid new : ControllerModel R) → fault ≡ e → is_running old.session.activity ≡ true
-      → (let begins : List ℕ → Transition = λ program. begin old.equipment program old.session (program_line_at program old.session.stored.place) in
+      → (let begins : List ℕ → Transition = λ program. begin old.geometry program old.session (program_line_at program old.session.stored.place) in
       CarriesOut seen needs_line begins (Ok reply.Begun) old mid → PlansAhead seen (Err e) mid new
       → CarriesOut seen needs_line begins (Err fault) old new)
   carried_unplanned fault e old mid new is runs c p =
-      let begins : List ℕ → Transition = λ program. begin old.equipment program old.session (program_line_at program old.session.stored.place) in
+      let begins : List ℕ → Transition = λ program. begin old.geometry program old.session (program_line_at program old.session.stored.place) in
       let l = c.line tt in
       let by = by_running begins old l.program l.line runs in
-      let told : reply.Begun ≡ (begin old.equipment l.program old.session l.line).reply = l.comes.0 ∙ ap (λ (o : Transition). o.reply) by in
-      let next : mid.session ≡ (begin old.equipment l.program old.session l.line).next = l.comes.1 ∙ ap (λ (o : Transition). o.next) by in
-      let status : session_status new.session ≡ session_status old.session = ap session_status (p.session ∙ next) ∙ begun_status old.equipment l.program old.session l.line told in
+      let told : reply.Begun ≡ (begin old.geometry l.program old.session l.line).reply = l.comes.0 ∙ ap (λ (o : Transition). o.reply) by in
+      let next : mid.session ≡ (begin old.geometry l.program old.session l.line).next = l.comes.1 ∙ ap (λ (o : Transition). o.next) by in
+      let status : session_status new.session ≡ session_status old.session = ap session_status (p.session ∙ next) ∙ begun_status old.geometry l.program old.session l.line told in
       let lost : fault ≡ DeviceFailed = is ∙ p.errors in
       record {
         does = record {
@@ -248,9 +249,9 @@ module _ {R : Type 0} (seen : R → Device) where
         };
         comes = record { status = status; session = λ other. absurd (other lost); ledger = λ other. absurd (other lost); journal = λ other. absurd (other lost) };
         line = λ read. tt;
-        hindered = inr (inr (lost, tt, λ program used. unused_begin old.equipment program old.session (program_line_at program old.session.stored.place) (ledger_of old.journal) used));
+        hindered = inr (inr (lost, tt, λ program used. unused_begin old.geometry program old.session (program_line_at program old.session.stored.place) (ledger_of old.journal) used));
         broken = subst (λ (f : Fault). IsBrokenBy {T = Reply} (Err f) new.journal.broken) (sym is) p.broken;
-        equipment = p.equipment ∙ c.equipment;
+        geometry = p.geometry ∙ c.geometry;
         size = p.size ∙ c.size;
         failures = subst (λ (f : Fault). CountsFailure {T = Reply} (Err f) (seen old.journal.rig).failed (seen new.journal.rig).failed) (sym is)
             (subst (λ (n : ℕ). CountsFailure {T = Reply} (Err e) n (seen new.journal.rig).failed) c.failures p.failures);
@@ -271,16 +272,16 @@ module _ {R : Type 0} (seen : R → Device) where
   pub carried_forgotten : {A : Type 0} (e : Event A) (answer : Result Reply Fault) (old new : ControllerModel R) (known : KnownModel) → known ≡ forgotten_for e old.lines
       → CarriesOutEvent seen e answer (with_lines old known) new → CarriesOutEvent seen e answer old new
   carried_forgotten e answer old new known is c =
-      carried_from seen (TakesMemory old.equipment old.session e) (AsksDevice old.equipment old.session e) (NeedsProgramLine old.equipment old.session e) (λ program. step old.equipment program old.session e)
+      carried_from seen (TakesMemory old.geometry old.session e) (AsksDevice old.geometry old.session e) (NeedsProgramLine old.geometry old.session e) (λ program. step old.geometry program old.session e)
       answer old new known (λ program of. subst (λ (k : KnownModel). IsKnownOf program k) (sym is) (still_forgotten e old.lines program of)) c
 
 -- the stored state is unchanged when a line that was read ahead is begun
-pub stored_ahead : (equipment : Equipment) (told : Reply) (s t : SessionModel) (known_old known_new : KnownModel) → IsBegunAhead equipment told s t known_old known_new → t.stored ≡ s.stored
-stored_ahead equipment told s t known_old known_new b =
+pub stored_ahead : (geometry : Geometry) (told : Reply) (s t : SessionModel) (known_old known_new : KnownModel) → IsBegunAhead geometry told s t known_old known_new → t.stored ≡ s.stored
+stored_ahead geometry told s t known_old known_new b =
     let found = has_kind b.planned.first b.planned.place b.beginning in
     let kind = found.1 ∙ ap (λ (n : ℕ). first_kind (lines_before found.0 n)) b.place in
     let line : Option ProgramLineModel = Some (record { text = b.planned.prepared.block.text; next = b.planned.next }) in
-    ap (λ (x : SessionModel). x.stored) (b.next found.0 kind) ∙ (still_begin equipment found.0 s line).stored_is
+    ap (λ (x : SessionModel). x.stored) (b.next found.0 kind) ∙ (still_begin geometry found.0 s line).stored_is
 
 pub some_of : {T : Type 0} (o : Option T) → IsSome o → (x : T) × (o ≡ Some x)
 some_of None some = cc

@@ -22,10 +22,10 @@ use Rattle.ng_core.proofs.Ticks.{does_on}
 
 pub does_answer : {A R : Type 0} (seen : R → Device) (event : Event A) (r : Reply) (old new : ControllerModel R)
     → IsQuiet event → new.journal ≡ old.journal → new.lines ≡ old.lines
-    → ((program : List ℕ) → r ≡ (step old.equipment program old.session event).reply) → ((program : List ℕ) → new.session ≡ (step old.equipment program old.session event).next)
-    → IsCarriedOutIfHonest seen (Ok r) (λ program. step old.equipment program old.session event) old new
+    → ((program : List ℕ) → r ≡ (step old.geometry program old.session event).reply) → ((program : List ℕ) → new.session ≡ (step old.geometry program old.session event).next)
+    → IsCarriedOutIfHonest seen (Ok r) (λ program. step old.geometry program old.session event) old new
 does_answer seen event r old new quiet same lines replied next =
-    does_still seen r (λ program. step old.equipment program old.session event) old new (λ program. still_step old.equipment program old.session event quiet) same lines replied next
+    does_still seen r (λ program. step old.geometry program old.session event) old new (λ program. still_step old.geometry program old.session event quiet) same lines replied next
 
 -- ---- a program
 

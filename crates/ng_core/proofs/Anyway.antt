@@ -48,10 +48,10 @@ comes_to reads wider (Err fault) out wanted old new wide equal stays = stays_wid
 
 -- ---- a Tick: held, an item, a segment, an entry, a line, nothing
 
-pub comes_held : {R : Type 0} (reads : Type 0) (c : ControllerModel R) → c.session.held ≡ true → IsAnsweredAnyway reads (Ok reply.Held) (λ program. tick c.equipment program c.session) c c
+pub comes_held : {R : Type 0} (reads : Type 0) (c : ControllerModel R) → c.session.held ≡ true → IsAnsweredAnyway reads (Ok reply.Held) (λ program. tick c.geometry program c.session) c c
 comes_held reads c held =
-    comes_to reads reads (Ok reply.Held) (λ program. answers program reply.Held c.session) (λ program. tick c.equipment program c.session) c c (λ p. p)
-    (λ program. sym (tick_held c.equipment program c.session held))
+    comes_to reads reads (Ok reply.Held) (λ program. answers program reply.Held c.session) (λ program. tick c.geometry program c.session) c c (λ p. p)
+    (λ program. sym (tick_held c.geometry program c.session held))
     (comes_by reads reply.Held (λ program. answers program reply.Held c.session) c c (λ program. refl) (λ program. refl))
 
 comes_before : {R : Type 0} (answer : Result Reply Fault) (out : List ℕ → Transition) (old new : ControllerModel R)
@@ -62,27 +62,27 @@ comes_before (Err fault) out old new errors stays = record { status = stays.stat
 pub comes_item : {R : Type 0} (reads : Type 0) (answer : Result Reply Fault) (item : Item) (old new : ControllerModel R) (taken : SessionModel)
     → old.session.held ≡ false → Some item ≡ item_of old.session.current → taken ≡ handed old.session → IfErr answer (λ e. e ≡ DeviceFailed)
     → IsAnsweredAnyway ⊥ answer (λ program. handing item program taken) (with_session old taken) new
-    → IsAnsweredAnyway reads answer (λ program. tick old.equipment program old.session) old new
+    → IsAnsweredAnyway reads answer (λ program. tick old.geometry program old.session) old new
 comes_item reads answer item old new taken held is next errors comes =
-    comes_to ⊥ reads answer (λ program. handing item program (handed old.session)) (λ program. tick old.equipment program old.session) old new (λ none. absurd none)
-    (λ program. sym (tick_item old.equipment program old.session item held (sym is)))
+    comes_to ⊥ reads answer (λ program. handing item program (handed old.session)) (λ program. tick old.geometry program old.session) old new (λ none. absurd none)
+    (λ program. sym (tick_item old.geometry program old.session item held (sym is)))
     (comes_before answer (λ program. handing item program (handed old.session)) old new errors
     (subst (λ (s : SessionModel). IsAnsweredAnyway ⊥ answer (λ program. handing item program s) (with_session old s) new) next comes))
 
 pub comes_commit : {R : Type 0} (reads : Type 0) (r : Reply) (saved : StoredModel) (old new : ControllerModel R) (due : IsDue old.session saved)
     → r ≡ reply.Done (committed old.session due.block).stored.entries → new.session ≡ committed old.session due.block
-    → IsAnsweredAnyway reads (Ok r) (λ program. end old.equipment program old.session old.session.current) old new
+    → IsAnsweredAnyway reads (Ok r) (λ program. end old.geometry program old.session old.session.current) old new
 comes_commit reads r saved old new due replied next =
-    comes_to reads reads (Ok r) (λ program. end old.equipment program old.session (Some due.block)) (λ program. end old.equipment program old.session old.session.current) old new (λ p. p)
-    (λ program. sym (ap (λ (o : Option CurrentBlockModel). end old.equipment program old.session o) due.current))
-    (comes_by reads r (λ program. end old.equipment program old.session (Some due.block)) old new (λ program. replied) (λ program. next))
+    comes_to reads reads (Ok r) (λ program. end old.geometry program old.session (Some due.block)) (λ program. end old.geometry program old.session old.session.current) old new (λ p. p)
+    (λ program. sym (ap (λ (o : Option CurrentBlockModel). end old.geometry program old.session o) due.current))
+    (comes_by reads r (λ program. end old.geometry program old.session (Some due.block)) old new (λ program. replied) (λ program. next))
 
 pub comes_rest : {R : Type 0} (reads : Type 0) (r : Reply) (c : ControllerModel R) → c.session.current ≡ None → is_running c.session.activity ≡ false
     → ((program : List ℕ) → r ≡ (rest program c.session).reply)
-    → IsAnsweredAnyway reads (Ok r) (λ program. end c.equipment program c.session c.session.current) c c
+    → IsAnsweredAnyway reads (Ok r) (λ program. end c.geometry program c.session c.session.current) c c
 comes_rest reads r c none idle replied =
-    comes_to reads reads (Ok r) (λ program. rest program c.session) (λ program. end c.equipment program c.session c.session.current) c c (λ p. p)
-    (λ program. sym (rests_there c.equipment program c.session none idle))
+    comes_to reads reads (Ok r) (λ program. rest program c.session) (λ program. end c.geometry program c.session c.session.current) c c (λ p. p)
+    (λ program. sym (rests_there c.geometry program c.session none idle))
     (comes_by reads r (λ program. rest program c.session) c c replied (λ program. refl))
 
 -- ---- a program

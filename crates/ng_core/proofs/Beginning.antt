@@ -72,14 +72,14 @@ finding_both seen first line known place old mid new p q = record {
 }
 
 abbrev begins : {R : Type 0} → ControllerModel R → List ℕ → Transition
-begins c program = begin c.equipment program c.session (program_line_at program c.session.stored.place)
+begins c program = begin c.geometry program c.session (program_line_at program c.session.stored.place)
 
 pub does_begin : {R : Type 0} (seen : R → Device) (r : Reply) (first : LineKind) (line : Option ProgramLineModel) (place : ℕ) (old new : ControllerModel R)
     → place ≡ old.session.stored.place → FindingBoth seen first line old.lines place old.journal new.journal
     → ((program : List ℕ) → IsKnownOf program old.lines → line ≡ program_line_at program place → first ≡ first_kind (lines_before program place) → IsKnownOf program new.lines)
-    → ((program : List ℕ) → first ≡ first_kind (lines_before program old.session.stored.place) → r ≡ (begin old.equipment program old.session line).reply)
-    → ((program : List ℕ) → first ≡ first_kind (lines_before program old.session.stored.place) → new.session ≡ (begin old.equipment program old.session line).next)
-    → IsCarriedOutIfHonest seen (Ok r) (λ program. begin old.equipment program old.session (program_line_at program old.session.stored.place)) old new
+    → ((program : List ℕ) → first ≡ first_kind (lines_before program old.session.stored.place) → r ≡ (begin old.geometry program old.session line).reply)
+    → ((program : List ℕ) → first ≡ first_kind (lines_before program old.session.stored.place) → new.session ≡ (begin old.geometry program old.session line).next)
+    → IsCarriedOutIfHonest seen (Ok r) (λ program. begin old.geometry program old.session (program_line_at program old.session.stored.place)) old new
 does_begin seen r first line place old new at p known replied next = record {
   keeps = p.keeps;
   back = p.back;
@@ -87,23 +87,23 @@ does_begin seen r first line place old new at p known replied next = record {
       let f = p.holds h (durable_state_of program old.session) rests.0 rests.1 in
       let kind = f.first_is ∙ ap (λ (n : ℕ). first_kind (lines_before program n)) at in
       let there = f.line_is ∙ ap (λ (n : ℕ). program_line_at program n) at in
-      let quiet = still_begin old.equipment program old.session (program_line_at program old.session.stored.place) in
+      let quiet = still_begin old.geometry program old.session (program_line_at program old.session.stored.place) in
       acts_read r (begins old program) program old new (seen old.journal.rig).trace (seen new.journal.rig).trace f.same f.at
       (known_as program (begins old program).program new.lines new.lines quiet.program_is refl (known program rests.1 f.line_is f.first_is))
-      (replied program kind ∙ ap (λ (l : Option ProgramLineModel). (begin old.equipment program old.session l).reply) there)
-      (next program kind ∙ ap (λ (l : Option ProgramLineModel). (begin old.equipment program old.session l).next) there)
+      (replied program kind ∙ ap (λ (l : Option ProgramLineModel). (begin old.geometry program old.session l).reply) there)
+      (next program kind ∙ ap (λ (l : Option ProgramLineModel). (begin old.geometry program old.session l).next) there)
       quiet.items quiet.program_is quiet.stored_is;
 }
 
 -- with any device: a line was read, and the kind of the first line before it
 pub by_running : {R : Type 0} (out : List ℕ → Transition) (c : ControllerModel R) (program : List ℕ) (line : Option ProgramLineModel)
-    → is_running c.session.activity ≡ true → by_line out c program line ≡ begin c.equipment program c.session line
+    → is_running c.session.activity ≡ true → by_line out c program line ≡ begin c.geometry program c.session line
 by_running out c program line runs = rw runs refl
 
 pub begun_line : {R : Type 0} (r : Reply) (out : List ℕ → Transition) (first : LineKind) (line : Option ProgramLineModel) (place : ℕ) (old new : ControllerModel R)
     → is_running old.session.activity ≡ true → place ≡ old.session.stored.place → (place ≡ 0 → first ≡ Blank)
-    → ((program : List ℕ) → first ≡ first_kind (lines_before program old.session.stored.place) → r ≡ (begin old.equipment program old.session line).reply)
-    → ((program : List ℕ) → first ≡ first_kind (lines_before program old.session.stored.place) → new.session ≡ (begin old.equipment program old.session line).next)
+    → ((program : List ℕ) → first ≡ first_kind (lines_before program old.session.stored.place) → r ≡ (begin old.geometry program old.session line).reply)
+    → ((program : List ℕ) → first ≡ first_kind (lines_before program old.session.stored.place) → new.session ≡ (begin old.geometry program old.session line).next)
     → ledger_of new.journal ≡ ledger_of old.journal → IsAnsweredByLine r out old new
 begun_line r out first line place old new runs at beginning replied next ledger =
     let found = has_kind first place beginning in

@@ -48,7 +48,7 @@ module _ {R : Type 0} (seen : R → Device) where
     hindered = IfErr-weaker answer (IsCausedBy memory device (ledger_of old.journal) out) (IsCausedBy m d (ledger_of old.journal) wanted)
         (hindered_as {m = memory} {n = m} {d = device} {e = d} (ledger_of old.journal) out wanted f g equal) c.hindered;
     broken = c.broken;
-    equipment = c.equipment;
+    geometry = c.geometry;
     size = c.size;
     failures = c.failures;
   }
@@ -58,16 +58,16 @@ module _ {R : Type 0} (seen : R → Device) where
   -- the session replied
   pub carried_still : (memory device reads : Type 0) (r : Reply) (out : List ℕ → Transition) (old new : ControllerModel R)
       → old.journal.broken ≡ false → (reads → ⊥) → ((program : List ℕ) → IsStill program old.session.stored (out program))
-      → new.journal ≡ old.journal → new.lines ≡ old.lines → new.equipment ≡ old.equipment
+      → new.journal ≡ old.journal → new.lines ≡ old.lines → new.geometry ≡ old.geometry
       → ((program : List ℕ) → r ≡ (out program).reply) → ((program : List ℕ) → new.session ≡ (out program).next)
       → CarriesOut seen (needs memory device reads) out (Ok r) old new
-  carried_still memory device reads r out old new whole unread quiet same lines equipment replied next = record {
+  carried_still memory device reads r out old new whole unread quiet same lines geometry replied next = record {
     does = does_still seen r out old new quiet same lines replied next;
     comes = comes_by reads r out old new replied next;
     line = λ read. absurd (unread read);
     hindered = tt;
     broken = ap (λ (j : JournalModel R). j.broken) same ∙ whole;
-    equipment = equipment;
+    geometry = geometry;
     size = ap (λ (j : JournalModel R). (seen j.rig).sectors) same;
     failures = ap (λ (j : JournalModel R). (seen j.rig).failed) same;
   }
@@ -83,16 +83,16 @@ module _ {R : Type 0} (seen : R → Device) where
   -- there was no memory
   pub carried_short : (memory device reads : Type 0) (fault : Fault) (out : List ℕ → Transition) (old new : ControllerModel R)
       → old.journal.broken ≡ false → fault ≡ OutOfMemory → memory
-      → new.journal ≡ old.journal → new.lines ≡ old.lines → new.equipment ≡ old.equipment → new.session ≡ old.session
+      → new.journal ≡ old.journal → new.lines ≡ old.lines → new.geometry ≡ old.geometry → new.session ≡ old.session
       → CarriesOut seen (needs memory device reads) out (Err fault) old new
-  carried_short memory device reads fault out old new whole is taken same lines equipment kept =
+  carried_short memory device reads fault out old new whole is taken same lines geometry kept =
       let short : CarriesOut seen (needs memory device reads) out (Err OutOfMemory) old new = record {
         does = does_aside seen OutOfMemory out old new (inl refl) same lines kept;
         comes = stays_same reads OutOfMemory old new kept (λ other. same);
         line = λ read. tt;
         hindered = inl (refl, taken);
         broken = ap (λ (j : JournalModel R). j.broken) same ∙ whole;
-        equipment = equipment;
+        geometry = geometry;
         size = ap (λ (j : JournalModel R). (seen j.rig).sectors) same;
         failures = ap (λ (j : JournalModel R). (seen j.rig).failed) same;
       } in
@@ -108,7 +108,7 @@ module _ {R : Type 0} (seen : R → Device) where
     line = λ read. tt;
     hindered = hindered;
     broken = whole;
-    equipment = refl;
+    geometry = refl;
     size = refl;
     failures = refl;
   }
@@ -118,17 +118,17 @@ module _ {R : Type 0} (seen : R → Device) where
   -- to store something: a counter is used up, or the device failed
   pub carried_failed : (memory device reads : Type 0) (fault e : Fault) (out : List ℕ → Transition) (old new : ControllerModel R)
       → fault ≡ e → IsCarriedOutIfHonest seen (Err e) out old new → (e ≡ CountersUsed) ⊎ (e ≡ DeviceFailed) → (e ≡ CountersUsed → new.journal ≡ old.journal)
-      → new.equipment ≡ old.equipment → new.session ≡ old.session → IsCausedBy memory device (ledger_of old.journal) out e
+      → new.geometry ≡ old.geometry → new.session ≡ old.session → IsCausedBy memory device (ledger_of old.journal) out e
       → IsBrokenBy {T = Reply} (Err e) new.journal.broken → (seen new.journal.rig).sectors ≡ (seen old.journal.rig).sectors → CountsFailure {T = Reply} (Err e) (seen old.journal.rig).failed (seen new.journal.rig).failed
       → CarriesOut seen (needs memory device reads) out (Err fault) old new
-  carried_failed memory device reads fault e out old new is does which unchanged equipment kept hindered broken size failures =
+  carried_failed memory device reads fault e out old new is does which unchanged geometry kept hindered broken size failures =
       let there : CarriesOut seen (needs memory device reads) out (Err e) old new = record {
         does = does;
         comes = stays_same reads e old new kept (unless_lost e old.journal new.journal which unchanged);
         line = λ read. tt;
         hindered = hindered;
         broken = broken;
-        equipment = equipment;
+        geometry = geometry;
         size = size;
         failures = failures;
       } in
@@ -137,17 +137,17 @@ module _ {R : Type 0} (seen : R → Device) where
   -- for something that uses up no counter, and the device failed
   pub carried_lost : (memory device reads : Type 0) (fault e : Fault) (out : List ℕ → Transition) (old new : ControllerModel R)
       → fault ≡ e → IsCarriedOutIfHonest seen (Err e) out old new → e ≡ DeviceFailed → device → ((program : List ℕ) → UsesUpCounter (ledger_of old.journal) (out program) → ⊥)
-      → new.equipment ≡ old.equipment → new.session ≡ old.session
+      → new.geometry ≡ old.geometry → new.session ≡ old.session
       → IsBrokenBy {T = Reply} (Err e) new.journal.broken → (seen new.journal.rig).sectors ≡ (seen old.journal.rig).sectors → CountsFailure {T = Reply} (Err e) (seen old.journal.rig).failed (seen new.journal.rig).failed
       → CarriesOut seen (needs memory device reads) out (Err fault) old new
-  carried_lost memory device reads fault e out old new is does lost asked unused equipment kept broken size failures =
+  carried_lost memory device reads fault e out old new is does lost asked unused geometry kept broken size failures =
       let there : CarriesOut seen (needs memory device reads) out (Err e) old new = record {
         does = does;
         comes = stays_same reads e old new kept (λ other. absurd (other lost));
         line = λ read. tt;
         hindered = inr (inr (lost, asked, unused));
         broken = broken;
-        equipment = equipment;
+        geometry = geometry;
         size = size;
         failures = failures;
       } in
@@ -156,16 +156,16 @@ module _ {R : Type 0} (seen : R → Device) where
   -- for a line of the program, and then there was no memory
   pub carried_read : (memory device reads : Type 0) (fault : Fault) (out : List ℕ → Transition) (old new : ControllerModel R)
       → fault ≡ OutOfMemory → memory → IsCarriedOutIfHonest seen (Err fault) out old new
-      → new.equipment ≡ old.equipment → new.session ≡ old.session → ledger_of new.journal ≡ ledger_of old.journal → ((reads → ⊥) → new.journal ≡ old.journal)
+      → new.geometry ≡ old.geometry → new.session ≡ old.session → ledger_of new.journal ≡ ledger_of old.journal → ((reads → ⊥) → new.journal ≡ old.journal)
       → new.journal.broken ≡ false → (seen new.journal.rig).sectors ≡ (seen old.journal.rig).sectors → (seen new.journal.rig).failed ≡ (seen old.journal.rig).failed
       → CarriesOut seen (needs memory device reads) out (Err fault) old new
-  carried_read memory device reads fault out old new is taken does equipment kept ledger unread whole size failures = record {
+  carried_read memory device reads fault out old new is taken does geometry kept ledger unread whole size failures = record {
     does = does;
     comes = record { status = ap session_status kept; session = λ other. kept; ledger = λ other. ledger; journal = λ other none. unread none };
     line = λ read. tt;
     hindered = inl (is, taken);
     broken = subst (λ (f : Fault). IsBrokenBy {T = Reply} (Err f) new.journal.broken) (sym is) whole;
-    equipment = equipment;
+    geometry = geometry;
     size = size;
     failures = subst (λ (f : Fault). CountsFailure {T = Reply} (Err f) (seen old.journal.rig).failed (seen new.journal.rig).failed) (sym is) failures;
   }
@@ -173,14 +173,14 @@ module _ {R : Type 0} (seen : R → Device) where
   -- ---- a Tick
 
   pub carried_held : (memory device reads : Type 0) (c : ControllerModel R) → c.journal.broken ≡ false → (reads → ⊥) → c.session.held ≡ true
-      → CarriesOut seen (needs memory device reads) (λ program. tick c.equipment program c.session) (Ok reply.Held) c c
+      → CarriesOut seen (needs memory device reads) (λ program. tick c.geometry program c.session) (Ok reply.Held) c c
   carried_held memory device reads c whole unread held = record {
     does = does_held seen c held;
     comes = comes_held reads c held;
     line = λ read. absurd (unread read);
     hindered = tt;
     broken = whole;
-    equipment = refl;
+    geometry = refl;
     size = refl;
     failures = refl;
   }
@@ -198,7 +198,7 @@ module _ {R : Type 0} (seen : R → Device) where
   pub carried_item : (answer : Result Reply Fault) (item : Item) (old new : ControllerModel R) (taken : SessionModel)
       → old.session.held ≡ false → Some item ≡ item_of old.session.current → taken ≡ handed old.session
       → CarriesOut seen needs_device (λ program. handing item program taken) answer (with_session old taken) new
-      → CarriesOut seen (needs_of_tick old.session) (λ program. tick old.equipment program old.session) answer old new
+      → CarriesOut seen (needs_of_tick old.session) (λ program. tick old.geometry program old.session) answer old new
   carried_item answer item old new taken held is next c =
       let ledger = ledger_of old.journal in
       let errors : IfErr answer (λ e. e ≡ DeviceFailed) =
@@ -208,28 +208,28 @@ module _ {R : Type 0} (seen : R → Device) where
         comes = comes_item ((old.session.held ≡ false) × IsBetweenLines old.session) answer item old new taken held is next errors c.comes;
         line = λ read. absurd (busy_unread old.session (some_item old.session.current item is) read.1);
         hindered = IfErr-weaker answer (λ e. e ≡ DeviceFailed)
-            (IsCausedBy ((old.session.held ≡ false) × IsBetweenLines old.session) ((old.session.held ≡ false) × (has_work old.session ≡ true)) ledger (λ program. tick old.equipment program old.session))
+            (IsCausedBy ((old.session.held ≡ false) × IsBetweenLines old.session) ((old.session.held ≡ false) × (has_work old.session ≡ true)) ledger (λ program. tick old.geometry program old.session))
             (λ e lost. inr (inr (
               lost,
               (held, busy_block (is_running old.session.activity) old.session.current (some_item old.session.current item is)),
-              λ program used. subst (λ (o : Transition). UsesUpCounter ledger o) (tick_item old.equipment program old.session item held (sym is)) used,
+              λ program used. subst (λ (o : Transition). UsesUpCounter ledger o) (tick_item old.geometry program old.session item held (sym is)) used,
             ))) errors;
         broken = c.broken;
-        equipment = c.equipment;
+        geometry = c.geometry;
         size = c.size;
         failures = c.failures;
       }
 
   pub carried_further : (answer : Result Reply Fault) (old new : ControllerModel R) (left : SessionModel)
       → old.session.held ≡ false → None ≡ item_of old.session.current → left ≡ old.session
-      → CarriesOut seen (needs_of_work left) (λ program. open_next old.equipment program left (opening_of left.current)) answer (with_session old left) new
-      → CarriesOut seen (needs_of_tick old.session) (λ program. tick old.equipment program old.session) answer old new
+      → CarriesOut seen (needs_of_work left) (λ program. open_next old.geometry program left (opening_of left.current)) answer (with_session old left) new
+      → CarriesOut seen (needs_of_tick old.session) (λ program. tick old.geometry program old.session) answer old new
   carried_further answer old new left held none same c =
       carried_to (IsBetweenLines old.session) ((old.session.held ≡ false) × IsBetweenLines old.session) (has_work old.session ≡ true) ((old.session.held ≡ false) × (has_work old.session ≡ true))
       (IsBetweenLines old.session) ((old.session.held ≡ false) × IsBetweenLines old.session)
-      (λ program. open_next old.equipment program old.session (opening_of old.session.current)) (λ program. tick old.equipment program old.session) answer old new
-      (λ p. (held, p)) (λ b. (held, b)) (λ p. (held, p)) (λ read. read.1) (λ program. sym (tick_none old.equipment program old.session held (sym none)))
-      (subst (λ (s : SessionModel). CarriesOut seen (needs_of_work s) (λ program. open_next old.equipment program s (opening_of s.current)) answer (with_session old s) new) same c)
+      (λ program. open_next old.geometry program old.session (opening_of old.session.current)) (λ program. tick old.geometry program old.session) answer old new
+      (λ p. (held, p)) (λ b. (held, b)) (λ p. (held, p)) (λ read. read.1) (λ program. sym (tick_none old.geometry program old.session held (sym none)))
+      (subst (λ (s : SessionModel). CarriesOut seen (needs_of_work s) (λ program. open_next old.geometry program s (opening_of s.current)) answer (with_session old s) new) same c)
 
 -- what holds if there is a value
 pub by_some : {T : Type 0} (P : Type 0) (Q : T → Type 0) (o : Option T) → true ≡ is_some o → MatchOption o P Q → (x : T) × Q x

@@ -11,7 +11,7 @@ use Rattle.ng_rig.specs.Trace.{Trace}
 use Rattle.ng_rig.proofs.Promise.{meaning}
 use Rattle.ng_text.specs.Programs.{program_line_at}
 use Rattle.ng_layout.specs.Stored.{HalfModel}
-use Rattle.ng_session.specs.Entries.{Equipment}
+use Rattle.ng_canon.specs.declared.geometry.Geometry.{Geometry}
 use Rattle.ng_session.specs.Session.{CurrentBlockModel, SessionModel, Transition, tick, end, begin, item_of, handed, opening_of, opening_on, segment_open, is_running}
 use Rattle.ng_session.specs.declared.reply.Reply.{Reply}
 use Rattle.ng_session.specs.Stages.{Stage}
@@ -22,7 +22,7 @@ use Rattle.ng_core.proofs.Ticks.{does_on, tick_item}
 
 -- a controller with this session
 abbrev pub with_session : {R : Type 0} → ControllerModel R → SessionModel → ControllerModel R
-with_session c s = record { journal = c.journal; session = s; lines = c.lines; equipment = c.equipment }
+with_session c s = record { journal = c.journal; session = s; lines = c.lines; geometry = c.geometry }
 
 -- ---- an item
 
@@ -44,10 +44,10 @@ does_before seen answer out old new errors does =
 pub does_item : {R : Type 0} (seen : R → Device) (answer : Result Reply Fault) (item : Item) (old new : ControllerModel R) (taken : SessionModel)
     → old.session.held ≡ false → Some item ≡ item_of old.session.current → taken ≡ handed old.session → IfErr answer (λ e. e ≡ DeviceFailed)
     → IsCarriedOutIfHonest seen answer (λ program. handing item program taken) (with_session old taken) new
-    → IsCarriedOutIfHonest seen answer (λ program. tick old.equipment program old.session) old new
+    → IsCarriedOutIfHonest seen answer (λ program. tick old.geometry program old.session) old new
 does_item seen answer item old new taken held is next errors does =
-    does_on seen answer (λ program. handing item program (handed old.session)) (λ program. tick old.equipment program old.session) old old new refl
-    (λ program. sym (tick_item old.equipment program old.session item held (sym is)))
+    does_on seen answer (λ program. handing item program (handed old.session)) (λ program. tick old.geometry program old.session) old old new refl
+    (λ program. sym (tick_item old.geometry program old.session item held (sym is)))
     (does_before seen answer (λ program. handing item program (handed old.session)) old new errors
     (subst (λ (s : SessionModel). IsCarriedOutIfHonest seen answer (λ program. handing item program s) (with_session old s) new) next does))
 
@@ -74,7 +74,7 @@ segment_opens o half is = subst (λ (x : Option HalfModel). IfSome x (λ h. IsSo
 
 -- ---- no block, and the program runs
 
-pub begins_there : (q : Equipment) (P : List ℕ) (s : SessionModel) → s.current ≡ None → is_running s.activity ≡ true → end q P s s.current ≡ begin q P s (program_line_at P s.stored.place)
+pub begins_there : (q : Geometry) (P : List ℕ) (s : SessionModel) → s.current ≡ None → is_running s.activity ≡ true → end q P s s.current ≡ begin q P s (program_line_at P s.stored.place)
 begins_there q P s none runs = ap (λ (o : Option CurrentBlockModel). end q P s o) none ∙ rw runs refl
 
 -- what holds if there is no value

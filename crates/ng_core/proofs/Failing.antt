@@ -22,7 +22,7 @@ own_if false x y one other = other
 
 own_by_line : {R : Type 0} (out : List ℕ → Transition) (c : ControllerModel R) (program : List ℕ) (line : Option ProgramLineModel)
     → TellsOwn (out program).reply → TellsOwn (by_line out c program line).reply
-own_by_line out c program line own = own_if (is_running c.session.activity) (begin c.equipment program c.session line) (out program) (own_begin c.equipment program c.session line) own
+own_by_line out c program line own = own_if (is_running c.session.activity) (begin c.geometry program c.session line) (out program) (own_begin c.geometry program c.session line) own
 
 not_lost : (told : Reply) → TellsOwn told → told ≡ reply.Refused DeviceFailed → ⊥
 not_lost told own is = let z : false ≡ true = subst TellsOwn is own in cc
@@ -35,8 +35,8 @@ answers_own : {A R : Type 0} (reads : Type 0) (r : Reply) (event : Event A) (old
 answers_own reads r event old new comes line lost =
     let unread : reads → ⊥ = λ read.
     let by = line read in
-    not_lost r (subst TellsOwn (sym by.comes.0) (own_by_line (λ program. transition_of old program event) old by.program by.line (own_step old.equipment by.program old.session event))) lost in
-    not_lost r (subst TellsOwn (sym (comes unread []).0) (own_step old.equipment [] old.session event)) lost
+    not_lost r (subst TellsOwn (sym by.comes.0) (own_by_line (λ program. transition_of old program event) old by.program by.line (own_step old.geometry by.program old.session event))) lost in
+    not_lost r (subst TellsOwn (sym (comes unread []).0) (own_step old.geometry [] old.session event)) lost
 
 -- a fault that keeps an event from being answered
 told_of : (memory device : Type 0) (ledger : Ledger) (out : List ℕ → Transition) (fault : Fault) (before after : ℕ)
@@ -54,7 +54,7 @@ told_of memory device ledger out fault before after (inr (inr asked)) counts =
 pub tells_failure : {A R : Type 0} (seen : R → Device) (event : Event A) (answer : Result Reply Fault) (old new : ControllerModel R)
     → CarriesOutEvent seen event answer old new → TellsFailure (reply_to answer) (seen old.journal.rig).failed (seen new.journal.rig).failed
 tells_failure seen event (Ok r) old new c =
-    (λ lost. absurd (answers_own (NeedsProgramLine old.equipment old.session event) r event old new c.comes c.line lost), λ other. c.failures)
+    (λ lost. absurd (answers_own (NeedsProgramLine old.geometry old.session event) r event old new c.comes c.line lost), λ other. c.failures)
 tells_failure seen event (Err fault) old new c =
-    told_of (TakesMemory old.equipment old.session event) (AsksDevice old.equipment old.session event) (ledger_of old.journal) (λ program. transition_of old program event)
+    told_of (TakesMemory old.geometry old.session event) (AsksDevice old.geometry old.session event) (ledger_of old.journal) (λ program. transition_of old program event)
     fault (seen old.journal.rig).failed (seen new.journal.rig).failed c.hindered c.failures

@@ -67,7 +67,7 @@ goes_whole seen events event rest done moments r old now next whole s p = record
   back = λ h. p.back (s.carried.does.back h);
   holds = λ h program rests.
       let g = p.holds h program rests in
-      let serving : OnSpecIfHonest seen s.answer event g.here now next = record { acts = s.carried.does.holds (p.keeps h) g.here (g.rests whole); hindered = s.carried.hindered; broken = s.carried.broken; equipment = s.carried.equipment } in
+      let serving : OnSpecIfHonest seen s.answer event g.here now next = record { acts = s.carried.does.holds (p.keeps h) g.here (g.rests whole); hindered = s.carried.hindered; broken = s.carried.broken; geometry = s.carried.geometry } in
       goes_more seen events event rest done moments r s.answer program old now next g
       (record { told_is = s.told_is; moment_is = refl; stepping = subst (λ (b : Bool). OnSpecAnyState seen b s.answer event g.here now next) (sym whole) serving })
       (rests_after seen event s.answer g.here now next serving (g.rests whole));

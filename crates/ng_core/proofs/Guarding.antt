@@ -12,7 +12,8 @@ use Rattle.ng_layout.specs.Stands.{stands_beside}
 use Rattle.ng_layout.specs.Stored.{HalfModel, StoredModel, DurableState}
 use Rattle.ng_layout.specs.declared.half.Source.{Source}
 use Rattle.ng_layout.proofs.Images.{modern-beside}
-use Rattle.ng_session.specs.Entries.{Equipment, Entry, Block, Loaded, Referenced, Approached, Abandoned, Tooled, referenced, reached_by, abandoned}
+use Rattle.ng_canon.specs.declared.geometry.Geometry.{Geometry}
+use Rattle.ng_session.specs.Entries.{Entry, Block, Loaded, Referenced, Approached, Abandoned, Tooled, referenced, reached_by, abandoned}
 use Rattle.ng_session.specs.Fold.{after, after_all, durable_state_after, durable_state_reached, approach_in, approach_to, FollowsFold, FollowFold}
 use Rattle.ng_session.specs.Cuts.{UncommittedTail, Nothing_open, Approach_open, Segment_open}
 use Rattle.ng_session.specs.Runs.{dones}
@@ -36,11 +37,11 @@ counts_reference : (x : StoredModel) (point : Point) (half : Option HalfModel) �
 counts_reference x point None = refl
 counts_reference x point (Some half) = refl
 
-counts_reached : (x : StoredModel) (half : Option HalfModel) (point : Point) (q : Equipment) (a : Approach) → approach_to q x half ≡ Some a → (reached_by x half point).entries ≡ x.entries + 1
+counts_reached : (x : StoredModel) (half : Option HalfModel) (point : Point) (q : Geometry) (a : Approach) → approach_to q x half ≡ Some a → (reached_by x half point).entries ≡ x.entries + 1
 counts_reached x (Some half) point q a is = refl
 counts_reached x None point q a is = absurd (let z : (let o : Option Approach = None in o) ≡ Some a = is in cc)
 
-counts_way : (x : DurableState) (q : Equipment) (o : Option Approach) (a : Approach) → o ≡ Some a → approach_in q x ≡ Some a → (durable_state_reached x o).saved.entries ≡ x.saved.entries + 1
+counts_way : (x : DurableState) (q : Geometry) (o : Option Approach) (a : Approach) → o ≡ Some a → approach_in q x ≡ Some a → (durable_state_reached x o).saved.entries ≡ x.saved.entries + 1
 counts_way x q None a is way = absurd (let z : (let o : Option Approach = None in o) ≡ Some a = is in cc)
 counts_way x q (Some b) a is way = counts_reached x.saved x.saved.half b.to.point q a way
 
@@ -48,7 +49,7 @@ counts_abandon : (x : StoredModel) (o : Option HalfModel) (half : HalfModel) →
 counts_abandon x (Some h) half is = refl
 counts_abandon x None half is = absurd (let z : (let o : Option HalfModel = None in o) ≡ Some half = is in cc)
 
-counts_one : (q : Equipment) (lines : List (List ℕ)) (x : DurableState) (entry : Entry) → FollowsFold q lines x entry → (after q x entry).saved.entries ≡ x.saved.entries + 1
+counts_one : (q : Geometry) (lines : List (List ℕ)) (x : DurableState) (entry : Entry) → FollowsFold q lines x entry → (after q x entry).saved.entries ≡ x.saved.entries + 1
 counts_one q lines x (Block from text block_delete) is = counts_block x from _ is.0 is.1.does
 counts_one q lines x (Loaded text) is = refl
 counts_one q lines x (Referenced point) is = counts_reference x.saved point x.saved.half
@@ -56,14 +57,14 @@ counts_one q lines x Approached is = counts_way x q (approach_in q x) is.0 is.1 
 counts_one q lines x Abandoned is = counts_abandon x.saved x.saved.half is.0 is.1
 counts_one q lines x (Tooled slot nm) is = refl
 
-counts_all : (q : Equipment) (lines : List (List ℕ)) (x : DurableState) (entries : List Entry) → FollowFold q lines x entries → (after_all q x entries).saved.entries ≡ x.saved.entries + length entries
+counts_all : (q : Geometry) (lines : List (List ℕ)) (x : DurableState) (entries : List Entry) → FollowFold q lines x entries → (after_all q x entries).saved.entries ≡ x.saved.entries + length entries
 counts_all q lines x [] are = omega arith
 counts_all q lines x (entry ∷ entries) are =
     let one = counts_one q lines x entry are.0 in
     let rest = counts_all q lines (after q x entry) entries are.1 in
     omega (arith, one, rest)
 
-counts_tail : (q : Equipment) (lines : List (List ℕ)) (x : DurableState) (next : List Entry) (saved : StoredModel) (given : List Item) → UncommittedTail q lines x next saved given → saved.entries ≡ x.saved.entries
+counts_tail : (q : Geometry) (lines : List (List ℕ)) (x : DurableState) (next : List Entry) (saved : StoredModel) (given : List Item) → UncommittedTail q lines x next saved given → saved.entries ≡ x.saved.entries
 counts_tail q lines x next _ _ Nothing_open = refl
 counts_tail q lines x next _ _ (Approach_open half approach begun left later comes held way whole) = refl
 counts_tail q lines x next _ _ (Segment_open from text block_delete done before segment rest begun left later comes is split whole) = refl
@@ -71,14 +72,14 @@ counts_tail q lines x next _ _ (Segment_open from text block_delete done before 
 same_state : (x y : DurableState) → (let found : Result DurableState Fault = Ok x in found) ≡ Ok y → x ≡ y
 same_state x y is = cc
 
-counted : (q : Equipment) (lines : List (List ℕ)) (x : DurableState) (before : List Item) (executed begun : List Entry) (acknowledged : ℕ) (image : Image) (handed : List Item) (tools : List ℤ) (y : DurableState)
+counted : (q : Geometry) (lines : List (List ℕ)) (x : DurableState) (before : List Item) (executed begun : List Entry) (acknowledged : ℕ) (image : Image) (handed : List Item) (tools : List ℤ) (y : DurableState)
     → IsAccounted q lines x before executed begun acknowledged image handed → stands_beside tools image ≡ Ok y
     → (x.saved.entries + acknowledged ≤ y.saved.entries) × (y.saved.entries ≤ x.saved.entries + acknowledged + 1)
 counted q lines x before executed begun acknowledged image handed tools y p is =
     let entries = take p.count executed in
     let there : p.left.standing ≡ y = same_state p.left.standing y (sym p.stands_for.state ∙ sym (modern-beside tools image p.stands_for.modern) ∙ is) in
     let tail = counts_tail q lines (after_all q x entries) _ p.left.standing.saved p.cut.more p.cut.follows in
-    let all = counts_all q lines x entries p.cut.lawful in
+    let all = counts_all q lines x entries p.cut.valid in
     let same : p.left.standing.saved.entries ≡ y.saved.entries = ap (λ (s : DurableState). s.saved.entries) there in
     let taken = length-take-le p.count executed p.within in
     (omega (arith, tail, all, same, p.all, taken), omega (arith, tail, all, same, p.few, taken))
@@ -86,7 +87,7 @@ counted q lines x before executed begun acknowledged image handed tools y p is =
 pub counts_acknowledged : {A R : Type 0} (seen : R → Device) (x : DurableState) (events : List (Event A)) (replies : List Reply) (moments : List ℕ) (first now : ControllerModel R) → Accounts seen x events replies moments first now
     → CountsAcknowledged seen x replies moments first now
 counts_acknowledged seen x events replies moments first now p t image handed tools y from until stop is =
-    counted first.equipment _ x _ _ _ (dones (take (answered_by t moments) replies)) image handed tools y (p.stops.each t image handed from until stop) is
+    counted first.geometry _ x _ _ _ (dones (take (answered_by t moments) replies)) image handed tools y (p.stops.each t image handed from until stop) is
 
 -- ---- what `on` says of the past alone rules out an implementation that takes an entry away during an event
 

@@ -13,7 +13,8 @@ use Rattle.ng_layout.specs.declared.half.Opened.TheVariants as open_part
 use Rattle.ng_block.specs.Effects.{Done}
 use Rattle.ng_journal.specs.Storing.{Ledger, Storing, Commit, Open, Load, UsesUp}
 use Rattle.ng_num.specs.declared.point.Point.{Point}
-use Rattle.ng_session.specs.Entries.{Equipment, done_of, done_again, after_load, after_reference, after_abandon, after_tool}
+use Rattle.ng_canon.specs.declared.geometry.Geometry.{Geometry}
+use Rattle.ng_session.specs.Entries.{done_of, done_again, after_load, after_reference, after_abandon, after_tool}
 use Rattle.ng_session.specs.Session.{CurrentBlockModel, SessionModel, Transition, end, begin, begin_by, load, load_unless, load_refusal, reference, reference_unless, reference_refusal, abandon, abandon_unless, abandon_refusal, tool, tool_unless, tool_refusal, refuses, resume, resume_half, resume_from, resume_by, is_at_rest, IsBetweenLines, opening_of, opening_reply, entry_on, committed}
 use Rattle.ng_session.specs.Stages.{Stage}
 use Rattle.ng_session.specs.Stages as stage
@@ -47,7 +48,7 @@ stored_opening out n None = refl
 stored_opening out n (Some open_part.Segment) = refl
 stored_opening out n (Some open_part.Approach) = refl
 
-pub hindered_opening : (T : Type 0) (e : Fault) (q : Equipment) (s : SessionModel) (ledger : Ledger) (half : HalfModel) → (e ≡ CountersUsed) ⊎ (e ≡ DeviceFailed)
+pub hindered_opening : (T : Type 0) (e : Fault) (q : Geometry) (s : SessionModel) (ledger : Ledger) (half : HalfModel) → (e ≡ CountersUsed) ⊎ (e ≡ DeviceFailed)
     → (let answered : Result T Fault = Err e in IsErrOf answered CountersUsed ↔ UsesUp ledger (Open half))
     → IsCausedBy ⊥ (Unit {0}) ledger (λ program. opening half program q s) e
 hindered_opening T e q s ledger half which iff =
@@ -59,7 +60,7 @@ entry_commits x c (stage.ToApproach a) = refl
 entry_commits x c (stage.OnApproach a) = refl
 entry_commits x c stage.OnBlock = refl
 
-pub hindered_entry : (T : Type 0) (e : Fault) (q : Equipment) (s : SessionModel) (ledger : Ledger) (saved : StoredModel) (due : IsDue s saved) → (e ≡ CountersUsed) ⊎ (e ≡ DeviceFailed)
+pub hindered_entry : (T : Type 0) (e : Fault) (q : Geometry) (s : SessionModel) (ledger : Ledger) (saved : StoredModel) (due : IsDue s saved) → (e ≡ CountersUsed) ⊎ (e ≡ DeviceFailed)
     → (let answered : Result T Fault = Err e in IsErrOf answered CountersUsed ↔ UsesUp ledger (Commit saved))
     → IsCausedBy ⊥ (Unit {0}) ledger (λ program. end q program s s.current) e
 hindered_entry T e q s ledger saved due which iff =
@@ -79,7 +80,7 @@ hindered_load T e room s saved text ledger free small is which iff =
     (λ program. ap (λ (o : Option Fault). stored_for (load_unless program s text o) (load_unless program s text o).reply) free ∙ ap (λ (x : StoredModel). Some (Load x)) (sym is)))
 
 -- a reference, a half-done block that is given up, or a tool's length
-pub stored_reference : (q : Equipment) (P : List ℕ) (s : SessionModel) (point : Point) → reference_refusal q.geometry s point ≡ None
+pub stored_reference : (q : Geometry) (P : List ℕ) (s : SessionModel) (point : Point) → reference_refusal q s point ≡ None
     → stored_for (reference q P s point) (reference q P s point).reply ≡ Some (Commit (after_reference s.stored point))
 stored_reference q P s point free = ap (λ (o : Option Fault). stored_for (reference_unless P s point o) (reference_unless P s point o).reply) free
 
@@ -118,7 +119,7 @@ unused_by : (P : List ℕ) (s : SessionModel) (line : ProgramLineModel) (done : 
 unused_by P s line (Ok done) ledger used = used
 unused_by P s line (Err fault) ledger used = used
 
-pub unused_begin : (q : Equipment) (P : List ℕ) (s : SessionModel) (line : Option ProgramLineModel) (ledger : Ledger) → UsesUpCounter ledger (begin q P s line) → ⊥
+pub unused_begin : (q : Geometry) (P : List ℕ) (s : SessionModel) (line : Option ProgramLineModel) (ledger : Ledger) → UsesUpCounter ledger (begin q P s line) → ⊥
 unused_begin q P s None ledger used = used
 unused_begin q P s (Some line) ledger used = unused_by P s line (done_of q P s.stored source.Program line.text s.block_delete) ledger used
 
@@ -127,15 +128,15 @@ unused_again : (P : List ℕ) (s : SessionModel) (half : HalfModel) (from : Poin
 unused_again P s half from (Ok done) ledger used = used
 unused_again P s half from (Err fault) ledger used = used
 
-unused_from : (q : Equipment) (P : List ℕ) (s : SessionModel) (half : HalfModel) (from : Option Point) (ledger : Ledger) → UsesUpCounter ledger (resume_from q P s half from) → ⊥
+unused_from : (q : Geometry) (P : List ℕ) (s : SessionModel) (half : HalfModel) (from : Option Point) (ledger : Ledger) → UsesUpCounter ledger (resume_from q P s half from) → ⊥
 unused_from q P s half None ledger used = used
 unused_from q P s half (Some from) ledger used = unused_again P s half from (done_again q s.stored half.text) ledger used
 
-unused_half : (q : Equipment) (P : List ℕ) (s : SessionModel) (half : Option HalfModel) (ledger : Ledger) → UsesUpCounter ledger (resume_half q P s half) → ⊥
+unused_half : (q : Geometry) (P : List ℕ) (s : SessionModel) (half : Option HalfModel) (ledger : Ledger) → UsesUpCounter ledger (resume_half q P s half) → ⊥
 unused_half q P s None ledger used = used
 unused_half q P s (Some half) ledger used = unused_from q P s half half.at ledger used
 
-pub unused_resume : (q : Equipment) (P : List ℕ) (s : SessionModel) (ledger : Ledger) → UsesUpCounter ledger (resume q P s) → ⊥
+pub unused_resume : (q : Geometry) (P : List ℕ) (s : SessionModel) (ledger : Ledger) → UsesUpCounter ledger (resume q P s) → ⊥
 unused_resume q P s ledger used = by (not (is_at_rest s)) used
   where
     by : (b : Bool) → UsesUpCounter ledger (if b then refuses P fault.Busy s else resume_half q P s s.stored.half) → ⊥

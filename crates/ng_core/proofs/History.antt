@@ -14,7 +14,7 @@ use Rattle.ng_core.specs.Events.{IsCarriedOut, reply_to, broken_answer}
 
 -- why an event isn't answered
 abbrev pub HasRefusalCause : {A R : Type 0} → ControllerModel R → Event A → Fault → Type 0
-HasRefusalCause c event fault = IsCausedBy (TakesMemory c.equipment c.session event) (AsksDevice c.equipment c.session event) (ledger_of c.journal) (λ program. transition_of c program event) fault
+HasRefusalCause c event fault = IsCausedBy (TakesMemory c.geometry c.session event) (AsksDevice c.geometry c.session event) (ledger_of c.journal) (λ program. transition_of c program event) fault
 
 -- the program that the device has after an event: that of its outcome, if it was answered
 abbrev pub program_after : Result Reply Fault → Transition → List ℕ → List ℕ
@@ -26,7 +26,7 @@ pub record OnSpecIfHonest {A R : Type 0} (seen : R → Device) (answer : Result 
   pub acts : IsCarriedOut answer (transition_of old program event) program old new (seen old.journal.rig).trace (seen new.journal.rig).trace
   pub hindered : IfErr answer (HasRefusalCause old event)
   pub broken : IsBrokenBy answer new.journal.broken
-  pub equipment : new.equipment ≡ old.equipment
+  pub geometry : new.geometry ≡ old.geometry
 
 -- what an event does to a controller, broken or whole
 abbrev pub OnSpecAnyState : {A R : Type 0} → (R → Device) → Bool → Result Reply Fault → Event A → List ℕ → ControllerModel R → ControllerModel R → Type 0

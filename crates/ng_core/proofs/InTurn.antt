@@ -95,30 +95,30 @@ turns_ran seen events replies old new t =
 -- what they lead to with a device that is known to be honest
 pub turns_lead : {A R : Type 0} (seen : R → Device) (events : List (Event A)) (replies : List Reply) (program : List ℕ) (old new : ControllerModel R)
     → (seen old.journal.rig).honest → (t : AreAnsweredEvents seen events replies old new) → old.journal.broken ≡ false → IsAtRestWith (seen old.journal.rig).trace old program
-    → PassesAsSession seen events replies (answered_at seen events replies old new t) old.equipment (program_session_of program old) (seen old.journal.rig).trace new
+    → PassesAsSession seen events replies (answered_at seen events replies old new t) old.geometry (program_session_of program old) (seen old.journal.rig).trace new
 turns_lead seen events replies program old new h t whole rests = (turns_ran seen events replies old new t).holds h program whole rests
 
 pub turns_pass : {A R : Type 0} (seen : R → Device) (events : List (Event A)) (replies : List Reply) (old new : ControllerModel R)
     → (t : AreAnsweredEvents seen events replies old new) → old.journal.broken ≡ false
     → IfHonest (seen old.journal.rig) (seen new.journal.rig) ((program : List ℕ) → IsAtRestWith (seen old.journal.rig).trace old program
-    → PassesAsSession seen events replies (answered_at seen events replies old new t) old.equipment (program_session_of program old) (seen old.journal.rig).trace new)
+    → PassesAsSession seen events replies (answered_at seen events replies old new t) old.geometry (program_session_of program old) (seen old.journal.rig).trace new)
 turns_pass seen events replies old new t whole =
     meaning (turns_ran seen events replies old new t) (λ ran program rests. ran program whole rests)
 
 -- ---- what they leave of any device
 
-turn_equipment : {A R : Type 0} (seen : R → Device) (event : Event A) (r : Reply) (b : Bool) (old new : ControllerModel R)
-    → old.journal.broken ≡ b → IsAnsweredEvent seen event r old new → new.equipment ≡ old.equipment
-turn_equipment seen event r false old new is t = (t.serves is).carried.equipment
-turn_equipment {A} {R} seen event r true old new is t = ap (λ (c : ControllerModel R). c.equipment) (t.refuses is).0
+turn_geometry : {A R : Type 0} (seen : R → Device) (event : Event A) (r : Reply) (b : Bool) (old new : ControllerModel R)
+    → old.journal.broken ≡ b → IsAnsweredEvent seen event r old new → new.geometry ≡ old.geometry
+turn_geometry seen event r false old new is t = (t.serves is).carried.geometry
+turn_geometry {A} {R} seen event r true old new is t = ap (λ (c : ControllerModel R). c.geometry) (t.refuses is).0
 
-pub turns_equipment : {A R : Type 0} (seen : R → Device) (events : List (Event A)) (replies : List Reply) (old new : ControllerModel R)
-    → AreAnsweredEvents seen events replies old new → new.equipment ≡ old.equipment
-turns_equipment {A} {R} seen [] [] old new t = ap (λ (c : ControllerModel R). c.equipment) t
-turns_equipment seen [] (r ∷ replies) old new t = absurd t
-turns_equipment seen (event ∷ events) [] old new t = absurd t
-turns_equipment seen (event ∷ events) (r ∷ replies) old new t =
-    turns_equipment seen events replies t.0 new t.1.1 ∙ turn_equipment seen event r old.journal.broken old t.0 refl t.1.0
+pub turns_geometry : {A R : Type 0} (seen : R → Device) (events : List (Event A)) (replies : List Reply) (old new : ControllerModel R)
+    → AreAnsweredEvents seen events replies old new → new.geometry ≡ old.geometry
+turns_geometry {A} {R} seen [] [] old new t = ap (λ (c : ControllerModel R). c.geometry) t
+turns_geometry seen [] (r ∷ replies) old new t = absurd t
+turns_geometry seen (event ∷ events) [] old new t = absurd t
+turns_geometry seen (event ∷ events) (r ∷ replies) old new t =
+    turns_geometry seen events replies t.0 new t.1.1 ∙ turn_geometry seen event r old.journal.broken old t.0 refl t.1.0
 
 -- ---- the failures of the device
 

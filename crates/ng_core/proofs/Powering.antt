@@ -4,15 +4,15 @@ use Rattle.ng_rig.specs.Trace.{Trace}
 use Rattle.ng_layout.specs.Stored.{StoredModel, DurableState}
 use Rattle.ng_journal.specs.Journal.{JournalModel, IsDurablyAt}
 use Rattle.ng_journal.specs.Recover.{RecoverSpec, IsJournalRecovered}
-use Rattle.ng_session.specs.Entries.{Equipment}
+use Rattle.ng_canon.specs.declared.geometry.Geometry.{Geometry}
 use Rattle.ng_session.specs.Planned.{KnownModel, IsKnownOf}
 use Rattle.ng_session.specs.Session.{SessionModel}
 use Rattle.ng_core.specs.Model.{durable_state_of}
 use Rattle.ng_core.specs.Powers.{PowerOnSpecIfHonest, IsControllerRecovered}
 
-recovered : {R : Type 0} (tools : List ℤ) (journal : JournalModel R) (session : SessionModel) (lines : KnownModel) (equipment : Equipment) (old new : Trace) → session.stored ≡ journal.saved → ((program : List ℕ) → IsKnownOf program lines)
-    → IsJournalRecovered tools journal old new → IsControllerRecovered {R = R} tools (record { journal = journal; session = session; lines = lines; equipment = equipment }) old new
-recovered tools journal session lines equipment old new stored known r =
+recovered : {R : Type 0} (tools : List ℤ) (journal : JournalModel R) (session : SessionModel) (lines : KnownModel) (geometry : Geometry) (old new : Trace) → session.stored ≡ journal.saved → ((program : List ℕ) → IsKnownOf program lines)
+    → IsJournalRecovered tools journal old new → IsControllerRecovered {R = R} tools (record { journal = journal; session = session; lines = lines; geometry = geometry }) old new
+recovered tools journal session lines geometry old new stored known r =
     let same : r.standing ≡ durable_state_of r.standing.program session = λ i. record { saved = (r.rests.saved_is ∙ sym stored) i; program = r.standing.program } in
     record {
       program = r.standing.program;
@@ -20,9 +20,9 @@ recovered tools journal session lines equipment old new stored known r =
       is = r.is ∙ ap (λ (s : DurableState). Ok s) same;
     }
 
-pub powered : {R : Type 0} (tools : List ℤ) (journal : JournalModel R) (saved : StoredModel) (session : SessionModel) (lines : KnownModel) (equipment : Equipment) (old new : Trace) → session.stored ≡ saved → journal.saved ≡ saved → ((program : List ℕ) → IsKnownOf program lines)
-    → RecoverSpec tools (Ok (journal, saved)) old new → PowerOnSpecIfHonest {R = R} tools (Ok (record { journal = journal; session = session; lines = lines; equipment = equipment })) old new
-powered tools journal saved session lines equipment old new stored held known r = record {
+pub powered : {R : Type 0} (tools : List ℤ) (journal : JournalModel R) (saved : StoredModel) (session : SessionModel) (lines : KnownModel) (geometry : Geometry) (old new : Trace) → session.stored ≡ saved → journal.saved ≡ saved → ((program : List ℕ) → IsKnownOf program lines)
+    → RecoverSpec tools (Ok (journal, saved)) old new → PowerOnSpecIfHonest {R = R} tools (Ok (record { journal = journal; session = session; lines = lines; geometry = geometry })) old new
+powered tools journal saved session lines geometry old new stored held known r = record {
   recovers = subst (λ (x : StoredModel). RecoverSpec tools (Ok (journal, x)) old new) (sym stored) r;
-  rests = λ written. recovered tools journal session lines equipment old new (stored ∙ sym held) known (r.kept written).ready;
+  rests = λ written. recovered tools journal session lines geometry old new (stored ∙ sym held) known (r.kept written).ready;
 }

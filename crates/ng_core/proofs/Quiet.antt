@@ -6,7 +6,8 @@ use Rattle.ng_block.specs.Effects.{Done}
 use Rattle.ng_text.specs.Programs.{ProgramLineModel}
 use Rattle.ng_layout.specs.Stored.{StoredModel}
 use Rattle.ng_layout.specs.declared.half.Source.TheVariants as source
-use Rattle.ng_session.specs.Entries.{Equipment, done_of}
+use Rattle.ng_canon.specs.declared.geometry.Geometry.{Geometry}
+use Rattle.ng_session.specs.Entries.{done_of}
 use Rattle.ng_session.specs.Session.{SessionModel, Transition, is_running, is_idle, accepts_load, refuses_mdi, start, hold, resume_held, mdi, mdi_by, begin, begin_by, step, IsQuiet, NeedsProgramLine}
 use Rattle.ng_session.specs.declared.event.Event.{Event}
 use Rattle.ng_session.specs.declared.event.Event.TheVariants as event
@@ -27,7 +28,7 @@ by_if P x false o q f g = g
 still_start : (P : List ℕ) (s : SessionModel) → IsStill P s.stored (start P s)
 still_start P s =
     by_if P s.stored (not (accepts_load s)) _ _ (still refl refl refl)
-    (by_if P s.stored (not s.stored.setup.machine.point_known) _ _ (still refl refl refl)
+    (by_if P s.stored (not s.stored.setup.modal.point_known) _ _ (still refl refl refl)
     (by_if P s.stored (s.stored.length == 0) _ _ (still refl refl refl) (still refl refl refl)))
 
 still_hold : (P : List ℕ) (s : SessionModel) → IsStill P s.stored (hold P s)
@@ -43,14 +44,14 @@ still_mdi_by : (P : List ℕ) (s : SessionModel) (text : List ℕ) (done : Resul
 still_mdi_by P s text (Ok done) = still refl refl refl
 still_mdi_by P s text (Err fault) = still refl refl refl
 
-still_mdi : (q : Equipment) (P : List ℕ) (s : SessionModel) (text : List ℕ) → IsStill P s.stored (mdi q P s text)
+still_mdi : (q : Geometry) (P : List ℕ) (s : SessionModel) (text : List ℕ) → IsStill P s.stored (mdi q P s text)
 still_mdi q P s text =
     by_if P s.stored (refuses_mdi s) _ _ (still refl refl refl)
-    (by_if P s.stored (not s.stored.setup.machine.point_known) _ _ (still refl refl refl)
+    (by_if P s.stored (not s.stored.setup.modal.point_known) _ _ (still refl refl refl)
     (still_mdi_by P s text (done_of q P s.stored source.Mdi text s.block_delete)))
 
 -- an event that neither writes to the device nor hands anything out
-pub still_step : {A : Type 0} (q : Equipment) (P : List ℕ) (s : SessionModel) (e : Event A) → IsQuiet e → IsStill P s.stored (step q P s e)
+pub still_step : {A : Type 0} (q : Geometry) (P : List ℕ) (s : SessionModel) (e : Event A) → IsQuiet e → IsStill P s.stored (step q P s e)
 still_step q P s (event.Load text) quiet = absurd quiet
 still_step q P s event.Start quiet = still_start P s
 still_step q P s event.Hold quiet = still_hold P s
@@ -66,7 +67,7 @@ still_step q P s event.Status quiet = still refl refl refl
 still_step q P s event.Tick quiet = absurd quiet
 
 -- and no line is read for it
-pub quiet_unread : {A : Type 0} (q : Equipment) (s : SessionModel) (e : Event A) → IsQuiet e → NeedsProgramLine q s e → ⊥
+pub quiet_unread : {A : Type 0} (q : Geometry) (s : SessionModel) (e : Event A) → IsQuiet e → NeedsProgramLine q s e → ⊥
 quiet_unread q s (event.Load text) quiet read = read
 quiet_unread q s event.Start quiet read = read
 quiet_unread q s event.Hold quiet read = read
@@ -86,6 +87,6 @@ still_begin_by P s line (Ok done) = still refl refl refl
 still_begin_by P s line (Err fault) = still refl refl refl
 
 -- a line of the program is begun, or the program stops
-pub still_begin : (q : Equipment) (P : List ℕ) (s : SessionModel) (line : Option ProgramLineModel) → IsStill P s.stored (begin q P s line)
+pub still_begin : (q : Geometry) (P : List ℕ) (s : SessionModel) (line : Option ProgramLineModel) → IsStill P s.stored (begin q P s line)
 still_begin q P s None = still refl refl refl
 still_begin q P s (Some line) = still_begin_by P s line (done_of q P s.stored source.Program line.text s.block_delete)

@@ -16,7 +16,8 @@ use Rattle.ng_layout.specs.Stored.{HalfModel, DurableState}
 use Rattle.ng_layout.specs.declared.half.Source.{Source}
 use Rattle.ng_journal.specs.Journal.{JournalModel, IsDurablyAt}
 use Rattle.ng_journal.specs.Storing.{ledger_of}
-use Rattle.ng_session.specs.Entries.{Equipment, done_again}
+use Rattle.ng_canon.specs.declared.geometry.Geometry.{Geometry}
+use Rattle.ng_session.specs.Entries.{done_again}
 use Rattle.ng_session.specs.Session.{SessionModel, Transition, refuses, resume, resume_half, resume_from, resume_by, resume_refusal, waiting_refusal, is_at_rest, is_running, session_status, next_place_after, IsProgramsLine}
 use Rattle.ng_session.specs.declared.reply.Reply.{Reply}
 use Rattle.ng_session.specs.declared.reply.Reply.TheVariants as reply
@@ -57,15 +58,15 @@ still_by : (P : List ℕ) (s : SessionModel) (half : HalfModel) (from : Point) (
 still_by P s half from (Err fault) = still refl refl refl
 still_by P s half from (Ok done) = still refl refl refl
 
-still_from : (q : Equipment) (P : List ℕ) (s : SessionModel) (half : HalfModel) (from : Option Point) → IsStill P s.stored (resume_from q P s half from)
+still_from : (q : Geometry) (P : List ℕ) (s : SessionModel) (half : HalfModel) (from : Option Point) → IsStill P s.stored (resume_from q P s half from)
 still_from q P s half None = still refl refl refl
 still_from q P s half (Some from) = still_by P s half from (done_again q s.stored half.text)
 
-still_half : (q : Equipment) (P : List ℕ) (s : SessionModel) (half : Option HalfModel) → IsStill P s.stored (resume_half q P s half)
+still_half : (q : Geometry) (P : List ℕ) (s : SessionModel) (half : Option HalfModel) → IsStill P s.stored (resume_half q P s half)
 still_half q P s None = still refl refl refl
 still_half q P s (Some half) = still_from q P s half half.at
 
-pub still_resume : (q : Equipment) (P : List ℕ) (s : SessionModel) → IsStill P s.stored (resume q P s)
+pub still_resume : (q : Geometry) (P : List ℕ) (s : SessionModel) → IsStill P s.stored (resume q P s)
 still_resume q P s = by (not (is_at_rest s))
   where
     by : (b : Bool) → IsStill P s.stored (if b then refuses P fault.Busy s else resume_half q P s s.stored.half)
@@ -75,53 +76,53 @@ still_resume q P s = by (not (is_at_rest s))
 -- ---- it doesn't go on
 
 pub does_not_resume : {R : Type 0} (seen : R → Device) (fault : Fault) (old new : ControllerModel R)
-    → Some fault ≡ resume_refusal old.equipment old.session → new.journal ≡ old.journal → new.lines ≡ old.lines → new.session ≡ old.session
-    → IsCarriedOutIfHonest seen (Ok (reply.Refused fault)) (λ program. resume old.equipment program old.session) old new
+    → Some fault ≡ resume_refusal old.geometry old.session → new.journal ≡ old.journal → new.lines ≡ old.lines → new.session ≡ old.session
+    → IsCarriedOutIfHonest seen (Ok (reply.Refused fault)) (λ program. resume old.geometry program old.session) old new
 does_not_resume seen fault old new is journal lines same =
-    does_on seen (Ok (reply.Refused fault)) (λ program. refuses program fault old.session) (λ program. resume old.equipment program old.session) old old new refl
-    (λ program. sym (refused_again old.equipment program old.session fault is))
+    does_on seen (Ok (reply.Refused fault)) (λ program. refuses program fault old.session) (λ program. resume old.geometry program old.session) old old new refl
+    (λ program. sym (refused_again old.geometry program old.session fault is))
     (does_still seen (reply.Refused fault) (λ program. refuses program fault old.session) old new (λ program. still refl refl refl) journal lines (λ program. refl) (λ program. same))
 
-pub comes_not_resumed : {R : Type 0} (reads : Type 0) (fault : Fault) (old new : ControllerModel R) → Some fault ≡ resume_refusal old.equipment old.session → new.session ≡ old.session
-    → IsAnsweredAnyway reads (Ok (reply.Refused fault)) (λ program. resume old.equipment program old.session) old new
+pub comes_not_resumed : {R : Type 0} (reads : Type 0) (fault : Fault) (old new : ControllerModel R) → Some fault ≡ resume_refusal old.geometry old.session → new.session ≡ old.session
+    → IsAnsweredAnyway reads (Ok (reply.Refused fault)) (λ program. resume old.geometry program old.session) old new
 comes_not_resumed reads fault old new is same =
-    comes_to reads reads (Ok (reply.Refused fault)) (λ program. refuses program fault old.session) (λ program. resume old.equipment program old.session) old new (λ p. p)
-    (λ program. sym (refused_again old.equipment program old.session fault is))
+    comes_to reads reads (Ok (reply.Refused fault)) (λ program. refuses program fault old.session) (λ program. resume old.geometry program old.session) old new (λ p. p)
+    (λ program. sym (refused_again old.geometry program old.session fault is))
     (comes_by reads (reply.Refused fault) (λ program. refuses program fault old.session) old new (λ program. refl) (λ program. same))
 
 -- ---- it goes on
 
 -- the reply of the session, and the session after it
 abbrev pub GoesOn : {R : Type 0} → Reply → SessionModel → ControllerModel R → SessionModel → ℕ → Type 0
-GoesOn r next old s place = (program : List ℕ) → IsNextLineAt program s place → (r ≡ (resume old.equipment program s).reply) × (next ≡ (resume old.equipment program s).next)
+GoesOn r next old s place = (program : List ℕ) → IsNextLineAt program s place → (r ≡ (resume old.geometry program s).reply) × (next ≡ (resume old.geometry program s).next)
 
 does_go : {R E : Type 0} (seen : R → Device) (r : Reply) (place : ℕ) (old new : ControllerModel R)
     → FindingNext {E = E} seen (Ok place) old.session old.journal new.journal → new.lines ≡ old.lines → GoesOn r new.session old old.session place
-    → IsCarriedOutIfHonest seen (Ok r) (λ program. resume old.equipment program old.session) old new
+    → IsCarriedOutIfHonest seen (Ok r) (λ program. resume old.geometry program old.session) old new
 does_go seen r place old new p lines goes = record {
   keeps = p.keeps;
   back = p.back;
   holds = λ h program rests.
       let f = p.holds h (durable_state_of program old.session) rests.0 in
-      let quiet = still_resume old.equipment program old.session in
-      let out : Transition = resume old.equipment program old.session in
+      let quiet = still_resume old.geometry program old.session in
+      let out : Transition = resume old.geometry program old.session in
       acts_read r out program old new (seen old.journal.rig).trace (seen new.journal.rig).trace f.same f.at (known_as program out.program old.lines new.lines quiet.program_is lines rests.1)
       (goes program f.next).0 (goes program f.next).1 quiet.items quiet.program_is quiet.stored_is;
 }
 
 pub does_resume : {R E : Type 0} (seen : R → Device) (r : Reply) (place : ℕ) (old new : ControllerModel R) (s : SessionModel)
     → s ≡ old.session → FindingNext {E = E} seen (Ok place) s old.journal new.journal → new.lines ≡ old.lines → GoesOn r new.session old s place
-    → IsCarriedOutIfHonest seen (Ok r) (λ program. resume old.equipment program old.session) old new
+    → IsCarriedOutIfHonest seen (Ok r) (λ program. resume old.geometry program old.session) old new
 does_resume {R} {E} seen r place old new s same p lines goes =
-    subst (λ (x : SessionModel). IsCarriedOutIfHonest seen (Ok r) (λ program. resume old.equipment program x) (with_session old x) new) same
+    subst (λ (x : SessionModel). IsCarriedOutIfHonest seen (Ok r) (λ program. resume old.geometry program x) (with_session old x) new) same
     (does_go {E = E} seen r place (with_session old s) new p lines goes)
 
 pub comes_resume : {R : Type 0} (r : Reply) (place : ℕ) (old new : ControllerModel R) (s : SessionModel)
-    → s ≡ old.session → None ≡ resume_refusal old.equipment old.session → ((IsProgramsLine s.stored.half → ⊥) → (program : List ℕ) → IsNextLineAt program s place) → GoesOn r new.session old s place
-    → IsAnsweredAnyway ((resume_refusal old.equipment old.session ≡ None) × IsProgramsLine old.session.stored.half) (Ok r) (λ program. resume old.equipment program old.session) old new
+    → s ≡ old.session → None ≡ resume_refusal old.geometry old.session → ((IsProgramsLine s.stored.half → ⊥) → (program : List ℕ) → IsNextLineAt program s place) → GoesOn r new.session old s place
+    → IsAnsweredAnyway ((resume_refusal old.geometry old.session ≡ None) × IsProgramsLine old.session.stored.half) (Ok r) (λ program. resume old.geometry program old.session) old new
 comes_resume r place old new s same free next goes =
-    subst (λ (x : SessionModel). IsAnsweredAnyway ((resume_refusal old.equipment x ≡ None) × IsProgramsLine x.stored.half) (Ok r) (λ program. resume old.equipment program x) (with_session old x) new) same
-    (λ read program. goes program (next (λ line. read (ap (λ (x : SessionModel). resume_refusal old.equipment x) same ∙ sym free, line)) program))
+    subst (λ (x : SessionModel). IsAnsweredAnyway ((resume_refusal old.geometry x ≡ None) × IsProgramsLine x.stored.half) (Ok r) (λ program. resume old.geometry program x) (with_session old x) new) same
+    (λ read program. goes program (next (λ line. read (ap (λ (x : SessionModel). resume_refusal old.geometry x) same ∙ sym free, line)) program))
 
 -- it isn't refused, so the program doesn't run
 stopped_by : (alone runs held : Bool) (rest : Option Fault) → (if not (alone && not runs && not held) then Some fault.Busy else rest) ≡ None → runs ≡ false
@@ -129,7 +130,7 @@ stopped_by alone false held rest free = refl
 stopped_by true true held rest free = absurd (let busy : Option Fault = Some fault.Busy in let z : busy ≡ None = free in cc)
 stopped_by false true held rest free = absurd (let busy : Option Fault = Some fault.Busy in let z : busy ≡ None = free in cc)
 
-stopped : (q : Equipment) (s : SessionModel) → resume_refusal q s ≡ None → is_running s.activity ≡ false
+stopped : (q : Geometry) (s : SessionModel) → resume_refusal q s ≡ None → is_running s.activity ≡ false
 stopped q s free = stopped_by (is_none s.current) (is_running s.activity) s.held (waiting_refusal q s.stored s.stored.half) free
 
 by_stopped : {R : Type 0} (out : List ℕ → Transition) (c : ControllerModel R) (program : List ℕ) (line : Option ProgramLineModel)
@@ -142,11 +143,11 @@ refused_unread refusal fault is free = absurd (let some : Option Fault = Some fa
 
 -- whatever the device returned for the line at the place, the next line begins there in some program
 pub resumed_line : {R : Type 0} (r : Reply) (place : ℕ) (old new : ControllerModel R) (s : SessionModel)
-    → s ≡ old.session → resume_refusal old.equipment old.session ≡ None → IsProgramsLine old.session.stored.half → s.stored.place ≤ place
+    → s ≡ old.session → resume_refusal old.geometry old.session ≡ None → IsProgramsLine old.session.stored.half → s.stored.place ≤ place
     → GoesOn r new.session old s place → ledger_of new.journal ≡ ledger_of old.journal
-    → IsAnsweredByLine r (λ program. resume old.equipment program old.session) old new
+    → IsAnsweredByLine r (λ program. resume old.geometry program old.session) old new
 resumed_line r place old new s same free line beyond goes ledger =
-    let out : List ℕ → Transition = λ program. resume old.equipment program old.session in
+    let out : List ℕ → Transition = λ program. resume old.geometry program old.session in
     let here : old.session.stored.place ≤ place = subst (λ (x : SessionModel). x.stored.place ≤ place) same beyond in
     let there : GoesOn r new.session old old.session place = subst (λ (x : SessionModel). GoesOn r new.session old x place) same goes in
     let found = has_next old.session.stored.place place here in
@@ -154,7 +155,7 @@ resumed_line r place old new s same free line beyond goes ledger =
     record {
       program = found.0;
       line = None;
-      comes = subst (λ (o : Transition). IsAnsweredBy (Ok r) o old new) (sym (by_stopped out old found.0 None (stopped old.equipment old.session free))) (there found.0 next);
+      comes = subst (λ (o : Transition). IsAnsweredBy (Ok r) o old new) (sym (by_stopped out old found.0 None (stopped old.geometry old.session free))) (there found.0 next);
       ledger = ledger;
     }
 

@@ -14,7 +14,7 @@ use Rattle.ng_core.specs.Model.{ControllerModel}
 
 -- what an event leads to
 abbrev pub transition_of : {A R : Type 0} → ControllerModel R → List ℕ → Event A → Transition
-transition_of c program event = step c.equipment program c.session event
+transition_of c program event = step c.geometry program c.session event
 
 -- what is stored with an entry: a program is loaded, any other entry is committed
 abbrev pub with_entry : StoredModel → Entry → Storing

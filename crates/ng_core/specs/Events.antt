@@ -50,7 +50,7 @@ IsAnsweredAnyway reads answer out old new =
 -- What an event leads to if a line was read, or no line. A program that runs begins that line, after the lines of this
 -- program before its place. A half-done block goes on as in this program.
 abbrev pub by_line : {R : Type 0} → (List ℕ → Transition) → ControllerModel R → List ℕ → Option ProgramLineModel → Transition
-by_line out c program line = if is_running c.session.activity then begin c.equipment program c.session line else out program
+by_line out c program line = if is_running c.session.activity then begin c.geometry program c.session line else out program
 
 -- Whatever the device returned, the event is answered for one line, after the lines of some program, or for no line.
 -- The session goes on accordingly, and what the journal keeps is unchanged.
@@ -119,14 +119,14 @@ pub record CarriesOut {R : Type 0} (seen : R → Device) (needs : Needs) (out : 
   pub line : needs.reads → IfOk answer (λ r. IsAnsweredByLine r out old new)
   pub hindered : IfErr answer (IsCausedBy needs.memory needs.device (ledger_of old.journal) out)
   pub broken : IsBrokenBy answer new.journal.broken
-  pub equipment : new.equipment ≡ old.equipment
+  pub geometry : new.geometry ≡ old.geometry
   pub size : (seen new.journal.rig).sectors ≡ (seen old.journal.rig).sectors
   pub failures : CountsFailure answer (seen old.journal.rig).failed (seen new.journal.rig).failed
 
 -- The answer to an event, given its outcome and what it needs.
 abbrev pub CarriesOutEvent : {A R : Type 0} → (R → Device) → Event A → Result Reply Fault → ControllerModel R → ControllerModel R → Type 0
 CarriesOutEvent seen event answer old new =
-    CarriesOut seen (needs_of old.equipment old.session event) (λ program. transition_of old program event) answer old new
+    CarriesOut seen (needs_of old.geometry old.session event) (λ program. transition_of old program event) answer old new
 
 -- The reply to an event, and what the event did.
 pub record Handles {A R : Type 0} (seen : R → Device) (event : Event A) (told : Reply) (old new : ControllerModel R) : Type 0 where

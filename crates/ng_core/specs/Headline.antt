@@ -8,7 +8,8 @@ use Rattle.ng_layout.specs.Stands.{stands_beside, IsWritten}
 use Rattle.ng_layout.specs.Stored.{DurableState}
 use Rattle.ng_journal.specs.Journal.{StandsFor}
 use Rattle.ng_journal.specs.Recovery.{recovered_of}
-use Rattle.ng_session.specs.Entries.{Equipment, Entry}
+use Rattle.ng_canon.specs.declared.geometry.Geometry.{Geometry}
+use Rattle.ng_session.specs.Entries.{Entry}
 use Rattle.ng_session.specs.Session.{resting}
 use Rattle.ng_session.specs.Runs.{CrashState, session_at_power_on, entries_of, under_way, dones, lines_given}
 use Rattle.ng_session.specs.Cuts.{IsCut}
@@ -40,13 +41,13 @@ pub record IsPast {A R : Type 0} (seen : R → Device) (x : DurableState) (event
 -- A stop leaves a cut of the first of the executed entries, as many as were acknowledged or one more. The plain
 -- interpreter carries them out from the state at power on, with the lines that the operator gave. The other executed
 -- entries come next, and what is under way then.
-pub record IsAccounted (equipment : Equipment) (lines : List (List ℕ)) (x : DurableState) (before : List Item) (executed begun : List Entry) (acknowledged : ℕ) (image : Image) (handed : List Item) : Type 0 where
+pub record IsAccounted (geometry : Geometry) (lines : List (List ℕ)) (x : DurableState) (before : List Item) (executed begun : List Entry) (acknowledged : ℕ) (image : Image) (handed : List Item) : Type 0 where
   pub count : ℕ
   pub all : acknowledged ≤ count
   pub few : count ≤ acknowledged + 1
   pub within : count ≤ length executed
   pub left : CrashState
-  pub cut : IsCut equipment lines x before (take count executed) (drop count (executed ++ begun)) left
+  pub cut : IsCut geometry lines x before (take count executed) (drop count (executed ++ begun)) left
   pub stands_for : StandsFor left.standing left.items image handed
 
 -- The events proceed as the session does. Whenever power was cut since power on, the stop is accounted for: by the
@@ -54,9 +55,9 @@ pub record IsAccounted (equipment : Equipment) (lines : List (List ℕ)) (x : Du
 -- after that; by as many entries as replies of Done by then, or one more; and by the lines that these events gave. The
 -- moments are those at which the events were answered.
 pub record Accounts {A R : Type 0} (seen : R → Device) (x : DurableState) (events : List (Event A)) (replies : List Reply) (moments : List ℕ) (first now : ControllerModel R) : Type 0 where
-  pub passes : PassesAsSession seen events replies moments first.equipment (session_at_power_on x) (seen first.journal.rig).trace now
+  pub passes : PassesAsSession seen events replies moments first.geometry (session_at_power_on x) (seen first.journal.rig).trace now
   pub stops : AtEachStop (seen first.journal.rig).trace (seen now.journal.rig).trace (λ t. let n = answered_by t moments in let tried = tried_events (take (suc n) events) passes.answers in
-      IsAccounted first.equipment (lines_given (take (suc n) events)) x (items (seen first.journal.rig).trace) (entries_of first.equipment (session_at_power_on x) tried) (under_way first.equipment (session_at_power_on x) tried) (dones (take n replies)))
+      IsAccounted first.geometry (lines_given (take (suc n) events)) x (items (seen first.journal.rig).trace) (entries_of first.geometry (session_at_power_on x) tried) (under_way first.geometry (session_at_power_on x) tried) (dones (take n replies)))
 
 -- So a stop has as many entries more than the state at power on as there were replies of Done by its moment, or one
 -- more, with whatever table power on reads it.

@@ -9,7 +9,8 @@ use Rattle.ng_rig.specs.Continuation.{IsSynced}
 use Rattle.ng_layout.specs.Stands.{stands_beside, recovered, IsWritten}
 use Rattle.ng_layout.specs.Stored.{StoredModel, DurableState}
 use Rattle.ng_journal.specs.Journal.{StandsBeside}
-use Rattle.ng_session.specs.Entries.{Equipment, Entry}
+use Rattle.ng_canon.specs.declared.geometry.Geometry.{Geometry}
+use Rattle.ng_session.specs.Entries.{Entry}
 use Rattle.ng_session.specs.Runs.{session_at_power_on, entries_of, under_way, dones, lines_given}
 use Rattle.ng_session.specs.Fold.{FollowFold, after_all, items_all}
 use Rattle.ng_session.specs.Cuts.{UncommittedTail}
@@ -43,18 +44,18 @@ pub record IsCutWithinPowerOn (tools : List ℤ) (x : DurableState) (s : CutSess
 
 -- A session from an image that stands for a state and that only such a controller wrote. Power was cut within power on
 -- or after it. In the second case what is stored and what was handed out is accounted for, from the recovered state.
-pub record IsSession (equipment : Equipment) (tools : List ℤ) (image : Image) (s : CutSession) : Type 0 where
+pub record IsSession (geometry : Geometry) (tools : List ℤ) (image : Image) (s : CutSession) : Type 0 where
   pub standing : DurableState
   pub state : stands_beside tools image ≡ Ok standing
   pub written : IsWritten image
-  pub cut : IsCutWithinPowerOn tools standing s ⊎ IsAccounted equipment s.lines (recovered standing) [] s.executed s.begun s.acknowledged s.image s.items
+  pub cut : IsCutWithinPowerOn tools standing s ⊎ IsAccounted geometry s.lines (recovered standing) [] s.executed s.begun s.acknowledged s.image s.items
 
 -- ---- a history
 
 -- each session begins with the image that the one before left
-abbrev pub IsImageHistory : Equipment → List ℤ → Image → List CutSession → Type 0
-IsImageHistory equipment tools image [] = Unit {0}
-IsImageHistory equipment tools image (s ∷ ss) = IsSession equipment tools image s × IsImageHistory equipment tools s.image ss
+abbrev pub IsImageHistory : Geometry → List ℤ → Image → List CutSession → Type 0
+IsImageHistory geometry tools image [] = Unit {0}
+IsImageHistory geometry tools image (s ∷ ss) = IsSession geometry tools image s × IsImageHistory geometry tools s.image ss
 
 abbrev pub all_items : List CutSession → List Item
 all_items [] = []
@@ -71,68 +72,68 @@ pub record CommittedSession : Type 0 where
   pub more : List Item
 
 -- the state after a session; `None` if power was cut within power on
-abbrev pub state_after_session : Equipment → DurableState → Option CommittedSession → DurableState
-state_after_session equipment x None = x
-state_after_session equipment x (Some l) = record { saved = l.saved; program = (after_all equipment (recovered x) l.entries).program }
+abbrev pub state_after_session : Geometry → DurableState → Option CommittedSession → DurableState
+state_after_session geometry x None = x
+state_after_session geometry x (Some l) = record { saved = l.saved; program = (after_all geometry (recovered x) l.entries).program }
 
-abbrev pub items_of_session : Equipment → DurableState → Option CommittedSession → List Item
-items_of_session equipment x None = []
-items_of_session equipment x (Some l) = items_all equipment (recovered x) l.entries ++ l.more
+abbrev pub items_of_session : Geometry → DurableState → Option CommittedSession → List Item
+items_of_session geometry x None = []
+items_of_session geometry x (Some l) = items_all geometry (recovered x) l.entries ++ l.more
 
-abbrev pub fold_items : Equipment → DurableState → List (Option CommittedSession) → List Item
-fold_items equipment x [] = []
-fold_items equipment x (l ∷ ls) = items_of_session equipment x l ++ fold_items equipment (state_after_session equipment x l) ls
+abbrev pub fold_items : Geometry → DurableState → List (Option CommittedSession) → List Item
+fold_items geometry x [] = []
+fold_items geometry x (l ∷ ls) = items_of_session geometry x l ++ fold_items geometry (state_after_session geometry x l) ls
 
-abbrev pub fold_state : Equipment → DurableState → List (Option CommittedSession) → DurableState
-fold_state equipment x [] = x
-fold_state equipment x (l ∷ ls) = fold_state equipment (state_after_session equipment x l) ls
+abbrev pub fold_state : Geometry → DurableState → List (Option CommittedSession) → DurableState
+fold_state geometry x [] = x
+fold_state geometry x (l ∷ ls) = fold_state geometry (state_after_session geometry x l) ls
 
 -- The first of the executed entries, as many as were acknowledged or one more, and after them what may follow if the
 -- others come next.
-pub record KeepsToFold (equipment : Equipment) (x : DurableState) (s : CutSession) (l : CommittedSession) : Type 0 where
+pub record KeepsToFold (geometry : Geometry) (x : DurableState) (s : CutSession) (l : CommittedSession) : Type 0 where
   pub count : ℕ
   pub all : s.acknowledged ≤ count
   pub few : count ≤ s.acknowledged + 1
   pub within : count ≤ length s.executed
   pub entries : l.entries ≡ take count s.executed
-  pub lawful : FollowFold equipment s.lines (recovered x) l.entries
-  pub follows : UncommittedTail equipment s.lines (after_all equipment (recovered x) l.entries) (drop count (s.executed ++ s.begun)) l.saved l.more
+  pub valid : FollowFold geometry s.lines (recovered x) l.entries
+  pub follows : UncommittedTail geometry s.lines (after_all geometry (recovered x) l.entries) (drop count (s.executed ++ s.begun)) l.saved l.more
 
-abbrev pub SessionKeepsToFold : Equipment → DurableState → CutSession → Option CommittedSession → Type 0
-SessionKeepsToFold equipment x s None = s.acknowledged ≡ 0
-SessionKeepsToFold equipment x s (Some l) = KeepsToFold equipment x s l
+abbrev pub SessionKeepsToFold : Geometry → DurableState → CutSession → Option CommittedSession → Type 0
+SessionKeepsToFold geometry x s None = s.acknowledged ≡ 0
+SessionKeepsToFold geometry x s (Some l) = KeepsToFold geometry x s l
 
 -- each session keeps to the fold, each from the state after the one before
-abbrev pub EachKeepsToFold : Equipment → DurableState → List CutSession → List (Option CommittedSession) → Type 0
-EachKeepsToFold equipment x [] [] = Unit {0}
-EachKeepsToFold equipment x [] (l ∷ ls) = ⊥
-EachKeepsToFold equipment x (s ∷ ss) [] = ⊥
-EachKeepsToFold equipment x (s ∷ ss) (l ∷ ls) = SessionKeepsToFold equipment x s l × EachKeepsToFold equipment (state_after_session equipment x l) ss ls
+abbrev pub EachKeepsToFold : Geometry → DurableState → List CutSession → List (Option CommittedSession) → Type 0
+EachKeepsToFold geometry x [] [] = Unit {0}
+EachKeepsToFold geometry x [] (l ∷ ls) = ⊥
+EachKeepsToFold geometry x (s ∷ ss) [] = ⊥
+EachKeepsToFold geometry x (s ∷ ss) (l ∷ ls) = SessionKeepsToFold geometry x s l × EachKeepsToFold geometry (state_after_session geometry x l) ss ls
 
 -- However often power is cut: the last image stands for the fold's state, and what was handed out in all sessions is
 -- what the fold hands out for each session's entries, with what follows them.
 abbrev pub CutsOfImageHistory : Type 0
-CutsOfImageHistory = (equipment : Equipment) (tools : List ℤ) (image : Image) (x : DurableState) (history : List CutSession) → stands_beside tools image ≡ Ok x → IsWritten image → IsImageHistory equipment tools image history →
-    (committed : List (Option CommittedSession)) × EachKeepsToFold equipment x history committed
-    × StandsBeside tools (fold_state equipment x committed) (fold_items equipment x committed) (last_image image history) (all_items history)
+CutsOfImageHistory = (geometry : Geometry) (tools : List ℤ) (image : Image) (x : DurableState) (history : List CutSession) → stands_beside tools image ≡ Ok x → IsWritten image → IsImageHistory geometry tools image history →
+    (committed : List (Option CommittedSession)) × EachKeepsToFold geometry x history committed
+    × StandsBeside tools (fold_state geometry x committed) (fold_items geometry x committed) (last_image image history) (all_items history)
 
 -- ---- which stops are sessions
 
 -- A stop leaves a session from this image, with these lines given, these entries executed and begun, and this many
 -- acknowledged; these items were handed out before it.
-pub record LeavesSession (equipment : Equipment) (tools : List ℤ) (image : Image) (before : List Item) (lines : List (List ℕ)) (executed begun : List Entry) (acknowledged : ℕ) (left : Image) (handed : List Item) : Type 0 where
+pub record LeavesSession (geometry : Geometry) (tools : List ℤ) (image : Image) (before : List Item) (lines : List (List ℕ)) (executed begun : List Entry) (acknowledged : ℕ) (left : Image) (handed : List Item) : Type 0 where
   pub items : List Item
   pub handed_is : handed ≡ before ++ items
-  pub session : IsSession equipment tools image (record { lines = lines; executed = executed; begun = begun; acknowledged = acknowledged; image = left; items = items })
+  pub session : IsSession geometry tools image (record { lines = lines; executed = executed; begun = begun; acknowledged = acknowledged; image = left; items = items })
 
 -- Whatever power on returns, there are two cases for each stop since it began. Either the device could have had that
 -- stop at the beginning, with what came before; or it leaves a session from what the device read at the beginning, with
 -- no lines given and nothing executed. If the device was synced at the beginning, as after a cut, the second case
 -- holds.
 abbrev pub SessionsWithinPowerOn : {R : Type 0} → (R → Device) → Type 0
-SessionsWithinPowerOn {R} seen = (equipment : Equipment) (tools : List ℤ) (x : DurableState) (result : PowerOnResult R) (old new : Trace) → PowerOnSpecIfHonest tools result old new → stands_beside tools (reads old) ≡ Ok x → IsWritten (reads old) →
-    AtEachStop old new (λ t image handed. IsStop old image handed ⊎ LeavesSession equipment tools (reads old) (items old) [] [] [] 0 image handed)
-    × (IsSynced old → AtEachStop old new (λ t. LeavesSession equipment tools (reads old) (items old) [] [] [] 0))
+SessionsWithinPowerOn {R} seen = (geometry : Geometry) (tools : List ℤ) (x : DurableState) (result : PowerOnResult R) (old new : Trace) → PowerOnSpecIfHonest tools result old new → stands_beside tools (reads old) ≡ Ok x → IsWritten (reads old) →
+    AtEachStop old new (λ t image handed. IsStop old image handed ⊎ LeavesSession geometry tools (reads old) (items old) [] [] [] 0 image handed)
+    × (IsSynced old → AtEachStop old new (λ t. LeavesSession geometry tools (reads old) (items old) [] [] [] 0))
 
 -- A stop at the moment t leaves a session from this image. The entries executed and begun, and the lines, are those of
 -- the events answered by then and of the one under way. As many entries were acknowledged as there were replies of Done
@@ -143,7 +144,7 @@ LeavesSessionBy seen tools image x events replies moments first now accounts t =
     let n = answered_by t moments in
     let tried = tried_events (take (suc n) events) accounts.passes.answers in
     let scene = session_at_power_on (recovered x) in
-    LeavesSession first.equipment tools image (items (seen first.journal.rig).trace) (lines_given (take (suc n) events)) (entries_of first.equipment scene tried) (under_way first.equipment scene tried) (dones (take n replies))
+    LeavesSession first.geometry tools image (items (seen first.journal.rig).trace) (lines_given (take (suc n) events)) (entries_of first.geometry scene tried) (under_way first.geometry scene tried) (dones (take n replies))
 
 -- Each stop since power on leaves a session from the image that power on began with.
 abbrev pub SessionsAfterPowerOn : {R : Type 0} → Type 0 → (R → Device) → Type 0
@@ -155,7 +156,7 @@ SessionsAfterPowerOn {R} A seen = (tools : List ℤ) (image : Image) (x : Durabl
 -- stop since leaves that session, or one from what the device reads then.
 abbrev pub SessionsAnew : {R : Type 0} → Type 0 → (R → Device) → Type 0
 SessionsAnew {R} A seen = (tools : List ℤ) (image : Image) (x : DurableState) (events : List (Event A)) (replies : List Reply) (moments : List ℕ) (first now : ControllerModel R) (accounts : Accounts seen (recovered x) events replies moments first now)
-    (equipment : Equipment) (result : PowerOnResult R) (new : Trace) → stands_beside tools image ≡ Ok x → IsWritten image → PowerOnSpecIfHonest tools result (seen now.journal.rig).trace new →
+    (geometry : Geometry) (result : PowerOnResult R) (new : Trace) → stands_beside tools image ≡ Ok x → IsWritten image → PowerOnSpecIfHonest tools result (seen now.journal.rig).trace new →
     let old = (seen now.journal.rig).trace in let Leaves = LeavesSessionBy seen tools image x events replies moments first now accounts (moment old) in
     Leaves (reads old) (items old)
-    × AtEachStop old new (λ t left handed. Leaves left handed ⊎ LeavesSession equipment tools (reads old) (items old) [] [] [] 0 left handed)
+    × AtEachStop old new (λ t left handed. Leaves left handed ⊎ LeavesSession geometry tools (reads old) (items old) [] [] [] 0 left handed)

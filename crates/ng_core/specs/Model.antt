@@ -3,7 +3,7 @@ use Rattle.std.specs.Prelude.{◌≡◌, ℕ, false, List}
 use Rattle.ng_rig.specs.Trace.{Trace}
 use Rattle.ng_layout.specs.Stored.{DurableState}
 use Rattle.ng_journal.specs.Journal.{JournalModel, IsDurablyAt}
-use Rattle.ng_session.specs.Entries.{Equipment}
+use Rattle.ng_canon.specs.declared.geometry.Geometry.{Geometry}
 use Rattle.ng_session.specs.Planned.{KnownModel, IsKnownOf, base_of, IsPlan}
 use Rattle.ng_session.specs.Session.{SessionModel}
 
@@ -13,7 +13,7 @@ pub record ControllerModel (R : Type 0) : Type 0 where
   pub journal : JournalModel R
   pub session : SessionModel
   pub lines : KnownModel
-  pub equipment : Equipment
+  pub geometry : Geometry
 
 -- what is stored of a session, with the program of its device
 abbrev pub durable_state_of : List ℕ → SessionModel → DurableState
@@ -26,6 +26,6 @@ IsAtRestWith trace c program = IsDurablyAt trace c.journal (durable_state_of pro
 
 -- What holds of each controller: unless the device failed, its session has what the journal has stored; and the lines
 -- that were read ahead are planned on what will be stored after the current block.
-pub record IsControllerInvariant {R : Type 0} (journal : JournalModel R) (session : SessionModel) (lines : KnownModel) (equipment : Equipment) : Type 0 where
+pub record IsControllerInvariant {R : Type 0} (journal : JournalModel R) (session : SessionModel) (lines : KnownModel) (geometry : Geometry) : Type 0 where
   pub saved : journal.broken ≡ false → session.stored ≡ journal.saved
-  pub plan : IsPlan equipment (base_of session) lines.ahead
+  pub plan : IsPlan geometry (base_of session) lines.ahead

@@ -1,6 +1,6 @@
 -- What the answer to an event needs; if that fails, an error is returned instead (own).
 use Rattle.std.specs.Prelude.{◌≡◌, true}
-use Rattle.ng_session.specs.Entries.{Equipment}
+use Rattle.ng_canon.specs.declared.geometry.Geometry.{Geometry}
 use Rattle.ng_session.specs.Session.{SessionModel, IsBetweenLines, has_work, TakesMemory, AsksDevice, NeedsProgramLine}
 use Rattle.ng_session.specs.declared.event.Event.{Event}
 
@@ -26,5 +26,5 @@ abbrev pub needs_of_work : SessionModel → Needs
 needs_of_work s = needs (IsBetweenLines s) (has_work s ≡ true) (IsBetweenLines s)
 
 -- what each event needs
-abbrev pub needs_of : {A : Type 0} → Equipment → SessionModel → Event A → Needs
-needs_of equipment s event = needs (TakesMemory equipment s event) (AsksDevice equipment s event) (NeedsProgramLine equipment s event)
+abbrev pub needs_of : {A : Type 0} → Geometry → SessionModel → Event A → Needs
+needs_of geometry s event = needs (TakesMemory geometry s event) (AsksDevice geometry s event) (NeedsProgramLine geometry s event)

@@ -49,7 +49,7 @@ pub record PowerOnSpecIfHonest {R : Type 0} (tools : List ℤ) (result : PowerOn
 pub record PowerOnSpec {R : Type 0} (seen : R → Device) (settings : Settings) (rig : R) (answer : PowerOnResult R) : Type 0 where
   pub powers : least_size ≤ (seen rig).sectors → (tools : List ℤ) → IsTableOver settings.tools tools (reads (seen rig).trace) → IfHonest (seen rig) (seen (power_on_rig answer)) (PowerOnSpecIfHonest tools answer (seen rig).trace (seen (power_on_rig answer)).trace)
   pub rests : IfOk answer (λ c. (c.journal.broken ≡ false) × (c.session ≡ resting c.journal.saved) × IsStorable c.session.stored)
-  pub equipment : IfOk answer (λ c. c.equipment ≡ record { geometry = settings.geometry })
+  pub geometry : IfOk answer (λ c. c.geometry ≡ settings.geometry)
   pub small : (seen rig).sectors < least_size → IsErrAnd answer (λ e. (e.0 ≡ NotFormatted) × (e.1 ≡ rig))
   pub faults : IfErr answer (λ e. IsRecoveryFault e.0)
   pub memory : IfErr answer (λ e. e.0 ≡ OutOfMemory → e.1 ≡ rig)

@@ -6,7 +6,7 @@ use Rattle.ng_canon.specs.declared.item.Item.{Item}
 use Rattle.ng_rig.specs.Device.{Device}
 use Rattle.ng_rig.specs.Trace.{Image, Trace, items, moment}
 use Rattle.ng_journal.specs.Journal.{StandsFor}
-use Rattle.ng_session.specs.Entries.{Equipment}
+use Rattle.ng_canon.specs.declared.geometry.Geometry.{Geometry}
 use Rattle.ng_session.specs.Runs.{ProgramSession, crash_after, replies_of, items_of, session_after}
 use Rattle.ng_session.specs.declared.event.Event.{Event}
 use Rattle.ng_session.specs.declared.reply.Reply.{Reply}
@@ -49,31 +49,31 @@ session_replies [] = []
 session_replies (answer ∷ answers) = session_replies_by answer (session_replies answers)
 
 -- A stop leaves the state after the first n of these events, and what they handed out; n is at least `least`.
-pub record IsCrashAfterSome {A : Type 0} (least : ℕ) (equipment : Equipment) (scene : ProgramSession) (before : List Item) (events : List (Event A)) (image : Image) (handed : List Item) : Type 0 where
+pub record IsCrashAfterSome {A : Type 0} (least : ℕ) (geometry : Geometry) (scene : ProgramSession) (before : List Item) (events : List (Event A)) (image : Image) (handed : List Item) : Type 0 where
   pub count : ℕ
   pub all : least ≤ count
   pub within : count ≤ length events
-  pub stands_for : let left = crash_after equipment scene before (take count events) in StandsFor left.standing left.items image handed
+  pub stands_for : let left = crash_after geometry scene before (take count events) in StandsFor left.standing left.items image handed
 
 -- The replies are the session's, to the events that came. Each event was answered at its moment of the device's trace.
 -- A stop leaves the state after those that came of the events answered by then, or after the one under way too. Unless
 -- the device failed, the state and the items handed out now are the session's.
-pub record PassesAsSession {A R : Type 0} (seen : R → Device) (events : List (Event A)) (replies : List Reply) (moments : List ℕ) (equipment : Equipment) (scene : ProgramSession) (trace_old : Trace) (new : ControllerModel R) : Type 0 where
+pub record PassesAsSession {A R : Type 0} (seen : R → Device) (events : List (Event A)) (replies : List Reply) (moments : List ℕ) (geometry : Geometry) (scene : ProgramSession) (trace_old : Trace) (new : ControllerModel R) : Type 0 where
   pub answers : List (Result Reply Fault)
   pub replies_are : replies ≡ map reply_to answers
-  pub told_is : session_replies answers ≡ replies_of equipment scene (answered_events events answers)
+  pub told_is : session_replies answers ≡ replies_of geometry scene (answered_events events answers)
   pub each : length moments ≡ length events
   pub rising : IsRising (moment trace_old) (moment (seen new.journal.rig).trace) moments
   pub stops : AtEachStop trace_old (seen new.journal.rig).trace (λ t. let n = answered_by t moments in
-      IsCrashAfterSome (length (answered_events (take n events) answers)) equipment scene (items trace_old) (tried_events (take (suc n) events) answers))
-  pub session_is : new.journal.broken ≡ false → new.session ≡ (session_after equipment scene (answered_events events answers)).session
-  pub rests : new.journal.broken ≡ false → IsAtRestWith (seen new.journal.rig).trace new (session_after equipment scene (answered_events events answers)).program
-  pub items_are : new.journal.broken ≡ false → items (seen new.journal.rig).trace ≡ items trace_old ++ items_of equipment scene (answered_events events answers)
+      IsCrashAfterSome (length (answered_events (take n events) answers)) geometry scene (items trace_old) (tried_events (take (suc n) events) answers))
+  pub session_is : new.journal.broken ≡ false → new.session ≡ (session_after geometry scene (answered_events events answers)).session
+  pub rests : new.journal.broken ≡ false → IsAtRestWith (seen new.journal.rig).trace new (session_after geometry scene (answered_events events answers)).program
+  pub items_are : new.journal.broken ≡ false → items (seen new.journal.rig).trace ≡ items trace_old ++ items_of geometry scene (answered_events events answers)
 
 -- whatever program is stored with the session, the events proceed as the session does
 abbrev pub IsRun : {A R : Type 0} → (R → Device) → List (Event A) → List Reply → (moments : List ℕ) → ControllerModel R → ControllerModel R → Type 0
 IsRun seen events replies moments old new = (program : List ℕ) → old.journal.broken ≡ false → IsAtRestWith (seen old.journal.rig).trace old program
-    → PassesAsSession seen events replies moments old.equipment (program_session_of program old) (seen old.journal.rig).trace new
+    → PassesAsSession seen events replies moments old.geometry (program_session_of program old) (seen old.journal.rig).trace new
 
 -- The device counted one failure if the controller broke, and none otherwise; a broken controller stays broken.
 abbrev pub CountsOneFailure : Bool → Bool → ℕ → ℕ → Type 0

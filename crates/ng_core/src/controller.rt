@@ -31,10 +31,10 @@ impl<R: Rig, A: Allocator + Copy + Drop> Model for Controller<R, A> {
       journal = c.journal;
       session = c.session;
       lines = c.lines;
-      equipment = record { geometry = c.geometry };
+      geometry = c.geometry;
     } };
 
-    ghost invariant = { λ c. IsControllerInvariant c.journal c.session c.lines (record { geometry = c.geometry }) };
+    ghost invariant = { λ c. IsControllerInvariant c.journal c.session c.lines c.geometry };
 }
 
 impl<R: Rig, A: Allocator + Copy + Drop> Controller<R, A> {
@@ -86,7 +86,7 @@ impl<R: Rig, A: Allocator + Copy + Drop> Controller<R, A> {
             → TellsFailure result (R.seen self.old.journal.rig).failed (R.seen self.new.journal.rig).failed }
         ensures broken { self.old.journal.broken ≡ true
             → (self.new ≡ self.old) × (result ≡ reply_to (broken_answer self.old.session event)) }
-        ensures equipment { self.new.equipment ≡ self.old.equipment }
+        ensures geometry { self.new.geometry ≡ self.old.geometry }
         ensures size { (R.seen self.new.journal.rig).sectors ≡ (R.seen self.old.journal.rig).sectors }
         ensures past { IfHonest (R.seen self.old.journal.rig) (R.seen self.new.journal.rig)
             (AddsToPast R.seen (event ∷ []) (result ∷ [])
@@ -103,7 +103,7 @@ impl<R: Rig, A: Allocator + Copy + Drop> Controller<R, A> {
             → TellsFailure result (R.seen self.old.journal.rig).failed (R.seen self.new.journal.rig).failed }
         ensures broken { self.old.journal.broken ≡ true
             → (self.new ≡ self.old) × (result ≡ reply_to (broken_answer self.old.session event.now)) }
-        ensures equipment { self.new.equipment ≡ self.old.equipment }
+        ensures geometry { self.new.geometry ≡ self.old.geometry }
         ensures size { (R.seen self.new.journal.rig).sectors ≡ (R.seen self.old.journal.rig).sectors }
     {
         match self.handle(event) {
@@ -118,7 +118,7 @@ impl<R: Rig, A: Allocator + Copy + Drop> Controller<R, A> {
             → CarriesOutEvent R.seen event.now result self.old self.new }
         ensures broken { self.old.journal.broken ≡ true
             → (self.new ≡ self.old) × (result ≡ broken_answer self.old.session event.now) }
-        ensures equipment { self.new.equipment ≡ self.old.equipment }
+        ensures geometry { self.new.geometry ≡ self.old.geometry }
         ensures size { (R.seen self.new.journal.rig).sectors ≡ (R.seen self.old.journal.rig).sectors }
     {
         if self.broken() {

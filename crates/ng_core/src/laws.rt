@@ -27,7 +27,7 @@ pub fn histories<R: Rig, A: Allocator>()
         → old.journal.broken ≡ false → IsAtRestWith (R.seen old.journal.rig).trace old program
         → PassesAsSession R.seen events replies
         (answered_at R.seen events replies old new turns)
-        old.equipment (program_session_of program old) (R.seen old.journal.rig).trace new }
+        old.geometry (program_session_of program old) (R.seen old.journal.rig).trace new }
 {}
 
 /// Whenever power of an honest device is cut since power on, the plain interpreter accounts for what is left, with as

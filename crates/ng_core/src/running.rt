@@ -24,7 +24,7 @@ impl<R: Rig, A: Allocator + Copy + Drop> Controller<R, A> {
         ensures each { IfOk result (λ replies. length replies.items ≡ length events.now) }
         ensures failures { IfOk result (λ replies. CountsOneFailure self.old.journal.broken self.new.journal.broken
             (R.seen self.old.journal.rig).failed (R.seen self.new.journal.rig).failed) }
-        ensures equipment { self.new.equipment ≡ self.old.equipment }
+        ensures geometry { self.new.geometry ≡ self.old.geometry }
         ensures size { (R.seen self.new.journal.rig).sectors ≡ (R.seen self.old.journal.rig).sectors }
         ensures memory { IfErr result (λ fault. (fault ≡ OutOfMemory) × (self.new ≡ self.old)) }
     {

@@ -105,7 +105,7 @@ impl<R: Rig, A: Allocator + Copy + Drop> Controller<R, A> {
     fn go_further(&mut self) -> Result<Reply, Fault>
         requires { self.old.journal.broken ≡ false }
         ensures { CarriesOut R.seen (needs_of_work self.old.session)
-            (λ program. open_next self.old.equipment program self.old.session (opening_of self.old.session.current))
+            (λ program. open_next self.old.geometry program self.old.session (opening_of self.old.session.current))
             result self.old self.new }
     {
         match self.session.opening() {
@@ -119,7 +119,7 @@ impl<R: Rig, A: Allocator + Copy + Drop> Controller<R, A> {
     fn end(&mut self) -> Result<Reply, Fault>
         requires { self.old.journal.broken ≡ false }
         ensures { CarriesOut R.seen (needs_of_work self.old.session)
-            (λ program. end self.old.equipment program self.old.session self.old.session.current)
+            (λ program. end self.old.geometry program self.old.session self.old.session.current)
             result self.old self.new }
     {
         if self.session.after().is_some() {
@@ -148,7 +148,7 @@ impl<R: Rig, A: Allocator + Copy + Drop> Controller<R, A> {
         requires block { IsSome self.old.session.current }
         requires is_open { IsSome half.opened }
         ensures { CarriesOut R.seen needs_device
-            (λ program. open_part_of self.old.equipment program self.old.session half) result self.old self.new }
+            (λ program. open_part_of self.old.geometry program self.old.session half) result self.old self.new }
     {
         self.journal.open_segment(&half)?;
         Ok(self.session.open(half, &self.geometry))
@@ -159,7 +159,7 @@ impl<R: Rig, A: Allocator + Copy + Drop> Controller<R, A> {
         requires whole { self.old.journal.broken ≡ false }
         requires block { IsSome self.old.session.current }
         ensures { CarriesOut R.seen needs_device
-            (λ program. end self.old.equipment program self.old.session self.old.session.current)
+            (λ program. end self.old.geometry program self.old.session self.old.session.current)
             result self.old self.new }
     {
         let Some(after) = self.session.after() else {
@@ -177,7 +177,7 @@ impl<R: Rig, A: Allocator + Copy + Drop> Controller<R, A> {
         requires runs { is_running self.old.session.activity ≡ true }
         requires free { self.old.session.current ≡ None }
         ensures { CarriesOut R.seen needs_line
-            (λ program. begin self.old.equipment program self.old.session
+            (λ program. begin self.old.geometry program self.old.session
             (program_line_at program self.old.session.stored.place))
             result self.old self.new }
     {
@@ -198,7 +198,7 @@ impl<R: Rig, A: Allocator + Copy + Drop> Controller<R, A> {
         requires runs { is_running self.old.session.activity ≡ true }
         requires free { self.old.session.current ≡ None }
         ensures { CarriesOut R.seen needs_line
-            (λ program. begin self.old.equipment program self.old.session
+            (λ program. begin self.old.geometry program self.old.session
             (program_line_at program self.old.session.stored.place))
             result self.old self.new }
     {
@@ -215,7 +215,7 @@ impl<R: Rig, A: Allocator + Copy + Drop> Controller<R, A> {
         requires runs { is_running self.old.session.activity ≡ true }
         requires alone { self.old.lines.ahead ≡ [] }
         ensures { CarriesOut R.seen needs_line
-            (λ program. begin self.old.equipment program self.old.session
+            (λ program. begin self.old.geometry program self.old.session
             (program_line_at program self.old.session.stored.place))
             result self.old self.new }
     {

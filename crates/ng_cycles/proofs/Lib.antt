@@ -6,7 +6,7 @@ pub mod Near
 pub mod Travel
 pub mod Causes
 pub mod HasWords
-pub mod Lawful
+pub mod ValidCycles
 pub mod Skips
 pub mod CountLemmas
 pub mod StoodLemmas

@@ -22,7 +22,7 @@ use Rattle.ng_cycles.specs.declared.words.CycleWords.{CycleWords}
 use Rattle.ng_state.specs.declared.kept_words.KeptWords.{KeptWords}
 use Rattle.ng_cycles.specs.declared.words.CycleKind.{CycleKind}
 use Rattle.ng_cycles.specs.declared.words.CycleKind.TheVariants.{Drilling, DrillingWithDwell, PeckDrilling, Boring, BoringWithStop, BoringWithDwell}
-use Rattle.ng_cycles.specs.declared.words.Setting.{Setting}
+use Rattle.ng_cycles.specs.declared.words.CycleContext.{CycleContext}
 use Rattle.ng_cycles.specs.Lengths.{hole_axis_of, r_of, z_of, lengths, is_far}
 use Rattle.ng_cycles.specs.Segments.{cycle_segments}
 use Rattle.ng_state.specs.KeptWords.{in_force}
@@ -39,7 +39,7 @@ work_of BoringWithStop words = work.BoringWithStop (unwrap_or words.p (pos 0))
 work_of BoringWithDwell words = work.BoringWithDwell (unwrap_or words.p (pos 0))
 
 -- a cycle, given its lengths
-abbrev pub drill_by : CycleWords → Setting → KeptWords → Lengths → Drill
+abbrev pub drill_by : CycleWords → CycleContext → KeptWords → Lengths → Drill
 drill_by w s words l = record {
   work = work_of w.kind words;
   start = s.point;
@@ -54,7 +54,7 @@ drill_by w s words l = record {
 }
 
 -- the lengths of words; that of a missing word is that of 0
-abbrev pub lengths_of : CycleWords → Setting → KeptWords → Lengths
+abbrev pub lengths_of : CycleWords → CycleContext → KeptWords → Lengths
 lengths_of w s words =
     let r' = r_of s.is_incremental (unwrap_or words.r (pos 0)) (shift_z s.offsets) s.point.z in
     record {
@@ -64,7 +64,7 @@ lengths_of w s words =
       z = z_of s.is_incremental (unwrap_or words.z (pos 0)) (shift_z s.offsets) r';
     }
 
-abbrev pub drill_of : CycleWords → Setting → Drill
+abbrev pub drill_of : CycleWords → CycleContext → Drill
 drill_of w s = let words = in_force w.own s.kept in drill_by w s words (lengths_of w s words)
 
 -- ---- the causes
@@ -125,7 +125,7 @@ work_causes kind words spindle =
     ∷ []))
 
 -- Y4 to Y8 and X1 of a cycle that has its words
-abbrev pub hole_causes : CycleWords → Setting → KeptWords → Bool → List (Bool × Fault)
+abbrev pub hole_causes : CycleWords → CycleContext → KeptWords → Bool → List (Bool × Fault)
 hole_causes w s words below =
     (below, RBelowZ)
     ∷ ((s.is_inverse_time, InverseTime)
@@ -134,7 +134,7 @@ hole_causes w s words below =
     ∷ [])))
 
 -- the faults in order, each with its cause: E3, Y1 to Y8, X1, X2
-abbrev pub causes : CycleWords → Setting → Geometry → List (Bool × Fault)
+abbrev pub causes : CycleWords → CycleContext → Geometry → List (Bool × Fault)
 causes w s g =
     let words = in_force w.own s.kept in
     let d = drill_of w s in
@@ -144,5 +144,5 @@ causes w s g =
     ∷ ((is_none words.r, NoR)
     ∷ (hole_causes w s words (int_lt d.r d.z) ++ ((leaves_travel g d, OutsideTravel) ∷ [])))))
 
-abbrev pub canned_of : CycleWords → Setting → Geometry → Result Drill Fault
+abbrev pub canned_of : CycleWords → CycleContext → Geometry → Result Drill Fault
 canned_of w s g = unless (first_fault (causes w s g)) (drill_of w s)

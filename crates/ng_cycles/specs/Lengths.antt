@@ -13,7 +13,7 @@ use Rattle.ng_cycles.specs.declared.heights.Heights.{Heights}
 use Rattle.ng_cycles.specs.declared.heights.Lengths.{Lengths}
 use Rattle.ng_cycles.specs.declared.words.CycleWords.{CycleWords}
 use Rattle.ng_state.specs.declared.kept_words.KeptWords.{KeptWords}
-use Rattle.ng_cycles.specs.declared.words.Setting.{Setting}
+use Rattle.ng_cycles.specs.declared.words.CycleContext.{CycleContext}
 use Rattle.ng_cycles.specs.Strokes.{numbers_from}
 
 -- ---- machine coordinates
@@ -44,7 +44,7 @@ z_by true (Some r) (Some word) shift at = Some ((at +ℤ r) +ℤ word)
 abbrev pub heights_of : Bool → KeptWords → ℤ → ℤ → Heights
 heights_of incremental words shift at = record { r = option_map (λ r. r_of incremental r shift at) words.r; z = z_by incremental words.r words.z shift at }
 
-abbrev pub optional_lengths_of : CycleWords → KeptWords → Setting → OptionalLengths
+abbrev pub optional_lengths_of : CycleWords → KeptWords → CycleContext → OptionalLengths
 optional_lengths_of w words s = record {
   x = hole_axis_of s.is_incremental w.x (shift_x s.offsets) s.point.x;
   y = hole_axis_of s.is_incremental w.y (shift_y s.offsets) s.point.y;
@@ -79,13 +79,13 @@ z_lengths false r (Some word) shift at = (word +ℤ shift) ∷ []
 z_lengths true None (Some word) shift at = []
 z_lengths true (Some r) (Some word) shift at = (((at -ℤ shift) +ℤ r) +ℤ word) ∷ ((at +ℤ r) +ℤ word) ∷ []
 
-abbrev pub height_lengths : KeptWords → Setting → List ℤ
+abbrev pub height_lengths : KeptWords → CycleContext → List ℤ
 height_lengths words s =
     r_lengths s.is_incremental words.r (shift_z s.offsets) s.point.z
     ++ z_lengths s.is_incremental words.r words.z (shift_z s.offsets) s.point.z
 
 -- the lengths with the words in force
-abbrev pub lengths : CycleWords → KeptWords → Setting → List ℤ
+abbrev pub lengths : CycleWords → KeptWords → CycleContext → List ℤ
 lengths w words s =
     place_lengths s.is_incremental w.x (shift_x s.offsets) s.point.x w.repeats
     ++ (place_lengths s.is_incremental w.y (shift_y s.offsets) s.point.y w.repeats

@@ -12,7 +12,7 @@ ghost use Rattle.ng_cycles.specs.Faults.{work_of, work_causes, is_negative, is_s
 use crate::drill::{Drill, Work};
 use crate::heights::{Lengths, optional_lengths_of};
 use crate::peck::Peck;
-use crate::words::{CycleKind, CycleWords, Setting};
+use crate::words::{CycleContext, CycleKind, CycleWords};
 use ng_canon::{Geometry, Rate, Spindle};
 use ng_num::{Fault, Len, Num};
 use ng_state::KeptWords;
@@ -97,11 +97,11 @@ fn work_of(kind: CycleKind, words: &KeptWords, spindle: Spindle) -> Result<Work,
 }
 
 /// Where each repeat ends.
-fn clear_of(setting: &Setting, r: Len) -> Len
-    ensures { result ≡ (if setting.now.keeps_old_z then int_max setting.now.point.z r else r) }
+fn clear_of(context: &CycleContext, r: Len) -> Len
+    ensures { result ≡ (if context.now.keeps_old_z then int_max context.now.point.z r else r) }
 {
-    if setting.keeps_old_z && r.nm() < setting.point.z.nm() {
-        setting.point.z
+    if context.keeps_old_z && r.nm() < context.point.z.nm() {
+        context.point.z
     } else {
         r
     }
@@ -123,38 +123,38 @@ impl CycleWords {
 fn drill_in(
     words: &CycleWords,
     in_force: &KeptWords,
-    setting: &Setting,
+    context: &CycleContext,
     lengths: &Lengths,
 ) -> Result<Drill, Fault>
     requires some { 1 ≤ words.now.repeats }
     requires x { IsCount (coordinate lengths.now.x words.now.repeats) }
     requires y { IsCount (coordinate lengths.now.y words.now.repeats) }
-    ensures drill { result ≡ unless (first_fault (hole_causes words.now setting.now in_force.now (int_lt lengths.now.r lengths.now.z))) (drill_by words.now setting.now in_force.now lengths.now) }
+    ensures drill { result ≡ unless (first_fault (hole_causes words.now context.now in_force.now (int_lt lengths.now.r lengths.now.z))) (drill_by words.now context.now in_force.now lengths.now) }
     ensures made { IfOk result IsMade }
 {
     if lengths.r.nm() < lengths.z.nm() {
         return Err(Fault::RBelowZ);
     }
-    if setting.is_inverse_time {
+    if context.is_inverse_time {
         return Err(Fault::InverseTime);
     }
-    let work = match work_of(words.kind, in_force, setting.outputs.spindle) {
+    let work = match work_of(words.kind, in_force, context.outputs.spindle) {
         Ok(work) => work,
         Err(fault) => return Err(fault),
     };
-    match Rate::of(setting.feed_per_min) {
+    match Rate::of(context.feed_per_min) {
         None => Err(Fault::NoFeed),
         Some(rate) => Ok(Drill {
             work,
-            start: setting.point,
+            start: context.point,
             x: lengths.x,
             y: lengths.y,
             r: lengths.r,
             z: lengths.z,
-            clear: clear_of(setting, lengths.r),
+            clear: clear_of(context, lengths.r),
             repeats: words.repeats,
             rate,
-            outputs: setting.outputs,
+            outputs: context.outputs,
         }),
     }
 }
@@ -165,12 +165,16 @@ impl Canned {
 
     /// The cycle of a line, or its first fault: E3 if a length that is computed is out of range, Y1 to Y8, X1, X2.
     /// Neither holes nor pecks are walked, however many there are.
-    pub fn of(words: &CycleWords, setting: &Setting, geometry: &Geometry) -> Result<Canned, Fault>
+    pub fn of(
+        words: &CycleWords,
+        context: &CycleContext,
+        geometry: &Geometry,
+    ) -> Result<Canned, Fault>
         requires { 1 ≤ words.now.repeats }
-        ensures { result ≡ canned_of words.now setting.now geometry.now }
+        ensures { result ≡ canned_of words.now context.now geometry.now }
     {
-        let in_force = words.own.over(&setting.kept);
-        let found = match optional_lengths_of(words, &in_force, setting) {
+        let in_force = words.own.over(&context.kept);
+        let found = match optional_lengths_of(words, &in_force, context) {
             Ok(found) => found,
             Err(fault) => return Err(fault),
         };
@@ -184,7 +188,7 @@ impl Canned {
             Some(lengths) => lengths,
             None => return Err(Fault::NoR),
         };
-        let drill = match drill_in(words, &in_force, setting, &lengths) {
+        let drill = match drill_in(words, &in_force, context, &lengths) {
             Ok(drill) => drill,
             Err(fault) => return Err(fault),
         };

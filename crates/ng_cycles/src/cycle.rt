@@ -4,7 +4,7 @@ ghost use Rattle.std.specs.Prelude.{◌≡◌, ◌≤◌, Ok};
 use crate::canned::Canned;
 use crate::left::{CycleLeft, cycle_left};
 use crate::motion_state::MotionState;
-use crate::words::{CycleWords, Setting};
+use crate::words::{CycleContext, CycleWords};
 use ng_canon::{Geometry, Segment};
 use ng_num::Fault;
 use std::marker::Model;
@@ -44,11 +44,15 @@ impl Cycle {
     }
 
     /// All segments of the cycle of a line, or its first fault, as in `Canned::of`.
-    pub fn new(words: &CycleWords, setting: &Setting, geometry: &Geometry) -> Result<Cycle, Fault>
+    pub fn new(
+        words: &CycleWords,
+        context: &CycleContext,
+        geometry: &Geometry,
+    ) -> Result<Cycle, Fault>
         requires { 1 ≤ words.now.repeats }
-        ensures { result ≡ and_then (canned_of words.now setting.now geometry.now) (λ drill. Ok (whole drill)) }
+        ensures { result ≡ and_then (canned_of words.now context.now geometry.now) (λ drill. Ok (whole drill)) }
     {
-        match Canned::of(words, setting, geometry) {
+        match Canned::of(words, context, geometry) {
             Ok(canned) => Ok(Cycle::of(&canned)),
             Err(fault) => Err(fault),
         }

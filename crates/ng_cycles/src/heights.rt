@@ -8,7 +8,7 @@ ghost use Rattle.ng_offsets.specs.Points.{shift_z};
 
 use crate::drill::HoleAxis;
 use crate::holes::times;
-use crate::words::{CycleWords, Setting};
+use crate::words::{CycleContext, CycleWords};
 use ng_num::{Fault, Len};
 use ng_offsets::Shift;
 use ng_state::KeptWords;
@@ -171,14 +171,14 @@ fn heights_at(words: &KeptWords, shift: Shift, at: Len) -> Result<Heights, Fault
 }
 
 /// R and Z in machine coordinates.
-pub fn heights_of(words: &KeptWords, setting: &Setting) -> Result<Heights, Fault>
-    ensures { result ≡ far_unless (height_lengths words.now setting.now) (heights_of setting.now.is_incremental words.now (shift_z setting.now.offsets) setting.now.point.z) }
+pub fn heights_of(words: &KeptWords, context: &CycleContext) -> Result<Heights, Fault>
+    ensures { result ≡ far_unless (height_lengths words.now context.now) (heights_of context.now.is_incremental words.now (shift_z context.now.offsets) context.now.point.z) }
 {
-    let shift = setting.offsets.z();
-    if setting.is_incremental {
-        heights_from(words, shift, setting.point.z)
+    let shift = context.offsets.z();
+    if context.is_incremental {
+        heights_from(words, shift, context.point.z)
     } else {
-        heights_at(words, shift, setting.point.z)
+        heights_at(words, shift, context.point.z)
     }
 }
 
@@ -206,20 +206,20 @@ impl OptionalLengths {
 pub fn optional_lengths_of(
     words: &CycleWords,
     in_force: &KeptWords,
-    setting: &Setting,
+    context: &CycleContext,
 ) -> Result<OptionalLengths, Fault>
     requires { 1 ≤ words.now.repeats }
-    ensures found { result ≡ far_unless (lengths words.now in_force.now setting.now) (optional_lengths_of words.now in_force.now setting.now) }
+    ensures found { result ≡ far_unless (lengths words.now in_force.now context.now) (optional_lengths_of words.now in_force.now context.now) }
     ensures x { IfOk result (λ found. IsCount (coordinate found.x words.now.repeats)) }
     ensures y { IfOk result (λ found. IsCount (coordinate found.y words.now.repeats)) }
 {
-    let is_incremental = setting.is_incremental;
+    let is_incremental = context.is_incremental;
     let repeats = words.repeats;
     let x = match hole_axis_of(
         is_incremental,
         words.x,
-        setting.offsets.x(),
-        setting.point.x,
+        context.offsets.x(),
+        context.point.x,
         repeats,
     ) {
         Ok(hole_axis) => hole_axis,
@@ -228,14 +228,14 @@ pub fn optional_lengths_of(
     let y = match hole_axis_of(
         is_incremental,
         words.y,
-        setting.offsets.y(),
-        setting.point.y,
+        context.offsets.y(),
+        context.point.y,
         repeats,
     ) {
         Ok(hole_axis) => hole_axis,
         Err(fault) => return Err(fault),
     };
-    match heights_of(in_force, setting) {
+    match heights_of(in_force, context) {
         Ok(heights) => Ok(OptionalLengths { x, y, heights }),
         Err(fault) => Err(fault),
     }

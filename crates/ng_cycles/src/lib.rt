@@ -31,4 +31,4 @@ pub use cycle::Cycle;
 pub use drill::{Drill, HoleAxis, Work};
 pub use motion_state::MotionState;
 pub use peck::Peck;
-pub use words::{CycleKind, CycleWords, Setting};
+pub use words::{CycleContext, CycleKind, CycleWords};

@@ -36,7 +36,7 @@ pub struct CycleWords {
 
 /// The state in which a line's cycle is executed: the modes, offsets and outputs after its other words.
 #[derive(Clone, Copy)]
-pub struct Setting {
+pub struct CycleContext {
     /// The machine point.
     pub point: Point,
     pub offsets: Offsets,

@@ -7,7 +7,7 @@ use Rattle.ng_session.specs.declared.event.Event.{Event}
 use Rattle.ng_session.specs.declared.reply.Reply.{Reply}
 use Rattle.ng_core.specs.Model.{ControllerModel}
 use Rattle.ng_core.specs.AnsweredEvents.{IsAnsweredEvent, AreAnsweredEvents, answered_at}
-use Rattle.ng_core.proofs.InTurn.{turns_joined_at, turns_fail, turns_equipment}
+use Rattle.ng_core.proofs.InTurn.{turns_joined_at, turns_fail, turns_geometry}
 use Rattle.ng_core.proofs.Pasts.{are_run}
 use Rattle.ng_desk.specs.declared.call.Call.{Call}
 use Rattle.ng_desk.specs.Calls.{NumberedFrom, events_of, replies_of}
@@ -36,7 +36,7 @@ module _ {A R : Type 0} (seen : R → Device) where
         runs = are_run seen events replies moments old new turns answered;
         each = each;
         failures = turns_fail seen events replies old new turns;
-        equipment = turns_equipment seen events replies old new turns;
+        geometry = turns_geometry seen events replies old new turns;
         size = size;
       }
 

@@ -22,7 +22,7 @@ pub record IsPromisedRun {A R : Type 0} (seen : R → Device) (events : List (Ev
   pub runs : AreRun seen events replies moments old new
   pub each : length replies ≡ length events
   pub failures : CountsOneFailure old.journal.broken new.journal.broken (seen old.journal.rig).failed (seen new.journal.rig).failed
-  pub equipment : new.equipment ≡ old.equipment
+  pub geometry : new.geometry ≡ old.geometry
   pub size : (seen new.journal.rig).sectors ≡ (seen old.journal.rig).sectors
 
 -- the same for a history, from the controller where it started

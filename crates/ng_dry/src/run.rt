@@ -9,7 +9,7 @@ use crate::ending::{DryFault, Ended};
 use crate::output::{ROOM, break_off, flush, put_effect, put_refusal};
 use ng_block::{ProgramFlow, Scratch, Terms};
 use ng_num::Fault;
-use ng_state::{Machine, State};
+use ng_state::{ModalState, State};
 use ng_text::{first_kind, missing_end};
 use ng_words::LineKind;
 use std::alloc::{AllocError, Allocator};
@@ -59,7 +59,7 @@ impl<'a, A: Allocator + Copy + Drop> DryRun<'a, A> {
             state: State::fresh(alloc)?,
             number: 1,
             text: Vec::with_capacity(alloc, ROOM)?,
-            places: Scratch::new(Machine::fresh()),
+            places: Scratch::new(ModalState::fresh()),
         })
     }
 
@@ -119,7 +119,7 @@ impl<'a, A: Allocator + Copy + Drop> DryRun<'a, A> {
             return Err(broken);
         }
         self.state
-            .take_over(&effect.machine, effect.changes.as_slice());
+            .take_over(&effect.modal, effect.changes.as_slice());
         self.first = first_kind(self.first, line);
         if is_end(effect.stop) {
             return match self.end(writer, Ended::Done) {

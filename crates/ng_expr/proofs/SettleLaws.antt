@@ -9,8 +9,8 @@ use Rattle.ng_expr.specs.Settle.{Settled, followed, followed_if_ok, given, settl
 
 followed_assoc : (a b c : Settled) → followed a (followed b c) ≡ followed (followed a b) c
 followed_assoc a b c =
-    ap (λ (l : List Word). let s : Settled = record { words = l; settings = a.settings ++ (b.settings ++ c.settings) } in s) (sym (append_assoc a.words b.words c.words))
-    ∙ ap (λ (l : List Change). let s : Settled = record { words = (a.words ++ b.words) ++ c.words; settings = l } in s) (sym (append_assoc a.settings b.settings c.settings))
+    ap (λ (l : List Word). let s : Settled = record { words = l; assignments = a.assignments ++ (b.assignments ++ c.assignments) } in s) (sym (append_assoc a.words b.words c.words))
+    ∙ ap (λ (l : List Change). let s : Settled = record { words = (a.words ++ b.words) ++ c.words; assignments = l } in s) (sym (append_assoc a.assignments b.assignments c.assignments))
 
 followed_if_ok_twice : (a b : Settled) (r : Result Settled Fault) → followed_if_ok a (followed_if_ok b r) ≡ followed_if_ok (followed a b) r
 followed_if_ok_twice a b (Ok c) = ap (λ (s : Settled). Ok s) (followed_assoc a b c)

@@ -1,10 +1,10 @@
 ghost use Rattle.std.specs.Prelude.{◌≡◌, ◌<◌, ◌≤◌, ◌+◌, length, Ok, Err, MatchResult, OnErr};
-ghost use Rattle.ng_words.specs.Grammar.{setting, word};
+ghost use Rattle.ng_words.specs.Grammar.{assignment, word};
 ghost use Rattle.ng_words.specs.Kept.{pieces_by, tree_by};
 ghost use Rattle.ng_words.specs.Lines.{piece_of};
 ghost use Rattle.ng_expr.specs.Settle.{settled_pieces, settled_of};
 
-use crate::setting::change_on;
+use crate::assignment::change_on;
 use crate::stack::Stack;
 use crate::walk::value_on;
 use crate::word::Word;
@@ -20,7 +20,7 @@ pub struct Values {
     /// The words.
     pub words: ArrayVec<Word, PIECES>,
     /// The parameters' new values. Of two for one parameter the last counts.
-    pub settings: ArrayVec<Change, PIECES>,
+    pub assignments: ArrayVec<Change, PIECES>,
     stack: Stack,
 }
 
@@ -33,7 +33,7 @@ impl Values {
     {
         Values {
             words: ArrayVec::new(),
-            settings: ArrayVec::new(),
+            assignments: ArrayVec::new(),
             stack: Stack::new(),
         }
     }
@@ -48,7 +48,7 @@ impl Values {
     ) -> Result<(), Fault>
         requires { length self.old.words.items < 128 }
         ensures found { MatchResult result (λ _. followed_if_ok (settled_of self.old) (given params.now (word letter (tree_by tree.now))) ≡ Ok (settled_of self.new)) (λ e. given params.now (word letter (tree_by tree.now)) ≡ Err e) }
-        ensures few { length self.new.words.items + length self.new.settings.items ≤ length self.old.words.items + length self.old.settings.items + 1 }
+        ensures few { length self.new.words.items + length self.new.assignments.items ≤ length self.old.words.items + length self.old.assignments.items + 1 }
     {
         match value_on(&mut self.stack, params, tree) {
             Ok(value) => {
@@ -59,20 +59,20 @@ impl Values {
         }
     }
 
-    /// Adds a setting.
-    fn add_setting<A: Allocator + Copy + Drop>(
+    /// Adds an assignment.
+    fn add_assignment<A: Allocator + Copy + Drop>(
         &mut self,
         params: &Params<A>,
         index: &Tree<'_>,
         value: &Tree<'_>,
     ) -> Result<(), Fault>
-        requires { length self.old.settings.items < 128 }
-        ensures found { MatchResult result (λ _. followed_if_ok (settled_of self.old) (given params.now (setting (tree_by index.now) (tree_by value.now))) ≡ Ok (settled_of self.new)) (λ e. given params.now (setting (tree_by index.now) (tree_by value.now)) ≡ Err e) }
-        ensures few { length self.new.words.items + length self.new.settings.items ≤ length self.old.words.items + length self.old.settings.items + 1 }
+        requires { length self.old.assignments.items < 128 }
+        ensures found { MatchResult result (λ _. followed_if_ok (settled_of self.old) (given params.now (assignment (tree_by index.now) (tree_by value.now))) ≡ Ok (settled_of self.new)) (λ e. given params.now (assignment (tree_by index.now) (tree_by value.now)) ≡ Err e) }
+        ensures few { length self.new.words.items + length self.new.assignments.items ≤ length self.old.words.items + length self.old.assignments.items + 1 }
     {
         match change_on(&mut self.stack, params, index, value) {
             Ok(change) => {
-                self.settings.push(change);
+                self.assignments.push(change);
                 Ok(())
             }
             Err(fault) => Err(fault),
@@ -86,13 +86,13 @@ impl Values {
         params: &Params<A>,
         piece: &PieceRef<'_>,
     ) -> Result<(), Fault>
-        requires { length self.old.words.items + length self.old.settings.items < 128 }
+        requires { length self.old.words.items + length self.old.assignments.items < 128 }
         ensures found { MatchResult result (λ _. followed_if_ok (settled_of self.old) (given params.now (piece_of piece.now)) ≡ Ok (settled_of self.new)) (λ e. given params.now (piece_of piece.now) ≡ Err e) }
-        ensures few { length self.new.words.items + length self.new.settings.items ≤ length self.old.words.items + length self.old.settings.items + 1 }
+        ensures few { length self.new.words.items + length self.new.assignments.items ≤ length self.old.words.items + length self.old.assignments.items + 1 }
     {
         match piece {
             PieceRef::Word(letter, value) => self.add_word(params, *letter, value),
-            PieceRef::Setting(index, value) => self.add_setting(params, index, value),
+            PieceRef::Assignment(index, value) => self.add_assignment(params, index, value),
             PieceRef::Comment(_) => Ok(()),
         }
     }
@@ -103,7 +103,7 @@ impl Values {
         ensures { settled_of self.new ≡ nothing }
     {
         self.words.clear();
-        self.settings.clear();
+        self.assignments.clear();
     }
 
     /// Evaluates a line, with the table as it is, and stores the values here. Fails with E3, E4 or E5 of the first

@@ -206,7 +206,7 @@ impl Standing {
     }
 
     fn give_up(&mut self) {
-        self.stored.state.machine.point_known = false;
+        self.stored.state.modal.point_known = false;
         self.half = None;
     }
 
@@ -223,7 +223,7 @@ impl Standing {
         let effect = execute(state, text.as_bytes(), tools, &geometry)?;
         self.stored
             .state
-            .take_over(&effect.machine, effect.changes.as_slice());
+            .take_over(&effect.modal, effect.changes.as_slice());
         self.stored.place = place;
         self.half = None;
         Ok(())
@@ -244,10 +244,10 @@ impl Standing {
 
     /// The status after power on.
     fn status(&self) -> Status {
-        let machine = &self.stored.state.machine;
+        let modal = &self.stored.state.modal;
         let (point, point_known) = match &self.half {
-            Some(half) => (half.at.unwrap_or(machine.point), half.at.is_some()),
-            None => (machine.point, machine.point_known),
+            Some(half) => (half.at.unwrap_or(modal.point), half.at.is_some()),
+            None => (modal.point, modal.point_known),
         };
         Status {
             entries: self.stored.entries,
@@ -276,7 +276,7 @@ impl Standing {
             && stored.place == self.stored.place
             && stored.length == self.stored.length
             && stored.room == self.stored.room
-            && stored.state.machine == self.stored.state.machine
+            && stored.state.modal == self.stored.state.modal
     }
 
     /// Whether each parameter is stored.

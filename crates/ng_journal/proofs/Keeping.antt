@@ -18,7 +18,7 @@ use Rattle.ng_layout.specs.Part.{HoldsRecordPart}
 use Rattle.ng_layout.specs.Snapshot.{HoldsPart}
 use Rattle.ng_layout.specs.Storable.{IsStorable}
 use Rattle.ng_layout.specs.Stored.{StoredModel, DurableState}
-use Rattle.ng_layout.proofs.ToolTables.{lawful, restored}
+use Rattle.ng_layout.proofs.ToolTables.{valid, restored}
 use Rattle.ng_log.specs.declared.log_end.LogEnd.{LogEnd}
 use Rattle.ng_log.specs.Appends.{WritesRecord, AppendSpec}
 use Rattle.ng_log.specs.AtEnd.{end_after, EndsIn, IsAtEnd, IsEither}
@@ -173,7 +173,7 @@ append_kept {E = E} result header end table slot before was stored count old new
 
     next : IsNext (reads old) header before end saved changes slot
     next = next_of (reads old) header before end was.setup.params slot saved count two
-        (lawful was.tools stored.tools before.saved.tools slot tools slot_is one storable.tools)
+        (valid was.tools stored.tools before.saved.tools slot tools slot_is one storable.tools)
         (restored was.tools stored.tools before.saved.tools slot tools slot_is one)
         at.image params all storable.table count_is fits long room
 

@@ -19,7 +19,7 @@ use Rattle.ng_journal.specs.Private.SnapshotRead.{IsTableOf, IsToolsOf, IsSnapsh
 
 -- the parameters read, with what the state field says
 abbrev pub taken : List ℤ → List ℤ → DecodedStateModel → ℕ → ℕ → StoredModel
-taken table tools r length room = record { entries = r.entries; setup = record { params = table; machine = r.machine }; tools = tools; place = r.place; length = length; room = room; half = r.half }
+taken table tools r length room = record { entries = r.entries; setup = record { params = table; modal = r.modal }; tools = tools; place = r.place; length = length; room = room; half = r.half }
 
 row-first : (first : ℕ) (image : Image) (bytes : List ℕ) → bytes ≡ image first → stretch first snapshot_size image 0 ≡ bytes
 row-first first image bytes is =

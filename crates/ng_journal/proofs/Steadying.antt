@@ -44,7 +44,7 @@ steady_after sectors now l saved tip s same more after at storable count room = 
 
 -- what is kept of a state that can be stored can be stored too
 pub storable_kept : (was saved : StoredModel) → IsStorable was → IsStorable saved → saved.length ≤ was.room → IsStorable (record saved { room = was.room })
-storable_kept was saved w s fits = record { table = s.table; tools = s.tools; machine = s.machine; half = s.half; place = s.place; program = fits; room = w.room }
+storable_kept was saved w s fits = record { table = s.table; tools = s.tools; modal = s.modal; half = s.half; place = s.place; program = fits; room = w.room }
 
 -- if nothing was stored, the journal is as before
 pub steady_still : (sectors now : ℕ) (header : Header) (end : LogEnd) (was saved : StoredModel) → IsSteady sectors header end was → now ≡ sectors → saved.length ≡ was.length → saved.room ≡ was.room → saved.entries ≡ was.entries → IsStorable saved → IsSteady now header end saved

@@ -7,7 +7,7 @@ use Rattle.ng_canon.specs.declared.outputs.Spindle.{Spindle}
 use Rattle.ng_canon.specs.declared.outputs.Spindle.TheVariants.{Stopped, Clockwise, Counterclockwise}
 use Rattle.ng_params.specs.Numbers.{system_of}
 use Rattle.ng_state.specs.declared.kept_words.KeptWords.{KeptWords}
-use Rattle.ng_state.specs.declared.machine.Machine.{Machine}
+use Rattle.ng_state.specs.declared.modal_state.ModalState.{ModalState}
 use Rattle.ng_num.specs.declared.unit.Unit.{Unit as LengthUnit}
 use Rattle.ng_num.specs.declared.unit.Unit.TheVariants.{Inches, Millimetres}
 use Rattle.ng_canon.specs.declared.plane.Plane.{Plane}
@@ -24,8 +24,8 @@ use Rattle.ng_state.specs.declared.modes.PathMode.{PathMode}
 use Rattle.ng_state.specs.declared.modes.PathMode.TheVariants.{Exact, ExactStop, Continuous}
 use Rattle.ng_layout.specs.Codes.{motion_of, plane_of, distance_of, feed_mode_of, unit_of, retract_of, path_of, spindle_of, truth_of, code_of_motion, code_of_plane, code_of_distance, code_of_feed_mode, code_of_unit, code_of_retract, code_of_path, code_of_spindle, code_of_truth}
 use Rattle.ng_layout.specs.Limits.{greatest_count, greatest_slot}
-use Rattle.ng_layout.specs.Report.{and_then, up_to, count_of, point_of, modes_of, outputs_of, offsets_of, word_of, kept_of, machine_of, half_of, decoded_state_of}
-use Rattle.ng_layout.specs.Storable.{IsStorableMachine}
+use Rattle.ng_layout.specs.Report.{and_then, up_to, count_of, point_of, modes_of, outputs_of, offsets_of, word_of, kept_of, modal_state_of, half_of, decoded_state_of}
+use Rattle.ng_layout.specs.Storable.{IsStorableModalState}
 use Rattle.ng_layout.specs.Stored.{DecodedStateModel}
 use Rattle.ng_layout.specs.Writing.{triple_of, kept_field, kept_bits, codes_of, half_field, field_of}
 
@@ -90,7 +90,7 @@ path-back Continuous = refl
 system-back : (n : ℕ) → 1 ≤ n → n ≤ 9 → system_of (pos n) ≡ Some n
 system-back n low high = grind (arith, nat_tests)
 
-pub codes-back : (m : Machine) → 1 ≤ m.modes.system → m.modes.system ≤ 9 → modes_of (codes_of m) ≡ Some m.modes
+pub codes-back : (m : ModalState) → 1 ≤ m.modes.system → m.modes.system ≤ 9 → modes_of (codes_of m) ≡ Some m.modes
 codes-back m low high =
     let a = motion-back m.modes.motion in
     let b = plane-back m.modes.plane in
@@ -142,7 +142,7 @@ kept-back k small_r small_z small_p small_q =
     let q = word-back k.q _ t.q small_q in
     λ i. and_then (t.all i) (λ _. and_then (r i) (λ a. and_then (z i) (λ b. and_then (p i) (λ c. and_then (q i) (λ d. Some (record { r = a; z = b; p = c; q = d }))))))
 
-pub record IsCounted (m : Machine) : Type 0 where
+pub record IsCounted (m : ModalState) : Type 0 where
   pub feed : IsCount m.feed_per_min
   pub speed : IsCount m.outputs.speed
   pub tool : IsCount m.offsets.tool_length
@@ -152,10 +152,10 @@ pub record IsCounted (m : Machine) : Type 0 where
   pub origin : point_of (triple_of m.offsets.origin) ≡ Some m.offsets.origin
   pub g92 : point_of (triple_of m.offsets.g92) ≡ Some m.offsets.g92
 
-machine-back : (r : DecodedStateModel) → IsStorableMachine r.machine → IsCounted r.machine → machine_of (field_of r) ≡ Some r.machine
+modal-back : (r : DecodedStateModel) → IsStorableModalState r.modal → IsCounted r.modal → modal_state_of (field_of r) ≡ Some r.modal
 unfolding field_of
-machine-back r can counted =
-    let m = r.machine in
+modal-back r can counted =
+    let m = r.modal in
     let feed = feed-back m.feed_per_min can.feed counted.feed in
     let speed = feed-back m.outputs.speed can.speed counted.speed in
     let tool = count-back m.offsets.tool_length counted.tool in
@@ -169,10 +169,10 @@ machine-back r can counted =
     let offsets : offsets_of (field_of r) ≡ Some m.offsets = λ i. and_then (counted.origin i) (λ a. and_then (counted.g92 i) (λ b. and_then (tool i) (λ c. Some (record { origin = a; g92 = b; tool_length = c })))) in
     λ i. and_then (counted.modes i) (λ a. and_then (feed i) (λ b. and_then (outputs i) (λ c. and_then (offsets i) (λ d. and_then (counted.kept i) (λ e. and_then (counted.point i) (λ f. and_then (known i) (λ g. Some (record { modes = a; feed_per_min = b; outputs = c; offsets = d; kept = e; point = f; point_known = g }))))))))
 
-pub report-back : (length : ℕ) (r : DecodedStateModel) → r.entries ≤ greatest_count → r.place ≤ length → IsStorableMachine r.machine → IsCounted r.machine → half_of (half_field r.half) ≡ Some r.half → decoded_state_of length (field_of r) ≡ Some r
+pub report-back : (length : ℕ) (r : DecodedStateModel) → r.entries ≤ greatest_count → r.place ≤ length → IsStorableModalState r.modal → IsCounted r.modal → half_of (half_field r.half) ≡ Some r.half → decoded_state_of length (field_of r) ≡ Some r
 unfolding decoded_state_of field_of
 report-back length r few within can counted half =
     let entries = up_to-back greatest_count r.entries few in
     let place = up_to-back length r.place within in
-    let machine = machine-back r can counted in
-    λ i. and_then (entries i) (λ a. and_then (place i) (λ b. and_then (machine i) (λ c. and_then (half i) (λ d. Some (record { entries = a; place = b; machine = c; half = d })))))
+    let modal = modal-back r can counted in
+    λ i. and_then (entries i) (λ a. and_then (place i) (λ b. and_then (modal i) (λ c. and_then (half i) (λ d. Some (record { entries = a; place = b; modal = c; half = d })))))

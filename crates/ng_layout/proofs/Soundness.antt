@@ -6,17 +6,17 @@ use Rattle.std.proofs.Common.{length-take}
 use Rattle.ng_num.specs.Range.{greatest}
 use Rattle.ng_num.specs.declared.point.Point.{Point}
 use Rattle.ng_canon.specs.declared.outputs.Outputs.{Outputs}
-use Rattle.ng_state.specs.declared.machine.Machine.{Machine}
+use Rattle.ng_state.specs.declared.modal_state.ModalState.{ModalState}
 use Rattle.ng_layout.specs.declared.half.Source.{Source}
 use Rattle.ng_layout.specs.declared.half.Opened.{Opened}
 use Rattle.ng_layout.specs.declared.field.Triple.{Triple}
 use Rattle.ng_layout.specs.declared.field.HalfField.{HalfField}
 use Rattle.ng_layout.specs.declared.field.StateField.{StateField}
 use Rattle.ng_layout.specs.Limits.{greatest_count, greatest_slot, longest_text}
-use Rattle.ng_layout.specs.Report.{and_then, up_to, count_of, modes_of, outputs_of, offsets_of, kept_of, machine_of, point_of, known_point, half_by, half_of, decoded_state_of}
+use Rattle.ng_layout.specs.Report.{and_then, up_to, count_of, modes_of, outputs_of, offsets_of, kept_of, modal_state_of, point_of, known_point, half_by, half_of, decoded_state_of}
 use Rattle.ng_layout.specs.Codes.{truth_of, spindle_of, source_of, opened_of}
 use Rattle.ng_layout.specs.Sound.{IsSound}
-use Rattle.ng_layout.specs.Storable.{IsStorableMachine, IsStorableHalf}
+use Rattle.ng_layout.specs.Storable.{IsStorableModalState, IsStorableHalf}
 use Rattle.ng_layout.specs.Stored.{HalfModel, DecodedStateModel}
 
 -- what follows from a value followed from some value
@@ -68,8 +68,8 @@ outputs-sound f o is =
     let whole = some-same g.gives in
     subst OutputsSound whole (record { speed = count-positive f.speed b.value b.was; selected = up_to-some greatest_slot f.selected_slot e.value e.was; held = up_to-some greatest_slot f.spindle_slot g.value g.was })
 
-machine-sound : (f : StateField) (m : Machine) → machine_of f ≡ Some m → IsStorableMachine m
-machine-sound f m is =
+modal-sound : (f : StateField) (m : ModalState) → modal_state_of f ≡ Some m → IsStorableModalState m
+modal-sound f m is =
     let a = came (modes_of f.codes) _ m is in
     let b = came (count_of (pos f.feed)) _ m a.gives in
     let c = came (outputs_of f) _ m b.gives in
@@ -78,7 +78,7 @@ machine-sound f m is =
     let g = came (point_of f.point) _ m e.gives in
     let h = came (truth_of f.codes.point_known) _ m g.gives in
     let out = outputs-sound f c.value c.was in
-    subst IsStorableMachine (some-same h.gives) (record { feed = count-positive f.feed b.value b.was; speed = out.speed; selected = out.selected; held = out.held })
+    subst IsStorableModalState (some-same h.gives) (record { feed = count-positive f.feed b.value b.was; speed = out.speed; selected = out.selected; held = out.held })
 
 unknown-none : (t : Triple) (at : Option Point) → known_point false t ≡ Some at → IsNone at
 unknown-none t at is = let none : IsNone {T = Point} None = search rules in subst (λ (o : Option Point). IsNone o) (some-same is) none
@@ -113,7 +113,7 @@ unfolding decoded_state_of
 report-sound length f r is =
     let a = came (up_to greatest_count f.entries) _ r is in
     let b = came (up_to length f.place) _ r a.gives in
-    let c = came (machine_of f) _ r b.gives in
+    let c = came (modal_state_of f) _ r b.gives in
     let d = came (half_of f.half) _ r c.gives in
     let h = came (opened_of f.half.opened) _ d.value d.was in
     let k = came (truth_of f.half.at_known) _ d.value h.gives in
@@ -121,7 +121,7 @@ report-sound length f r is =
     subst (IsSound length) (some-same d.gives) (record {
       entries = up_to-some greatest_count f.entries a.value a.was;
       place = up_to-some length f.place b.value b.was;
-      machine = machine-sound f c.value c.was;
+      modal = modal-sound f c.value c.was;
       half = half-sound f.half h.value k.value s.value d.value s.gives;
     })
 

@@ -28,14 +28,14 @@ by-slot slots slot tool low next most back =
     (λ i. and_then (back i) (λ n. if a i then Some None else if b i then Some (Some (record { slot = slot; length = n })) else None))
 
 change-back : (slots : List ℤ) (change : Option SlotChange) → IfSome change (IsStorableChange slots) → slot_change_by (length slots) (slot_number change) (slot_length change) ≡ Some change
-change-back slots None lawful = refl
-change-back slots (Some change) lawful = by-slot (length slots) change.slot change.length lawful.slot.from lawful.slot.to lawful.most (length-back change.length lawful.tool)
+change-back slots None valid = refl
+change-back slots (Some change) valid = by-slot (length slots) change.slot change.length valid.slot.from valid.slot.to valid.most (length-back change.length valid.tool)
 
 pub tools-made : (format : Format) (sector : List ℕ) (tools : List ℤ) (change : Option SlotChange) → format ≡ Two → number_at 2 488 sector ≡ slot_number change → signed_at 496 sector ≡ slot_length change → IfSome change (IsStorableChange tools) → tools_after format sector tools ≡ Some (with_change change tools)
 unfolding slot_change_in
-tools-made One sector tools change is slot tool lawful = absurd (cc)
-tools-made Two sector tools change is slot tool lawful =
-    let back : slot_change_in (length tools) sector ≡ Some change = (λ i. slot_change_by (length tools) (slot i) (tool i)) ∙ change-back tools change lawful in
+tools-made One sector tools change is slot tool valid = absurd (cc)
+tools-made Two sector tools change is slot tool valid =
+    let back : slot_change_in (length tools) sector ≡ Some change = (λ i. slot_change_by (length tools) (slot i) (tool i)) ∙ change-back tools change valid in
     λ i. and_then (back i) (λ c. Some (with_change c tools))
 
 -- ---- what is read from a tool area
@@ -173,9 +173,9 @@ put-last b [] = refl
 put-last b (a ∷ xs) = ap (λ (l : List ℤ). a ∷ l) (put-last b xs)
 
 slot-put : (change : SlotChange) (xs : List ℤ) → IsSlotChange xs change → with_slot change xs ≡ put_at (change.slot - 1) change.length xs
-slot-put change xs lawful =
-    let from = lawful.from in
-    let to = lawful.to in
+slot-put change xs valid =
+    let from = valid.from in
+    let to = valid.to in
     elim (cases_eq change.slot (length xs + 1)) [
       | inl last ↦
           let e : (change.slot == length xs + 1) ≡ true = grind (arith, nat_tests) in
@@ -225,14 +225,14 @@ finds s (suc k) b (a ∷ old) le =
     ]
 
 one-finds : (old new : List ℤ) → IsOneSlotFrom old new → Finds 1 old new
-one-finds old new one = go one.change one.lawful one.is
+one-finds old new one = go one.change one.valid one.is
   where
     go : (change : Option SlotChange) → IfSome change (IsSlotChange old) → new ≡ with_change change old → Finds 1 old new
-    go None lawful is = subst (Finds 1 old) (sym is) (record { found = inl (same-none 1 old, refl) })
-    go (Some change) lawful is = let from = lawful.from in let to = lawful.to in subst (Finds 1 old) (sym (is ∙ slot-put change old lawful)) (finds 1 (change.slot - 1) change.length old (omega arith))
+    go None valid is = subst (Finds 1 old) (sym is) (record { found = inl (same-none 1 old, refl) })
+    go (Some change) valid is = let from = valid.from in let to = valid.to in subst (Finds 1 old) (sym (is ∙ slot-put change old valid)) (finds 1 (change.slot - 1) change.length old (omega arith))
 
-pub lawful : (old new was : List ℤ) (slot : Option SlotChange) → was ≡ old → slot ≡ first_change old new → IsOneSlotFrom old new → IsStorableTools new → IfSome slot (IsStorableChange was)
-lawful old new was slot was_is slot_is one small = subst (λ (w : List ℤ). IfSome slot (IsStorableChange w)) (sym was_is) (subst (λ (o : Option SlotChange). IfSome o (IsStorableChange old)) (sym slot_is) (elim (one-finds old new one).found [
+pub valid : (old new was : List ℤ) (slot : Option SlotChange) → was ≡ old → slot ≡ first_change old new → IsOneSlotFrom old new → IsStorableTools new → IfSome slot (IsStorableChange was)
+valid old new was slot was_is slot_is one small = subst (λ (w : List ℤ). IfSome slot (IsStorableChange w)) (sym was_is) (subst (λ (o : Option SlotChange). IfSome o (IsStorableChange old)) (sym slot_is) (elim (one-finds old new one).found [
   | inl none ↦ subst (λ (o : Option SlotChange). IfSome o (IsStorableChange old)) (sym none.0) tt
   | inr some ↦
       let within = some.2 in

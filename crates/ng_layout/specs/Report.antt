@@ -7,7 +7,7 @@ use Rattle.ng_num.specs.declared.point.Point.{Point}
 use Rattle.ng_canon.specs.declared.outputs.Outputs.{Outputs}
 use Rattle.ng_params.specs.Numbers.{system_of}
 use Rattle.ng_state.specs.declared.modes.Modes.{Modes}
-use Rattle.ng_state.specs.declared.machine.Machine.{Machine}
+use Rattle.ng_state.specs.declared.modal_state.ModalState.{ModalState}
 use Rattle.ng_offsets.specs.declared.offsets.Offsets.{Offsets}
 use Rattle.ng_state.specs.declared.kept_words.KeptWords.{KeptWords}
 use Rattle.ng_layout.specs.Codes.{motion_of, plane_of, distance_of, feed_mode_of, unit_of, retract_of, path_of, spindle_of, truth_of, source_of, opened_of}
@@ -59,8 +59,8 @@ kept_of bits f =
     and_then (up_to 15 bits) (λ _. and_then (word_of (bits % 2 == 1) f.r) (λ r. and_then (word_of (bits / 2 % 2 == 1) f.z) (λ z. and_then (word_of (bits / 4 % 2 == 1) f.p) (λ p. and_then (word_of (bits / 8 == 1) f.q) (λ q.
     Some (record { r = r; z = z; p = p; q = q }))))))
 
-abbrev pub machine_of : StateField → Option Machine
-machine_of f =
+abbrev pub modal_state_of : StateField → Option ModalState
+modal_state_of f =
     and_then (modes_of f.codes) (λ modes. and_then (count_of (pos f.feed)) (λ feed. and_then (outputs_of f) (λ outputs. and_then (offsets_of f) (λ offsets. and_then (kept_of f.codes.kept f.kept) (λ kept. and_then (point_of f.point) (λ point. and_then (truth_of f.codes.point_known) (λ known.
     Some (record { modes = modes; feed_per_min = feed; outputs = outputs; offsets = offsets; kept = kept; point = point; point_known = known }))))))))
 
@@ -83,5 +83,5 @@ half_of f = and_then (opened_of f.opened) (λ opened. and_then (truth_of f.at_kn
 -- the whole field, for a program of this length
 unfoldable pub decoded_state_of : ℕ → StateField → Option DecodedStateModel
 decoded_state_of length f =
-    and_then (up_to greatest_count f.entries) (λ entries. and_then (up_to length f.place) (λ place. and_then (machine_of f) (λ machine. and_then (half_of f.half) (λ half.
-    Some (record { entries = entries; place = place; machine = machine; half = half })))))
+    and_then (up_to greatest_count f.entries) (λ entries. and_then (up_to length f.place) (λ place. and_then (modal_state_of f) (λ modal. and_then (half_of f.half) (λ half.
+    Some (record { entries = entries; place = place; modal = modal; half = half })))))

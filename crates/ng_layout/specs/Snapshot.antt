@@ -10,7 +10,7 @@ use Rattle.ng_layout.specs.Writing.{field_of}
 
 -- what the state field says
 abbrev pub decoded_state_in : StoredModel → DecodedStateModel
-decoded_state_in s = record { entries = s.entries; place = s.place; machine = s.setup.machine; half = s.half }
+decoded_state_in s = record { entries = s.entries; place = s.place; modal = s.setup.modal; half = s.half }
 
 -- These bytes are written with the state field of this state: its numbers, and 0 in the unused byte.
 pub record HoldsDecodedState (report : DecodedStateModel) (bytes : List ℕ) : Type 0 where

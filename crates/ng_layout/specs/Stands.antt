@@ -55,7 +55,7 @@ snapshot format length row area =
 abbrev pub standing : ℕ → Option ReplayState → List ℕ → ℕ → Result DurableState Fault
 standing room None program length = Err Damaged
 standing room (Some f) program length = Ok (record {
-  saved = record { entries = f.report.entries; setup = record { params = f.params; machine = f.report.machine }; tools = f.tools; place = f.report.place; length = length; room = room; half = f.report.half };
+  saved = record { entries = f.report.entries; setup = record { params = f.params; modal = f.report.modal }; tools = f.tools; place = f.report.place; length = length; room = room; half = f.report.half };
   program = program;
 })
 

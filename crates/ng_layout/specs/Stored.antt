@@ -2,7 +2,7 @@
 use Rattle.std.specs.Prelude.{ℕ, ℤ, List, [], Option, None}
 use Rattle.ng_num.specs.declared.point.Point.{Point}
 use Rattle.ng_state.specs.State.{StateModel, fresh as fresh_setup}
-use Rattle.ng_state.specs.declared.machine.Machine.{Machine}
+use Rattle.ng_state.specs.declared.modal_state.ModalState.{ModalState}
 use Rattle.ng_layout.specs.declared.half.Source.{Source}
 use Rattle.ng_layout.specs.declared.half.Opened.{Opened}
 
@@ -18,7 +18,7 @@ pub record HalfModel : Type 0 where
 pub record DecodedStateModel : Type 0 where
   pub entries : ℕ
   pub place : ℕ
-  pub machine : Machine
+  pub modal : ModalState
   pub half : Option HalfModel
 
 -- everything but the program's text
@@ -39,7 +39,7 @@ fresh_stored room = record { entries = 0; setup = fresh_setup; tools = []; place
 
 -- what a state field says, with parameters, tools, the length of a program and the room for one
 abbrev pub with_decoded_state : StoredModel → DecodedStateModel → ℕ → StoredModel
-with_decoded_state s r length = record { entries = r.entries; setup = record { params = s.setup.params; machine = r.machine }; tools = s.tools; place = r.place; length = length; room = s.room; half = r.half }
+with_decoded_state s r length = record { entries = r.entries; setup = record { params = s.setup.params; modal = r.modal }; tools = s.tools; place = r.place; length = length; room = s.room; half = r.half }
 
 -- everything
 pub record DurableState : Type 0 where

@@ -2,7 +2,7 @@
 use Rattle.std.specs.Prelude.{ℕ, ◌+◌, ◌-◌, ◌++◌, pos, unsigned_abs, length, replicate, Option, Some, None, is_some, unwrap_or, if◌then◌else◌}
 use Rattle.ng_num.specs.Points.{zero_point}
 use Rattle.ng_num.specs.declared.point.Point.{Point}
-use Rattle.ng_state.specs.declared.machine.Machine.{Machine}
+use Rattle.ng_state.specs.declared.modal_state.ModalState.{ModalState}
 use Rattle.ng_state.specs.declared.kept_words.KeptWords.{KeptWords}
 use Rattle.ng_layout.specs.Codes.{code_of_motion, code_of_plane, code_of_distance, code_of_feed_mode, code_of_unit, code_of_retract, code_of_path, code_of_spindle, code_of_truth, code_of_source, code_of_opened}
 use Rattle.ng_layout.specs.Limits.{longest_text}
@@ -23,7 +23,7 @@ kept_field k = record { r = unwrap_or k.r (pos 0); z = unwrap_or k.z (pos 0); p 
 abbrev pub kept_bits : KeptWords → ℕ
 kept_bits k = (if is_some k.r then 1 else 0) + (if is_some k.z then 2 else 0) + (if is_some k.p then 4 else 0) + (if is_some k.q then 8 else 0)
 
-abbrev pub codes_of : Machine → CodeField
+abbrev pub codes_of : ModalState → CodeField
 codes_of m = record {
   motion = code_of_motion m.modes.motion;
   plane = code_of_plane m.modes.plane;
@@ -57,15 +57,15 @@ unfoldable pub field_of : DecodedStateModel → StateField
 field_of r = record {
   entries = r.entries;
   place = r.place;
-  point = triple_of r.machine.point;
-  feed = unsigned_abs r.machine.feed_per_min;
-  speed = unsigned_abs r.machine.outputs.speed;
-  g92 = triple_of r.machine.offsets.g92;
-  origin = triple_of r.machine.offsets.origin;
-  tool_length = r.machine.offsets.tool_length;
-  kept = kept_field r.machine.kept;
-  codes = codes_of r.machine;
-  selected_slot = r.machine.outputs.selected_slot;
-  spindle_slot = r.machine.outputs.spindle_slot;
+  point = triple_of r.modal.point;
+  feed = unsigned_abs r.modal.feed_per_min;
+  speed = unsigned_abs r.modal.outputs.speed;
+  g92 = triple_of r.modal.offsets.g92;
+  origin = triple_of r.modal.offsets.origin;
+  tool_length = r.modal.offsets.tool_length;
+  kept = kept_field r.modal.kept;
+  codes = codes_of r.modal;
+  selected_slot = r.modal.outputs.selected_slot;
+  spindle_slot = r.modal.outputs.spindle_slot;
   half = half_field r.half;
 }

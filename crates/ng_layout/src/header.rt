@@ -82,7 +82,7 @@ impl Header {
     #[tactic(auto, unfolding(crate::specs::Header::header_in, crate::specs::Header::header_at, crate::specs::Header::is_marked))]
     pub fn read(is_large: bool, k: u64, sector: &[u8; SECTOR_BYTES]) -> Option<Header>
         ensures value { result ≡ header_in is_large k sector.now }
-        ensures lawful { IfSome result (IsValidHeader is_large) }
+        ensures valid { IfSome result (IsValidHeader is_large) }
     {
         let is_marked = get_u64(sector, 0) == get_u64(MAGIC, 0);
         let header = Header {

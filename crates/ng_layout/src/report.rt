@@ -3,7 +3,7 @@ ghost use Rattle.std.specs.Prelude.{◌≡◌, ℕ, pos, IfSome};
 ghost use Rattle.ng_layout.specs.Limits.{greatest_slot};
 ghost use Rattle.ng_layout.specs.Sound.{IsSound};
 ghost use Rattle.ng_layout.specs.Report.{count_of, point_of, modes_of, outputs_of, offsets_of, word_of, kept_of};
-ghost use Rattle.ng_layout.specs.Report.{machine_of, known_point, half_by, half_of, decoded_state_of, up_to};
+ghost use Rattle.ng_layout.specs.Report.{modal_state_of, known_point, half_by, half_of, decoded_state_of, up_to};
 
 use crate::codes::{
     distance_of, feed_mode_of, motion_of, opened_of, path_of, plane_of, retract_of, source_of,
@@ -15,7 +15,7 @@ use ng_canon::{Feed, Outputs};
 use ng_num::{Len, Num, Point};
 use ng_offsets::Offsets;
 use ng_params::System;
-use ng_state::{KeptWords, Machine, Modes};
+use ng_state::{KeptWords, ModalState, Modes};
 use std::marker::Model;
 
 /// The greatest entry count, and the greatest epoch.
@@ -32,7 +32,7 @@ const ALL_KEPT: u8 = 15;
 pub struct DecodedState {
     pub entries: u64,
     pub place: u64,
-    pub machine: Machine,
+    pub modal: ModalState,
     pub half: Option<Half>,
 }
 
@@ -41,7 +41,7 @@ impl Model for DecodedState {
 
     ghost Value = { DecodedStateModel };
 
-    ghost view = { λ r. record { entries = r.entries; place = r.place; machine = r.machine; half = r.half } };
+    ghost view = { λ r. record { entries = r.entries; place = r.place; modal = r.modal; half = r.half } };
 }
 
 fn len_of(nm: i64) -> Option<Len>
@@ -158,10 +158,10 @@ fn kept_of(bits: u8, field: KeptField) -> Option<KeptWords>
     })
 }
 
-fn machine_of(field: &StateField) -> Option<Machine>
-    ensures { result ≡ machine_of field.now }
+fn modal_state_of(field: &StateField) -> Option<ModalState>
+    ensures { result ≡ modal_state_of field.now }
 {
-    Some(Machine {
+    Some(ModalState {
         modes: modes_of(field.codes)?,
         feed_per_min: feed_of(field.feed)?,
         outputs: outputs_of(field)?,
@@ -226,7 +226,7 @@ fn decoded_state_of(field: &StateField, length: u64) -> Option<DecodedState>
     Some(DecodedState {
         entries: field.entries,
         place: field.place,
-        machine: machine_of(field)?,
+        modal: modal_state_of(field)?,
         half: half_of(&field.half)?,
     })
 }

@@ -19,7 +19,7 @@ use crate::report::DecodedState;
 use crate::sectors::{SECTOR_BYTES, VALUES, copy_table, fresh_values_sector, values_sector};
 use crate::tools::{LENGTHS, SLOTS_AT, lengths_sector};
 use ng_offsets::Tools;
-use ng_state::{Machine, State};
+use ng_state::{ModalState, State};
 use std::alloc::{AllocError, Allocator};
 use std::marker::Model;
 
@@ -74,7 +74,7 @@ impl<A: Allocator + Copy + Drop> Stored<A> {
         ensures { self.new ≡ with_decoded_state self.old report length }
     {
         self.entries = report.entries;
-        self.state.machine = report.machine;
+        self.state.modal = report.modal;
         self.place = report.place;
         self.length = length;
         self.half = report.half;
@@ -122,7 +122,7 @@ impl<A: Allocator + Copy + Drop> Stored<A> {
         requires { self.old.setup.params ≡ other.now.setup.params }
         ensures { self.new ≡ other.now }
     {
-        self.state.machine = other.state.machine;
+        self.state.modal = other.state.modal;
         self.tools = other.tools.copy();
         self.entries = other.entries;
         self.place = other.place;
@@ -144,7 +144,7 @@ impl<A: Allocator + Copy + Drop> Stored<A> {
         StateField::of(
             self.entries,
             self.place,
-            &self.state.machine,
+            &self.state.modal,
             self.half.as_ref(),
         )
     }
@@ -179,7 +179,7 @@ pub fn fresh_sector(part: usize) -> [u8; SECTOR_BYTES]
     ensures { (room : ℕ) → HoldsPart (fresh_stored room) part result }
 {
     if part == 0 {
-        first_sector(&StateField::of(0, 0, &Machine::fresh(), None), 0)
+        first_sector(&StateField::of(0, 0, &ModalState::fresh(), None), 0)
     } else {
         fresh_values_sector(VALUES * (part - 1))
     }

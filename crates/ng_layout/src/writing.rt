@@ -5,7 +5,7 @@ ghost use Rattle.ng_num.specs.Range.{IsCount};
 ghost use Rattle.ng_layout.specs.Limits.{greatest_count, longest_text};
 ghost use Rattle.ng_layout.specs.Report.{point_of, modes_of, kept_of, half_of, decoded_state_of};
 ghost use Rattle.ng_layout.specs.Writing.{triple_of, kept_field, kept_bits, codes_of, half_field, field_of};
-ghost use Rattle.ng_layout.specs.Storable.{IsStorableMachine, IsStorableHalf};
+ghost use Rattle.ng_layout.specs.Storable.{IsStorableModalState, IsStorableHalf};
 
 use crate::codes::{
     code_of_distance, code_of_feed_mode, code_of_motion, code_of_opened, code_of_path,
@@ -14,7 +14,7 @@ use crate::codes::{
 use crate::field::{CodeField, HalfField, KeptField, StateField, Triple};
 use crate::half::{Half, LONGEST_TEXT};
 use ng_num::{Len, Num, Point};
-use ng_state::{KeptWords, Machine};
+use ng_state::{KeptWords, ModalState};
 
 fn triple_of(point: Point) -> Triple
     ensures is { result ≡ triple_of point }
@@ -69,12 +69,12 @@ fn kept_bits(kept: KeptWords) -> u8
     r + z + p + q
 }
 
-fn codes_of(machine: &Machine) -> CodeField
-    ensures is { result ≡ codes_of machine.now }
-    ensures modes { modes_of result ≡ Some machine.now.modes }
+fn codes_of(modal: &ModalState) -> CodeField
+    ensures is { result ≡ codes_of modal.now }
+    ensures modes { modes_of result ≡ Some modal.now.modes }
 {
-    let modes = machine.modes;
-    let outputs = machine.outputs;
+    let modes = modal.modes;
+    let outputs = modal.outputs;
     CodeField {
         motion: code_of_motion(modes.motion),
         plane: code_of_plane(modes.plane),
@@ -88,8 +88,8 @@ fn codes_of(machine: &Machine) -> CodeField
         mist: code_of_truth(outputs.mist),
         flood: code_of_truth(outputs.flood),
         overrides: code_of_truth(modes.overrides),
-        point_known: code_of_truth(machine.point_known),
-        kept: kept_bits(machine.kept),
+        point_known: code_of_truth(modal.point_known),
+        kept: kept_bits(modal.kept),
     }
 }
 
@@ -147,27 +147,27 @@ fn half_field_of(half: Option<&Half>) -> HalfField
 
 impl StateField {
     /// The state field of what is stored. Read back, it says the same, for any program that contains the place.
-    pub fn of(entries: u64, place: u64, machine: &Machine, half: Option<&Half>) -> StateField
+    pub fn of(entries: u64, place: u64, modal: &ModalState, half: Option<&Half>) -> StateField
         requires count { entries ≤ greatest_count }
-        requires machine { IsStorableMachine machine.now }
+        requires modal { IsStorableModalState modal.now }
         requires half { IfSome half (λ h. IsStorableHalf h.now) }
-        ensures is { result ≡ field_of (record { entries = entries; place = place; machine = machine.now; half = option_copied half.entry }) }
+        ensures is { result ≡ field_of (record { entries = entries; place = place; modal = modal.now; half = option_copied half.entry }) }
         ensures means { (length : ℕ) → place ≤ length → decoded_state_of length result
-            ≡ Some (record { entries = entries; place = place; machine = machine.now; half = option_copied half.entry }) }
+            ≡ Some (record { entries = entries; place = place; modal = modal.now; half = option_copied half.entry }) }
     {
-        let offsets = machine.offsets;
-        let outputs = machine.outputs;
+        let offsets = modal.offsets;
+        let outputs = modal.outputs;
         StateField {
             entries,
             place,
-            point: triple_of(machine.point),
-            feed: machine.feed_per_min.nm_per_min().unsigned_abs(),
+            point: triple_of(modal.point),
+            feed: modal.feed_per_min.nm_per_min().unsigned_abs(),
             speed: outputs.speed.count().unsigned_abs(),
             g92: triple_of(offsets.g92),
             origin: triple_of(offsets.origin),
             tool_length: offsets.tool_length.nm(),
-            kept: kept_field(machine.kept),
-            codes: codes_of(machine),
+            kept: kept_field(modal.kept),
+            codes: codes_of(modal),
             selected_slot: u16::from(outputs.selected_slot),
             spindle_slot: u16::from(outputs.spindle_slot),
             half: half_field_of(half),

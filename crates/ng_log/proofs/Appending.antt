@@ -60,10 +60,10 @@ labelled_as e part parts count n part_is parts_are count_is =
 
 -- the record of a table's differences is the next one
 pub next_of : (image : Image) (header : Header) (before : DurableState) (end : LogEnd) (table : List ℤ) (slot : Option SlotChange) (saved : StoredModel) (count : ℕ) → header.format ≡ Two → IfSome slot (IsStorableChange before.saved.tools) → with_change slot before.saved.tools ≡ saved.tools → EndsIn image header before end → before.saved.setup.params ≡ table → length table ≡ 5399 → length saved.setup.params ≡ 5399 → count ≡ length (differences table saved.setup.params) → end.sector + parts_for count ≤ log_size_of header → saved.length ≡ header.length → before.saved.room ≡ saved.room → IsNext image header before end saved (differences table saved.setup.params) slot
-next_of image header before end table slot saved count two lawful slot_is was params_are all_old all_new count_is room long same_room = record {
+next_of image header before end table slot saved count two valid slot_is was params_are all_old all_new count_is room long same_room = record {
   was = was;
   two = two;
-  lawful = lawful;
+  valid = valid;
   slot_is = slot_is;
   room = subst (λ (n : ℕ). end.sector + parts_for n ≤ log_size_of header) count_is room;
   long = long;

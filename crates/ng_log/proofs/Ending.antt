@@ -55,7 +55,7 @@ pub record IsBlend (base image : Image) (e : LogRecord) : Type 0 where
 pub record IsNext (base : Image) (header : Header) (before : DurableState) (end : LogEnd) (saved : StoredModel) (changes : List Change) (slot : Option SlotChange) : Type 0 where
   pub was : EndsIn base header before end
   pub two : header.format ≡ Two
-  pub lawful : IfSome slot (IsStorableChange before.saved.tools)
+  pub valid : IfSome slot (IsStorableChange before.saved.tools)
   pub slot_is : with_change slot before.saved.tools ≡ saved.tools
   pub room : end.sector + size_of (record_at header.epoch end saved changes slot) ≤ log_size_of header
   pub long : saved.length ≡ header.length
@@ -105,7 +105,7 @@ module _ (base image : Image) (header : Header) (before : DurableState) (end : L
   was_at = subst (λ (k : ℕ). EndsAt header.format k (log_of header base) header.epoch (beginning base header) (place_before e (replay_state_in before.saved))) (sym n.long) n.was.ends
 
   mixture : Mixture header.format (log_of header base) (log_of header image) (beginning base header) e (replay_state_in before.saved)
-  mixture = record { ends = was_at; room = n.room; two = n.two; lawful = n.lawful; each = in_log }
+  mixture = record { ends = was_at; room = n.room; two = n.two; valid = n.valid; each = in_log }
 
   after_is : position_after_record e (replay_state_in before.saved) ≡ position_of (end_after end (length changes)) saved
   after_is = let restored = n.restored in let slot_is = n.slot_is in λ i. record { at = end.sector + size_of e; number = end.number + 1; found = Some (record { report = (replay_state_in saved).report; params = restored i; tools = slot_is i }) }

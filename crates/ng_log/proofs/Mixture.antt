@@ -48,7 +48,7 @@ pub record Mixture (format : Format) (base log : Image) (first : LogPosition) (e
   pub ends : EndsAt format e.saved.length base e.epoch first (place_before e before)
   pub room : e.at + size_of e ≤ log_size format
   pub two : format ≡ Two
-  pub lawful : IfSome e.slot (IsStorableChange before.tools)
+  pub valid : IfSome e.slot (IsStorableChange before.tools)
   pub each : (m : ℕ) → m < log_size format → (log m ≡ base m) ⊎ IsPartOf e m (log m)
 
 module _ (format : Format) (base log : Image) (first : LogPosition) (e : LogRecord) (before : ReplayState) (m : Mixture format base log first e before) where
@@ -90,7 +90,7 @@ module _ (format : Format) (base log : Image) (first : LogPosition) (e : LogReco
     whole : next format e.saved.length log e.epoch (place_before e before) ≡ Some (position_after_record e before)
     whole =
         let report = (head.state refl).report in
-        let table = tools-made format (log e.at) before.tools e.slot m.two (head.state refl).slot (head.state refl).tool m.lawful in
+        let table = tools-made format (log e.at) before.tools e.slot m.two (head.state refl).slot (head.state refl).tool m.valid in
         step-to format e.saved.length log e.epoch (place_before e before) (position_after_record e before) (record {
           parts = size_of e;
           changes = length e.changes;

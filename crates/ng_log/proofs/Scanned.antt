@@ -83,7 +83,7 @@ damaged_part log at i count changes sector old mid before lt count_is there none
 
 -- the parameters that were read, with what the state field says
 abbrev pub taken : List ℤ → List ℤ → DecodedStateModel → ℕ → ℕ → StoredModel
-taken table tools r length room = record { entries = r.entries; setup = record { params = table; machine = r.machine }; tools = tools; place = r.place; length = length; room = room; half = r.half }
+taken table tools r length room = record { entries = r.entries; setup = record { params = table; modal = r.modal }; tools = tools; place = r.place; length = length; room = room; half = r.half }
 
 -- what the state field in a record's first part says, if it was read
 module _ (format : Format) (length at changes : ℕ) (old new : StoredModel) (image : Image) (sector : List ℕ) (o : Option DecodedStateModel) (there : sector ≡ from_log image at) (is : o ≡ decoded_state_of length (field_at (drop 32 sector))) where

@@ -42,14 +42,14 @@ few n e =
     le-ltb 4 n (grind arith)
 
 -- none of the causes of a block holds
-lawful_block : (ws : List Word) (b : Block) (m : Modes) (slots : ℕ) →
+valid_block : (ws : List Word) (b : Block) (m : Modes) (slots : ℕ) →
     is_repeated ws ≡ false → has_unknown ws ≡ false → has_left_out ws ≡ false → has_group_twice ws ≡ false → has_many_m ws ≡ false →
     b.values.h ≡ None → b.values.i ≡ None → b.values.j ≡ None → b.values.k ≡ None → b.values.l ≡ None → b.values.p ≡ None →
     b.values.q ≡ None → b.values.r ≡ None → b.values.s ≡ None → b.values.t ≡ None →
     b.g.non_modal ≡ None → b.g.tool_length ≡ None →
     is_negative b.values.f ≡ false → has_axis b.values ≡ true → is_off (motion_after b m) ≡ false → is_cycle b.motion ≡ false →
     NoneHolds (faults_of ws b m slots)
-lawful_block ws b m slots c1 c2 c3 c4 c5 h i j k l p q r s t non_modal tool_length feed axis on cycle =
+valid_block ws b m slots c1 c2 c3 c4 c5 h i j k l p q r s t non_modal tool_length feed axis on cycle =
     let c6 : takes_axes_twice b ≡ false = rw non_modal (and_false (is_some (option_and_then moving b.g.motion))) in
     let c7 : leaves_axis_unused b m ≡ false = rw (axis, on) refl in
     let c8 : moves_no_axis b ≡ false = rw axis (and_false (is_straight b.g.motion)) in
@@ -102,8 +102,8 @@ none_of_ten None None (Some _) d e f g h i j w = absurd (cc w)
 none_of_ten None None None (Some _) e f g h i j w = absurd (cc w)
 none_of_ten None None None None (Some _) f g h i j w = absurd (cc w)
 
-pub plain_is_lawful : (ws : List Word) (m : Modes) (slots : ℕ) → is_plain (sorted_in ws m) ≡ true → first_fault (faults ws m slots) ≡ None
-plain_is_lawful ws m slots plain =
+pub plain_is_valid : (ws : List Word) (m : Modes) (slots : ℕ) → is_plain (sorted_in ws m) ≡ true → first_fault (faults ws m slots) ≡ None
+plain_is_valid ws m slots plain =
     let s : Sorted = sorted_in ws m in
     let b : Block = block_of ws m in
     let takers : Bool = is_some b.g.non_modal || is_some b.g.tool_length in
@@ -124,7 +124,7 @@ plain_is_lawful ws m slots plain =
     let twice : has_group_twice ws ≡ false = rw (marked.3, marked.4) refl in
     let non_modal : b.g.non_modal ≡ None = nothing_there b.g.non_modal (or_left (is_some b.g.non_modal) (is_some b.g.tool_length) untaken) in
     let tool_length : b.g.tool_length ≡ None = nothing_there b.g.tool_length (or_right (is_some b.g.non_modal) (is_some b.g.tool_length) untaken) in
-    none_first (faults ws m slots) (lawful_block ws b m slots
+    none_first (faults ws m slots) (valid_block ws b m slots
     marked.0 marked.1 marked.2 twice (few (length (of_letter M ws)) marked.5)
     words.0.0 words.0.1 words.0.2 words.0.3 words.0.4 words.1.0 words.1.1 words.1.2 words.1.3 words.1.4
     non_modal tool_length feed axis

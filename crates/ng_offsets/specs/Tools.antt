@@ -41,7 +41,7 @@ pub record IsSlotChange (lengths : List ℤ) (change : SlotChange) : Type 0 wher
 -- at most one slot is changed, or one is added at the end
 pub record IsOneSlotFrom (old new : List ℤ) : Type 0 where
   pub change : Option SlotChange
-  pub lawful : IfSome change (IsSlotChange old)
+  pub valid : IfSome change (IsSlotChange old)
   pub is : new ≡ with_change change old
 
 -- the first slot, from this one on, that the new table has and the old one doesn't, or that has another length there

@@ -1,5 +1,5 @@
 pub mod ClearLemmas
 pub mod ChangeLemmas
 pub mod AheadLemmas
-pub mod SettingLaws
+pub mod AssignmentLaws
 pub mod Differing

@@ -4,4 +4,4 @@ pub mod Points
 pub mod Lasting
 pub mod Changes
 pub mod Differences
-pub mod Settings
+pub mod Assignments

@@ -76,7 +76,7 @@ pub record Conversation {R : Type 0} (A : Type 0) (seen : R → Device) (ended :
   pub closes : EndsConversation ended after.journal.broken rest begun written
   pub passes : before.journal.broken ≡ false → IfHonest (seen before.journal.rig) (seen after.journal.rig) ((program : List ℕ) → IsAtRestWith (seen before.journal.rig).trace before program
       → PassesAsSession seen (events_in (answered ++ begun)) (replies_in (answered ++ begun))
-      (answered_at seen (events_in (answered ++ begun)) (replies_in (answered ++ begun)) before after given) before.equipment (program_session_of program before) (seen before.journal.rig).trace after)
+      (answered_at seen (events_in (answered ++ begun)) (replies_in (answered ++ begun)) before after given) before.geometry (program_session_of program before) (seen before.journal.rig).trace after)
 
 -- ---- the console
 

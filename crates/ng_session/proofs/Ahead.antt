@@ -18,7 +18,7 @@ use Rattle.ng_layout.specs.declared.half.Source.TheVariants as source
 use Rattle.ng_session.specs.declared.event.Event.{Event}
 use Rattle.ng_session.specs.declared.event.Event.TheVariants as event
 use Rattle.ng_session.specs.declared.reply.Reply.TheVariants as reply
-use Rattle.ng_session.specs.Entries.{Equipment, terms_of, done_of}
+use Rattle.ng_session.specs.Entries.{terms_of, done_of}
 use Rattle.ng_session.specs.Session.{CurrentBlockModel, SessionModel, Transition, accepts_load, is_running, is_idle, step, answers, begin, begun, begin_by, IsQuiet, after_current_block, opened_on, next_opened, opened, handed, committed_on, committed}
 use Rattle.ng_session.specs.SessionInvariant.{Prepared, block_of, IsReady, IsReadyOn, IsSessionInvariant}
 use Rattle.ng_session.specs.Planned.{PlannedModel, KnownModel, IsLineOf, AreLinesOf, Base, IsBegunAhead, base_on, base_after, base_of, base_then, base_at_end, ends_at_end, drops_plan, IsPlannedOn, IsPlan}
@@ -27,9 +27,9 @@ use Rattle.ng_session.specs.Stages as stage
 
 -- ---- one line more
 
-pub plan_more : (equipment : Equipment) (base : Base) (ps : List PlannedModel) (p : PlannedModel) → IsPlan equipment base ps → IsPlannedOn equipment (base_at_end base ps) p → IsPlan equipment base (ps ++ p ∷ [])
-plan_more equipment base [] p plan on = (on, tt)
-plan_more equipment base (q ∷ ps) p plan on = (plan.0, plan_more equipment (base_then base q) ps p plan.1 on)
+pub plan_more : (geometry : Geometry) (base : Base) (ps : List PlannedModel) (p : PlannedModel) → IsPlan geometry base ps → IsPlannedOn geometry (base_at_end base ps) p → IsPlan geometry base (ps ++ p ∷ [])
+plan_more geometry base [] p plan on = (on, tt)
+plan_more geometry base (q ∷ ps) p plan on = (plan.0, plan_more geometry (base_then base q) ps p plan.1 on)
 
 pub lines_more : (program : List ℕ) (ps : List PlannedModel) (p : PlannedModel) → AreLinesOf program ps → IsLineOf program p → AreLinesOf program (ps ++ p ∷ [])
 lines_more program [] p lines line = (line, tt)
@@ -49,13 +49,13 @@ pub end_delete : (base : Base) (ps : List PlannedModel) → (base_at_end base ps
 end_delete base [] = refl
 end_delete base (p ∷ ps) = end_delete (base_then base p) ps
 
-pub end_storable : (equipment : Equipment) (base : Base) (ps : List PlannedModel) → IsPlan equipment base ps → IsStorable base.stored → IsStorable (base_at_end base ps).stored
-end_storable equipment base [] plan storable = storable
-end_storable equipment base (p ∷ ps) plan storable = end_storable equipment (base_then base p) ps plan.1 plan.0.ready.next.storable
+pub end_storable : (geometry : Geometry) (base : Base) (ps : List PlannedModel) → IsPlan geometry base ps → IsStorable base.stored → IsStorable (base_at_end base ps).stored
+end_storable geometry base [] plan storable = storable
+end_storable geometry base (p ∷ ps) plan storable = end_storable geometry (base_then base p) ps plan.1 plan.0.ready.next.storable
 
-pub end_length : (equipment : Equipment) (base : Base) (ps : List PlannedModel) → IsPlan equipment base ps → (base_at_end base ps).stored.length ≡ base.stored.length
-end_length equipment base [] plan = refl
-end_length equipment base (p ∷ ps) plan = end_length equipment (base_then base p) ps plan.1 ∙ plan.0.ready.next.same
+pub end_length : (geometry : Geometry) (base : Base) (ps : List PlannedModel) → IsPlan geometry base ps → (base_at_end base ps).stored.length ≡ base.stored.length
+end_length geometry base [] plan = refl
+end_length geometry base (p ∷ ps) plan = end_length geometry (base_then base p) ps plan.1 ∙ plan.0.ready.next.same
 
 -- the lines are planned on the state that the current block keeps ready to be stored
 ready_base : (x : StoredModel) (p : Prepared) (g : Stage) → IsReadyOn x p g → p.after ≡ base_on x p.block g
@@ -133,39 +133,39 @@ chosen : (P : Transition → Type 0) (b : Bool) (x y : Transition) → P x → P
 chosen P true x y p q = p
 chosen P false x y p q = q
 
-pub steady_base : {A : Type 0} (equipment : Equipment) (program : List ℕ) (s : SessionModel) (e : Event A) → IsQuiet e → drops_plan e ≡ false → base_of (step equipment program s e).next ≡ base_of s
-steady_base equipment program s (event.Load text) quiet drops = absurd quiet
-steady_base equipment program s event.Start quiet drops =
+pub steady_base : {A : Type 0} (geometry : Geometry) (program : List ℕ) (s : SessionModel) (e : Event A) → IsQuiet e → drops_plan e ≡ false → base_of (step geometry program s e).next ≡ base_of s
+steady_base geometry program s (event.Load text) quiet drops = absurd quiet
+steady_base geometry program s event.Start quiet drops =
     let P : Transition → Type 0 = λ o. base_of o.next ≡ base_of s in
-    chosen P (not (accepts_load s)) _ _ refl (chosen P (not s.stored.setup.machine.point_known) _ _ refl (chosen P (s.stored.length == 0) _ _ refl refl))
-steady_base equipment program s event.Hold quiet drops =
+    chosen P (not (accepts_load s)) _ _ refl (chosen P (not s.stored.setup.modal.point_known) _ _ refl (chosen P (s.stored.length == 0) _ _ refl refl))
+steady_base geometry program s event.Hold quiet drops =
     let P : Transition → Type 0 = λ o. base_of o.next ≡ base_of s in
     chosen P (is_running s.activity || is_some s.current) _ _ refl refl
-steady_base equipment program s event.Continue quiet drops =
+steady_base geometry program s event.Continue quiet drops =
     let P : Transition → Type 0 = λ o. base_of o.next ≡ base_of s in
     chosen P s.held _ _ refl (chosen P (is_running s.activity || is_some s.current) _ _ refl (chosen P (is_idle s.activity) _ _ refl refl))
-steady_base equipment program s (event.Mdi text) quiet drops = absurd (let z : true ≡ false = drops in cc)
-steady_base equipment program s (event.Reference point) quiet drops = absurd quiet
-steady_base equipment program s event.Resume quiet drops = absurd quiet
-steady_base equipment program s event.Abandon quiet drops = absurd quiet
-steady_base equipment program s (event.Tool slot nm) quiet drops = absurd quiet
-steady_base equipment program s (event.OptionalStop wanted) quiet drops = refl
-steady_base equipment program s (event.BlockDelete on) quiet drops = absurd (let z : true ≡ false = drops in cc)
-steady_base equipment program s event.Status quiet drops = refl
-steady_base equipment program s event.Tick quiet drops = absurd quiet
+steady_base geometry program s (event.Mdi text) quiet drops = absurd (let z : true ≡ false = drops in cc)
+steady_base geometry program s (event.Reference point) quiet drops = absurd quiet
+steady_base geometry program s event.Resume quiet drops = absurd quiet
+steady_base geometry program s event.Abandon quiet drops = absurd quiet
+steady_base geometry program s (event.Tool slot nm) quiet drops = absurd quiet
+steady_base geometry program s (event.OptionalStop wanted) quiet drops = refl
+steady_base geometry program s (event.BlockDelete on) quiet drops = absurd (let z : true ≡ false = drops in cc)
+steady_base geometry program s event.Status quiet drops = refl
+steady_base geometry program s event.Tick quiet drops = absurd quiet
 
-pub plan_as : (equipment : Equipment) (a b : Base) (ps : List PlannedModel) → b ≡ a → IsPlan equipment a ps → IsPlan equipment b ps
-plan_as equipment a b ps same plan = subst (λ (base : Base). IsPlan equipment base ps) (sym same) plan
+pub plan_as : (geometry : Geometry) (a b : Base) (ps : List PlannedModel) → b ≡ a → IsPlan geometry a ps → IsPlan geometry b ps
+plan_as geometry a b ps same plan = subst (λ (base : Base). IsPlan geometry base ps) (sym same) plan
 
-pub plan_none : (equipment : Equipment) (base : Base) (ps : List PlannedModel) → ps ≡ [] → IsPlan equipment base ps
-plan_none equipment base ps none = subst (λ (l : List PlannedModel). IsPlan equipment base l) (sym none) tt
+pub plan_none : (geometry : Geometry) (base : Base) (ps : List PlannedModel) → ps ≡ [] → IsPlan geometry base ps
+plan_none geometry base ps none = subst (λ (l : List PlannedModel). IsPlan geometry base l) (sym none) tt
 
 -- a plan that the event doesn't drop stays a plan
-pub plan_answered : {A : Type 0} (equipment : Equipment) (program : List ℕ) (s t : SessionModel) (e : Event A) (ps : List PlannedModel) → IsQuiet e → (drops_plan e ≡ true → ps ≡ [])
-    → t ≡ (step equipment program s e).next → IsPlan equipment (base_of s) ps → IsPlan equipment (base_of t) ps
-plan_answered {A} equipment program s t e ps quiet dropped next plan = elim (cases_of (drops_plan e)) [
-  | inl drops ↦ plan_none equipment (base_of t) ps (dropped drops)
-  | inr keeps ↦ plan_as equipment (base_of s) (base_of t) ps (ap base_of next ∙ steady_base equipment program s e quiet keeps) plan
+pub plan_answered : {A : Type 0} (geometry : Geometry) (program : List ℕ) (s t : SessionModel) (e : Event A) (ps : List PlannedModel) → IsQuiet e → (drops_plan e ≡ true → ps ≡ [])
+    → t ≡ (step geometry program s e).next → IsPlan geometry (base_of s) ps → IsPlan geometry (base_of t) ps
+plan_answered {A} geometry program s t e ps quiet dropped next plan = elim (cases_of (drops_plan e)) [
+  | inl drops ↦ plan_none geometry (base_of t) ps (dropped drops)
+  | inr keeps ↦ plan_as geometry (base_of s) (base_of t) ps (ap base_of next ∙ steady_base geometry program s e quiet keeps) plan
 ]
   where
     cases_of : (b : Bool) → (b ≡ true) ⊎ (b ≡ false)
@@ -174,18 +174,18 @@ plan_answered {A} equipment program s t e ps quiet dropped next plan = elim (cas
 
 -- ---- a line that was planned is begun
 
-pub planned_done : (equipment : Equipment) (program : List ℕ) (s : SessionModel) (p : PlannedModel) (on : IsPlannedOn equipment (record { stored = s.stored; block_delete = s.block_delete }) p)
-    → p.first ≡ first_kind (lines_before program s.stored.place) → done_of equipment program s.stored source.Program p.prepared.block.text s.block_delete ≡ Ok on.does
+pub planned_done : (geometry : Geometry) (program : List ℕ) (s : SessionModel) (p : PlannedModel) (on : IsPlannedOn geometry (record { stored = s.stored; block_delete = s.block_delete }) p)
+    → p.first ≡ first_kind (lines_before program s.stored.place) → done_of geometry program s.stored source.Program p.prepared.block.text s.block_delete ≡ Ok on.does
 unfolding done_of
-planned_done equipment program s p on kind = subst (λ (k : LineKind). executed_after (terms_of equipment s.stored.tools s.block_delete) k s.stored.setup p.prepared.block.text ≡ Ok on.does) kind on.does_is
+planned_done geometry program s p on kind = subst (λ (k : LineKind). executed_after (terms_of geometry s.stored.tools s.block_delete) k s.stored.setup p.prepared.block.text ≡ Ok on.does) kind on.does_is
 
-pub planned_begins : (equipment : Equipment) (program : List ℕ) (s : SessionModel) (p : PlannedModel) → IsPlannedOn equipment (record { stored = s.stored; block_delete = s.block_delete }) p
+pub planned_begins : (geometry : Geometry) (program : List ℕ) (s : SessionModel) (p : PlannedModel) → IsPlannedOn geometry (record { stored = s.stored; block_delete = s.block_delete }) p
     → p.first ≡ first_kind (lines_before program s.stored.place)
-    → answers program reply.Begun (record s { current = Some p.prepared.block }) ≡ begin equipment program s (Some (record { text = p.prepared.block.text; next = p.next }))
-planned_begins equipment program s p on kind =
+    → answers program reply.Begun (record s { current = Some p.prepared.block }) ≡ begin geometry program s (Some (record { text = p.prepared.block.text; next = p.next }))
+planned_begins geometry program s p on kind =
     let line : ProgramLineModel = record { text = p.prepared.block.text; next = p.next } in
     ap (λ (c : CurrentBlockModel). answers program reply.Begun (let t : SessionModel = record s { current = Some c } in t)) on.begun_is
-    ∙ sym (ap (λ (does : Result Done Fault). begin_by program s line does) (planned_done equipment program s p on kind))
+    ∙ sym (ap (λ (does : Result Done Fault). begin_by program s line does) (planned_done geometry program s p on kind))
 
 -- ---- the last planned line
 
@@ -217,16 +217,16 @@ last_copied r xs is = by r (subst (λ (o : Option PlannedModel). MatchOption o (
 
 -- ---- a line is planned
 
-pub planned_by : (equipment : Equipment) (base : Base) (p : PlannedModel) (text : List ℕ) (does : Done) → p.place ≡ base.stored.place → (base.stored.place ≡ 0 → p.first ≡ Blank)
-    → executed_after (terms_of equipment base.stored.tools base.block_delete) p.first base.stored.setup text ≡ Ok does → p.prepared.block ≡ begun base.stored source.Program text base.block_delete p.next does
-    → IsReady base.stored p.prepared → IsPlannedOn equipment base p
-planned_by equipment base p text does place beginning does_is begun_is ready =
+pub planned_by : (geometry : Geometry) (base : Base) (p : PlannedModel) (text : List ℕ) (does : Done) → p.place ≡ base.stored.place → (base.stored.place ≡ 0 → p.first ≡ Blank)
+    → executed_after (terms_of geometry base.stored.tools base.block_delete) p.first base.stored.setup text ≡ Ok does → p.prepared.block ≡ begun base.stored source.Program text base.block_delete p.next does
+    → IsReady base.stored p.prepared → IsPlannedOn geometry base p
+planned_by geometry base p text does place beginning does_is begun_is ready =
     let read : text ≡ p.prepared.block.text = sym (ap (λ (c : CurrentBlockModel). c.text) begun_is) in
     record {
       place = place;
       beginning = λ none. beginning (sym place ∙ none);
       does = does;
-      does_is = subst (λ (t : List ℕ). executed_after (terms_of equipment base.stored.tools base.block_delete) p.first base.stored.setup t ≡ Ok does) read does_is;
+      does_is = subst (λ (t : List ℕ). executed_after (terms_of geometry base.stored.tools base.block_delete) p.first base.stored.setup t ≡ Ok does) read does_is;
       begun_is = subst (λ (t : List ℕ). p.prepared.block ≡ begun base.stored source.Program t base.block_delete p.next does) read begun_is;
       ready = ready;
     }
@@ -235,12 +235,12 @@ planned_by equipment base p text does place beginning does_is begun_is ready =
 pub end_base : (base : Base) (ps : List PlannedModel) (x : StoredModel) → x ≡ (base_at_end base ps).stored → base_at_end base ps ≡ record { stored = x; block_delete = base.block_delete }
 end_base base ps x is = λ i. record { stored = sym is i; block_delete = end_delete base ps i }
 
-pub plan_pushed : (equipment : Equipment) (base : Base) (ps qs : List PlannedModel) (p : PlannedModel) (x : StoredModel) → x ≡ (base_at_end base ps).stored → IsPlan equipment base ps
-    → IsPlannedOn equipment (record { stored = x; block_delete = base.block_delete }) p → (qs ≡ ps ++ p ∷ []) ⊎ (qs ≡ ps) → IsPlan equipment base qs
-plan_pushed equipment base ps qs p x is plan on (inl more) =
-    subst (λ (l : List PlannedModel). IsPlan equipment base l) (sym more)
-    (plan_more equipment base ps p plan (subst (λ (b : Base). IsPlannedOn equipment b p) (sym (end_base base ps x is)) on))
-plan_pushed equipment base ps qs p x is plan on (inr same) = subst (λ (l : List PlannedModel). IsPlan equipment base l) (sym same) plan
+pub plan_pushed : (geometry : Geometry) (base : Base) (ps qs : List PlannedModel) (p : PlannedModel) (x : StoredModel) → x ≡ (base_at_end base ps).stored → IsPlan geometry base ps
+    → IsPlannedOn geometry (record { stored = x; block_delete = base.block_delete }) p → (qs ≡ ps ++ p ∷ []) ⊎ (qs ≡ ps) → IsPlan geometry base qs
+plan_pushed geometry base ps qs p x is plan on (inl more) =
+    subst (λ (l : List PlannedModel). IsPlan geometry base l) (sym more)
+    (plan_more geometry base ps p plan (subst (λ (b : Base). IsPlannedOn geometry b p) (sym (end_base base ps x is)) on))
+plan_pushed geometry base ps qs p x is plan on (inr same) = subst (λ (l : List PlannedModel). IsPlan geometry base l) (sym same) plan
 
 pub lines_pushed : (program : List ℕ) (ps qs : List PlannedModel) (p : PlannedModel) (place : ℕ) (first : LineKind) (text : List ℕ) (next : ℕ) → AreLinesOf program ps → IsLineBetween program place first text next
     → p.place ≡ place → p.first ≡ first → p.prepared.block.text ≡ text → p.next ≡ next → (qs ≡ ps ++ p ∷ []) ⊎ (qs ≡ ps) → AreLinesOf program qs
@@ -254,8 +254,8 @@ lines_pushed program ps qs p place first text next lines line a b c d (inr same)
 
 -- ---- the first planned line is begun
 
-pub plan_front : (equipment : Equipment) (base : Base) (ps qs : List PlannedModel) (p : PlannedModel) → ps ≡ p ∷ qs → IsPlan equipment base ps → IsPlannedOn equipment base p × IsPlan equipment (base_then base p) qs
-plan_front equipment base ps qs p is plan = subst (λ (l : List PlannedModel). IsPlan equipment base l) is plan
+pub plan_front : (geometry : Geometry) (base : Base) (ps qs : List PlannedModel) (p : PlannedModel) → ps ≡ p ∷ qs → IsPlan geometry base ps → IsPlannedOn geometry base p × IsPlan geometry (base_then base p) qs
+plan_front geometry base ps qs p is plan = subst (λ (l : List PlannedModel). IsPlan geometry base l) is plan
 
 -- with no block, lines are planned on the stored state; the next line is planned on the state after the first
 free_base : (s : SessionModel) → s.current ≡ None → base_of s ≡ record { stored = s.stored; block_delete = s.block_delete }
@@ -265,12 +265,12 @@ then_base : (s : SessionModel) (p : PlannedModel) → p.prepared.block.stage ≡
     → base_of (let t : SessionModel = record s { current = Some p.prepared.block } in t) ≡ base_then (record { stored = s.stored; block_delete = s.block_delete }) p
 then_base s p on ready = λ i. record { stored = (ap (λ (g : Stage). base_on s.stored p.prepared.block g) on ∙ sym ready.after_is) i; block_delete = s.block_delete }
 
-pub begun_ahead : (equipment : Equipment) (s t : SessionModel) (known_old known_new : KnownModel) (p : PlannedModel) → s.current ≡ None → t ≡ (let u : SessionModel = record s { current = Some p.prepared.block } in u)
-    → known_old.ahead ≡ p ∷ known_new.ahead → known_new.before ≡ known_old.before → IsPlan equipment (base_of s) known_old.ahead → IsBegunAhead equipment reply.Begun s t known_old known_new
-begun_ahead equipment s t known_old known_new p free next front before plan =
+pub begun_ahead : (geometry : Geometry) (s t : SessionModel) (known_old known_new : KnownModel) (p : PlannedModel) → s.current ≡ None → t ≡ (let u : SessionModel = record s { current = Some p.prepared.block } in u)
+    → known_old.ahead ≡ p ∷ known_new.ahead → known_new.before ≡ known_old.before → IsPlan geometry (base_of s) known_old.ahead → IsBegunAhead geometry reply.Begun s t known_old known_new
+begun_ahead geometry s t known_old known_new p free next front before plan =
     let here : Base = record { stored = s.stored; block_delete = s.block_delete } in
-    let split = plan_front equipment here known_old.ahead known_new.ahead p front (subst (λ (b : Base). IsPlan equipment b known_old.ahead) (free_base s free) plan) in
-    let on : IsPlannedOn equipment here p = split.0 in
+    let split = plan_front geometry here known_old.ahead known_new.ahead p front (subst (λ (b : Base). IsPlan geometry b known_old.ahead) (free_base s free) plan) in
+    let on : IsPlannedOn geometry here p = split.0 in
     let stage_is : p.prepared.block.stage ≡ stage.OnBlock = ap (λ (c : CurrentBlockModel). c.stage) on.begun_is in
     record {
       planned = p;
@@ -278,7 +278,7 @@ begun_ahead equipment s t known_old known_new p free next front before plan =
       before = before;
       place = on.place;
       beginning = on.beginning;
-      told_is = λ program kind. ap (λ (o : Transition). o.reply) (planned_begins equipment program s p on kind);
-      next = λ program kind. next ∙ ap (λ (o : Transition). o.next) (planned_begins equipment program s p on kind);
-      plan = subst (λ (b : Base). IsPlan equipment b known_new.ahead) (sym (ap base_of next ∙ then_base s p stage_is on.ready)) split.1;
+      told_is = λ program kind. ap (λ (o : Transition). o.reply) (planned_begins geometry program s p on kind);
+      next = λ program kind. next ∙ ap (λ (o : Transition). o.next) (planned_begins geometry program s p on kind);
+      plan = subst (λ (b : Base). IsPlan geometry b known_new.ahead) (sym (ap base_of next ∙ then_base s p stage_is on.ready)) split.1;
     }

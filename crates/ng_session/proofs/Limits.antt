@@ -25,9 +25,9 @@ use Rattle.ng_block.specs.Ends.{ends}
 use Rattle.ng_block.specs.Order.{speed_outputs, selected_outputs, changed_outputs, spindle_outputs, coolant_outputs, stop_outputs, outputs_after}
 use Rattle.ng_block.specs.Steps.{order}
 use Rattle.ng_block.specs.Tasks.{tasks_of}
-use Rattle.ng_state.specs.declared.machine.Machine.{Machine}
+use Rattle.ng_state.specs.declared.modal_state.ModalState.{ModalState}
 use Rattle.ng_layout.specs.Limits.{greatest_slot}
-use Rattle.ng_layout.specs.Storable.{IsStorableMachine}
+use Rattle.ng_layout.specs.Storable.{IsStorableModalState}
 
 -- ---- results
 
@@ -129,8 +129,8 @@ outputs-fit b m mode slots o few is fits =
 
 -- ---- the machine after a block
 
-pub block-stands : (b : Block) (m after : Machine) (slots : ℕ) → slots ≤ greatest_slot → IsAccepted b m.modes slots → IsStorableMachine m
-    → feed_of b m ≡ Ok after.feed_per_min → after.outputs ≡ outputs_after (tasks_of b (feed_mode_after b m.modes) m.outputs) m.outputs order → IsStorableMachine after
+pub block-stands : (b : Block) (m after : ModalState) (slots : ℕ) → slots ≤ greatest_slot → IsAccepted b m.modes slots → IsStorableModalState m
+    → feed_of b m ≡ Ok after.feed_per_min → after.outputs ≡ outputs_after (tasks_of b (feed_mode_after b m.modes) m.outputs) m.outputs order → IsStorableModalState after
 block-stands b m after slots few is can feed outputs =
     let fits : Fits m.outputs = record { speed = can.speed; selected = can.selected; held = can.held } in
     let out : Fits after.outputs = subst Fits (sym outputs) (outputs-fit b m.modes (feed_mode_after b m.modes) slots m.outputs few is fits) in

@@ -16,7 +16,7 @@ use Rattle.ng_num.specs.declared.fault.Fault.{Fault}
 use Rattle.ng_num.specs.declared.fault.Fault.TheVariants.{BadArithmetic, BadIndex, Broken, CountersUsed, DeviceFailed, LineTooLong, NoFeed, OutOfMemory, OutOfRange, OutsideTravel}
 use Rattle.ng_params.specs.Numbers.{index_of}
 use Rattle.ng_canon.specs.declared.geometry.Geometry.{Geometry}
-use Rattle.ng_words.specs.Grammar.{is_too_long, Piece, Tree, word, setting, comment, number, parameter, bracketed, applied, joined}
+use Rattle.ng_words.specs.Grammar.{is_too_long, Piece, Tree, word, assignment, comment, number, parameter, bracketed, applied, joined}
 use Rattle.ng_words.specs.Kinds.{is_deletable}
 use Rattle.ng_words.specs.declared.tree.Function.{Function}
 use Rattle.ng_words.specs.declared.tree.Function.TheVariants.{Abs, Fix, Fup, Round, Sqrt}
@@ -33,7 +33,7 @@ use Rattle.ng_layout.specs.Stored.{StoredModel}
 use Rattle.ng_layout.specs.declared.half.Source.{Source}
 use Rattle.ng_layout.specs.declared.half.Source.TheVariants.{Program, Mdi}
 use Rattle.ng_text.specs.Programs.{lines_before}
-use Rattle.ng_session.specs.Entries.{Equipment, done_of, done_again, terms_of}
+use Rattle.ng_session.specs.Entries.{done_of, done_again, terms_of}
 use Rattle.ng_block.specs.Asked.{written_on, pieces_in, values_of, move_on, Move, Stays, Goes, Turns, GoesHome, Drills}
 use Rattle.ng_block.specs.Causes.{arc_faults, causes, computes_beyond, cycle_faults, goes_outside, has_no_feed, value_cause, value_causes}
 use Rattle.ng_block.specs.Effects.{Done, executed}
@@ -155,7 +155,7 @@ own_index table t = own_then (value t table) named (own_value t table) own_named
 
 own_given : (table : List ℤ) (p : Piece) → RefusesOwn (given table p)
 own_given table (word l t) = own_then (value t table) _ (own_value t table) (λ z. tt)
-own_given table (setting i v) =
+own_given table (assignment i v) =
     own_then (change table i v) _ (own_then (index table i) _ (own_index table i) (λ p. own_then (value v table) _ (own_value v table) (λ z. tt))) (λ c. tt)
 own_given table (comment text) = tt
 
@@ -197,16 +197,16 @@ unfolding causes
 own_causes s tools geometry text =
     let pieces = pieces_in (written_on text) in
     let values = values_of pieces s.params in
-    let b = block_of values.words s.machine.modes in
-    let table = with_changes s.params values.settings in
-    let move = result_unwrap_or (move_on b s.machine table tools) Stays in
+    let b = block_of values.words s.modal.modes in
+    let table = with_changes s.params values.assignments in
+    let move = result_unwrap_or (move_on b s.modal table tools) Stays in
     let end : AreOwn ((has_no_feed move, NoFeed) ∷ ((goes_outside move geometry, OutsideTravel) ∷ [])) = (refl, (refl, tt)) in (
       refl,
       (
         refl,
-        are_in_turn (value_causes pieces s.params) (faults values.words s.machine.modes (length tools)) (arc_faults move) (cycle_faults move)
-            ((has_no_feed move, NoFeed) ∷ ((goes_outside move geometry, OutsideTravel) ∷ [])) (computes_beyond b s.machine table tools)
-            (are_values pieces s.params) (are_of_words values.words s.machine.modes (length tools)) (are_of_arc move) (are_of_cycle move) end,
+        are_in_turn (value_causes pieces s.params) (faults values.words s.modal.modes (length tools)) (arc_faults move) (cycle_faults move)
+            ((has_no_feed move, NoFeed) ∷ ((goes_outside move geometry, OutsideTravel) ∷ [])) (computes_beyond b s.modal table tools)
+            (are_values pieces s.params) (are_of_words values.words s.modal.modes (length tools)) (are_of_arc move) (are_of_cycle move) end,
       ),
     )
 
@@ -229,12 +229,12 @@ own_framed None s r own = own
 own_framed (Some flow) s r own = tt
 
 -- a line of a program, a line of the operator, and a half-done block
-pub own_done : (equipment : Equipment) (program : List ℕ) (x : StoredModel) (source : Source) (text : List ℕ) (block_delete : Bool) → RefusesOwn (done_of equipment program x source text block_delete)
+pub own_done : (geometry : Geometry) (program : List ℕ) (x : StoredModel) (source : Source) (text : List ℕ) (block_delete : Bool) → RefusesOwn (done_of geometry program x source text block_delete)
 unfolding done_of
-own_done equipment program x Program text block_delete =
-    own_framed (percent_at (lines_before program x.place) text) x.setup (executed_unless_deleted (terms_of equipment x.tools block_delete) x.setup text) (own_unless_deleted (terms_of equipment x.tools block_delete) x.setup text)
-own_done equipment program x Mdi text block_delete = own_unless_deleted (terms_of equipment x.tools block_delete) x.setup text
+own_done geometry program x Program text block_delete =
+    own_framed (percent_at (lines_before program x.place) text) x.setup (executed_unless_deleted (terms_of geometry x.tools block_delete) x.setup text) (own_unless_deleted (terms_of geometry x.tools block_delete) x.setup text)
+own_done geometry program x Mdi text block_delete = own_unless_deleted (terms_of geometry x.tools block_delete) x.setup text
 
-pub own_again : (equipment : Equipment) (x : StoredModel) (text : List ℕ) → RefusesOwn (done_again equipment x text)
+pub own_again : (geometry : Geometry) (x : StoredModel) (text : List ℕ) → RefusesOwn (done_again geometry x text)
 unfolding done_again
-own_again equipment x text = own_line x.setup x.tools equipment.geometry text
+own_again geometry x text = own_line x.setup x.tools geometry text

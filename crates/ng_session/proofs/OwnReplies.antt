@@ -16,7 +16,8 @@ use Rattle.ng_layout.specs.Stored.{HalfModel}
 use Rattle.ng_layout.specs.declared.half.Opened.{Opened}
 use Rattle.ng_layout.specs.declared.half.Opened.TheVariants as open_part
 use Rattle.ng_layout.specs.declared.half.Source.TheVariants as source
-use Rattle.ng_session.specs.Entries.{Equipment, done_of, done_again}
+use Rattle.ng_canon.specs.declared.geometry.Geometry.{Geometry}
+use Rattle.ng_session.specs.Entries.{done_of, done_again}
 use Rattle.ng_session.specs.Session.{SessionModel, Transition, step, start, hold, resume_held, mdi, mdi_by, refuses_mdi, load, load_unless, load_refusal, reference, reference_unless, reference_refusal, abandon, abandon_unless, abandon_refusal, tool, tool_unless, tool_refusal, resume, resume_half, resume_from, resume_by, tick, begin, begin_by, open_part_of, opening_of, opening_reply, item_of, commit, idleness, accepts_load, is_at_rest, is_idle, is_running, if_some, hand_out}
 use Rattle.ng_session.specs.declared.activity.Activity.{Activity}
 use Rattle.ng_session.specs.declared.activity.Activity.TheVariants as activity
@@ -44,7 +45,7 @@ own_idleness activity.Stopped = tt
 
 own_start : (program : List ℕ) (s : SessionModel) → TellsOwn (start program s).reply
 own_start program s =
-    own_if (not (accepts_load s)) _ _ refl (own_if (not s.stored.setup.machine.point_known) _ _ refl (own_if (s.stored.length == 0) _ _ refl tt))
+    own_if (not (accepts_load s)) _ _ refl (own_if (not s.stored.setup.modal.point_known) _ _ refl (own_if (s.stored.length == 0) _ _ refl tt))
 
 own_hold : (program : List ℕ) (s : SessionModel) → TellsOwn (hold program s).reply
 own_hold program s = own_if (is_running s.activity || is_some s.current) _ _ tt (own_idleness s.activity)
@@ -57,10 +58,10 @@ own_mdi_by : (program : List ℕ) (s : SessionModel) (text : List ℕ) (r : Resu
 own_mdi_by program s text (Ok done) own = tt
 own_mdi_by program s text (Err fault) own = own
 
-own_mdi : (equipment : Equipment) (program : List ℕ) (s : SessionModel) (text : List ℕ) → TellsOwn (mdi equipment program s text).reply
-own_mdi equipment program s text =
-    own_if (refuses_mdi s) _ _ refl (own_if (not s.stored.setup.machine.point_known) _ _ refl
-    (own_mdi_by program s text (done_of equipment program s.stored source.Mdi text s.block_delete) (own_done equipment program s.stored source.Mdi text s.block_delete)))
+own_mdi : (geometry : Geometry) (program : List ℕ) (s : SessionModel) (text : List ℕ) → TellsOwn (mdi geometry program s text).reply
+own_mdi geometry program s text =
+    own_if (refuses_mdi s) _ _ refl (own_if (not s.stored.setup.modal.point_known) _ _ refl
+    (own_mdi_by program s text (done_of geometry program s.stored source.Mdi text s.block_delete) (own_done geometry program s.stored source.Mdi text s.block_delete)))
 
 -- the reason why something is refused, if it is, is the session's own
 abbrev IsOwn : Option Fault → Type 0
@@ -83,10 +84,10 @@ own_reference_unless : (program : List ℕ) (s : SessionModel) (point : Point) (
 own_reference_unless program s point None own = tt
 own_reference_unless program s point (Some fault) own = own
 
-own_reference : (equipment : Equipment) (program : List ℕ) (s : SessionModel) (point : Point) → TellsOwn (reference equipment program s point).reply
-own_reference equipment program s point =
-    own_reference_unless program s point (reference_refusal equipment.geometry s point)
-    (own_unless (not (is_at_rest s)) _ _ refl (own_unless (not (is_inside equipment.geometry point)) _ _ refl tt))
+own_reference : (geometry : Geometry) (program : List ℕ) (s : SessionModel) (point : Point) → TellsOwn (reference geometry program s point).reply
+own_reference geometry program s point =
+    own_reference_unless program s point (reference_refusal geometry s point)
+    (own_unless (not (is_at_rest s)) _ _ refl (own_unless (not (is_inside geometry point)) _ _ refl tt))
 
 own_abandon_unless : (program : List ℕ) (s : SessionModel) (o : Option Fault) → IsOwn o → TellsOwn (abandon_unless program s o).reply
 own_abandon_unless program s None own = tt
@@ -109,16 +110,16 @@ own_resume_by : (program : List ℕ) (s : SessionModel) (half : HalfModel) (from
 own_resume_by program s half from (Ok done) own = tt
 own_resume_by program s half from (Err fault) own = own
 
-own_resume_from : (equipment : Equipment) (program : List ℕ) (s : SessionModel) (half : HalfModel) (at : Option Point) → TellsOwn (resume_from equipment program s half at).reply
-own_resume_from equipment program s half None = refl
-own_resume_from equipment program s half (Some from) = own_resume_by program s half from (done_again equipment s.stored half.text) (own_again equipment s.stored half.text)
+own_resume_from : (geometry : Geometry) (program : List ℕ) (s : SessionModel) (half : HalfModel) (at : Option Point) → TellsOwn (resume_from geometry program s half at).reply
+own_resume_from geometry program s half None = refl
+own_resume_from geometry program s half (Some from) = own_resume_by program s half from (done_again geometry s.stored half.text) (own_again geometry s.stored half.text)
 
-own_resume_half : (equipment : Equipment) (program : List ℕ) (s : SessionModel) (half : Option HalfModel) → TellsOwn (resume_half equipment program s half).reply
-own_resume_half equipment program s None = refl
-own_resume_half equipment program s (Some half) = own_resume_from equipment program s half half.at
+own_resume_half : (geometry : Geometry) (program : List ℕ) (s : SessionModel) (half : Option HalfModel) → TellsOwn (resume_half geometry program s half).reply
+own_resume_half geometry program s None = refl
+own_resume_half geometry program s (Some half) = own_resume_from geometry program s half half.at
 
-own_resume : (equipment : Equipment) (program : List ℕ) (s : SessionModel) → TellsOwn (resume equipment program s).reply
-own_resume equipment program s = own_if (not (is_at_rest s)) _ _ refl (own_resume_half equipment program s s.stored.half)
+own_resume : (geometry : Geometry) (program : List ℕ) (s : SessionModel) → TellsOwn (resume geometry program s).reply
+own_resume geometry program s = own_if (not (is_at_rest s)) _ _ refl (own_resume_half geometry program s s.stored.half)
 
 -- ---- a Tick
 
@@ -141,31 +142,31 @@ own_begin_by : (program : List ℕ) (s : SessionModel) (line : ProgramLineModel)
 own_begin_by program s line (Ok done) own = tt
 own_begin_by program s line (Err fault) own = own
 
-pub own_begin : (equipment : Equipment) (program : List ℕ) (s : SessionModel) (line : Option ProgramLineModel) → TellsOwn (begin equipment program s line).reply
-own_begin equipment program s None = own_missing_end (first_kind (lines_before program s.stored.place))
-own_begin equipment program s (Some line) =
-    own_begin_by program s line (done_of equipment program s.stored source.Program line.text s.block_delete) (own_done equipment program s.stored source.Program line.text s.block_delete)
+pub own_begin : (geometry : Geometry) (program : List ℕ) (s : SessionModel) (line : Option ProgramLineModel) → TellsOwn (begin geometry program s line).reply
+own_begin geometry program s None = own_missing_end (first_kind (lines_before program s.stored.place))
+own_begin geometry program s (Some line) =
+    own_begin_by program s line (done_of geometry program s.stored source.Program line.text s.block_delete) (own_done geometry program s.stored source.Program line.text s.block_delete)
 
-own_tick : (equipment : Equipment) (program : List ℕ) (s : SessionModel) → TellsOwn (tick equipment program s).reply
-own_tick equipment program s =
+own_tick : (geometry : Geometry) (program : List ℕ) (s : SessionModel) → TellsOwn (tick geometry program s).reply
+own_tick geometry program s =
     own_if s.held _ _ tt (own_if_some (item_of s.current) (λ item. hand_out program s item) _ (λ item. tt)
-    (own_if_some (opening_of s.current) (λ half. open_part_of equipment program s half) _ (λ half. own_opening half.index half.opened)
+    (own_if_some (opening_of s.current) (λ half. open_part_of geometry program s half) _ (λ half. own_opening half.index half.opened)
     (own_if_some s.current (λ c. commit program s c) _ (λ c. tt)
-    (own_if (is_running s.activity) _ _ (own_begin equipment program s (program_line_at program s.stored.place)) (own_idleness s.activity)))))
+    (own_if (is_running s.activity) _ _ (own_begin geometry program s (program_line_at program s.stored.place)) (own_idleness s.activity)))))
 
 -- ---- an event
 
-pub own_step : {A : Type 0} (equipment : Equipment) (program : List ℕ) (s : SessionModel) (e : Event A) → TellsOwn (step equipment program s e).reply
-own_step equipment program s (event.Load text) = own_load program s text
-own_step equipment program s event.Start = own_start program s
-own_step equipment program s event.Hold = own_hold program s
-own_step equipment program s event.Continue = own_continue program s
-own_step equipment program s (event.Mdi text) = own_mdi equipment program s text
-own_step equipment program s (event.Reference point) = own_reference equipment program s point
-own_step equipment program s event.Resume = own_resume equipment program s
-own_step equipment program s event.Abandon = own_abandon program s
-own_step equipment program s (event.Tool slot nm) = own_tool program s slot nm
-own_step equipment program s (event.OptionalStop wanted) = tt
-own_step equipment program s (event.BlockDelete on) = tt
-own_step equipment program s event.Status = tt
-own_step equipment program s event.Tick = own_tick equipment program s
+pub own_step : {A : Type 0} (geometry : Geometry) (program : List ℕ) (s : SessionModel) (e : Event A) → TellsOwn (step geometry program s e).reply
+own_step geometry program s (event.Load text) = own_load program s text
+own_step geometry program s event.Start = own_start program s
+own_step geometry program s event.Hold = own_hold program s
+own_step geometry program s event.Continue = own_continue program s
+own_step geometry program s (event.Mdi text) = own_mdi geometry program s text
+own_step geometry program s (event.Reference point) = own_reference geometry program s point
+own_step geometry program s event.Resume = own_resume geometry program s
+own_step geometry program s event.Abandon = own_abandon program s
+own_step geometry program s (event.Tool slot nm) = own_tool program s slot nm
+own_step geometry program s (event.OptionalStop wanted) = tt
+own_step geometry program s (event.BlockDelete on) = tt
+own_step geometry program s event.Status = tt
+own_step geometry program s event.Tick = own_tick geometry program s

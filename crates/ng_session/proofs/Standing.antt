@@ -26,7 +26,7 @@ use Rattle.ng_modal.proofs.AcceptedLemmas.{accepted_by}
 use Rattle.ng_block.specs.Blocks.{feed_of}
 use Rattle.ng_block.specs.Cycles.{kept_of}
 use Rattle.ng_block.specs.Program.{TermsModel, idle, deleted, executed_unless_deleted, framed, is_end, executed_after, percent_by}
-use Rattle.ng_block.specs.Effects.{Done, lawful, block_done, executed, executed_pieces, executed_values, in_state}
+use Rattle.ng_block.specs.Effects.{Done, unless_refused, block_done, executed, executed_pieces, executed_values, in_state}
 use Rattle.ng_block.specs.Faults.{path_faults}
 use Rattle.ng_block.specs.Goals.{Goal, goal_of, path_after_bearings}
 use Rattle.ng_block.specs.Remarks.{remark_of}
@@ -36,7 +36,7 @@ use Rattle.ng_block.specs.declared.effect.ProgramFlow.{ProgramFlow}
 use Rattle.ng_block.specs.declared.effect.ProgramFlow.TheVariants.{GoesOn}
 use Rattle.ng_layout.specs.Limits.{greatest_slot}
 use Rattle.ng_offsets.specs.Tools.{AreTools}
-use Rattle.ng_layout.specs.Storable.{IsStorableMachine, IsStorableHalf, IsStorable}
+use Rattle.ng_layout.specs.Storable.{IsStorableModalState, IsStorableHalf, IsStorable}
 use Rattle.ng_layout.specs.Stored.{HalfModel, StoredModel}
 use Rattle.ng_layout.specs.declared.half.Source.{Source}
 use Rattle.ng_layout.specs.declared.half.Source.TheVariants.{Program, Mdi}
@@ -46,29 +46,29 @@ use Rattle.ng_session.proofs.Limits.{found, same, block-stands}
 
 -- the state that a line leads to can be stored if the state that it begins with can be
 abbrev Keeps : StateModel → Result Done Fault → Type 0
-Keeps s does = (done : Done) → does ≡ Ok done → IsStorableMachine s.machine → IsStorableMachine done.setup.machine
+Keeps s does = (done : Done) → does ≡ Ok done → IsStorableModalState s.modal → IsStorableModalState done.setup.modal
 
-unless-lawful : {X : Type 0} (o : Option Fault) (answer : Result X Fault) (x : X) → lawful o answer ≡ Ok x → answer ≡ Ok x
-unless-lawful None answer x e = e
-unless-lawful (Some fault) answer x e = absurd (cc e)
+unless-refused : {X : Type 0} (o : Option Fault) (answer : Result X Fault) (x : X) → unless_refused o answer ≡ Ok x → answer ≡ Ok x
+unless-refused None answer x e = e
+unless-refused (Some fault) answer x e = absurd (cc e)
 
-feed-found : (b : Block) (s : StateModel) (settings : List Change) (tools : List ℤ) (geometry : Geometry) (goal : Goal) → goal_of b settings s tools geometry ≡ Ok goal → feed_of b s.machine ≡ Ok goal.feed_per_min
-feed-found b s settings tools geometry goal e =
-    let feed = found (feed_of b s.machine) _ goal e in
-    let way = found (path_after_bearings b settings s tools feed.0 geometry) _ goal feed.2 in
-    let kept = found (kept_of b s.machine) _ goal way.2 in
+feed-found : (b : Block) (s : StateModel) (assignments : List Change) (tools : List ℤ) (geometry : Geometry) (goal : Goal) → goal_of b assignments s tools geometry ≡ Ok goal → feed_of b s.modal ≡ Ok goal.feed_per_min
+feed-found b s assignments tools geometry goal e =
+    let feed = found (feed_of b s.modal) _ goal e in
+    let way = found (path_after_bearings b assignments s tools feed.0 geometry) _ goal feed.2 in
+    let kept = found (kept_of b s.modal) _ goal way.2 in
     feed.1 ∙ ap (λ (g : Goal). Ok g.feed_per_min) (same _ goal kept.2)
 
 values-keep : (s : StateModel) (remark : List CanonModel) (values : Settled) (tools : List ℤ) (geometry : Geometry) → length tools ≤ greatest_slot → Keeps s (executed_values s remark values tools geometry)
 unfolding executed_values
 values-keep s remark values tools geometry few done e can =
-    let block = found (checked values.words s.machine.modes (length tools)) _ done e in
+    let block = found (checked values.words s.modal.modes (length tools)) _ done e in
     let b : Block = block.0 in
-    let accepted : IsAccepted b s.machine.modes (length tools) = accepted_by values.words s.machine.modes (length tools) (omega arith) b (Ok tt) block.1 in
-    let goal = found (goal_of b values.settings s tools geometry) _ done block.2 in
-    let is : block_done b goal.0 remark s ≡ done = same _ done (unless-lawful (first_fault (path_faults goal.0.path geometry)) _ done goal.2) in
-    subst (λ (d : Done). IsStorableMachine d.setup.machine) is
-    (block-stands b s.machine _ (length tools) few accepted can (feed-found b s values.settings tools geometry goal.0 goal.1) refl)
+    let accepted : IsAccepted b s.modal.modes (length tools) = accepted_by values.words s.modal.modes (length tools) (omega arith) b (Ok tt) block.1 in
+    let goal = found (goal_of b values.assignments s tools geometry) _ done block.2 in
+    let is : block_done b goal.0 remark s ≡ done = same _ done (unless-refused (first_fault (path_faults goal.0.path geometry)) _ done goal.2) in
+    subst (λ (d : Done). IsStorableModalState d.setup.modal) is
+    (block-stands b s.modal _ (length tools) few accepted can (feed-found b s values.assignments tools geometry goal.0 goal.1) refl)
 
 pieces-keep : (s : StateModel) (pieces : List Piece) (tools : List ℤ) (geometry : Geometry) → length tools ≤ greatest_slot → Keeps s (executed_pieces s pieces tools geometry)
 unfolding executed_pieces
@@ -83,7 +83,7 @@ line-keeps s tools geometry text few done e can =
     pieces-keep s line.0.pieces tools geometry few done line.2 can
 
 idle-keeps : (s : StateModel) (stop : ProgramFlow) → Keeps s (Ok (idle s stop))
-idle-keeps s stop done e can = subst (λ (d : Done). IsStorableMachine d.setup.machine) (same (idle s stop) done e) can
+idle-keeps s stop done e can = subst (λ (d : Done). IsStorableModalState d.setup.modal) (same (idle s stop) done e) can
 
 alone-keeps : (t : TermsModel) (s : StateModel) (text : List ℕ) → length t.tools ≤ greatest_slot → Keeps s (executed_unless_deleted t s text)
 alone-keeps t s text few = by (t.block_delete && is_deletable text)
@@ -104,22 +104,22 @@ after-keeps t first s text few = by (percent_by first text)
     by (Some stop) = idle-keeps s stop
 
 kept : {T : Type 0} (r : Result T Fault) (s : StateModel) (does : Result Done Fault) (done : Done) → Keeps s does
-    → MatchResult r (λ x. does ≡ Ok done) (λ fault. does ≡ Err fault) → OnOk r (IsStorableMachine s.machine → IsStorableMachine done.setup.machine)
+    → MatchResult r (λ x. does ≡ Ok done) (λ fault. does ≡ Err fault) → OnOk r (IsStorableModalState s.modal → IsStorableModalState done.setup.modal)
 kept (Ok x) s does done keeps e = keeps done e
 kept (Err fault) s does done keeps e = tt
 
 -- a line by itself, and one after others
 pub alone-stands : {T : Type 0} (r : Result T Fault) (t : TermsModel) (s : StateModel) (text : List ℕ) (done : Done) → length t.tools ≤ greatest_slot
-    → MatchResult r (λ x. executed_unless_deleted t s text ≡ Ok done) (λ fault. executed_unless_deleted t s text ≡ Err fault) → OnOk r (IsStorableMachine s.machine → IsStorableMachine done.setup.machine)
+    → MatchResult r (λ x. executed_unless_deleted t s text ≡ Ok done) (λ fault. executed_unless_deleted t s text ≡ Err fault) → OnOk r (IsStorableModalState s.modal → IsStorableModalState done.setup.modal)
 alone-stands r t s text done few = kept r s (executed_unless_deleted t s text) done (alone-keeps t s text few)
 
 pub after-stands : {T : Type 0} (r : Result T Fault) (t : TermsModel) (first : LineKind) (s : StateModel) (text : List ℕ) (done : Done) → length t.tools ≤ greatest_slot
-    → MatchResult r (λ x. executed_after t first s text ≡ Ok done) (λ fault. executed_after t first s text ≡ Err fault) → OnOk r (IsStorableMachine s.machine → IsStorableMachine done.setup.machine)
+    → MatchResult r (λ x. executed_after t first s text ≡ Ok done) (λ fault. executed_after t first s text ≡ Err fault) → OnOk r (IsStorableModalState s.modal → IsStorableModalState done.setup.modal)
 after-stands r t first s text done few = kept r s (executed_after t first s text) done (after-keeps t first s text few)
 
 -- a half-done block
 pub again-stands : {T : Type 0} (r : Result T Fault) (s : StateModel) (tools : List ℤ) (geometry : Geometry) (text : List ℕ) (done : Done) → length tools ≤ greatest_slot
-    → MatchResult r (λ x. executed s tools geometry text ≡ Ok done) (λ fault. executed s tools geometry text ≡ Err fault) → OnOk r (IsStorableMachine s.machine → IsStorableMachine done.setup.machine)
+    → MatchResult r (λ x. executed s tools geometry text ≡ Ok done) (λ fault. executed s tools geometry text ≡ Err fault) → OnOk r (IsStorableModalState s.modal → IsStorableModalState done.setup.modal)
 again-stands r s tools geometry text done few = kept r s (executed s tools geometry text) done (line-keeps s tools geometry text few)
 
 -- ---- what is stored after a block and after a load
@@ -136,7 +136,7 @@ place-within next place limit source stop first second = by (is_end stop) source
     by false Program = first
     by false Mdi = second
 
-pub next_storable : (x : StoredModel) (next : ℕ) (source : Source) (e : Effect) → IsStorable x → next ≤ x.length → IsStorableMachine e.machine → IsNextEntry x (after_block next x source (in_state x.setup e))
+pub next_storable : (x : StoredModel) (next : ℕ) (source : Source) (e : Effect) → IsStorable x → next ≤ x.length → IsStorableModalState e.modal → IsNextEntry x (after_block next x source (in_state x.setup e))
 next_storable x next source e was within can = record {
   count = refl;
   same = refl;
@@ -144,7 +144,7 @@ next_storable x next source e was within can = record {
   room = refl;
   storable = record {
     table = long-after x.setup.params e.changes.items ∙ was.table;
-    machine = can;
+    modal = can;
     half = tt;
     place = place-within next x.place x.length source e.stop within was.place;
     program = was.program;
@@ -156,7 +156,7 @@ next_storable x next source e was within can = record {
 pub load_storable : (x : StoredModel) (length_new : ℕ) → IsStorable x → length_new ≤ x.room → IsStorable (after_load x length_new)
 load_storable x length_new was short = record {
   table = length-map (enumerate_from 1 x.setup.params) _ ∙ length-enumerate_from 1 x.setup.params ∙ was.table;
-  machine = was.machine;
+  modal = was.modal;
   half = tt;
   place = omega arith;
   program = short;
@@ -166,7 +166,7 @@ load_storable x length_new was short = record {
 
 -- with a half-done block in addition
 pub half_storable : (x : StoredModel) (half : HalfModel) → IsStorable x → IsStorableHalf half → IsStorable (record x { half = Some half })
-half_storable x half was waits = record { table = was.table; machine = was.machine; half = waits; place = was.place; program = was.program; room = was.room; tools = was.tools }
+half_storable x half was waits = record { table = was.table; modal = was.modal; half = waits; place = was.place; program = was.program; room = was.room; tools = was.tools }
 
 -- after an approach
 pub approach_storable : (x : StoredModel) (half : HalfModel) (point : Point) → IsStorable x → length half.text ≤ 256 → IsNextEntry x (reached x half point)
@@ -175,7 +175,7 @@ approach_storable x half point was short = record {
   same = refl;
   tools = refl;
   room = refl;
-  storable = record { table = was.table; machine = was.machine; half = record { unknown = λ none. let e : false ≡ true = none in cc; text = short }; place = was.place; program = was.program; room = was.room; tools = was.tools };
+  storable = record { table = was.table; modal = was.modal; half = record { unknown = λ none. let e : false ≡ true = none in cc; text = short }; place = was.place; program = was.program; room = was.room; tools = was.tools };
 }
 
 -- after a reference to a point
@@ -183,10 +183,10 @@ pub reference_storable : (x y : StoredModel) (point : Point) → IsStorable x �
 reference_storable x y point was is = subst IsStorable (sym is) (by x.half refl)
   where
     by : (o : Option HalfModel) → x.half ≡ o → IsStorable (referenced x point o)
-    by None held = record { table = was.table; machine = record { feed = was.machine.feed; speed = was.machine.speed; selected = was.machine.selected; held = was.machine.held }; half = tt; place = was.place; program = was.program; room = was.room; tools = was.tools }
+    by None held = record { table = was.table; modal = record { feed = was.modal.feed; speed = was.modal.speed; selected = was.modal.selected; held = was.modal.held }; half = tt; place = was.place; program = was.program; room = was.room; tools = was.tools }
     by (Some half) held =
         let waits : IsStorableHalf half = subst (λ (o : Option HalfModel). IfSome o IsStorableHalf) held was.half in
-        record { table = was.table; machine = was.machine; half = record { unknown = λ none. let e : false ≡ true = none in cc; text = waits.text }; place = was.place; program = was.program; room = was.room; tools = was.tools }
+        record { table = was.table; modal = was.modal; half = record { unknown = λ none. let e : false ≡ true = none in cc; text = waits.text }; place = was.place; program = was.program; room = was.room; tools = was.tools }
 
 -- after a half-done block is given up
 pub abandon_storable : (x y : StoredModel) → IsStorable x → y ≡ after_abandon x → IsStorable y
@@ -194,8 +194,8 @@ abandon_storable x y was is = subst IsStorable (sym is) (by x.half)
   where
     by : (o : Option HalfModel) → IsStorable (abandoned x o)
     by None = was
-    by (Some half) = record { table = was.table; machine = record { feed = was.machine.feed; speed = was.machine.speed; selected = was.machine.selected; held = was.machine.held }; half = tt; place = was.place; program = was.program; room = was.room; tools = was.tools }
+    by (Some half) = record { table = was.table; modal = record { feed = was.modal.feed; speed = was.modal.speed; selected = was.modal.selected; held = was.modal.held }; half = tt; place = was.place; program = was.program; room = was.room; tools = was.tools }
 
 -- a table with a number of entries
 pub tool_storable : (x : StoredModel) (tools : List ℤ) (entries : ℕ) → IsStorable x → AreTools tools → IsStorable (record x { entries = entries; tools = tools })
-tool_storable x tools entries was few = record { table = was.table; machine = was.machine; half = was.half; place = was.place; program = was.program; room = was.room; tools = few }
+tool_storable x tools entries was few = record { table = was.table; modal = was.modal; half = was.half; place = was.place; program = was.program; room = was.room; tools = few }

@@ -20,8 +20,8 @@ pub tool_within : (n : ℤ) → is_tool_length n ≡ true → IsToolLength n
 tool_within (pos n) is = record { least = grind (arith, nat_tests); most = grind (arith, nat_tests) }
 tool_within (negsuc n) is = cc
 
-pub slot_lawful : (lengths : List ℤ) (change : SlotChange) → takes_slot lengths change.slot ≡ true → IsSlotChange lengths change
-slot_lawful lengths change is = record { from = slot_from lengths change.slot is; to = slot_to lengths change.slot is }
+pub slot_valid : (lengths : List ℤ) (change : SlotChange) → takes_slot lengths change.slot ≡ true → IsSlotChange lengths change
+slot_valid lengths change is = record { from = slot_from lengths change.slot is; to = slot_to lengths change.slot is }
 
 pub one_slot : (old new : List ℤ) (change : SlotChange) → takes_slot old change.slot ≡ true → new ≡ with_slot change old → IsOneSlotFrom old new
-one_slot old new change takes is = record { change = Some change; lawful = slot_lawful old change takes; is = is }
+one_slot old new change takes is = record { change = Some change; valid = slot_valid old change takes; is = is }

@@ -17,7 +17,7 @@ use Rattle.ng_block.specs.Program.{TermsModel, executed_in_program, executed_unl
 use Rattle.ng_block.specs.Effects.{Done, executed}
 use Rattle.ng_state.specs.State.{StateModel}
 use Rattle.ng_block.specs.declared.effect.ProgramFlow.{ProgramFlow}
-use Rattle.ng_state.specs.declared.machine.Machine.{Machine}
+use Rattle.ng_state.specs.declared.modal_state.ModalState.{ModalState}
 use Rattle.ng_layout.specs.Stored.{HalfModel, StoredModel}
 use Rattle.ng_offsets.specs.Tools.{with_slot}
 use Rattle.ng_layout.specs.declared.half.Source.{Source}
@@ -26,7 +26,7 @@ use Rattle.ng_text.specs.Programs.{lines_before}
 use Rattle.ng_session.specs.declared.stage.Approach.{Approach}
 
 -- the geometry, which never changes
-pub record Equipment : Type 0 where
+pub record Geometry : Type 0 where
   pub geometry : Geometry
 
 -- what is committed: a line of the program or of the operator, begun with block delete on or off; a program; the point
@@ -40,19 +40,19 @@ pub data Entry : Type 0 where
   Abandoned : Entry
   Tooled : ℕ → ℤ → Entry
 
-abbrev pub terms_of : Equipment → List ℤ → Bool → TermsModel
-terms_of equipment tools block_delete = record { block_delete = block_delete; tools = tools; geometry = equipment.geometry }
+abbrev pub terms_of : Geometry → List ℤ → Bool → TermsModel
+terms_of geometry tools block_delete = record { block_delete = block_delete; tools = tools; geometry = geometry }
 
 -- what a line does with the stored tool table, or why it is refused; a line of the program comes after those before its
 -- place
-unfoldable pub done_of : Equipment → List ℕ → StoredModel → Source → List ℕ → Bool → Result Done Fault
-done_of equipment program x Program text block_delete = executed_in_program (terms_of equipment x.tools block_delete) (lines_before program x.place) x.setup text
-done_of equipment program x Mdi text block_delete = executed_unless_deleted (terms_of equipment x.tools block_delete) x.setup text
+unfoldable pub done_of : Geometry → List ℕ → StoredModel → Source → List ℕ → Bool → Result Done Fault
+done_of geometry program x Program text block_delete = executed_in_program (terms_of geometry x.tools block_delete) (lines_before program x.place) x.setup text
+done_of geometry program x Mdi text block_delete = executed_unless_deleted (terms_of geometry x.tools block_delete) x.setup text
 
 -- what a half-done block does from its beginning, or why it is refused; it is neither deleted nor a percent line, since
 -- it had a segment
-unfoldable pub done_again : Equipment → StoredModel → List ℕ → Result Done Fault
-done_again equipment x text = executed x.setup x.tools equipment.geometry text
+unfoldable pub done_again : Geometry → StoredModel → List ℕ → Result Done Fault
+done_again geometry x text = executed x.setup x.tools geometry text
 
 -- where the program goes on after a block: after a line of the program at the next line, after the program's end at the
 -- beginning
@@ -71,13 +71,13 @@ after_block next x source done =
 -- the state after the load of a program of this length
 abbrev pub after_load : StoredModel → ℕ → StoredModel
 after_load x length =
-    record x { entries = x.entries + 1; setup = record { params = cleared x.setup.params; machine = x.setup.machine }; place = 0; length = length; half = None }
+    record x { entries = x.entries + 1; setup = record { params = cleared x.setup.params; modal = x.setup.modal }; place = 0; length = length; half = None }
 
 -- ---- a half-done block
 
 -- the machine's position and outputs before a given segment of a block, if the block begins in a given state
 abbrev pub stance_before : StateModel → Done → ℕ → Stance
-stance_before setup done n = after_segments (record { point = setup.machine.point; outputs = done.before }) (take n done.segments)
+stance_before setup done n = after_segments (record { point = setup.modal.point; outputs = done.before }) (take n done.segments)
 
 -- what an approach hands out: a switch with the outputs there, then a line at the traverse rate
 abbrev pub hand_approach : Geometry → Approach → List Item
@@ -85,7 +85,7 @@ hand_approach geometry a = hand (segment.Switch a.to.outputs) geometry ++ hand (
 
 -- the machine at a point that the operator gave
 abbrev pub placed : StateModel → Point → StateModel
-placed setup point = record { params = setup.params; machine = record setup.machine { point = point; point_known = true } }
+placed setup point = record { params = setup.params; modal = record setup.modal { point = point; point_known = true } }
 
 -- a half-done block whose machine is at a point
 abbrev pub placed_at : Point → HalfModel → HalfModel
@@ -115,12 +115,12 @@ abbrev pub turned_off : Outputs → Outputs
 turned_off o = record o { spindle = spindle.Stopped; mist = false; flood = false }
 
 -- the machine after a half-done block is given up: at the point of that block's machine, if that is known
-abbrev pub given_up : Machine → HalfModel → Machine
+abbrev pub given_up : ModalState → HalfModel → ModalState
 given_up m half = record m { outputs = turned_off m.outputs; point = unwrap_or half.at m.point; point_known = is_some half.at }
 
 abbrev pub abandoned : StoredModel → Option HalfModel → StoredModel
 abandoned x None = x
-abandoned x (Some half) = record x { entries = x.entries + 1; setup = record { params = x.setup.params; machine = given_up x.setup.machine half }; half = None }
+abandoned x (Some half) = record x { entries = x.entries + 1; setup = record { params = x.setup.params; modal = given_up x.setup.modal half }; half = None }
 
 -- the state after a half-done block is given up
 abbrev pub after_abandon : StoredModel → StoredModel

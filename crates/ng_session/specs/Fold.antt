@@ -14,16 +14,17 @@ use Rattle.ng_layout.specs.Stored.{HalfModel, StoredModel, DurableState}
 use Rattle.ng_layout.specs.declared.half.Source.{Source}
 use Rattle.ng_layout.specs.declared.half.Source.TheVariants as source
 use Rattle.ng_text.specs.Programs.{ProgramLineModel, program_line_at, next_line_start}
-use Rattle.ng_session.specs.Entries.{Equipment, Entry, Block, Loaded, Referenced, Approached, Abandoned, Tooled, done_of, done_again, after_block, after_load, stance_before, hand_approach, after_reference, after_approach, after_abandon, after_tool}
+use Rattle.ng_canon.specs.declared.geometry.Geometry.{Geometry}
+use Rattle.ng_session.specs.Entries.{Entry, Block, Loaded, Referenced, Approached, Abandoned, Tooled, done_of, done_again, after_block, after_load, stance_before, hand_approach, after_reference, after_approach, after_abandon, after_tool}
 use Rattle.ng_session.specs.declared.stage.Approach.{Approach}
 
 -- what a block does: the half-done block, if there is one
-abbrev pub block_done : Equipment → DurableState → Option HalfModel → Source → List ℕ → Bool → Result Done Fault
-block_done equipment x None source text block_delete = done_of equipment x.program x.saved source text block_delete
-block_done equipment x (Some half) source text block_delete = done_again equipment x.saved text
+abbrev pub block_done : Geometry → DurableState → Option HalfModel → Source → List ℕ → Bool → Result Done Fault
+block_done geometry x None source text block_delete = done_of geometry x.program x.saved source text block_delete
+block_done geometry x (Some half) source text block_delete = done_again geometry x.saved text
 
-abbrev pub done_in : Equipment → DurableState → Source → List ℕ → Bool → Result Done Fault
-done_in equipment x source text block_delete = block_done equipment x x.saved.half source text block_delete
+abbrev pub done_in : Geometry → DurableState → Source → List ℕ → Bool → Result Done Fault
+done_in geometry x source text block_delete = block_done geometry x x.saved.half source text block_delete
 
 -- the number of its first segment that is still to do
 abbrev pub first_to_do : Option HalfModel → ℕ
@@ -40,12 +41,12 @@ approach_from x half None done = None
 approach_from x half (Some from) (Err fault) = None
 approach_from x half (Some from) (Ok done) = Some (record { from = from; to = stance_before x.setup done half.index })
 
-abbrev pub approach_to : Equipment → StoredModel → Option HalfModel → Option Approach
-approach_to equipment x None = None
-approach_to equipment x (Some half) = approach_from x half half.at (done_again equipment x half.text)
+abbrev pub approach_to : Geometry → StoredModel → Option HalfModel → Option Approach
+approach_to geometry x None = None
+approach_to geometry x (Some half) = approach_from x half half.at (done_again geometry x half.text)
 
-abbrev pub approach_in : Equipment → DurableState → Option Approach
-approach_in equipment x = approach_to equipment x.saved x.saved.half
+abbrev pub approach_in : Geometry → DurableState → Option Approach
+approach_in geometry x = approach_to geometry x.saved x.saved.half
 
 -- ---- the state after an entry
 
@@ -58,44 +59,44 @@ abbrev pub durable_state_reached : DurableState → Option Approach → DurableS
 durable_state_reached x None = x
 durable_state_reached x (Some a) = record x { saved = after_approach x.saved a.to.point }
 
-abbrev pub after : Equipment → DurableState → Entry → DurableState
-after equipment x (Block source text block_delete) = durable_state_after x source (done_in equipment x source text block_delete)
-after equipment x (Loaded text) = record { saved = after_load x.saved (length text); program = text }
-after equipment x (Referenced point) = record x { saved = after_reference x.saved point }
-after equipment x Approached = durable_state_reached x (approach_in equipment x)
-after equipment x Abandoned = record x { saved = after_abandon x.saved }
-after equipment x (Tooled slot nm) = record x { saved = after_tool x.saved slot nm }
+abbrev pub after : Geometry → DurableState → Entry → DurableState
+after geometry x (Block source text block_delete) = durable_state_after x source (done_in geometry x source text block_delete)
+after geometry x (Loaded text) = record { saved = after_load x.saved (length text); program = text }
+after geometry x (Referenced point) = record x { saved = after_reference x.saved point }
+after geometry x Approached = durable_state_reached x (approach_in geometry x)
+after geometry x Abandoned = record x { saved = after_abandon x.saved }
+after geometry x (Tooled slot nm) = record x { saved = after_tool x.saved slot nm }
 
 -- ---- what an entry hands out
 
 -- the items of some segments, in order
-abbrev pub hand_all : Equipment → List Segment → List Item
-hand_all equipment [] = []
-hand_all equipment (segment ∷ segments) = hand segment equipment.geometry ++ hand_all equipment segments
+abbrev pub hand_all : Geometry → List Segment → List Item
+hand_all geometry [] = []
+hand_all geometry (segment ∷ segments) = hand segment geometry ++ hand_all geometry segments
 
-abbrev pub items_done : Equipment → DurableState → Result Done Fault → List Item
-items_done equipment x (Err fault) = []
-items_done equipment x (Ok done) = hand_all equipment (still_to_do x done)
+abbrev pub items_done : Geometry → DurableState → Result Done Fault → List Item
+items_done geometry x (Err fault) = []
+items_done geometry x (Ok done) = hand_all geometry (still_to_do x done)
 
-abbrev pub items_on_way : Equipment → Option Approach → List Item
-items_on_way equipment None = []
-items_on_way equipment (Some a) = hand_approach equipment.geometry a
+abbrev pub items_on_way : Geometry → Option Approach → List Item
+items_on_way geometry None = []
+items_on_way geometry (Some a) = hand_approach geometry a
 
-abbrev pub items : Equipment → DurableState → Entry → List Item
-items equipment x (Block source text block_delete) = items_done equipment x (done_in equipment x source text block_delete)
-items equipment x (Loaded text) = []
-items equipment x (Referenced point) = []
-items equipment x Approached = items_on_way equipment (approach_in equipment x)
-items equipment x Abandoned = []
-items equipment x (Tooled slot nm) = []
+abbrev pub items : Geometry → DurableState → Entry → List Item
+items geometry x (Block source text block_delete) = items_done geometry x (done_in geometry x source text block_delete)
+items geometry x (Loaded text) = []
+items geometry x (Referenced point) = []
+items geometry x Approached = items_on_way geometry (approach_in geometry x)
+items geometry x Abandoned = []
+items geometry x (Tooled slot nm) = []
 
-abbrev pub after_all : Equipment → DurableState → List Entry → DurableState
-after_all equipment x [] = x
-after_all equipment x (entry ∷ entries) = after_all equipment (after equipment x entry) entries
+abbrev pub after_all : Geometry → DurableState → List Entry → DurableState
+after_all geometry x [] = x
+after_all geometry x (entry ∷ entries) = after_all geometry (after geometry x entry) entries
 
-abbrev pub items_all : Equipment → DurableState → List Entry → List Item
-items_all equipment x [] = []
-items_all equipment x (entry ∷ entries) = items equipment x entry ++ items_all equipment (after equipment x entry) entries
+abbrev pub items_all : Geometry → DurableState → List Entry → List Item
+items_all geometry x [] = []
+items_all geometry x (entry ∷ entries) = items geometry x entry ++ items_all geometry (after geometry x entry) entries
 
 -- ---- what may be committed in a state, given the operator's lines
 
@@ -118,18 +119,18 @@ IsTextOf lines x None source text block_delete done = IsGiven lines x source tex
 IsTextOf lines x (Some half) source text block_delete done = (source ≡ half.source) × (block_delete ≡ false) × ResumesHalf x.saved half text done
 
 -- a block that may be worked: it isn't refused
-pub record IsBlock (equipment : Equipment) (lines : List (List ℕ)) (x : DurableState) (source : Source) (text : List ℕ) (block_delete : Bool) (done : Done) : Type 0 where
-  pub does : done_in equipment x source text block_delete ≡ Ok done
+pub record IsBlock (geometry : Geometry) (lines : List (List ℕ)) (x : DurableState) (source : Source) (text : List ℕ) (block_delete : Bool) (done : Done) : Type 0 where
+  pub does : done_in geometry x source text block_delete ≡ Ok done
   pub text_is : IsTextOf lines x x.saved.half source text block_delete done
 
-abbrev pub FollowsFold : Equipment → List (List ℕ) → DurableState → Entry → Type 0
-FollowsFold equipment lines x (Block source text block_delete) = (done : Done) × IsBlock equipment lines x source text block_delete done
-FollowsFold equipment lines x (Loaded text) = (length text ≤ x.saved.room) × (x.saved.half ≡ None)
-FollowsFold equipment lines x (Referenced point) = is_inside equipment.geometry point ≡ true
-FollowsFold equipment lines x Approached = (a : Approach) × (approach_in equipment x ≡ Some a)
-FollowsFold equipment lines x Abandoned = (half : HalfModel) × (x.saved.half ≡ Some half)
-FollowsFold equipment lines x (Tooled slot nm) = (takes_slot x.saved.tools slot ≡ true) × (is_tool_length nm ≡ true) × (x.saved.half ≡ None)
+abbrev pub FollowsFold : Geometry → List (List ℕ) → DurableState → Entry → Type 0
+FollowsFold geometry lines x (Block source text block_delete) = (done : Done) × IsBlock geometry lines x source text block_delete done
+FollowsFold geometry lines x (Loaded text) = (length text ≤ x.saved.room) × (x.saved.half ≡ None)
+FollowsFold geometry lines x (Referenced point) = is_inside geometry point ≡ true
+FollowsFold geometry lines x Approached = (a : Approach) × (approach_in geometry x ≡ Some a)
+FollowsFold geometry lines x Abandoned = (half : HalfModel) × (x.saved.half ≡ Some half)
+FollowsFold geometry lines x (Tooled slot nm) = (takes_slot x.saved.tools slot ≡ true) × (is_tool_length nm ≡ true) × (x.saved.half ≡ None)
 
-abbrev pub FollowFold : Equipment → List (List ℕ) → DurableState → List Entry → Type 0
-FollowFold equipment lines x [] = Unit {0}
-FollowFold equipment lines x (entry ∷ entries) = FollowsFold equipment lines x entry × FollowFold equipment lines (after equipment x entry) entries
+abbrev pub FollowFold : Geometry → List (List ℕ) → DurableState → List Entry → Type 0
+FollowFold geometry lines x [] = Unit {0}
+FollowFold geometry lines x (entry ∷ entries) = FollowsFold geometry lines x entry × FollowFold geometry lines (after geometry x entry) entries

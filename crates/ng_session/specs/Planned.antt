@@ -10,7 +10,8 @@ use Rattle.ng_block.specs.Effects.{Done}
 use Rattle.ng_block.specs.Program.{executed_after, is_end}
 use Rattle.ng_layout.specs.Stored.{StoredModel}
 use Rattle.ng_layout.specs.declared.half.Source.TheVariants as source
-use Rattle.ng_session.specs.Entries.{Equipment, terms_of}
+use Rattle.ng_canon.specs.declared.geometry.Geometry.{Geometry}
+use Rattle.ng_session.specs.Entries.{terms_of}
 use Rattle.ng_session.specs.Session.{CurrentBlockModel, SessionModel, after_current_block, after_current_approach, begin, begun}
 use Rattle.ng_session.specs.SessionInvariant.{Prepared, IsReady}
 use Rattle.ng_session.specs.declared.event.Event.{Event}
@@ -105,28 +106,28 @@ ends_at_end ends (p ∷ ps) = ends_at_end (is_end p.prepared.block.stop) ps
 
 -- The line at the place that will be stored is valid then, and the block is what the line does then. There is no line
 -- before the program's beginning.
-pub record IsPlannedOn (equipment : Equipment) (base : Base) (p : PlannedModel) : Type 0 where
+pub record IsPlannedOn (geometry : Geometry) (base : Base) (p : PlannedModel) : Type 0 where
   pub place : p.place ≡ base.stored.place
   pub beginning : p.place ≡ 0 → p.first ≡ Blank
   pub does : Done
-  pub does_is : executed_after (terms_of equipment base.stored.tools base.block_delete) p.first base.stored.setup p.prepared.block.text ≡ Ok does
+  pub does_is : executed_after (terms_of geometry base.stored.tools base.block_delete) p.first base.stored.setup p.prepared.block.text ≡ Ok does
   pub begun_is : p.prepared.block ≡ begun base.stored source.Program p.prepared.block.text base.block_delete p.next does
   pub ready : IsReady base.stored p.prepared
 
 -- each line is planned on the state after the one before it
-abbrev pub IsPlan : Equipment → Base → List PlannedModel → Type 0
-IsPlan equipment base [] = Unit {0}
-IsPlan equipment base (p ∷ ps) = IsPlannedOn equipment base p × IsPlan equipment (base_then base p) ps
+abbrev pub IsPlan : Geometry → Base → List PlannedModel → Type 0
+IsPlan geometry base [] = Unit {0}
+IsPlan geometry base (p ∷ ps) = IsPlannedOn geometry base p × IsPlan geometry (base_then base p) ps
 
 -- the first planned line is begun just as if it were read then, and the others stay planned
-pub record IsBegunAhead (equipment : Equipment) (told : Reply) (old new : SessionModel) (known_old known_new : KnownModel) : Type 0 where
+pub record IsBegunAhead (geometry : Geometry) (told : Reply) (old new : SessionModel) (known_old known_new : KnownModel) : Type 0 where
   pub planned : PlannedModel
   pub front : known_old.ahead ≡ planned ∷ known_new.ahead
   pub before : known_new.before ≡ known_old.before
   pub place : planned.place ≡ old.stored.place
   pub beginning : planned.place ≡ 0 → planned.first ≡ Blank
   pub told_is : (program : List ℕ) → planned.first ≡ first_kind (lines_before program old.stored.place)
-      → told ≡ (begin equipment program old (Some (record { text = planned.prepared.block.text; next = planned.next }))).reply
+      → told ≡ (begin geometry program old (Some (record { text = planned.prepared.block.text; next = planned.next }))).reply
   pub next : (program : List ℕ) → planned.first ≡ first_kind (lines_before program old.stored.place)
-      → new ≡ (begin equipment program old (Some (record { text = planned.prepared.block.text; next = planned.next }))).next
-  pub plan : IsPlan equipment (base_of new) known_new.ahead
+      → new ≡ (begin geometry program old (Some (record { text = planned.prepared.block.text; next = planned.next }))).next
+  pub plan : IsPlan geometry (base_of new) known_new.ahead

@@ -2,7 +2,8 @@
 use Rattle.std.specs.Prelude.{ℕ, ◌+◌, List, [], ◌∷◌, ◌++◌, Option, Some, None}
 use Rattle.ng_canon.specs.declared.item.Item.{Item}
 use Rattle.ng_layout.specs.Stored.{DurableState}
-use Rattle.ng_session.specs.Entries.{Equipment, Entry}
+use Rattle.ng_canon.specs.declared.geometry.Geometry.{Geometry}
+use Rattle.ng_session.specs.Entries.{Entry}
 use Rattle.ng_session.specs.Session.{CurrentBlockModel, SessionModel, Transition, resting, entry_on, step}
 use Rattle.ng_session.specs.declared.event.Event.{Event}
 use Rattle.ng_session.specs.declared.event.Event.TheVariants as event
@@ -18,27 +19,27 @@ pub record ProgramSession : Type 0 where
 abbrev pub session_at_power_on : DurableState → ProgramSession
 session_at_power_on x = record { program = x.program; session = resting x.saved }
 
-abbrev pub leads_to : {A : Type 0} → Equipment → ProgramSession → Event A → Transition
-leads_to equipment s event = step equipment s.program s.session event
+abbrev pub leads_to : {A : Type 0} → Geometry → ProgramSession → Event A → Transition
+leads_to geometry s event = step geometry s.program s.session event
 
 abbrev pub session_of_transition : Transition → ProgramSession
 session_of_transition out = record { program = out.program; session = out.next }
 
-abbrev pub replies_of : {A : Type 0} → Equipment → ProgramSession → List (Event A) → List Reply
-replies_of equipment s [] = []
-replies_of equipment s (event ∷ events) = (leads_to equipment s event).reply ∷ replies_of equipment (session_of_transition (leads_to equipment s event)) events
+abbrev pub replies_of : {A : Type 0} → Geometry → ProgramSession → List (Event A) → List Reply
+replies_of geometry s [] = []
+replies_of geometry s (event ∷ events) = (leads_to geometry s event).reply ∷ replies_of geometry (session_of_transition (leads_to geometry s event)) events
 
-abbrev pub items_of : {A : Type 0} → Equipment → ProgramSession → List (Event A) → List Item
-items_of equipment s [] = []
-items_of equipment s (event ∷ events) = (leads_to equipment s event).items ++ items_of equipment (session_of_transition (leads_to equipment s event)) events
+abbrev pub items_of : {A : Type 0} → Geometry → ProgramSession → List (Event A) → List Item
+items_of geometry s [] = []
+items_of geometry s (event ∷ events) = (leads_to geometry s event).items ++ items_of geometry (session_of_transition (leads_to geometry s event)) events
 
-abbrev pub entries_of : {A : Type 0} → Equipment → ProgramSession → List (Event A) → List Entry
-entries_of equipment s [] = []
-entries_of equipment s (event ∷ events) = (leads_to equipment s event).entries ++ entries_of equipment (session_of_transition (leads_to equipment s event)) events
+abbrev pub entries_of : {A : Type 0} → Geometry → ProgramSession → List (Event A) → List Entry
+entries_of geometry s [] = []
+entries_of geometry s (event ∷ events) = (leads_to geometry s event).entries ++ entries_of geometry (session_of_transition (leads_to geometry s event)) events
 
-abbrev pub session_after : {A : Type 0} → Equipment → ProgramSession → List (Event A) → ProgramSession
-session_after equipment s [] = s
-session_after equipment s (event ∷ events) = session_after equipment (session_of_transition (leads_to equipment s event)) events
+abbrev pub session_after : {A : Type 0} → Geometry → ProgramSession → List (Event A) → ProgramSession
+session_after geometry s [] = s
+session_after geometry s (event ∷ events) = session_after geometry (session_of_transition (leads_to geometry s event)) events
 
 -- the entry as which the current block, or the approach before it, is committed
 abbrev pub entry_of : Option CurrentBlockModel → List Entry
@@ -46,8 +47,8 @@ entry_of None = []
 entry_of (Some c) = entry_on c c.stage ∷ []
 
 -- what is under way after some events
-abbrev pub under_way : {A : Type 0} → Equipment → ProgramSession → List (Event A) → List Entry
-under_way equipment s events = entry_of (session_after equipment s events).session.current
+abbrev pub under_way : {A : Type 0} → Geometry → ProgramSession → List (Event A) → List Entry
+under_way geometry s events = entry_of (session_after geometry s events).session.current
 
 -- what a power cut leaves: the stored state, and the items handed out
 pub record CrashState : Type 0 where
@@ -58,8 +59,8 @@ abbrev pub crash_in : ProgramSession → List Item → CrashState
 crash_in s items = record { standing = record { saved = s.session.stored; program = s.program }; items = items }
 
 -- what a power cut leaves after some events, given the items handed out before
-abbrev pub crash_after : {A : Type 0} → Equipment → ProgramSession → List Item → List (Event A) → CrashState
-crash_after equipment s before events = crash_in (session_after equipment s events) (before ++ items_of equipment s events)
+abbrev pub crash_after : {A : Type 0} → Geometry → ProgramSession → List Item → List (Event A) → CrashState
+crash_after geometry s before events = crash_in (session_after geometry s events) (before ++ items_of geometry s events)
 
 abbrev pub done_count : Reply → ℕ
 done_count (reply.Done n) = 1

@@ -22,7 +22,7 @@ use Rattle.ng_layout.specs.declared.half.Source.TheVariants as source
 use Rattle.ng_layout.specs.declared.half.Opened.{Opened}
 use Rattle.ng_layout.specs.declared.half.Opened.TheVariants as open_part
 use Rattle.ng_text.specs.Programs.{ProgramLineModel, lines_before, program_line_at, next_line_start}
-use Rattle.ng_session.specs.Entries.{Equipment, Entry, Block, Loaded, Referenced, Approached, Abandoned, Tooled, done_of, done_again, place_after, after_load, stance_before, hand_approach, after_reference, after_abandon, after_tool}
+use Rattle.ng_session.specs.Entries.{Entry, Block, Loaded, Referenced, Approached, Abandoned, Tooled, done_of, done_again, place_after, after_load, stance_before, hand_approach, after_reference, after_abandon, after_tool}
 use Rattle.ng_session.specs.declared.activity.Activity.{Activity}
 use Rattle.ng_session.specs.declared.activity.Activity.TheVariants as activity
 use Rattle.ng_session.specs.declared.reply.Reply.{Reply}
@@ -118,7 +118,7 @@ idleness activity.Stopped = reply.Stopped
 abbrev pub start : List ℕ → SessionModel → Transition
 start program s =
     if not (accepts_load s) then refuses program fault.Busy s
-    else if not s.stored.setup.machine.point_known then refuses program fault.PlaceUnknown s
+    else if not s.stored.setup.modal.point_known then refuses program fault.PlaceUnknown s
     else if s.stored.length == 0 then refuses program fault.NoProgram s
     else answers program reply.Going (record s { activity = activity.Running })
 
@@ -163,11 +163,11 @@ abbrev pub refuses_mdi : SessionModel → Bool
 refuses_mdi s = is_some s.current || (is_running s.activity && not s.held) || is_some s.stored.half
 
 -- block delete takes effect here, when the line is begun
-abbrev pub mdi : Equipment → List ℕ → SessionModel → List ℕ → Transition
-mdi equipment program s text =
+abbrev pub mdi : Geometry → List ℕ → SessionModel → List ℕ → Transition
+mdi geometry program s text =
     if refuses_mdi s then refuses program fault.Busy s
-    else if not s.stored.setup.machine.point_known then refuses program fault.PlaceUnknown s
-    else mdi_by program s text (done_of equipment program s.stored source.Mdi text s.block_delete)
+    else if not s.stored.setup.modal.point_known then refuses program fault.PlaceUnknown s
+    else mdi_by program s text (done_of geometry program s.stored source.Mdi text s.block_delete)
 
 abbrev pub load_refusal : SessionModel → List ℕ → Option Fault
 load_refusal s text =
@@ -198,8 +198,8 @@ abbrev pub reference_unless : List ℕ → SessionModel → Point → Option Fau
 reference_unless program s point (Some fault) = refuses program fault s
 reference_unless program s point None = commits program (Referenced point) (record s { stored = after_reference s.stored point })
 
-abbrev pub reference : Equipment → List ℕ → SessionModel → Point → Transition
-reference equipment program s point = reference_unless program s point (reference_refusal equipment.geometry s point)
+abbrev pub reference : Geometry → List ℕ → SessionModel → Point → Transition
+reference geometry program s point = reference_unless program s point (reference_refusal geometry s point)
 
 -- why a half-done block can't be given up
 abbrev pub abandon_refusal : SessionModel → Option Fault
@@ -246,18 +246,18 @@ abbrev pub refusal_of : Result Done Fault → Option Fault
 refusal_of (Ok done) = None
 refusal_of (Err fault) = Some fault
 
-abbrev pub half_refusal : Equipment → StoredModel → HalfModel → Option Point → Option Fault
-half_refusal equipment x half None = Some fault.PlaceUnknown
-half_refusal equipment x half (Some from) = refusal_of (done_again equipment x half.text)
+abbrev pub half_refusal : Geometry → StoredModel → HalfModel → Option Point → Option Fault
+half_refusal geometry x half None = Some fault.PlaceUnknown
+half_refusal geometry x half (Some from) = refusal_of (done_again geometry x half.text)
 
-abbrev pub waiting_refusal : Equipment → StoredModel → Option HalfModel → Option Fault
-waiting_refusal equipment x None = Some fault.NothingHalfDone
-waiting_refusal equipment x (Some half) = half_refusal equipment x half half.at
+abbrev pub waiting_refusal : Geometry → StoredModel → Option HalfModel → Option Fault
+waiting_refusal geometry x None = Some fault.NothingHalfDone
+waiting_refusal geometry x (Some half) = half_refusal geometry x half half.at
 
 -- why a half-done block can't go on: the session isn't at rest, no block is half-done, the point of its machine isn't
 -- known, or its line is refused
-abbrev pub resume_refusal : Equipment → SessionModel → Option Fault
-resume_refusal equipment s = if not (is_at_rest s) then Some fault.Busy else waiting_refusal equipment s.stored s.stored.half
+abbrev pub resume_refusal : Geometry → SessionModel → Option Fault
+resume_refusal geometry s = if not (is_at_rest s) then Some fault.Busy else waiting_refusal geometry s.stored s.stored.half
 
 abbrev pub resume_by : List ℕ → SessionModel → HalfModel → Point → Result Done Fault → Transition
 resume_by program s half from (Err fault) = refuses program fault s
@@ -266,16 +266,16 @@ resume_by program s half from (Ok done) = answers program reply.Going (record s 
   activity = activity_again half.source s.activity;
 })
 
-abbrev pub resume_from : Equipment → List ℕ → SessionModel → HalfModel → Option Point → Transition
-resume_from equipment program s half None = refuses program fault.PlaceUnknown s
-resume_from equipment program s half (Some from) = resume_by program s half from (done_again equipment s.stored half.text)
+abbrev pub resume_from : Geometry → List ℕ → SessionModel → HalfModel → Option Point → Transition
+resume_from geometry program s half None = refuses program fault.PlaceUnknown s
+resume_from geometry program s half (Some from) = resume_by program s half from (done_again geometry s.stored half.text)
 
-abbrev pub resume_half : Equipment → List ℕ → SessionModel → Option HalfModel → Transition
-resume_half equipment program s None = refuses program fault.NothingHalfDone s
-resume_half equipment program s (Some half) = resume_from equipment program s half half.at
+abbrev pub resume_half : Geometry → List ℕ → SessionModel → Option HalfModel → Transition
+resume_half geometry program s None = refuses program fault.NothingHalfDone s
+resume_half geometry program s (Some half) = resume_from geometry program s half half.at
 
-abbrev pub resume : Equipment → List ℕ → SessionModel → Transition
-resume equipment program s = if not (is_at_rest s) then refuses program fault.Busy s else resume_half equipment program s s.stored.half
+abbrev pub resume : Geometry → List ℕ → SessionModel → Transition
+resume geometry program s = if not (is_at_rest s) then refuses program fault.Busy s else resume_half geometry program s s.stored.half
 
 -- ---- the tool table
 
@@ -318,8 +318,8 @@ abbrev pub session_status : SessionModel → Status
 session_status s = record {
   entries = s.stored.entries;
   place = s.stored.place;
-  point = point_shown s.stored.setup.machine.point s.stored.half;
-  point_known = point_known_shown s.stored.setup.machine.point_known s.stored.half;
+  point = point_shown s.stored.setup.modal.point s.stored.half;
+  point_known = point_known_shown s.stored.setup.modal.point_known s.stored.half;
   half = option_map half_shown s.stored.half;
   condition = if s.held then condition.Held else condition_of s.activity;
 }
@@ -389,8 +389,8 @@ opening_reply index None = reply.Opened index
 opening_reply index (Some open_part.Segment) = reply.Opened index
 opening_reply index (Some open_part.Approach) = reply.Approaching
 
-abbrev pub open_part_of : Equipment → List ℕ → SessionModel → HalfModel → Transition
-open_part_of equipment program s half = answers program (opening_reply half.index half.opened) (opened equipment.geometry s half)
+abbrev pub open_part_of : Geometry → List ℕ → SessionModel → HalfModel → Transition
+open_part_of geometry program s half = answers program (opening_reply half.index half.opened) (opened geometry s half)
 
 -- 3. an approach with nothing left is committed: the half-done block's machine is then where the approach ends. A block
 -- with nothing left is committed too. Optional stop takes effect here. M2, M30 and the closing percent line end the
@@ -450,9 +450,9 @@ begin_by program s line (Ok done) =
 abbrev pub break_off : List ℕ → SessionModel → Transition
 break_off program s = answers program (reply.Refused (missing_end (first_kind (lines_before program s.stored.place)))) (record s { activity = activity.Stopped })
 
-abbrev pub begin : Equipment → List ℕ → SessionModel → Option ProgramLineModel → Transition
-begin equipment program s None = break_off program s
-begin equipment program s (Some line) = begin_by program s line (done_of equipment program s.stored source.Program line.text s.block_delete)
+abbrev pub begin : Geometry → List ℕ → SessionModel → Option ProgramLineModel → Transition
+begin geometry program s None = break_off program s
+begin geometry program s (Some line) = begin_by program s line (done_of geometry program s.stored source.Program line.text s.block_delete)
 
 -- 5. there is nothing to do
 abbrev pub rest : List ℕ → SessionModel → Transition
@@ -464,44 +464,44 @@ abbrev pub if_some : {T : Type 0} → Option T → (found : T → Transition) �
 if_some None found otherwise = otherwise
 if_some (Some x) found otherwise = found x
 
-abbrev pub tick : Equipment → List ℕ → SessionModel → Transition
-tick equipment program s =
+abbrev pub tick : Geometry → List ℕ → SessionModel → Transition
+tick geometry program s =
     if s.held then answers program reply.Held s
     else if_some (item_of s.current) (λ item. hand_out program s item)
-    (if_some (opening_of s.current) (λ half. open_part_of equipment program s half)
+    (if_some (opening_of s.current) (λ half. open_part_of geometry program s half)
     (if_some s.current (λ c. commit program s c)
-    (if is_running s.activity then begin equipment program s (program_line_at program s.stored.place)
+    (if is_running s.activity then begin geometry program s (program_line_at program s.stored.place)
     else rest program s)))
 
 -- a Tick from its third part on, and from its second part on
-abbrev pub end : Equipment → List ℕ → SessionModel → Option CurrentBlockModel → Transition
-end equipment program s current =
+abbrev pub end : Geometry → List ℕ → SessionModel → Option CurrentBlockModel → Transition
+end geometry program s current =
     if_some current (λ c. commit program s c)
-    (if is_running s.activity then begin equipment program s (program_line_at program s.stored.place)
+    (if is_running s.activity then begin geometry program s (program_line_at program s.stored.place)
     else rest program s)
 
-abbrev pub open_next : Equipment → List ℕ → SessionModel → Option HalfModel → Transition
-open_next equipment program s opening = if_some opening (λ half. open_part_of equipment program s half) (end equipment program s s.current)
+abbrev pub open_next : Geometry → List ℕ → SessionModel → Option HalfModel → Transition
+open_next geometry program s opening = if_some opening (λ half. open_part_of geometry program s half) (end geometry program s s.current)
 
-abbrev pub hand_next : Equipment → List ℕ → SessionModel → Option Item → Transition
-hand_next equipment program s item = if_some item (λ item. hand_out program s item) (open_next equipment program s (opening_of s.current))
+abbrev pub hand_next : Geometry → List ℕ → SessionModel → Option Item → Transition
+hand_next geometry program s item = if_some item (λ item. hand_out program s item) (open_next geometry program s (opening_of s.current))
 
 -- ---- an event
 
-abbrev pub step : {A : Type 0} → Equipment → List ℕ → SessionModel → Event A → Transition
-step equipment program s (event.Load text) = load program s text
-step equipment program s event.Start = start program s
-step equipment program s event.Hold = hold program s
-step equipment program s event.Continue = resume_held program s
-step equipment program s (event.Mdi text) = mdi equipment program s text
-step equipment program s (event.Reference point) = reference equipment program s point
-step equipment program s event.Resume = resume equipment program s
-step equipment program s event.Abandon = abandon program s
-step equipment program s (event.Tool slot nm) = tool program s slot nm
-step equipment program s (event.OptionalStop wanted) = answers program reply.Taken (record s { optional_stop = wanted })
-step equipment program s (event.BlockDelete on) = answers program reply.Taken (record s { block_delete = on })
-step equipment program s event.Status = answers program (reply.Status (session_status s)) s
-step equipment program s event.Tick = tick equipment program s
+abbrev pub step : {A : Type 0} → Geometry → List ℕ → SessionModel → Event A → Transition
+step geometry program s (event.Load text) = load program s text
+step geometry program s event.Start = start program s
+step geometry program s event.Hold = hold program s
+step geometry program s event.Continue = resume_held program s
+step geometry program s (event.Mdi text) = mdi geometry program s text
+step geometry program s (event.Reference point) = reference geometry program s point
+step geometry program s event.Resume = resume geometry program s
+step geometry program s event.Abandon = abandon program s
+step geometry program s (event.Tool slot nm) = tool program s slot nm
+step geometry program s (event.OptionalStop wanted) = answers program reply.Taken (record s { optional_stop = wanted })
+step geometry program s (event.BlockDelete on) = answers program reply.Taken (record s { block_delete = on })
+step geometry program s event.Status = answers program (reply.Status (session_status s)) s
+step geometry program s event.Tick = tick geometry program s
 
 -- a block is current, or the program runs
 abbrev pub has_work : SessionModel → Bool
@@ -520,53 +520,53 @@ IsProgramsLine (Some half) = half.source ≡ source.Program
 
 -- The event needs memory: a program that is loaded, a line of the operator that is executed, a half-done block that
 -- goes on, a Tick between two lines of a program that runs.
-abbrev pub TakesMemory : {A : Type 0} → Equipment → SessionModel → Event A → Type 0
-TakesMemory equipment s (event.Load text) = load_refusal s text ≡ None
-TakesMemory equipment s event.Start = ⊥
-TakesMemory equipment s event.Hold = ⊥
-TakesMemory equipment s event.Continue = ⊥
-TakesMemory equipment s (event.Mdi text) = (refuses_mdi s ≡ false) × (s.stored.setup.machine.point_known ≡ true)
-TakesMemory equipment s (event.Reference point) = ⊥
-TakesMemory equipment s event.Resume = resume_refusal equipment s ≡ None
-TakesMemory equipment s event.Abandon = ⊥
-TakesMemory equipment s (event.Tool slot nm) = ⊥
-TakesMemory equipment s (event.OptionalStop wanted) = ⊥
-TakesMemory equipment s (event.BlockDelete on) = ⊥
-TakesMemory equipment s event.Status = ⊥
-TakesMemory equipment s event.Tick = (s.held ≡ false) × IsBetweenLines s
+abbrev pub TakesMemory : {A : Type 0} → Geometry → SessionModel → Event A → Type 0
+TakesMemory geometry s (event.Load text) = load_refusal s text ≡ None
+TakesMemory geometry s event.Start = ⊥
+TakesMemory geometry s event.Hold = ⊥
+TakesMemory geometry s event.Continue = ⊥
+TakesMemory geometry s (event.Mdi text) = (refuses_mdi s ≡ false) × (s.stored.setup.modal.point_known ≡ true)
+TakesMemory geometry s (event.Reference point) = ⊥
+TakesMemory geometry s event.Resume = resume_refusal geometry s ≡ None
+TakesMemory geometry s event.Abandon = ⊥
+TakesMemory geometry s (event.Tool slot nm) = ⊥
+TakesMemory geometry s (event.OptionalStop wanted) = ⊥
+TakesMemory geometry s (event.BlockDelete on) = ⊥
+TakesMemory geometry s event.Status = ⊥
+TakesMemory geometry s event.Tick = (s.held ≡ false) × IsBetweenLines s
 
 -- The event needs the device: what is committed, a line of the program that goes on, a Tick that finds something to do.
-abbrev pub AsksDevice : {A : Type 0} → Equipment → SessionModel → Event A → Type 0
-AsksDevice equipment s (event.Load text) = load_refusal s text ≡ None
-AsksDevice equipment s event.Start = ⊥
-AsksDevice equipment s event.Hold = ⊥
-AsksDevice equipment s event.Continue = ⊥
-AsksDevice equipment s (event.Mdi text) = ⊥
-AsksDevice equipment s (event.Reference point) = reference_refusal equipment.geometry s point ≡ None
-AsksDevice equipment s event.Resume = (resume_refusal equipment s ≡ None) × IsProgramsLine s.stored.half
-AsksDevice equipment s event.Abandon = abandon_refusal s ≡ None
-AsksDevice equipment s (event.Tool slot nm) = tool_refusal s slot nm ≡ None
-AsksDevice equipment s (event.OptionalStop wanted) = ⊥
-AsksDevice equipment s (event.BlockDelete on) = ⊥
-AsksDevice equipment s event.Status = ⊥
-AsksDevice equipment s event.Tick = (s.held ≡ false) × (has_work s ≡ true)
+abbrev pub AsksDevice : {A : Type 0} → Geometry → SessionModel → Event A → Type 0
+AsksDevice geometry s (event.Load text) = load_refusal s text ≡ None
+AsksDevice geometry s event.Start = ⊥
+AsksDevice geometry s event.Hold = ⊥
+AsksDevice geometry s event.Continue = ⊥
+AsksDevice geometry s (event.Mdi text) = ⊥
+AsksDevice geometry s (event.Reference point) = reference_refusal geometry s point ≡ None
+AsksDevice geometry s event.Resume = (resume_refusal geometry s ≡ None) × IsProgramsLine s.stored.half
+AsksDevice geometry s event.Abandon = abandon_refusal s ≡ None
+AsksDevice geometry s (event.Tool slot nm) = tool_refusal s slot nm ≡ None
+AsksDevice geometry s (event.OptionalStop wanted) = ⊥
+AsksDevice geometry s (event.BlockDelete on) = ⊥
+AsksDevice geometry s event.Status = ⊥
+AsksDevice geometry s event.Tick = (s.held ≡ false) × (has_work s ≡ true)
 
 -- A line of the program is read for the event: the next one, or the one of a half-done block, to find where the next
 -- begins.
-abbrev pub NeedsProgramLine : {A : Type 0} → Equipment → SessionModel → Event A → Type 0
-NeedsProgramLine equipment s (event.Load text) = ⊥
-NeedsProgramLine equipment s event.Start = ⊥
-NeedsProgramLine equipment s event.Hold = ⊥
-NeedsProgramLine equipment s event.Continue = ⊥
-NeedsProgramLine equipment s (event.Mdi text) = ⊥
-NeedsProgramLine equipment s (event.Reference point) = ⊥
-NeedsProgramLine equipment s event.Resume = (resume_refusal equipment s ≡ None) × IsProgramsLine s.stored.half
-NeedsProgramLine equipment s event.Abandon = ⊥
-NeedsProgramLine equipment s (event.Tool slot nm) = ⊥
-NeedsProgramLine equipment s (event.OptionalStop wanted) = ⊥
-NeedsProgramLine equipment s (event.BlockDelete on) = ⊥
-NeedsProgramLine equipment s event.Status = ⊥
-NeedsProgramLine equipment s event.Tick = (s.held ≡ false) × IsBetweenLines s
+abbrev pub NeedsProgramLine : {A : Type 0} → Geometry → SessionModel → Event A → Type 0
+NeedsProgramLine geometry s (event.Load text) = ⊥
+NeedsProgramLine geometry s event.Start = ⊥
+NeedsProgramLine geometry s event.Hold = ⊥
+NeedsProgramLine geometry s event.Continue = ⊥
+NeedsProgramLine geometry s (event.Mdi text) = ⊥
+NeedsProgramLine geometry s (event.Reference point) = ⊥
+NeedsProgramLine geometry s event.Resume = (resume_refusal geometry s ≡ None) × IsProgramsLine s.stored.half
+NeedsProgramLine geometry s event.Abandon = ⊥
+NeedsProgramLine geometry s (event.Tool slot nm) = ⊥
+NeedsProgramLine geometry s (event.OptionalStop wanted) = ⊥
+NeedsProgramLine geometry s (event.BlockDelete on) = ⊥
+NeedsProgramLine geometry s event.Status = ⊥
+NeedsProgramLine geometry s event.Tick = (s.held ≡ false) × IsBetweenLines s
 
 -- The session replies without the device: it is neither read nor written, and nothing is handed out.
 abbrev pub IsQuiet : {A : Type 0} → Event A → Type 0

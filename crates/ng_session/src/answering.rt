@@ -16,11 +16,11 @@ impl<A: Allocator + Copy + Drop> Session<A> {
     pub fn answer(&mut self, event: &Event<A>, geometry: &Geometry) -> Result<Reply, AllocError>
         requires { IsQuiet event.now }
         ensures reply { IfOk result (λ reply. (program : List ℕ)
-            → reply ≡ (step (record { geometry = geometry.now }) program self.old event.now).reply) }
+            → reply ≡ (step geometry.now program self.old event.now).reply) }
         ensures next { OnOk result ((program : List ℕ)
-            → self.new ≡ (step (record { geometry = geometry.now }) program self.old event.now).next) }
+            → self.new ≡ (step geometry.now program self.old event.now).next) }
         ensures err { OnErr result (self.new ≡ self.old) }
-        ensures memory { OnErr result (TakesMemory (record { geometry = geometry.now }) self.old event.now) }
+        ensures memory { OnErr result (TakesMemory geometry.now self.old event.now) }
     {
         match event {
             Event::Start => Ok(self.start()),

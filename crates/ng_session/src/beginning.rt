@@ -6,7 +6,7 @@ ghost use Rattle.ng_block.specs.Program.{executed_after};
 ghost use Rattle.ng_layout.specs.declared.half.Source.TheVariants as source;
 ghost use Rattle.ng_text.specs.Programs.{lines_before};
 ghost use Rattle.ng_layout.specs.Limits.{greatest_slot};
-ghost use Rattle.ng_layout.specs.Storable.{IsStorableMachine};
+ghost use Rattle.ng_layout.specs.Storable.{IsStorableModalState};
 ghost use Rattle.ng_session.specs.Entries.{done_of, terms_of};
 
 use crate::activity::Activity;
@@ -27,7 +27,7 @@ pub(crate) fn terms_over<'a, A: Allocator + Copy + Drop>(
     block_delete: bool,
     geometry: &'a Geometry,
 ) -> Terms<'a>
-    ensures terms { result ≡ terms_of (record { geometry = geometry.now }) stored.now.tools block_delete }
+    ensures terms { result ≡ terms_of geometry.now stored.now.tools block_delete }
     ensures few { length result.tools ≤ greatest_slot }
 {
     // Called for its contract: a table has at most 128 slots, and no more are stored.
@@ -49,11 +49,11 @@ fn execute_alone<'p, A: Allocator + Copy + Drop>(
     geometry: &Geometry,
 ) -> Result<&'p Effect, Fault>
     ensures done { (program : List ℕ) → MatchResult result
-        (λ e. done_of (record { geometry = geometry.now }) program stored.now source.Mdi text.now block_delete
+        (λ e. done_of geometry.now program stored.now source.Mdi text.now block_delete
         ≡ Ok (in_state stored.now.setup e.now))
-        (λ fault. done_of (record { geometry = geometry.now }) program stored.now source.Mdi text.now block_delete ≡ Err fault) }
+        (λ fault. done_of geometry.now program stored.now source.Mdi text.now block_delete ≡ Err fault) }
     ensures short { OnOk result (length text.now ≤ 256) }
-    ensures stands { IfOk result (λ e. IsStorableMachine stored.now.setup.machine → IsStorableMachine e.now.machine) }
+    ensures stands { IfOk result (λ e. IsStorableModalState stored.now.setup.modal → IsStorableModalState e.now.modal) }
 {
     let terms = terms_over(stored, block_delete, geometry);
     match places.execute_unless_deleted(&terms, &stored.state, text) {
@@ -74,16 +74,16 @@ pub(crate) fn execute_after_lines<'p, A: Allocator + Copy + Drop>(
     geometry: &Geometry,
 ) -> Result<&'p Effect, Fault>
     ensures does { MatchResult result
-        (λ e. executed_after (terms_of (record { geometry = geometry.now }) stored.now.tools block_delete)
+        (λ e. executed_after (terms_of geometry.now stored.now.tools block_delete)
         first stored.now.setup text.now ≡ Ok (in_state stored.now.setup e.now))
-        (λ fault. executed_after (terms_of (record { geometry = geometry.now }) stored.now.tools block_delete)
+        (λ fault. executed_after (terms_of geometry.now stored.now.tools block_delete)
         first stored.now.setup text.now ≡ Err fault) }
     ensures done { (program : List ℕ) → first ≡ first_kind (lines_before program stored.now.place) → MatchResult result
-        (λ e. done_of (record { geometry = geometry.now }) program stored.now source.Program text.now block_delete
+        (λ e. done_of geometry.now program stored.now source.Program text.now block_delete
         ≡ Ok (in_state stored.now.setup e.now))
-        (λ fault. done_of (record { geometry = geometry.now }) program stored.now source.Program text.now block_delete ≡ Err fault) }
+        (λ fault. done_of geometry.now program stored.now source.Program text.now block_delete ≡ Err fault) }
     ensures short { OnOk result (length text.now ≤ 256) }
-    ensures stands { IfOk result (λ e. IsStorableMachine stored.now.setup.machine → IsStorableMachine e.now.machine) }
+    ensures stands { IfOk result (λ e. IsStorableModalState stored.now.setup.modal → IsStorableModalState e.now.modal) }
 {
     let terms = terms_over(stored, block_delete, geometry);
     match places.execute_after(&terms, first, &stored.state, text) {
@@ -102,11 +102,11 @@ impl<A: Allocator + Copy + Drop> Session<A> {
     #[tactic(auto, using(crate::proofs::Keeping::kept_ready))]
     pub(crate) fn mdi(&mut self, text: &[u8], geometry: &Geometry) -> Result<Reply, AllocError>
         ensures reply { IfOk result (λ reply. (program : List ℕ)
-            → reply ≡ (mdi (record { geometry = geometry.now }) program self.old text.now).reply) }
+            → reply ≡ (mdi geometry.now program self.old text.now).reply) }
         ensures next { OnOk result ((program : List ℕ)
-            → self.new ≡ (mdi (record { geometry = geometry.now }) program self.old text.now).next) }
+            → self.new ≡ (mdi geometry.now program self.old text.now).next) }
         ensures err { OnErr result (self.new ≡ self.old) }
-        ensures memory { OnErr result ((refuses_mdi self.old ≡ false) × (self.old.stored.setup.machine.point_known ≡ true)) }
+        ensures memory { OnErr result ((refuses_mdi self.old ≡ false) × (self.old.stored.setup.modal.point_known ≡ true)) }
     {
         if self.refuses_mdi() {
             return Ok(Reply::Refused(Fault::Busy));
@@ -153,10 +153,10 @@ impl<A: Allocator + Copy + Drop> Session<A> {
         requires { next ≤ self.old.stored.length }
         ensures stored { OnOk result (self.new.stored ≡ self.old.stored) }
         ensures reply { IfOk result (λ reply. (program : List ℕ) → first ≡ first_kind (lines_before program self.old.stored.place)
-            → reply ≡ (begin (record { geometry = geometry.now }) program self.old
+            → reply ≡ (begin geometry.now program self.old
             (Some (record { text = text.now; next = next }))).reply) }
         ensures next { OnOk result ((program : List ℕ) → first ≡ first_kind (lines_before program self.old.stored.place)
-            → self.new ≡ (begin (record { geometry = geometry.now }) program self.old
+            → self.new ≡ (begin geometry.now program self.old
             (Some (record { text = text.now; next = next }))).next) }
         ensures err { OnErr result (self.new ≡ self.old) }
     {

@@ -2,7 +2,7 @@
 ghost use Rattle.std.specs.Prelude.{◌≡◌, ◌≢◌, ◌≤◌, ◌<◌, ◌+◌, ◌^◌, length, IfOk, Some, None};
 ghost use Rattle.ng_block.specs.Effects.{in_state};
 ghost use Rattle.ng_layout.specs.Limits.{greatest_count};
-ghost use Rattle.ng_layout.specs.Storable.{IsStorableMachine, IsStorable};
+ghost use Rattle.ng_layout.specs.Storable.{IsStorableModalState, IsStorable};
 ghost use Rattle.std.specs.Option.{option_map};
 ghost use Rattle.ng_canon.specs.declared.pace.Pace.TheVariants as pace;
 ghost use Rattle.ng_cycles.specs.Segments.{line_to};
@@ -106,12 +106,12 @@ fn after_block<A: Allocator + Copy + Drop>(
     requires count { stored.now.entries ≤ 1_000_000_000_001 }
     requires storable { IsStorable stored.now }
     requires within { next ≤ stored.now.length }
-    requires stands { IsStorableMachine effect.now.machine }
+    requires stands { IsStorableModalState effect.now.modal }
     ensures value { IfOk result (λ x. x ≡ after_block next stored.now source (in_state stored.now.setup effect.now)) }
     ensures next { IfOk result (λ x. IsNextEntry stored.now x) }
 {
     let mut state = stored.state.copy()?;
-    state.take_over(&effect.machine, effect.changes.as_slice());
+    state.take_over(&effect.modal, effect.changes.as_slice());
     Ok(Stored {
         entries: stored.entries + 1,
         state,
@@ -151,9 +151,9 @@ fn after_approach<A: Allocator + Copy + Drop>(
 
 /// The point at which a block begins.
 fn start_of<A: Allocator + Copy + Drop>(stored: &Stored<A>) -> Point
-    ensures { result ≡ stored.now.setup.machine.point }
+    ensures { result ≡ stored.now.setup.modal.point }
 {
-    stored.state.machine.point
+    stored.state.modal.point
 }
 
 /// A half-done block whose machine is at a point.
@@ -207,7 +207,7 @@ impl<A: Allocator + Copy + Drop> CurrentBlock<A> {
         requires count { stored.now.entries ≤ greatest_count }
         requires storable { IsStorable stored.now }
         requires within { next ≤ stored.now.length }
-        requires stands { IsStorableMachine effect.now.machine }
+        requires stands { IsStorableModalState effect.now.modal }
         requires short { length text.now ≤ 256 }
         ensures value { IfOk result (λ p.
             p.block ≡ begun stored.now source text.now block_delete next (in_state stored.now.setup effect.now)) }
@@ -243,7 +243,7 @@ impl<A: Allocator + Copy + Drop> CurrentBlock<A> {
         requires count { stored.now.entries ≤ greatest_count }
         requires storable { IsStorable stored.now }
         requires within { next ≤ stored.now.length }
-        requires stands { IsStorableMachine effect.now.machine }
+        requires stands { IsStorableModalState effect.now.modal }
         requires short { length half.now.text ≤ 256 }
         ensures value { IfOk result (λ p. p.block ≡ begun_again stored.now half.now from next (in_state stored.now.setup effect.now)) }
         ensures ready { IfOk result (λ p. IsBeforeBlock stored.now p

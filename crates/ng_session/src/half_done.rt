@@ -2,7 +2,7 @@
 ghost use Rattle.std.specs.Prelude.{◌≡◌, ◌≤◌, not, nat_lt, false, ℕ, List, Ok, Err, IfOk, OnOk, OnErr, MatchResult, MatchOption, length};
 ghost use Rattle.ng_block.specs.Effects.{in_state};
 ghost use Rattle.ng_layout.specs.Limits.{greatest_count};
-ghost use Rattle.ng_layout.specs.Storable.{IsStorableMachine, IsStorable};
+ghost use Rattle.ng_layout.specs.Storable.{IsStorableModalState, IsStorable};
 ghost use Rattle.ng_layout.specs.Stored.{with_decoded_state};
 ghost use Rattle.ng_session.specs.Entries.{done_again, turned_off, given_up};
 
@@ -14,7 +14,7 @@ use ng_block::{Effect, Scratch};
 use ng_canon::{Geometry, Outputs, Spindle};
 use ng_layout::{DecodedState, GREATEST_COUNT, Half, Source, Stored};
 use ng_num::{Fault, Point};
-use ng_state::Machine;
+use ng_state::ModalState;
 use std::alloc::{AllocError, Allocator};
 
 /// What the line of a half-done block does from its beginning, executed in the scratch space, or its first fault.
@@ -26,9 +26,9 @@ fn execute_again<'p, A: Allocator + Copy + Drop>(
     geometry: &Geometry,
 ) -> Result<&'p Effect, Fault>
     ensures done { MatchResult result
-        (λ e. done_again (record { geometry = geometry.now }) stored.now half.now.text ≡ Ok (in_state stored.now.setup e.now))
-        (λ fault. done_again (record { geometry = geometry.now }) stored.now half.now.text ≡ Err fault) }
-    ensures stands { IfOk result (λ e. IsStorableMachine stored.now.setup.machine → IsStorableMachine e.now.machine) }
+        (λ e. done_again geometry.now stored.now half.now.text ≡ Ok (in_state stored.now.setup e.now))
+        (λ fault. done_again geometry.now stored.now half.now.text ≡ Err fault) }
+    ensures stands { IfOk result (λ e. IsStorableModalState stored.now.setup.modal → IsStorableModalState e.now.modal) }
 {
     let terms = terms_over(stored, false, geometry);
     match places.execute(&terms, &stored.state, half.text.as_slice()) {
@@ -50,14 +50,14 @@ fn turned_off(outputs: Outputs) -> Outputs
 }
 
 /// The machine after a half-done block is given up.
-fn given_up(machine: &Machine, half: &Half) -> Machine
-    ensures { result ≡ given_up machine.now half.now }
+fn given_up(modal: &ModalState, half: &Half) -> ModalState
+    ensures { result ≡ given_up modal.now half.now }
 {
-    Machine {
-        outputs: turned_off(machine.outputs),
-        point: half.at.unwrap_or(machine.point),
+    ModalState {
+        outputs: turned_off(modal.outputs),
+        point: half.at.unwrap_or(modal.point),
         point_known: half.at.is_some(),
-        ..*machine
+        ..*modal
     }
 }
 
@@ -93,13 +93,13 @@ impl<A: Allocator + Copy + Drop> Session<A> {
         ensures storable { IsStorable (with_decoded_state self.now.stored result self.now.stored.length) }
     {
         let stored = &self.stored;
-        let machine = stored.state.machine;
+        let modal = stored.state.modal;
         let entries = stored.entries + 1;
         match &stored.half {
             Some(half) => DecodedState {
                 entries,
                 place: stored.place,
-                machine,
+                modal,
                 half: Some(Half {
                     at: Some(point),
                     opened: None,
@@ -109,10 +109,10 @@ impl<A: Allocator + Copy + Drop> Session<A> {
             None => DecodedState {
                 entries,
                 place: stored.place,
-                machine: Machine {
+                modal: ModalState {
                     point,
                     point_known: true,
-                    ..machine
+                    ..modal
                 },
                 half: None,
             },
@@ -147,7 +147,7 @@ impl<A: Allocator + Copy + Drop> Session<A> {
             Some(half) => Some(DecodedState {
                 entries: self.stored.entries + 1,
                 place: self.stored.place,
-                machine: given_up(&self.stored.state.machine, half),
+                modal: given_up(&self.stored.state.modal, half),
                 half: None,
             }),
             None => None,
@@ -162,7 +162,7 @@ impl<A: Allocator + Copy + Drop> Session<A> {
     /// Why a half-done block can't go on now: K1 if the session isn't at rest, K4 if no block is half-done, K3 if the
     /// point of its machine isn't known, then its line's own faults. The session stays as it is.
     pub fn resume_refusal(&mut self, geometry: &Geometry) -> Option<Fault>
-        ensures refusal { result ≡ resume_refusal (record { geometry = geometry.now }) self.old }
+        ensures refusal { result ≡ resume_refusal geometry.now self.old }
         ensures same { self.new ≡ self.old }
     {
         if !self.is_at_rest() {
@@ -214,19 +214,19 @@ impl<A: Allocator + Copy + Drop> Session<A> {
         ensures before { result ≡ record {
           entries = self.old.stored.entries;
           place = self.old.stored.place;
-          machine = self.old.stored.setup.machine;
+          modal = self.old.stored.setup.modal;
           half = self.old.stored.half;
         } }
     {
         let before = DecodedState {
             entries: self.stored.entries,
             place: self.stored.place,
-            machine: self.stored.state.machine,
+            modal: self.stored.state.modal,
             half: self.stored.half.take(),
         };
         self.stored.entries = report.entries;
         self.stored.place = report.place;
-        self.stored.state.machine = report.machine;
+        self.stored.state.modal = report.modal;
         self.stored.half = report.half;
         before
     }
@@ -251,12 +251,12 @@ impl<A: Allocator + Copy + Drop> Session<A> {
         ensures stored { OnOk result (self.new.stored ≡ self.old.stored) }
         ensures reply { IfOk result (λ reply. (program : List ℕ)
             → IfSome self.old.stored.half (λ half. next ≡ next_place_after program self.old.stored.place half.source)
-            → reply ≡ (resume (record { geometry = geometry.now }) program self.old).reply) }
+            → reply ≡ (resume geometry.now program self.old).reply) }
         ensures next { OnOk result ((program : List ℕ)
             → IfSome self.old.stored.half (λ half. next ≡ next_place_after program self.old.stored.place half.source)
-            → self.new ≡ (resume (record { geometry = geometry.now }) program self.old).next) }
+            → self.new ≡ (resume geometry.now program self.old).next) }
         ensures err { OnErr result (self.new ≡ self.old) }
-        ensures memory { OnErr result (resume_refusal (record { geometry = geometry.now }) self.old ≡ None) }
+        ensures memory { OnErr result (resume_refusal geometry.now self.old ≡ None) }
     {
         if !self.is_at_rest() {
             return Ok(Reply::Refused(Fault::Busy));

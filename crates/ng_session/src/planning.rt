@@ -35,7 +35,7 @@ fn plan_line<A: Allocator + Copy + Drop>(
     requires within { next ≤ base.now.length }
     requires beginning { base.now.place ≡ 0 → first ≡ Blank }
     ensures planned { IfSome result (λ p.
-        IsPlannedOn (record { geometry = geometry.now }) (record { stored = base.now; block_delete = block_delete }) p) }
+        IsPlannedOn geometry.now (record { stored = base.now; block_delete = block_delete }) p) }
     ensures first { IfSome result (λ p. p.first ≡ first) }
     ensures text { IfSome result (λ p. p.prepared.block.text ≡ text.now) }
     ensures next { IfSome result (λ p. p.next ≡ next) }
@@ -95,13 +95,13 @@ fn ends_at_end<A: Allocator + Copy + Drop>(
 impl<A: Allocator + Copy + Drop> Session<A> {
     ghost use Rattle.std.specs.Prelude.{[], ℕ, List, true, MatchOption};
     ghost use Rattle.ng_text.specs.LinesBefore.{IsLineBetween};
-    ghost use Rattle.ng_session.specs.Entries.{Equipment};
+    ghost use Rattle.ng_canon.specs.declared.geometry.Geometry.{Geometry};
     ghost use Rattle.ng_session.specs.Planned.{AreLinesOf, IsPlan, IsBegunAhead, base_of};
 
     /// The byte of the program at which the next line to be planned begins, given what is known of the lines. Nothing
     /// is planned past the program's end.
     pub fn place_ahead(&self, lines: &KnownLines<A>) -> Option<u64>
-        requires { (equipment : Equipment) × IsPlan equipment (base_of self.now) lines.now.ahead }
+        requires { (geometry : Geometry) × IsPlan geometry (base_of self.now) lines.now.ahead }
         ensures place { IfSome result (λ place. place ≡ (base_at_end (base_of self.now) lines.now.ahead).stored.place) }
         ensures within { IfSome result (λ place. place ≤ self.now.stored.length) }
         ensures end { ends_at_end (ends_after self.now.current) lines.now.ahead ≡ true → result ≡ None }
@@ -123,12 +123,12 @@ impl<A: Allocator + Copy + Drop> Session<A> {
         first: LineKind,
         geometry: &Geometry,
     )
-        requires plan { IsPlan (record { geometry = geometry.now }) (base_of self.old) lines.old.ahead }
+        requires plan { IsPlan geometry.now (base_of self.old) lines.old.ahead }
         requires within { next ≤ self.old.stored.length }
         requires beginning { (base_at_end (base_of self.old) lines.old.ahead).stored.place ≡ 0 → first ≡ Blank }
         ensures session { self.new ≡ self.old }
         ensures before { lines.new.before ≡ lines.old.before }
-        ensures plan { IsPlan (record { geometry = geometry.now }) (base_of self.old) lines.new.ahead }
+        ensures plan { IsPlan geometry.now (base_of self.old) lines.new.ahead }
         ensures holds { (program : List ℕ) → AreLinesOf program lines.old.ahead
             → IsLineBetween program (base_at_end (base_of self.old) lines.old.ahead).stored.place first text.now next
             → AreLinesOf program lines.new.ahead }
@@ -153,11 +153,11 @@ impl<A: Allocator + Copy + Drop> Session<A> {
 
     /// Begins the first line that was read ahead. `None` if there is none: then nothing is changed.
     pub fn begin_ahead(&mut self, lines: &mut KnownLines<A>) -> Option<Reply>
-        requires plan { (equipment : Equipment) × IsPlan equipment (base_of self.old) lines.old.ahead }
+        requires plan { (geometry : Geometry) × IsPlan geometry (base_of self.old) lines.old.ahead }
         requires free { self.old.current ≡ None }
         ensures none { result ≡ None → (self.new ≡ self.old) × (lines.new ≡ lines.old) × (lines.new.ahead ≡ []) }
-        ensures begun { (equipment : Equipment) → IsPlan equipment (base_of self.old) lines.old.ahead
-            → IfSome result (λ reply. IsBegunAhead equipment reply self.old self.new lines.old lines.new) }
+        ensures begun { (geometry : Geometry) → IsPlan geometry (base_of self.old) lines.old.ahead
+            → IfSome result (λ reply. IsBegunAhead geometry reply self.old self.new lines.old lines.new) }
     {
         let planned = lines.take_front()?;
         self.current = Some(planned.block);

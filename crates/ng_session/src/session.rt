@@ -10,7 +10,7 @@ use crate::reply::{Condition, HalfShown, Reply, Status};
 use ng_block::Scratch;
 use ng_layout::{Half, Stored};
 use ng_num::{Fault, Point};
-use ng_state::Machine;
+use ng_state::ModalState;
 use std::alloc::Allocator;
 use std::marker::Model;
 
@@ -65,7 +65,7 @@ impl<A: Allocator + Copy + Drop> Session<A> {
             optional_stop: false,
             block_delete: false,
             current: None,
-            places: Scratch::new(Machine::fresh()),
+            places: Scratch::new(ModalState::fresh()),
         }
     }
 
@@ -104,9 +104,9 @@ impl<A: Allocator + Copy + Drop> Session<A> {
 
     /// Whether the machine's point is known.
     pub(crate) fn is_place_known(&self) -> bool
-        ensures { result ≡ self.now.stored.setup.machine.point_known }
+        ensures { result ≡ self.now.stored.setup.modal.point_known }
     {
-        self.stored.state.machine.point_known
+        self.stored.state.modal.point_known
     }
 
     /// The byte of the program at which the next line begins.
@@ -194,13 +194,13 @@ impl<A: Allocator + Copy + Drop> Session<A> {
     pub fn status(&self) -> Status
         ensures { result ≡ session_status self.now }
     {
-        let machine = &self.stored.state.machine;
+        let modal = &self.stored.state.modal;
         let half = self.stored.half.as_ref();
         Status {
             entries: self.stored.entries,
             place: self.stored.place,
-            point: point_shown(machine.point, half),
-            point_known: point_known_shown(machine.point_known, half),
+            point: point_shown(modal.point, half),
+            point_known: point_known_shown(modal.point_known, half),
             half: half_shown(half),
             condition: if self.held {
                 Condition::Held

@@ -12,7 +12,7 @@ use std::alloc::Allocator;
 impl<A: Allocator + Copy + Drop> Session<A> {
     ghost use Rattle.std.specs.Prelude.{true};
     ghost use Rattle.ng_layout.specs.Storable.{IsStorableHalf};
-    ghost use Rattle.ng_session.specs.Entries.{Equipment};
+    ghost use Rattle.ng_canon.specs.declared.geometry.Geometry.{Geometry};
     ghost use Rattle.ng_session.specs.SessionInvariant.{IsNextEntry};
     ghost use Rattle.ng_session.specs.Session.{CurrentBlockModel, answers, tick, is_running, item_of, handed, opening_of, opening_reply, opened, committed, activity_after, after_current_block, rest};
     ghost use Rattle.ng_session.specs.SessionInvariant.{IsReady};
@@ -21,8 +21,8 @@ impl<A: Allocator + Copy + Drop> Session<A> {
     /// Whether the session is held. Then a Tick moves, opens, commits and begins nothing.
     pub fn is_held(&self) -> bool
         ensures held { result ≡ self.now.held }
-        ensures tick { (equipment : Equipment) (program : List ℕ) → result ≡ true
-            → tick equipment program self.now ≡ answers program Reply.Held self.now }
+        ensures tick { (geometry : Geometry) (program : List ℕ) → result ≡ true
+            → tick geometry program self.now ≡ answers program Reply.Held self.now }
     {
         self.held
     }

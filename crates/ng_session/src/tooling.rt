@@ -54,7 +54,7 @@ impl<A: Allocator + Copy + Drop> Session<A> {
     }
 
     /// The table with a length in a slot. The session stays as it is.
-    #[tactic(auto, using(crate::proofs::ToolSlots::slot_lawful, crate::proofs::ToolSlots::slot_most, crate::proofs::ToolSlots::tool_within))]
+    #[tactic(auto, using(crate::proofs::ToolSlots::slot_valid, crate::proofs::ToolSlots::slot_most, crate::proofs::ToolSlots::tool_within))]
     pub fn tools_with(&self, slot: u16, tool_length: Len) -> Tools
         requires slot { takes_slot self.now.stored.tools slot ≡ true }
         requires tool { is_tool_length tool_length ≡ true }

@@ -30,7 +30,7 @@ pub record IsToml (text : List ℕ) (table : Members) : Type 0 where
 pub record AreSettings (text : List ℕ) (settings : Settings) : Type 0 where
   pub table : Members
   pub read : IsToml text table
-  pub lawful : NoneHolds (faults table)
+  pub valid : NoneHolds (faults table)
   pub numbers : numbers_set settings ≡ numbers_in table
 
 -- this is the first fault of the table of a text

@@ -6,7 +6,7 @@ use Rattle.ng_canon.specs.Fresh.{fresh_outputs}
 use Rattle.ng_canon.specs.declared.plane.Plane.TheVariants.{Xy}
 use Rattle.ng_offsets.specs.Points.{no_offsets}
 use Rattle.ng_state.specs.KeptWords.{no_words}
-use Rattle.ng_state.specs.declared.machine.Machine.{Machine}
+use Rattle.ng_state.specs.declared.modal_state.ModalState.{ModalState}
 use Rattle.ng_state.specs.declared.modes.Modes.{Modes}
 use Rattle.ng_state.specs.declared.modes.Motion.TheVariants.{Off}
 use Rattle.ng_state.specs.declared.modes.Distance.TheVariants.{Absolute}
@@ -17,5 +17,5 @@ use Rattle.ng_state.specs.declared.modes.PathMode.TheVariants.{Continuous}
 abbrev pub fresh_modes : Modes
 fresh_modes = record { motion = Off; plane = Xy; distance = Absolute; feed_mode = PerMinute; unit = Millimetres; retract = OldZ; system = 1; path = Continuous; overrides = true }
 
-abbrev pub fresh_machine : Machine
-fresh_machine = record { modes = fresh_modes; feed_per_min = pos 0; outputs = fresh_outputs; offsets = no_offsets; kept = no_words; point = zero_point; point_known = true }
+abbrev pub fresh_modal_state : ModalState
+fresh_modal_state = record { modes = fresh_modes; feed_per_min = pos 0; outputs = fresh_outputs; offsets = no_offsets; kept = no_words; point = zero_point; point_known = true }

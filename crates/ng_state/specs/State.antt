@@ -3,17 +3,17 @@ use Rattle.std.specs.Prelude.{ℤ, List}
 use Rattle.ng_params.specs.declared.change.Change.{Change}
 use Rattle.ng_params.specs.Table.{defaults}
 use Rattle.ng_params.specs.Changes.{with_changes}
-use Rattle.ng_state.specs.declared.machine.Machine.{Machine}
-use Rattle.ng_state.specs.Fresh.{fresh_machine}
+use Rattle.ng_state.specs.declared.modal_state.ModalState.{ModalState}
+use Rattle.ng_state.specs.Fresh.{fresh_modal_state}
 
--- the parameter table and the machine
+-- the parameter table and the modal state
 pub record StateModel : Type 0 where
   pub params : List ℤ
-  pub machine : Machine
+  pub modal : ModalState
 
 abbrev pub fresh : StateModel
-fresh = record { params = defaults; machine = fresh_machine }
+fresh = record { params = defaults; modal = fresh_modal_state }
 
--- another machine, and the table after changes
-abbrev pub changed : StateModel → Machine → List Change → StateModel
-changed s machine changes = record { params = with_changes s.params changes; machine = machine }
+-- another modal state, and the table after changes
+abbrev pub changed : StateModel → ModalState → List Change → StateModel
+changed s modal changes = record { params = with_changes s.params changes; modal = modal }

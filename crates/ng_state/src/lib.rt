@@ -1,5 +1,5 @@
-//! The state of an interpreter, as plain types: the modes, the words that a canned cycle keeps, the machine, and the
-//! state, which is the machine and the table of parameters.
+//! The state of an interpreter, as plain types: the modes, the words that a canned cycle keeps, the modal state, and
+//! the state, which is that and the table of parameters.
 //!
 //! What a line does to the state isn't defined here. So the crates that store the state, show it or compare two states
 //! need only this crate, and aren't checked again when the language grows. The crates that read lines and execute
@@ -9,11 +9,11 @@
 #![tactic(auto)]
 
 mod kept_words;
-mod machine;
+mod modal_state;
 mod modes;
 mod state;
 
 pub use kept_words::KeptWords;
-pub use machine::Machine;
+pub use modal_state::ModalState;
 pub use modes::{Distance, FeedMode, Modes, Motion, PathMode, Retract};
 pub use state::State;

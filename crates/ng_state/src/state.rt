@@ -1,16 +1,17 @@
 //! The state that a line is executed in.
 ghost use Rattle.std.specs.Prelude.{◌≡◌, IfOk};
 
-use crate::machine::Machine;
+use crate::modal_state::ModalState;
 use ng_params::{Change, Params};
 use std::alloc::{AllocError, Allocator};
 use std::marker::Model;
 
-/// Everything that a block can read or change: the parameter table and the machine. In contracts it is a `StateModel`.
+/// Everything that a block can read or change: the parameter table and the modal state. In contracts it
+/// is a `StateModel`.
 #[derive(Drop)]
 pub struct State<A: Allocator> {
     pub params: Params<A>,
-    pub machine: Machine,
+    pub modal: ModalState,
 }
 
 impl<A: Allocator> Model for State<A> {
@@ -18,20 +19,20 @@ impl<A: Allocator> Model for State<A> {
 
     ghost Value = { StateModel };
 
-    ghost view = { λ s. record { params = s.params; machine = s.machine } };
+    ghost view = { λ s. record { params = s.params; modal = s.modal } };
 }
 
 impl<A: Allocator + Copy + Drop> State<A> {
     ghost use Rattle.ng_state.specs.State.{fresh, changed};
 
-    /// The fresh state (own): the default parameter table and the fresh machine. `AllocError` if there is no memory for
-    /// the table.
+    /// The fresh state (own): the default parameter table and the fresh modal state. `AllocError` if there is no
+    /// memory for the table.
     pub fn fresh(alloc: A) -> Result<State<A>, AllocError>
         ensures { IfOk result (λ s. s ≡ fresh) }
     {
         Ok(State {
             params: Params::new(alloc)?,
-            machine: Machine::fresh(),
+            modal: ModalState::fresh(),
         })
     }
 
@@ -41,16 +42,16 @@ impl<A: Allocator + Copy + Drop> State<A> {
     {
         Ok(State {
             params: self.params.copy()?,
-            machine: self.machine,
+            modal: self.modal,
         })
     }
 
-    /// Replaces the machine and makes changes of parameters in order, in place. It doesn't allocate.
+    /// Replaces the modal state and makes changes of parameters in order, in place. It doesn't allocate.
     #[inline]
-    pub fn take_over(&mut self, machine: &Machine, changes: &[Change])
-        ensures { self.new ≡ changed self.old machine.now changes.now }
+    pub fn take_over(&mut self, modal: &ModalState, changes: &[Change])
+        ensures { self.new ≡ changed self.old modal.now changes.now }
     {
         self.params.apply(changes);
-        self.machine = *machine;
+        self.modal = *modal;
     }
 }

@@ -117,7 +117,7 @@ const VALUES: &[(&[u8], &[u8])] = &[
     (b"X [ 1 \t+ 2 * * 3 ]", b"123^+]"),
 ];
 
-/// Lines with one setting, and the codes of its index's and its value's nodes.
+/// Lines with one assignment, and the codes of its index's and its value's nodes.
 const SETTINGS: &[(&[u8], &[u8], &[u8])] = &[
     (b"#1=2", b"1", b"2"),
     (b" # 1 = + 2", b"1", b"2"),
@@ -217,11 +217,11 @@ fn is_value(pieces: &mut Pieces<'_>, codes: &[u8]) -> bool {
     }
 }
 
-/// Whether the next piece is a setting with these codes.
-fn is_setting(pieces: &mut Pieces<'_>, index: &[u8], value: &[u8]) -> bool {
+/// Whether the next piece is an assignment with these codes.
+fn is_assignment(pieces: &mut Pieces<'_>, index: &[u8], value: &[u8]) -> bool {
     match pieces.next() {
         Some(piece) => match piece {
-            PieceRef::Setting(i, v) => has_codes(&i, index) && has_codes(&v, value),
+            PieceRef::Assignment(i, v) => has_codes(&i, index) && has_codes(&v, value),
             _ => false,
         },
         None => false,
@@ -333,19 +333,19 @@ fn settings_are_read(rt: HostRuntime) {
     for (i, (text, index, value)) in SETTINGS.iter().enumerate() {
         assert!(rt; line.read(text).is_ok(), "setting {i}");
         let mut pieces = line.pieces();
-        assert!(rt; is_setting(&mut pieces, index, value), "setting {i}");
+        assert!(rt; is_assignment(&mut pieces, index, value), "setting {i}");
         assert!(rt; is_end(&mut pieces), "setting {i}");
     }
 }
 
-/// Whether the pieces of a line are a word G, a comment, a setting, a value X, a comment and a word Y, and nothing
+/// Whether the pieces of a line are a word G, a comment, an assignment, a value X, a comment and a word Y, and nothing
 /// else.
 fn pieces_in_order(line: &Line) -> [bool; 7] {
     let mut pieces = line.pieces();
     [
         is_word(&mut pieces, Letter::G, Some(1_000_000)),
         is_comment(&mut pieces, b"in"),
-        is_setting(&mut pieces, b"3", b"45+]"),
+        is_assignment(&mut pieces, b"3", b"45+]"),
         is_value(&mut pieces, b"67#*]"),
         is_comment(&mut pieces, b"out"),
         is_word(&mut pieces, Letter::Y, Some(-8_000_000)),

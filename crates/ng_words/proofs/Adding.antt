@@ -6,12 +6,12 @@ use Rattle.std.proofs.lemmas.List.{map-append}
 use Rattle.std.proofs.lemmas.Grind.{flat_map-append}
 use Rattle.std.proofs.lemmas.Bool.Decides.{nat_tests, Decides-eqb}
 use Rattle.ng_words.specs.Plain.{StartsWithByte}
-use Rattle.ng_words.specs.Grammar.{Tree, Piece, word, setting, comment}
+use Rattle.ng_words.specs.Grammar.{Tree, Piece, word, assignment, comment}
 use Rattle.ng_words.specs.Scan.{letter_of}
 use Rattle.ng_words.specs.Values.{strip_prefix, value_at}
 use Rattle.ng_words.specs.Pieces.{comment_at, piece_at, pieces_at}
 use Rattle.ng_words.specs.Kept.{item_of, nodes_of, bytes_of, PieceStore, EncodesPieces, pieces_by}
-use Rattle.ng_words.specs.Walks.{store_of, AddsWord, setting_at, AddsSetting, AddsComment, Adds, TakesPiece, TakesPieces}
+use Rattle.ng_words.specs.Walks.{store_of, AddsWord, assignment_at, AddsAssignment, AddsComment, Adds, TakesPiece, TakesPieces}
 use Rattle.ng_words.specs.declared.letter.Letter.{Letter}
 use Rattle.ng_words.specs.declared.piece_entry.PieceEntry.{PieceEntry}
 use Rattle.ng_words.specs.declared.tree.Node.{Node}
@@ -58,22 +58,22 @@ takes_comment (c ∷ bs) rest b false items items_then nodes texts texts_then s 
     let begins : (c == 40) ≡ true = (Decides-eqb c 40).1 (s ∙ e) in
     rw begins (ap (option_map (λ (x : List ℕ × List ℕ). (comment x.0, x.1))) h)
 
--- a setting
-pub takes_setting : (bytes after_it rest : List ℕ) (b : ℕ) (taken : Bool) (items items_then : List PieceEntry) (nodes nodes_then : List Node) (texts : List ℕ) → StartsWithByte bytes b → b ≡ 35
-    → after_it ≡ drop 1 bytes → MatchBool taken (AddsSetting after_it rest items items_then nodes nodes_then) (setting_at after_it ≡ None)
+-- an assignment
+pub takes_assignment : (bytes after_it rest : List ℕ) (b : ℕ) (taken : Bool) (items items_then : List PieceEntry) (nodes nodes_then : List Node) (texts : List ℕ) → StartsWithByte bytes b → b ≡ 35
+    → after_it ≡ drop 1 bytes → MatchBool taken (AddsAssignment after_it rest items items_then nodes nodes_then) (assignment_at after_it ≡ None)
     → TakesPiece bytes taken rest (store_of items nodes texts) (store_of items_then nodes_then texts)
-takes_setting [] after_it rest b taken items items_then nodes nodes_then texts s e d h = absurd s
-takes_setting (c ∷ bs) after_it rest b true items items_then nodes nodes_then texts s e d h =
+takes_assignment [] after_it rest b taken items items_then nodes nodes_then texts s e d h = absurd s
+takes_assignment (c ∷ bs) after_it rest b true items items_then nodes nodes_then texts s e d h =
     let other : (c == 40) ≡ false = grind (arith, nat_tests, s ∙ e) in
     let begins : (c == 35) ≡ true = (Decides-eqb c 35).1 (s ∙ e) in (
-      setting h.0 h.1,
-      rw (other, begins) (ap setting_at (sym d) ∙ h.2),
+      assignment h.0 h.1,
+      rw (other, begins) (ap assignment_at (sym d) ∙ h.2),
       record { items_more = h.3; nodes_more = h.4; bytes_more = sym (append-nil texts) },
     )
-takes_setting (c ∷ bs) after_it rest b false items items_then nodes nodes_then texts s e d h =
+takes_assignment (c ∷ bs) after_it rest b false items items_then nodes nodes_then texts s e d h =
     let other : (c == 40) ≡ false = grind (arith, nat_tests, s ∙ e) in
     let begins : (c == 35) ≡ true = (Decides-eqb c 35).1 (s ∙ e) in
-    rw (other, begins) (ap setting_at (sym d) ∙ h)
+    rw (other, begins) (ap assignment_at (sym d) ∙ h)
 
 -- a letter is neither
 no_letter : (b n : ℕ) (l : Letter) → Some l ≡ letter_of b → letter_of n ≡ None → (b == n) ≡ false
@@ -97,8 +97,8 @@ takes_word (c ∷ bs) after_it rest b l taken items items_then nodes nodes_then 
     found : (o : Option (Tree × List ℕ)) → value_at after_it ≡ o → piece_at (c ∷ bs) ≡ option_map (λ (v : Tree × List ℕ). (word l v.0, v.1)) o
     found o v =
         let no_comment : (c == 40) ≡ false = no_letter c 40 l (sym is_letter) refl in
-        let no_setting : (c == 35) ≡ false = no_letter c 35 l (sym is_letter) refl in
-        rw (no_comment, no_setting) (
+        let no_assignment : (c == 35) ≡ false = no_letter c 35 l (sym is_letter) refl in
+        rw (no_comment, no_assignment) (
         ap (option_and_then (λ (m : Letter). option_map (λ (v : Tree × List ℕ). (word m v.0, v.1)) (value_at bs))) is_letter
         ∙ ap (option_map (λ (v : Tree × List ℕ). (word l v.0, v.1))) (ap value_at (sym d) ∙ v)
         )

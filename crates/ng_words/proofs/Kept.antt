@@ -4,7 +4,7 @@ use Rattle.std.specs.List.{flat_map}
 use Rattle.std.specs.Option.{option_or}
 use Rattle.std.proofs.lemmas.List.{append-nil, take_at, drop_at, take_rest}
 use Rattle.std.proofs.Math.Seq.{take-append_seam, drop-append_seam, drop-append-add}
-use Rattle.ng_words.specs.Grammar.{Tree, number, parameter, bracketed, applied, joined, Piece, word, setting, comment}
+use Rattle.ng_words.specs.Grammar.{Tree, number, parameter, bracketed, applied, joined, Piece, word, assignment, comment}
 use Rattle.ng_words.specs.Kept.{postfix, IsTree, built, latest, tree_by, item_of, nodes_of, bytes_of, PieceStore, EncodesPieces, AreEncodedPieces, pieces_from, pieces_by}
 use Rattle.ng_words.specs.Items.{last_size}
 use Rattle.ng_words.specs.Lines.{last_comment}
@@ -37,10 +37,10 @@ pieces_kept [] = refl
 pieces_kept (word letter t ∷ ps) =
     let nodes = flat_map nodes_of ps in
     rw (take-append_seam (postfix t) nodes, drop-append_seam (postfix t) nodes, tree_by-postfix t) (ap (λ (x : List Piece). word letter t ∷ x) (pieces_kept ps))
-pieces_kept (setting i v ∷ ps) =
+pieces_kept (assignment i v ∷ ps) =
     let nodes = flat_map nodes_of ps in
     rw (append_assoc (postfix i) (postfix v) nodes, take-append_seam (postfix i) (postfix v ++ nodes), drop-append_seam (postfix i) (postfix v ++ nodes), take-append_seam (postfix v) nodes, drop-append_seam (postfix v) nodes, tree_by-postfix i, tree_by-postfix v)
-    (ap (λ (x : List Piece). setting i v ∷ x) (pieces_kept ps))
+    (ap (λ (x : List Piece). assignment i v ∷ x) (pieces_kept ps))
 pieces_kept (comment text ∷ ps) =
     let bytes = flat_map bytes_of ps in
     rw (take-append_seam text bytes, drop-append_seam text bytes) (ap (λ (x : List Piece). comment text ∷ x) (pieces_kept ps))
@@ -57,7 +57,7 @@ kept_is places pieces k =
 pub length-pieces_from : (items : List PieceEntry) (nodes : List Node) (bytes : List ℕ) → length (pieces_from items nodes bytes) ≡ length items
 length-pieces_from [] nodes bytes = refl
 length-pieces_from (item.Word letter n ∷ items) nodes bytes = ap suc (length-pieces_from items (drop n nodes) bytes)
-length-pieces_from (item.Setting i n ∷ items) nodes bytes = ap suc (length-pieces_from items (drop n (drop i nodes)) bytes)
+length-pieces_from (item.Assignment i n ∷ items) nodes bytes = ap suc (length-pieces_from items (drop n (drop i nodes)) bytes)
 length-pieces_from (item.Comment n ∷ items) nodes bytes = ap suc (length-pieces_from items nodes (drop n bytes))
 
 -- ---- the first piece, taken from the places
@@ -80,7 +80,7 @@ word_first (word l t ∷ ps) letter n items nodes bytes e f g =
       tree = (t, ap (take n) f ∙ take_at (postfix t) rest n count);
       kept = (ps, record { items_are = others; nodes_are = ap (drop n) f ∙ drop_at (postfix t) rest n count; bytes_are = g });
     }
-word_first (setting i v ∷ ps) letter n items nodes bytes e f g = absurd (cc)
+word_first (assignment i v ∷ ps) letter n items nodes bytes e f g = absurd (cc)
 word_first (comment text ∷ ps) letter n items nodes bytes e f g = absurd (cc)
 
 pub kept_word : (places : PieceStore) (first : PieceEntry) (letter : Letter) (n : ℕ) (items : List PieceEntry) → AreEncodedPieces places → places.items ≡ first ∷ items → first ≡ item.Word letter n
@@ -88,19 +88,19 @@ pub kept_word : (places : PieceStore) (first : PieceEntry) (letter : Letter) (n 
 kept_word places first letter n items k e is =
     word_first k.0 letter n items places.nodes places.bytes (ap (λ (x : PieceEntry). x ∷ items) (sym is) ∙ sym e ∙ k.1.items_are) k.1.nodes_are k.1.bytes_are
 
--- a setting comes first
-pub record SettingFirst (i n : ℕ) (items : List PieceEntry) (nodes : List Node) (bytes : List ℕ) : Type 0 where
+-- an assignment comes first
+pub record AssignmentFirst (i n : ℕ) (items : List PieceEntry) (nodes : List Node) (bytes : List ℕ) : Type 0 where
   pub index_within : i ≤ length nodes
   pub value_within : n ≤ length (drop i nodes)
   pub index : IsTree (take i nodes)
   pub value : IsTree (take n (drop i nodes))
   pub kept : AreEncodedPieces (record { items = items; nodes = drop n (drop i nodes); bytes = bytes })
 
-setting_first : (pieces : List Piece) (i n : ℕ) (items : List PieceEntry) (nodes : List Node) (bytes : List ℕ)
-    → item.Setting i n ∷ items ≡ map item_of pieces → nodes ≡ flat_map nodes_of pieces → bytes ≡ flat_map bytes_of pieces → SettingFirst i n items nodes bytes
-setting_first [] i n items nodes bytes e f g = absurd (cc)
-setting_first (word l t ∷ ps) i n items nodes bytes e f g = absurd (cc)
-setting_first (setting t u ∷ ps) i n items nodes bytes e f g =
+assignment_first : (pieces : List Piece) (i n : ℕ) (items : List PieceEntry) (nodes : List Node) (bytes : List ℕ)
+    → item.Assignment i n ∷ items ≡ map item_of pieces → nodes ≡ flat_map nodes_of pieces → bytes ≡ flat_map bytes_of pieces → AssignmentFirst i n items nodes bytes
+assignment_first [] i n items nodes bytes e f g = absurd (cc)
+assignment_first (word l t ∷ ps) i n items nodes bytes e f g = absurd (cc)
+assignment_first (assignment t u ∷ ps) i n items nodes bytes e f g =
     let index_count : length (postfix t) ≡ i = cc in
     let count : length (postfix u) ≡ n = cc in
     let others : items ≡ map item_of ps = cc in
@@ -114,12 +114,12 @@ setting_first (setting t u ∷ ps) i n items nodes bytes e f g =
       value = (u, ap (take n) after ∙ take_at (postfix u) rest n count);
       kept = (ps, record { items_are = others; nodes_are = ap (drop n) after ∙ drop_at (postfix u) rest n count; bytes_are = g });
     }
-setting_first (comment text ∷ ps) i n items nodes bytes e f g = absurd (cc)
+assignment_first (comment text ∷ ps) i n items nodes bytes e f g = absurd (cc)
 
-pub kept_setting : (places : PieceStore) (first : PieceEntry) (i n : ℕ) (items : List PieceEntry) → AreEncodedPieces places → places.items ≡ first ∷ items → first ≡ item.Setting i n
-    → SettingFirst i n items places.nodes places.bytes
-kept_setting places first i n items k e is =
-    setting_first k.0 i n items places.nodes places.bytes (ap (λ (x : PieceEntry). x ∷ items) (sym is) ∙ sym e ∙ k.1.items_are) k.1.nodes_are k.1.bytes_are
+pub kept_assignment : (places : PieceStore) (first : PieceEntry) (i n : ℕ) (items : List PieceEntry) → AreEncodedPieces places → places.items ≡ first ∷ items → first ≡ item.Assignment i n
+    → AssignmentFirst i n items places.nodes places.bytes
+kept_assignment places first i n items k e is =
+    assignment_first k.0 i n items places.nodes places.bytes (ap (λ (x : PieceEntry). x ∷ items) (sym is) ∙ sym e ∙ k.1.items_are) k.1.nodes_are k.1.bytes_are
 
 -- a comment comes first
 pub record CommentFirst (n : ℕ) (items : List PieceEntry) (nodes : List Node) (bytes : List ℕ) : Type 0 where
@@ -130,7 +130,7 @@ comment_first : (pieces : List Piece) (n : ℕ) (items : List PieceEntry) (nodes
     → item.Comment n ∷ items ≡ map item_of pieces → nodes ≡ flat_map nodes_of pieces → bytes ≡ flat_map bytes_of pieces → CommentFirst n items nodes bytes
 comment_first [] n items nodes bytes e f g = absurd (cc)
 comment_first (word l t ∷ ps) n items nodes bytes e f g = absurd (cc)
-comment_first (setting i v ∷ ps) n items nodes bytes e f g = absurd (cc)
+comment_first (assignment i v ∷ ps) n items nodes bytes e f g = absurd (cc)
 comment_first (comment text ∷ ps) n items nodes bytes e f g =
     let count : length text ≡ n = cc in
     let others : items ≡ map item_of ps = cc in
@@ -173,11 +173,11 @@ last_in (word l t ∷ ps) = last_word l t ps (last_size (map item_of ps)) (last_
     last_word : (l : Letter) (t : Tree) (ps : List Piece) (o : Option ℕ) → IsLastIn ps (flat_map bytes_of ps) o → IsLastIn (word l t ∷ ps) (flat_map bytes_of ps) o
     last_word l t ps None h = h
     last_word l t ps (Some n) h = h
-last_in (setting i v ∷ ps) = last_setting i v ps (last_size (map item_of ps)) (last_in ps)
+last_in (assignment i v ∷ ps) = last_assignment i v ps (last_size (map item_of ps)) (last_in ps)
   where
-    last_setting : (i v : Tree) (ps : List Piece) (o : Option ℕ) → IsLastIn ps (flat_map bytes_of ps) o → IsLastIn (setting i v ∷ ps) (flat_map bytes_of ps) o
-    last_setting i v ps None h = h
-    last_setting i v ps (Some n) h = h
+    last_assignment : (i v : Tree) (ps : List Piece) (o : Option ℕ) → IsLastIn ps (flat_map bytes_of ps) o → IsLastIn (assignment i v ∷ ps) (flat_map bytes_of ps) o
+    last_assignment i v ps None h = h
+    last_assignment i v ps (Some n) h = h
 last_in (comment text ∷ ps) = last_after text (flat_map bytes_of ps) ps (last_size (map item_of ps)) (last_in ps)
 
 pub kept_last : (places : PieceStore) → AreEncodedPieces places → IsLastIn (pieces_by places) places.bytes (last_size places.items)

@@ -3,7 +3,7 @@
 use Rattle.std.proofs.Common.{ℕ, zero, suc, ◌+◌, ◌≤◌, ◌≡◌, ◌≢◌, ◌⊎◌, inl, inr, List, [], ◌∷◌, ◌++◌, length, Bool, true, false, cond, ◌==◌, Option, Some, None, refl, sym, ap, ◌∙◌, subst, arith, append_assoc, append-nil, length-append}
 use Rattle.std.specs.Option.{option_map, option_and_then}
 use Rattle.std.proofs.lemmas.Bool.Decides.{nat_tests, Decides-eqb}
-use Rattle.ng_words.specs.Grammar.{is_digit, Tree, IsValue, code, Piece, word, setting, comment, HasNoParentheses, Spells, SpellsPieces}
+use Rattle.ng_words.specs.Grammar.{is_digit, Tree, IsValue, code, Piece, word, assignment, comment, HasNoParentheses, Spells, SpellsPieces}
 use Rattle.ng_words.specs.Scan.{letters, letter_among, letter_of}
 use Rattle.ng_words.specs.Values.{strip_prefix, value_at}
 use Rattle.ng_words.specs.Pieces.{comment_at, set_at, piece_from, piece_at, pieces_at}
@@ -107,11 +107,11 @@ pub piece_again : (front rest : List ℕ) (p : Piece) → Spells front p → Sto
 piece_again front rest (word l value) h s =
     ap (λ f. piece_at (f ++ rest)) h.1 ∙ word_from l (h.0 ++ rest)
     ∙ ap (option_map (λ (v : Tree × List ℕ). (word l v.0, v.1))) (value_again h.0 rest value h.2 s)
-piece_again front rest (setting index value) h s =
+piece_again front rest (assignment index value) h s =
     let index_is : value_at ((h.0 ++ 61 ∷ h.1) ++ rest) ≡ Some (index, 61 ∷ (h.1 ++ rest)) =
     ap value_at (append_assoc h.0 (61 ∷ h.1) rest) ∙ value_again h.0 (61 ∷ (h.1 ++ rest)) index h.3 (refl, omega arith) in
     ap (λ f. piece_at (f ++ rest)) h.2 ∙ ap (option_and_then (λ (i : Tree × List ℕ). set_at i.0 i.1)) index_is
-    ∙ ap (option_map (λ (v : Tree × List ℕ). (setting index v.0, v.1))) (value_again h.1 rest value h.4 s)
+    ∙ ap (option_map (λ (v : Tree × List ℕ). (assignment index v.0, v.1))) (value_again h.1 rest value h.4 s)
 piece_again front rest (comment text) h s =
     ap (λ f. piece_at (f ++ rest)) h.0
     ∙ ap (option_map (λ (x : List ℕ × List ℕ). (comment x.0, x.1))) (ap comment_at (append_assoc text (41 ∷ []) rest) ∙ comment_again text rest h.1)
@@ -131,11 +131,11 @@ comment_found bs x e =
       (refl, found.1),
     )
 
-setting_found : (bs : List ℕ) (x : Piece × List ℕ) → option_and_then (λ i. set_at i.0 i.1) (value_at bs) ≡ Some x → FoundPiece (35 ∷ bs) x
-setting_found bs x e =
+assignment_found : (bs : List ℕ) (x : Piece × List ℕ) → option_and_then (λ i. set_at i.0 i.1) (value_at bs) ≡ Some x → FoundPiece (35 ∷ bs) x
+assignment_found bs x e =
     let i = and_then_some (λ (i : Tree × List ℕ). set_at i.0 i.1) (value_at bs) x e in
-    let rest = and_then_some (λ rest. option_map (λ (v : Tree × List ℕ). (setting i.0.0 v.0, v.1)) (value_at rest)) (strip_prefix (61 ∷ []) i.0.1) x i.2 in
-    let v = option_map_some (λ (v : Tree × List ℕ). (setting i.0.0 v.0, v.1)) (value_at rest.0) x rest.2 in
+    let rest = and_then_some (λ rest. option_map (λ (v : Tree × List ℕ). (assignment i.0.0 v.0, v.1)) (value_at rest)) (strip_prefix (61 ∷ []) i.0.1) x i.2 in
+    let v = option_map_some (λ (v : Tree × List ℕ). (assignment i.0.0 v.0, v.1)) (value_at rest.0) x rest.2 in
     let index_is = value_sound bs i.0 i.1 in
     let value_is = value_sound rest.0 v.0 v.1 in
     subst (FoundPiece (35 ∷ bs)) v.2 (
@@ -164,7 +164,7 @@ piece_sound_at : (b : ℕ) (bs : List ℕ) (x : Piece × List ℕ) (t u : Bool) 
     ) ≡ Some x
     → FoundPiece (b ∷ bs) x
 piece_sound_at b bs x true u t_is u_is e = subst (λ c. FoundPiece (c ∷ bs) x) (sym ((Decides-eqb b 40).0 t_is)) (comment_found bs x e)
-piece_sound_at b bs x false true t_is u_is e = subst (λ c. FoundPiece (c ∷ bs) x) (sym ((Decides-eqb b 35).0 u_is)) (setting_found bs x e)
+piece_sound_at b bs x false true t_is u_is e = subst (λ c. FoundPiece (c ∷ bs) x) (sym ((Decides-eqb b 35).0 u_is)) (assignment_found bs x e)
 piece_sound_at b bs x false false t_is u_is e = word_found b bs x e
 
 pub piece_sound : (bytes : List ℕ) (x : Piece × List ℕ) → piece_at bytes ≡ Some x → (front : List ℕ) × (bytes ≡ front ++ x.1) × Spells front x.0
@@ -184,7 +184,7 @@ pub length-spells : (front : List ℕ) (p : Piece) → Spells front p → 2 ≤ 
 length-spells front (word l value) h =
     let some = length-value h.0 value h.2 in
     omega (arith, ap length h.1)
-length-spells front (setting index value) h =
+length-spells front (assignment index value) h =
     let sum : length front ≡ suc (length h.0) + suc (length h.1) = simp length-append at (ap length h.2) in
     omega arith
 length-spells front (comment text) h =
@@ -210,7 +210,7 @@ Reads-begins rest [] e = subst BeginsPiece (sym e) tt
 Reads-begins rest (word l value ∷ ps) h =
     let begins : rest ≡ code l ∷ (h.3.0 ++ h.1) = h.2 ∙ ap (λ f. f ++ h.1) h.3.1 in
     subst BeginsPiece (sym begins) (inl (code_is l))
-Reads-begins rest (setting index value ∷ ps) h =
+Reads-begins rest (assignment index value ∷ ps) h =
     let begins : rest ≡ 35 ∷ ((h.3.0 ++ 61 ∷ h.3.1) ++ h.1) = h.2 ∙ ap (λ f. f ++ h.1) h.3.2 in
     subst BeginsPiece (sym begins) (inr (inl refl))
 Reads-begins rest (comment text ∷ ps) h =

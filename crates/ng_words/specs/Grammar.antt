@@ -112,7 +112,7 @@ IsChain bytes (joined op l r) = (front : List ℕ) × (back : List ℕ) × (byte
 abbrev pub IsValue : List ℕ → Tree → Type 0
 IsValue bytes t = IsChain bytes t × (looseness t ≡ 0)
 
--- ---- words, settings, comments (3.3.2, 3.3.3, 3.3.4)
+-- ---- words, assignments, comments (3.3.2, 3.3.3, 3.3.4)
 
 -- a letter's byte
 abbrev pub code : Letter → ℕ
@@ -140,7 +140,7 @@ code Z = 90
 -- a word, a parameter's index and its new value, or a comment's bytes
 pub data Piece : Type 0 where
   word : Letter → Tree → Piece
-  setting : Tree → Tree → Piece
+  assignment : Tree → Tree → Piece
   comment : List ℕ → Piece
 
 abbrev pub HasNoParentheses : List ℕ → Type 0
@@ -150,7 +150,7 @@ HasNoParentheses (b ∷ bs) = (b ≢ 40) × (b ≢ 41) × HasNoParentheses bs
 -- these bytes are this piece
 abbrev pub Spells : List ℕ → Piece → Type 0
 Spells bytes (word letter value) = (spelled : List ℕ) × (bytes ≡ code letter ∷ spelled) × IsValue spelled value
-Spells bytes (setting index value) = (front : List ℕ) × (back : List ℕ) × (bytes ≡ 35 ∷ front ++ 61 ∷ back) × IsValue front index × IsValue back value
+Spells bytes (assignment index value) = (front : List ℕ) × (back : List ℕ) × (bytes ≡ 35 ∷ front ++ 61 ∷ back) × IsValue front index × IsValue back value
 Spells bytes (comment text) = (bytes ≡ 40 ∷ text ++ 41 ∷ []) × HasNoParentheses text
 
 -- these bytes are these pieces, one after the other

@@ -8,5 +8,5 @@ use Rattle.ng_words.specs.declared.piece_entry.PieceEntry.TheVariants as item
 abbrev pub last_size : List PieceEntry → Option ℕ
 last_size [] = None
 last_size (item.Word letter n ∷ items) = last_size items
-last_size (item.Setting i n ∷ items) = last_size items
+last_size (item.Assignment i n ∷ items) = last_size items
 last_size (item.Comment n ∷ items) = option_or (last_size items) (Some n)

@@ -1,6 +1,6 @@
 -- How a line is kept in storage of fixed size (own): trees as lists of nodes, each node after its parts.
 use Rattle.std.specs.Prelude.{ℕ, ◌≡◌, List, [], ◌∷◌, ◌++◌, length, map, flat_map, take, drop, Bool, Option, None}
-use Rattle.ng_words.specs.Grammar.{Tree, number, parameter, bracketed, applied, joined, Piece, word, setting, comment, ParsedLine}
+use Rattle.ng_words.specs.Grammar.{Tree, number, parameter, bracketed, applied, joined, Piece, word, assignment, comment, ParsedLine}
 use Rattle.ng_words.specs.declared.tree.Node.{Node}
 use Rattle.ng_words.specs.declared.tree.Node.TheVariants as node
 use Rattle.ng_words.specs.declared.piece_entry.PieceEntry.{PieceEntry}
@@ -43,17 +43,17 @@ tree_by nodes = latest (built [] nodes)
 -- comment
 abbrev pub item_of : Piece → PieceEntry
 item_of (word letter t) = item.Word letter (length (postfix t))
-item_of (setting index value) = item.Setting (length (postfix index)) (length (postfix value))
+item_of (assignment index value) = item.Assignment (length (postfix index)) (length (postfix value))
 item_of (comment text) = item.Comment (length text)
 
 abbrev pub nodes_of : Piece → List Node
 nodes_of (word letter t) = postfix t
-nodes_of (setting index value) = postfix index ++ postfix value
+nodes_of (assignment index value) = postfix index ++ postfix value
 nodes_of (comment text) = []
 
 abbrev pub bytes_of : Piece → List ℕ
 bytes_of (word letter t) = []
-bytes_of (setting index value) = []
+bytes_of (assignment index value) = []
 bytes_of (comment text) = text
 
 -- the places that keep pieces
@@ -76,8 +76,8 @@ AreEncodedPieces places = (pieces : List Piece) × EncodesPieces places pieces
 abbrev pub pieces_from : List PieceEntry → List Node → List ℕ → List Piece
 pieces_from [] nodes bytes = []
 pieces_from (item.Word letter n ∷ items) nodes bytes = word letter (tree_by (take n nodes)) ∷ pieces_from items (drop n nodes) bytes
-pieces_from (item.Setting i n ∷ items) nodes bytes =
-    setting (tree_by (take i nodes)) (tree_by (take n (drop i nodes))) ∷ pieces_from items (drop n (drop i nodes)) bytes
+pieces_from (item.Assignment i n ∷ items) nodes bytes =
+    assignment (tree_by (take i nodes)) (tree_by (take n (drop i nodes))) ∷ pieces_from items (drop n (drop i nodes)) bytes
 pieces_from (item.Comment n ∷ items) nodes bytes = comment (take n bytes) ∷ pieces_from items nodes (drop n bytes)
 
 abbrev pub pieces_by : PieceStore → List Piece

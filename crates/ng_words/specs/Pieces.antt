@@ -2,7 +2,7 @@
 -- (`laws::lines`).
 use Rattle.std.specs.Prelude.{ℕ, zero, suc, List, [], ◌∷◌, codes, ◌==◌, Option, Some, None, if◌then◌else◌}
 use Rattle.std.specs.Option.{option_map, option_and_then}
-use Rattle.ng_words.specs.Grammar.{Tree, Piece, word, setting, comment}
+use Rattle.ng_words.specs.Grammar.{Tree, Piece, word, assignment, comment}
 use Rattle.ng_words.specs.Scan.{letter_of}
 use Rattle.ng_words.specs.Values.{strip_prefix, value_at}
 
@@ -11,9 +11,9 @@ abbrev pub comment_at : List ℕ → Option (List ℕ × List ℕ)
 comment_at [] = None
 comment_at (b ∷ bs) = if b == 41 then Some ([], bs) else if b == 40 then None else option_map (λ x. (b ∷ x.0, x.1)) (comment_at bs)
 
--- after a setting's index: the equals sign and the value
+-- after an assignment's index: the equals sign and the value
 abbrev pub set_at : Tree → List ℕ → Option (Piece × List ℕ)
-set_at i bytes = option_and_then (λ rest. option_map (λ v. (setting i v.0, v.1)) (value_at rest)) (strip_prefix (codes "=") bytes)
+set_at i bytes = option_and_then (λ rest. option_map (λ v. (assignment i v.0, v.1)) (value_at rest)) (strip_prefix (codes "=") bytes)
 
 -- the piece that begins with a byte
 abbrev pub piece_from : ℕ → List ℕ → Option (Piece × List ℕ)

@@ -3,7 +3,7 @@
 use Rattle.std.specs.Prelude.{ℕ, ◌+◌, ◌-◌, ◌<◌, ◌≤◌, ◌≡◌, List, [], ◌∷◌, ◌++◌, length, take, drop, Bool, true, false, Option, Some, None, slice_get, nat_le, if◌then◌else◌}
 use Rattle.std.specs.Option.{option_and_then}
 use Rattle.ng_words.specs.Plain.{plain}
-use Rattle.ng_words.specs.Grammar.{Tree, level, Piece, word, setting, comment}
+use Rattle.ng_words.specs.Grammar.{Tree, level, Piece, word, assignment, comment}
 use Rattle.ng_words.specs.Values.{Waiting, index, brackets, function, left, openings, entry_at, WalkPosition, before, after, settled_value, gathered, closed, step_at, value_at}
 use Rattle.ng_words.specs.Pieces.{comment_at, set_at, piece_at, pieces_at}
 use Rattle.ng_words.specs.Kept.{postfix, item_of, nodes_of, bytes_of, PieceStore, EncodesPieces}
@@ -145,14 +145,14 @@ abbrev pub AddsWord : Letter → List ℕ → List ℕ → List PieceEntry → L
 AddsWord letter bytes rest items items_then nodes nodes_then =
     (v : Tree) × (value_at bytes ≡ Some (v, rest)) × (items_then ≡ items ++ item_of (word letter v) ∷ []) × (nodes_then ≡ nodes ++ postfix v)
 
--- what comes after a setting's sign
-abbrev pub setting_at : List ℕ → Option (Piece × List ℕ)
-setting_at bytes = option_and_then (λ i. set_at i.0 i.1) (value_at bytes)
+-- what comes after an assignment's sign
+abbrev pub assignment_at : List ℕ → Option (Piece × List ℕ)
+assignment_at bytes = option_and_then (λ i. set_at i.0 i.1) (value_at bytes)
 
--- a setting was taken: it is added
-abbrev pub AddsSetting : List ℕ → List ℕ → List PieceEntry → List PieceEntry → List Node → List Node → Type 0
-AddsSetting bytes rest items items_then nodes nodes_then =
-    (i : Tree) × (v : Tree) × (setting_at bytes ≡ Some (setting i v, rest)) × (items_then ≡ items ++ item_of (setting i v) ∷ [])
+-- an assignment was taken: it is added
+abbrev pub AddsAssignment : List ℕ → List ℕ → List PieceEntry → List PieceEntry → List Node → List Node → Type 0
+AddsAssignment bytes rest items items_then nodes nodes_then =
+    (i : Tree) × (v : Tree) × (assignment_at bytes ≡ Some (assignment i v, rest)) × (items_then ≡ items ++ item_of (assignment i v) ∷ [])
     × (nodes_then ≡ nodes ++ (postfix i ++ postfix v))
 
 -- a comment was taken: it is added

@@ -6,8 +6,8 @@ use crate::letter::Letter;
 pub(crate) enum PieceEntry {
     /// A word: its letter, and the number of nodes of its value.
     Word(Letter, u16),
-    /// A setting: the number of nodes of its index, and of its value.
-    Setting(u16, u16),
+    /// An assignment: the number of nodes of its index, and of its value.
+    Assignment(u16, u16),
     /// A comment: the number of its bytes.
     Comment(u16),
 }

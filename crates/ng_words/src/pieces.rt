@@ -13,8 +13,8 @@ use std::marker::Model;
 pub enum PieceRef<'a> {
     /// A word: its letter and its value.
     Word(Letter, Tree<'a>),
-    /// A parameter setting: the parameter's index and its new value.
-    Setting(Tree<'a>, Tree<'a>),
+    /// An assignment, a "parameter setting" in the report: the parameter's index and its new value.
+    Assignment(Tree<'a>, Tree<'a>),
     /// A comment: the bytes between its parentheses.
     Comment(&'a [u8]),
 }
@@ -64,12 +64,12 @@ impl<'a> Pieces<'a> {
                 self.nodes = rest;
                 Some(PieceRef::Word(letter, value))
             }
-            PieceEntry::Setting(i, n) => {
+            PieceEntry::Assignment(i, n) => {
                 let (index, after) = split_tree(self.nodes, i);
                 let (value, rest) = split_tree(after, n);
                 self.items = others;
                 self.nodes = rest;
-                Some(PieceRef::Setting(index, value))
+                Some(PieceRef::Assignment(index, value))
             }
             PieceEntry::Comment(n) => {
                 let (text, rest) = self.bytes.split_at(n as usize);

@@ -3,7 +3,7 @@ ghost use Rattle.std.specs.Prelude.{◌≡◌, ◌+◌, ◌*◌, ◌<◌, ◌≤
 ghost use Rattle.ng_words.specs.Plain.{StartsWithByte};
 ghost use Rattle.ng_words.specs.Values.{value_at};
 ghost use Rattle.ng_words.specs.Pieces.{comment_at};
-ghost use Rattle.ng_words.specs.Walks.{store_of, AddsWord, setting_at, AddsSetting, AddsComment, TakesPiece, TakesPieces};
+ghost use Rattle.ng_words.specs.Walks.{store_of, AddsWord, assignment_at, AddsAssignment, AddsComment, TakesPiece, TakesPieces};
 
 use crate::cursor::Cursor;
 use crate::letter::{Letter, letter_of};
@@ -53,8 +53,8 @@ fn word(
     }
 }
 
-/// Takes a setting's index, its equals sign and its value, without the parameter sign.
-fn setting(
+/// Takes an assignment's index, its equals sign and its value, without the parameter sign.
+fn assignment(
     cursor: &mut Cursor<'_>,
     items: &mut Items,
     nodes: &mut Nodes,
@@ -62,7 +62,7 @@ fn setting(
 ) -> bool
     requires few { length items.old.items < 128 }
     requires room { length nodes.old.items + length cursor.old ≤ 256 }
-    ensures setting { MatchBool result (AddsSetting cursor.old cursor.new items.old.items items.new.items nodes.old.items nodes.new.items) (setting_at cursor.old ≡ None) }
+    ensures assignment { MatchBool result (AddsAssignment cursor.old cursor.new items.old.items items.new.items nodes.old.items nodes.new.items) (assignment_at cursor.old ≡ None) }
     ensures room { IsTrue result → length nodes.new.items + length cursor.new ≤ length nodes.old.items + length cursor.old }
 {
     let index = match value(cursor, stack, nodes) {
@@ -74,7 +74,7 @@ fn setting(
     }
     match value(cursor, stack, nodes) {
         Some(n) => {
-            push_item(items, PieceEntry::Setting(index, n));
+            push_item(items, PieceEntry::Assignment(index, n));
             true
         }
         None => false,
@@ -99,7 +99,7 @@ fn comment(cursor: &mut Cursor<'_>, items: &mut Items, bytes: &mut Bytes) -> boo
     }
 }
 
-/// Takes the piece that comes next: a comment, a setting or a word.
+/// Takes the piece that comes next: a comment, an assignment or a word.
 fn piece(
     cursor: &mut Cursor<'_>,
     items: &mut Items,
@@ -118,7 +118,7 @@ fn piece(
         Some(b'(') => comment(cursor, items, bytes),
         Some(b'#') => {
             cursor.advance();
-            setting(cursor, items, nodes, stack)
+            assignment(cursor, items, nodes, stack)
         }
         Some(byte) => match letter_of(byte) {
             Some(letter) => {

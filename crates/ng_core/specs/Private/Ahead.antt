@@ -22,6 +22,6 @@ pub record PlansAhead {R : Type 0} (seen : R → Device) (answer : Result Unit F
   pub ledger : ledger_of new.journal ≡ ledger_of old.journal
   pub errors : IfErr answer (λ e. e ≡ DeviceFailed)
   pub broken : IsBrokenBy answer new.journal.broken
-  pub equipment : new.equipment ≡ old.equipment
+  pub geometry : new.geometry ≡ old.geometry
   pub size : (seen new.journal.rig).sectors ≡ (seen old.journal.rig).sectors
   pub failures : CountsFailure answer (seen old.journal.rig).failed (seen new.journal.rig).failed

@@ -13,7 +13,7 @@ use std::test::Fail;
 const HEAP: usize = 400_000;
 
 /// A controller over a heap, and a device that counts its calls.
-type Machine<'c, 'h> = Controller<Counting<'c>, &'h LocalHeap>;
+type ModalState<'c, 'h> = Controller<Counting<'c>, &'h LocalHeap>;
 
 /// Blocks that use a whole heap, except less than a thousand consecutive bytes.
 fn blocks(alloc: Global, heap: &LocalHeap) -> Result<Vec<Vec<u8, &LocalHeap>>, AllocError> {
@@ -32,7 +32,7 @@ fn blocks(alloc: Global, heap: &LocalHeap) -> Result<Vec<Vec<u8, &LocalHeap>>, A
 fn answers<'h>(
     alloc: Global,
     heap: &'h LocalHeap,
-    controller: &mut Machine<'_, 'h>,
+    controller: &mut ModalState<'_, 'h>,
     calls: &Cell<[u64; 2]>,
 ) -> Result<([Reply; 2], bool, [u64; 2]), Fault> {
     let full = event_of(heap, Order::Load("M2"))?;

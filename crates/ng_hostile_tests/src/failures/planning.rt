@@ -14,7 +14,7 @@ use std::cell::Cell;
 use std::test::Fail;
 
 /// A controller over a device that counts its calls.
-type Machine<'a> = Controller<Counting<'a>, Global>;
+type ModalState<'a> = Controller<Counting<'a>, Global>;
 
 /// Whether an event may read the program: a tick that begins a line, or a half-done line that is resumed.
 fn may_read(order: Order, does: Does) -> bool {
@@ -24,7 +24,7 @@ fn may_read(order: Order, does: Does) -> bool {
 /// How many reads an event makes, if its reply is as it should be.
 fn reads_of(
     alloc: Global,
-    controller: &mut Machine<'_>,
+    controller: &mut ModalState<'_>,
     calls: &Cell<[u64; 2]>,
     row: &Row,
     entries: u64,
@@ -40,7 +40,7 @@ fn reads_of(
 /// How many reads each event makes that may read the program, if all others make none.
 fn reads(
     alloc: Global,
-    controller: &mut Machine<'_>,
+    controller: &mut ModalState<'_>,
     calls: &Cell<[u64; 2]>,
     rows: &[Row],
     entries: u64,

@@ -122,7 +122,7 @@ fn is_same(one: &Stored<Global>, other: &Stored<Global>) -> Result<bool, AllocEr
         one.entries == other.entries
             && one.place == other.place
             && one.length == other.length
-            && one.state.machine == other.state.machine
+            && one.state.modal == other.state.modal
             && is_same_table(&one.tools, &other.tools)
             && changes.is_empty()
             && is_same_half(&one.half, &other.half),
@@ -131,17 +131,17 @@ fn is_same(one: &Stored<Global>, other: &Stored<Global>) -> Result<bool, AllocEr
 
 /// The status for a state.
 fn status_of(stored: &Stored<Global>) -> Status {
-    let machine = &stored.state.machine;
+    let modal = &stored.state.modal;
     let (point, point_known, half) = match &stored.half {
         Some(half) => (
-            half.at.unwrap_or(machine.point),
+            half.at.unwrap_or(modal.point),
             half.at.is_some(),
             Some(HalfShown {
                 source: half.source,
                 index: half.index,
             }),
         ),
-        None => (machine.point, machine.point_known, None),
+        None => (modal.point, modal.point_known, None),
     };
     Status {
         entries: stored.entries,

@@ -68,7 +68,7 @@ fn enter(stored: &mut Stored<Global>, entry: (i64, i64, i64, i64, u64), half: Op
 {
     let (first, count, value, x, place) = entry;
     set_all(&mut stored.state.params, first, count, value);
-    stored.state.machine.point = point_at(x);
+    stored.state.modal.point = point_at(x);
     stored.entries = stored.entries.saturating_add(1);
     stored.place = place.min(stored.length);
     stored.half = half;
@@ -385,7 +385,7 @@ fn are_alike(one: &Stored<Global>, other: &Stored<Global>) -> Result<bool, Alloc
     Ok(
         changes.is_empty()
             && are_tools_alike
-            && one.state.machine == other.state.machine
+            && one.state.modal == other.state.modal
             && (one.entries, one.place, one.length) == (other.entries, other.place, other.length)
             && are_halves_alike(one.half.as_ref(), other.half.as_ref()),
     )

@@ -44,14 +44,14 @@ fn round(end: Point, pace: Pace) -> Segment {
 fn least_us(
     rt: &HostRuntime,
     segment: &Segment,
-    machine: &Geometry,
+    modal: &Geometry,
     period_us: u64,
 ) -> Result<(u128, bool), Fail> {
     let mut least = u128::MAX;
     let mut is_same = true;
     for _ in 0..20 {
         let begun = Instant::now(rt)?;
-        let mut stepper = Stepper::new(segment, machine);
+        let mut stepper = Stepper::new(segment, modal);
         least = least.min(begun.elapsed(rt)?.as_micros());
         is_same = is_same && thousand(&mut stepper) == (1, 999, period_us);
     }
@@ -61,14 +61,14 @@ fn least_us(
 /// The circle has 8,000,000,000 pulses; a quarter of it has a quarter of them. Both take 60,000,000,000,000 us.
 #[test]
 fn the_largest_arcs_begin_within_a_millisecond(rt: HostRuntime) -> Result<(), Fail> {
-    let machine = steps_of(10, 10, 10);
+    let modal = steps_of(10, 10, 10);
     // a million minutes, so that the period shows the number of pulses
     let pace = InverseTime::of(Num::of(1)?).map_or(Pace::Traverse, Pace::InverseTime);
     let circle = round(point(10_000_000_000, 0, 0), pace);
-    let (us, is_same) = least_us(&rt, &circle, &machine, 7_500)?;
+    let (us, is_same) = least_us(&rt, &circle, &modal, 7_500)?;
     assert!(rt; us < 1_000 && is_same);
     let quarter = round(point(0, 10_000_000_000, 0), pace);
-    let (us, is_same) = least_us(&rt, &quarter, &machine, 30_000)?;
+    let (us, is_same) = least_us(&rt, &quarter, &modal, 30_000)?;
     assert!(rt; us < 1_000 && is_same);
     Ok(())
 }

@@ -34,12 +34,12 @@ fn has_segments(effect: &Effect, wanted: &[Segment]) -> bool {
 fn a_line_changes_its_fields_and_no_others(rt: HostRuntime) -> Result<(), Fail> {
     let mut state = State::fresh(rt.alloc())?;
     let effect = executed(&state, b"G20 F60 G91 G1 X1")?;
-    let machine = effect.machine;
-    let feed = machine.feed_per_min;
-    let point = machine.point;
+    let modal = effect.modal;
+    let feed = modal.feed_per_min;
+    let point = modal.point;
     assert_eq!(rt; feed.nm_per_min(), 60_000_000);
-    assert_eq!(rt; machine.modes.motion, Motion::Feed);
-    assert_eq!(rt; machine.modes.unit, Unit::Inches);
+    assert_eq!(rt; modal.modes.motion, Motion::Feed);
+    assert_eq!(rt; modal.modes.unit, Unit::Inches);
     assert_eq!(rt; (point.x.nm(), point.y.nm()), (25_400_000, 0));
     assert_eq!(rt;
         (effect.changes.len(), effect.stop),
@@ -54,9 +54,9 @@ fn a_line_changes_its_fields_and_no_others(rt: HostRuntime) -> Result<(), Fail> 
     let mut segments = effect.segments();
     assert!(rt; matches!(segments.next(), Some(Segment::Line(_))));
     assert_eq!(rt; segments.next(), None);
-    assert_eq!(rt; segments.outputs(), state.machine.outputs);
-    state.take_over(&effect.machine, effect.changes.as_slice());
-    assert_eq!(rt; state.machine, machine);
+    assert_eq!(rt; segments.outputs(), state.modal.outputs);
+    state.take_over(&effect.modal, effect.changes.as_slice());
+    assert_eq!(rt; state.modal, modal);
     Ok(())
 }
 
@@ -77,9 +77,9 @@ fn a_program_end_selects_the_first_system(rt: HostRuntime) -> Result<(), Fail> {
     assert!(rt; has_commands(&effect, &printed));
     let switches = [Segment::Switch(Outputs::fresh())];
     assert!(rt; has_segments(&effect, &switches));
-    state.take_over(&effect.machine, effect.changes.as_slice());
-    assert_eq!(rt; state.machine.modes.motion, Motion::Feed);
-    assert_eq!(rt; state.copy()?.machine, state.machine);
+    state.take_over(&effect.modal, effect.changes.as_slice());
+    assert_eq!(rt; state.modal.modes.motion, Motion::Feed);
+    assert_eq!(rt; state.copy()?.modal, state.modal);
     Ok(())
 }
 

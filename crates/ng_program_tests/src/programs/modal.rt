@@ -10,12 +10,12 @@ use std::test::Fail;
 fn a_whole_line_has_its_segments_in_the_order_of_the_steps(rt: HostRuntime) -> Result<(), Fail> {
     let line = b"F1 S1 T1 M6 M3 M9 G4 P1 G1 X1 M30";
     let mut state = State::fresh(rt.alloc())?;
-    state.machine.outputs.mist = true;
-    state.machine.outputs.spindle = Spindle::Counterclockwise;
+    state.modal.outputs.mist = true;
+    state.modal.outputs.spindle = Spindle::Counterclockwise;
     let effect = executed(&state, line)?;
     let speed = Outputs {
         speed: Num::of(1_000_000)?,
-        ..state.machine.outputs
+        ..state.modal.outputs
     };
     let selected = Outputs {
         selected_slot: 1,
@@ -49,7 +49,7 @@ fn a_whole_line_has_its_segments_in_the_order_of_the_steps(rt: HostRuntime) -> R
     assert_eq!(rt; segments.outputs(), dry);
     assert_eq!(rt; segments.next(), Some(Segment::Switch(ended)));
     assert_eq!(rt; segments.next(), None);
-    assert_eq!(rt; effect.machine.outputs, ended);
+    assert_eq!(rt; effect.modal.outputs, ended);
     let (text, _) = dry_text(rt.alloc(), line, false);
     let wanted =
         "SET_FEED_RATE(1.000000)\nSET_SPINDLE_SPEED(1.000000)\nSELECT_TOOL(1)\nCHANGE_TOOL(1)\nSTART_SPINDLE_CLOCKWISE()\nMIST_OFF()\nFLOOD_OFF()\nDWELL(1.000000)\nSTRAIGHT_FEED(1.000000, 0.000000, 0.000000)\nSET_ORIGIN_OFFSETS(0.000000, 0.000000, 0.000000)\nSELECT_PLANE(XY)\nSTOP_SPINDLE_TURNING()\nMIST_OFF()\nFLOOD_OFF()\nPALLET_SHUTTLE()\nPROGRAM_END()\n";
@@ -72,10 +72,10 @@ fn coolants_add_up_and_stops_are_distinguished(rt: HostRuntime) -> Result<(), Fa
     let mut state = State::fresh(rt.alloc())?;
     for (line, mist, flood, stop) in COOLANTS {
         let effect = executed(&state, line)?;
-        assert_eq!(rt; effect.machine.outputs.mist, *mist);
-        assert_eq!(rt; effect.machine.outputs.flood, *flood);
+        assert_eq!(rt; effect.modal.outputs.mist, *mist);
+        assert_eq!(rt; effect.modal.outputs.flood, *flood);
         assert_eq!(rt; effect.stop, *stop);
-        state.take_over(&effect.machine, effect.changes.as_slice());
+        state.take_over(&effect.modal, effect.changes.as_slice());
     }
     Ok(())
 }

@@ -249,8 +249,8 @@ fn resumed(alloc: Global, line: &str, n: u64) -> Text {
         z: Len::of_nm(5_000_000)?,
     };
     let mut state = State::fresh(alloc)?;
-    state.machine.point = start;
-    state.machine.outputs.spindle = Spindle::Clockwise;
+    state.modal.point = start;
+    state.modal.outputs.spindle = Spindle::Clockwise;
     let effect = executed(&state, line.as_bytes())?;
     resumed_text(alloc, effect.block_segments_from(start, n))
 }

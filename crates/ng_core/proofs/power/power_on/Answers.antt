@@ -8,7 +8,7 @@ use Rattle.ng_core.specs.Headline.{BeginsPast}
 use Rattle.ng_core.specs.Powers.{PowerOnResult, PowerOnSpec}
 use Rattle.ng_rig.proofs.Promise.{meaning}
 use Rattle.ng_layout.specs.Storable.{IsStorable}
-use Rattle.ng_session.specs.Entries.{Equipment}
+use Rattle.ng_canon.specs.declared.geometry.Geometry.{Geometry}
 use Rattle.ng_session.specs.Session.{SessionModel, resting}
 use Rattle.ng_core.proofs.Pasts.{begins_past}
 use Rattle.ng_core.proofs.Powering.{powered}
@@ -16,14 +16,14 @@ use Rattle.ng_core.proofs.power.power_on.Goals as goal
 
 pub returns-clause-gives : goal.returns-clause-gives
 returns-clause-gives g c =
-    let equipment : Equipment = record { geometry = c.args.settings.geometry } in
+    let geometry : Geometry = c.args.settings.geometry in
     let journal = c.in_ok-journal.ensures.journal in
     let stored = ap (λ (s : SessionModel). s.stored) c.new.ensures in
     record {
       powers = λ room tools table. meaning (c.in_ok-journal.ensures.recovers room tools table)
-          (λ r. powered tools c.in_ok-journal.journal c.in_ok-journal.stored c.new.result c.in-Ok.lines equipment _ _ stored journal.1 c.in-Ok.ensures.holds r);
+          (λ r. powered tools c.in_ok-journal.journal c.in_ok-journal.stored c.new.result c.in-Ok.lines geometry _ _ stored journal.1 c.in-Ok.ensures.holds r);
       rests = (journal.0, c.new.ensures ∙ ap (λ x. resting x) (sym journal.1), subst IsStorable (sym stored) journal.2);
-      equipment = refl;
+      geometry = refl;
       small = λ few. absurd (c.in_ok-journal.ensures.small few);
       faults = tt;
       memory = tt;
@@ -44,7 +44,7 @@ returns-in_err-journal-clause-gives g c =
     gave g.R.Rig.seen c.args.settings c.args.rig c.in_err-journal.field-0.0 c.from_residual.result c.from_residual.ensures.1 (record {
       powers = λ room tools table. meaning (told.recovers room tools table) (λ r. record { recovers = r; rests = λ written. tt });
       rests = tt;
-      equipment = tt;
+      geometry = tt;
       small = told.small;
       faults = told.faults;
       memory = told.memory;

@@ -7,7 +7,7 @@ use Rattle.ng_cycles.proofs.heights.optional_lengths_of.Goals as goal
 pub returns-in-Err-clause-found : goal.returns-in-Err-clause-found
 returns-in-Err-clause-found c =
     let w = c.args.words.now in
-    let s = c.args.setting.now in
+    let s = c.args.context.now in
     let words = c.args.in_force.now in
     let xs = place_lengths s.is_incremental w.x (shift_x s.offsets) s.point.x w.repeats in
     let ys = place_lengths s.is_incremental w.y (shift_y s.offsets) s.point.y w.repeats in
@@ -17,7 +17,7 @@ returns-in-Err-clause-found c =
 pub returns-in-Err-hole_axis_of-clause-found : goal.returns-in-Err-hole_axis_of-clause-found
 returns-in-Err-hole_axis_of-clause-found c =
     let w = c.args.words.now in
-    let s = c.args.setting.now in
+    let s = c.args.context.now in
     let words = c.args.in_force.now in
     let xs = place_lengths s.is_incremental w.x (shift_x s.offsets) s.point.x w.repeats in
     let ys = place_lengths s.is_incremental w.y (shift_y s.offsets) s.point.y w.repeats in
@@ -30,7 +30,7 @@ returns-in-Err-hole_axis_of-clause-found c =
 pub returns-in-Err-heights_of-clause-found : goal.returns-in-Err-heights_of-clause-found
 returns-in-Err-heights_of-clause-found c =
     let w = c.args.words.now in
-    let s = c.args.setting.now in
+    let s = c.args.context.now in
     let words = c.args.in_force.now in
     let xs = place_lengths s.is_incremental w.x (shift_x s.offsets) s.point.x w.repeats in
     let ys = place_lengths s.is_incremental w.y (shift_y s.offsets) s.point.y w.repeats in
@@ -45,7 +45,7 @@ returns-in-Err-heights_of-clause-found c =
 pub returns-in-Ok-heights_of-clause-found : goal.returns-in-Ok-heights_of-clause-found
 returns-in-Ok-heights_of-clause-found c =
     let w = c.args.words.now in
-    let s = c.args.setting.now in
+    let s = c.args.context.now in
     let words = c.args.in_force.now in
     let xs = place_lengths s.is_incremental w.x (shift_x s.offsets) s.point.x w.repeats in
     let ys = place_lengths s.is_incremental w.y (shift_y s.offsets) s.point.y w.repeats in

@@ -24,4 +24,4 @@ returns-clause-is c = λ i. record {
 pub returns-clause-modes : goal.returns-clause-modes
 returns-clause-modes c =
     let same = returns-clause-is c in
-    (λ i. modes_of (same i)) ∙ codes-back c.args.machine.now c.number.ensures.low c.number.ensures.high
+    (λ i. modes_of (same i)) ∙ codes-back c.args.modal.now c.number.ensures.low c.number.ensures.high

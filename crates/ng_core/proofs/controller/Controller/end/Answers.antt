@@ -1,7 +1,7 @@
 use Rattle.std.proofs.Common.{◌≡◌, ℕ, true, false, List, Option, Ok, refl, sym, ◌∙◌, ap, subst}
 use Rattle.std.specs.Option.{is_some}
 use Rattle.ng_text.specs.Programs.{program_line_at}
-use Rattle.ng_session.specs.Entries.{Equipment}
+use Rattle.ng_canon.specs.declared.geometry.Geometry.{Geometry}
 use Rattle.ng_session.specs.Session.{CurrentBlockModel, end, begin, is_running, has_work, IsBetweenLines}
 use Rattle.ng_core.specs.Model.{ControllerModel}
 use Rattle.ng_core.specs.Needs.{needs_of_work}
@@ -18,7 +18,7 @@ returns-then-is_some g c =
     let old : ControllerModel g.row.R.Denot = c.args.self.now in
     let found = by_some _ _ c.after.result c.if-is_some.ensures c.after.ensures.after in
     let block : is_some old.session.current ≡ true = sym (ap (λ (x : ControllerModel g.row.R.Denot). is_some x.session.current) c.self.view_is) ∙ ap (λ (o : Option CurrentBlockModel). is_some o) found.1.1 in
-    carried_to g.R.Rig.seen ⊥ (IsBetweenLines old.session) (Unit {0}) (has_work old.session ≡ true) ⊥ (IsBetweenLines old.session) (λ (program : List ℕ). end old.equipment program old.session old.session.current) (λ (program : List ℕ). end old.equipment program old.session old.session.current) c.commit.result old c.commit.new.self
+    carried_to g.R.Rig.seen ⊥ (IsBetweenLines old.session) (Unit {0}) (has_work old.session ≡ true) ⊥ (IsBetweenLines old.session) (λ (program : List ℕ). end old.geometry program old.session old.session.current) (λ (program : List ℕ). end old.geometry program old.session old.session.current) c.commit.result old c.commit.new.self
     (λ none. absurd none) (λ u. busy_block (is_running old.session.activity) old.session.current block) (λ none. absurd none) (busy_unread old.session block) (λ program. refl) c.commit.ensures
 
 pub returns-then-is_running : goal.returns-then-is_running
@@ -27,24 +27,24 @@ returns-then-is_running g c =
     let none = sym (ap (λ (x : ControllerModel g.row.R.Denot). x.session.current) c.self.view_is) ∙ by_none _ c.after.result c.if-is_some.ensures c.after.ensures.after in
     let runs = sym (ap (λ (x : ControllerModel g.row.R.Denot). is_running x.session.activity) c.self.view_is) ∙ sym c.if-is_running.ensures in
     carried_to g.R.Rig.seen (Unit {0}) (IsBetweenLines old.session) (Unit {0}) (has_work old.session ≡ true) (Unit {0}) (IsBetweenLines old.session)
-    (λ (program : List ℕ). begin old.equipment program old.session (program_line_at program old.session.stored.place)) (λ (program : List ℕ). end old.equipment program old.session old.session.current) c.begin_next.result old c.begin_next.new.self
+    (λ (program : List ℕ). begin old.geometry program old.session (program_line_at program old.session.stored.place)) (λ (program : List ℕ). end old.geometry program old.session old.session.current) c.begin_next.result old c.begin_next.new.self
     (λ u. (none, runs)) (λ u. busy_running (is_running old.session.activity) (is_some old.session.current) runs) (λ u. (none, runs)) (λ between. tt)
-    (λ program. sym (begins_there old.equipment program old.session none runs)) c.begin_next.ensures
+    (λ program. sym (begins_there old.geometry program old.session none runs)) c.begin_next.ensures
 
 pub returns : goal.returns
 returns g c =
-    let equipment : Equipment = record { geometry = c.self.inside.geometry } in
-    let old : ControllerModel g.row.R.Denot = record { journal = c.self.inside.journal; session = c.self.inside.session; lines = c.self.inside.lines; equipment = equipment } in
+    let geometry : Geometry = c.self.inside.geometry in
+    let old : ControllerModel g.row.R.Denot = record { journal = c.self.inside.journal; session = c.self.inside.session; lines = c.self.inside.lines; geometry = geometry } in
     let whole = ap (λ (x : ControllerModel g.row.R.Denot). x.journal.broken) c.self.view_is ∙ c.requires in
     let none = by_none _ c.after.result c.if-is_some.ensures c.after.ensures.after in
-    subst (λ (x : ControllerModel g.row.R.Denot). CarriesOut g.R.Rig.seen (needs_of_work x.session) (λ (program : List ℕ). end x.equipment program x.session x.session.current) (Ok c.rest.result) x x) c.self.view_is
+    subst (λ (x : ControllerModel g.row.R.Denot). CarriesOut g.R.Rig.seen (needs_of_work x.session) (λ (program : List ℕ). end x.geometry program x.session x.session.current) (Ok c.rest.result) x x) c.self.view_is
     (record {
       does = does_rest g.R.Rig.seen c.rest.result old none (sym c.if-is_running.ensures) c.rest.ensures;
       comes = comes_rest (IsBetweenLines old.session) c.rest.result old none (sym c.if-is_running.ensures) c.rest.ensures;
       line = λ read. absurd (let z : false ≡ true = c.if-is_running.ensures ∙ read.1 in cc);
       hindered = tt;
       broken = whole;
-      equipment = refl;
+      geometry = refl;
       size = refl;
       failures = refl;
     })

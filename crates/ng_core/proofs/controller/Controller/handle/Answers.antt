@@ -1,5 +1,5 @@
 use Rattle.std.proofs.Common.{◌∙◌, ap, subst}
-use Rattle.ng_session.specs.Entries.{Equipment}
+use Rattle.ng_canon.specs.declared.geometry.Geometry.{Geometry}
 use Rattle.ng_session.specs.Planned.{KnownModel}
 use Rattle.ng_core.specs.Events.{CarriesOutEvent}
 use Rattle.ng_core.specs.Model.{ControllerModel}
@@ -11,7 +11,7 @@ carry_out-requires-clause-alone g c = λ drops. ap (λ (k : KnownModel). k.ahead
 
 pub returns-clause-carried : goal.returns-clause-carried
 returns-clause-carried g c = λ whole.
-    let equipment : Equipment = record { geometry = c.self.inside.geometry } in
-    let old : ControllerModel g.row.R.Denot = record { journal = c.self.inside.journal; session = c.self.inside.session; lines = c.self.inside.lines; equipment = equipment } in
+    let geometry : Geometry = c.self.inside.geometry in
+    let old : ControllerModel g.row.R.Denot = record { journal = c.self.inside.journal; session = c.self.inside.session; lines = c.self.inside.lines; geometry = geometry } in
     subst (λ (x : ControllerModel g.row.R.Denot). CarriesOutEvent g.R.Rig.seen c.args.event.now c.carry_out.result x c.carry_out.new.self) c.self.view_is
     (carried_forgotten g.R.Rig.seen c.args.event.now c.carry_out.result old c.carry_out.new.self c.forget_for.new.self c.forget_for.ensures c.carry_out.ensures)

@@ -5,7 +5,7 @@ use Rattle.ng_layout.specs.Storable.{IsStorable}
 use Rattle.ng_layout.specs.Stored.{DecodedStateModel, StoredModel, with_decoded_state}
 use Rattle.ng_journal.specs.Journal.{kept_by}
 use Rattle.ng_journal.specs.Storing.{Storing, Commit, ledger_of}
-use Rattle.ng_session.specs.Entries.{Equipment}
+use Rattle.ng_canon.specs.declared.geometry.Geometry.{Geometry}
 use Rattle.ng_session.specs.Session.{SessionModel, commits}
 use Rattle.ng_session.specs.declared.reply.Reply.TheVariants as reply
 use Rattle.ng_core.specs.Model.{ControllerModel}
@@ -29,9 +29,9 @@ exchange-requires-clause-storable g c =
 
 pub returns-in-Ok : goal.returns-in-Ok
 returns-in-Ok g c = λ entry committed.
-    let equipment : Equipment = record { geometry = c.self.inside.geometry } in
-    let old : ControllerModel g.row.R.Denot = record { journal = c.self.inside.journal; session = c.self.inside.session; lines = c.self.inside.lines; equipment = equipment } in
-    let new : ControllerModel g.row.R.Denot = record { journal = c.commit.new.self; session = c.exchange-before.new.self; lines = c.self.inside.lines; equipment = equipment } in
+    let geometry : Geometry = c.self.inside.geometry in
+    let old : ControllerModel g.row.R.Denot = record { journal = c.self.inside.journal; session = c.self.inside.session; lines = c.self.inside.lines; geometry = geometry } in
+    let new : ControllerModel g.row.R.Denot = record { journal = c.commit.new.self; session = c.exchange-before.new.self; lines = c.self.inside.lines; geometry = geometry } in
     let next : SessionModel = record old.session { stored = with_decoded_state old.session.stored c.args.report old.session.stored.length } in
     let stored : c.stored-2.result.now ≡ next.stored = c.stored-2.ensures.value ∙ ap (λ (s : SessionModel). s.stored) c.exchange-before.ensures.next in
     let whole = ap (λ (x : ControllerModel g.row.R.Denot). x.journal.broken) c.self.view_is ∙ c.requires.whole in
@@ -44,16 +44,16 @@ returns-in-Ok g c = λ entry committed.
       line = λ none. absurd none;
       hindered = tt;
       broken = c.in-Ok.ensures.broken;
-      equipment = refl;
+      geometry = refl;
       size = c.in-Ok.ensures.size;
       failures = c.in-Ok.ensures.failures;
     })
 
 pub returns-in-Err : goal.returns-in-Err
 returns-in-Err g c = λ entry committed.
-    let equipment : Equipment = record { geometry = c.self.inside.geometry } in
-    let old : ControllerModel g.row.R.Denot = record { journal = c.self.inside.journal; session = c.self.inside.session; lines = c.self.inside.lines; equipment = equipment } in
-    let new : ControllerModel g.row.R.Denot = record { journal = c.commit.new.self; session = c.exchange.new.self; lines = c.self.inside.lines; equipment = equipment } in
+    let geometry : Geometry = c.self.inside.geometry in
+    let old : ControllerModel g.row.R.Denot = record { journal = c.self.inside.journal; session = c.self.inside.session; lines = c.self.inside.lines; geometry = geometry } in
+    let new : ControllerModel g.row.R.Denot = record { journal = c.commit.new.self; session = c.exchange.new.self; lines = c.self.inside.lines; geometry = geometry } in
     let next : SessionModel = record old.session { stored = with_decoded_state old.session.stored c.args.report old.session.stored.length } in
     let stored : c.stored-2.result.now ≡ next.stored = c.stored-2.ensures.value ∙ ap (λ (s : SessionModel). s.stored) c.exchange-before.ensures.next in
     let whole = ap (λ (x : ControllerModel g.row.R.Denot). x.journal.broken) c.self.view_is ∙ c.requires.whole in

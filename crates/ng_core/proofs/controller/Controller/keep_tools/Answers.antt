@@ -4,7 +4,7 @@ use Rattle.ng_num.specs.declared.fault.Fault.TheVariants.{CountersUsed}
 use Rattle.ng_layout.specs.Stored.{StoredModel}
 use Rattle.ng_journal.specs.Journal.{kept_by}
 use Rattle.ng_journal.specs.Storing.{Storing, Commit, ledger_of}
-use Rattle.ng_session.specs.Entries.{Equipment}
+use Rattle.ng_canon.specs.declared.geometry.Geometry.{Geometry}
 use Rattle.ng_session.specs.Session.{SessionModel, commits}
 use Rattle.ng_session.specs.declared.reply.Reply.TheVariants as reply
 use Rattle.ng_core.specs.Model.{ControllerModel}
@@ -21,9 +21,9 @@ with_table s tools = record s { stored = record s.stored { entries = s.stored.en
 
 pub returns-in-Ok : goal.returns-in-Ok
 returns-in-Ok g c = λ entry committed.
-    let equipment : Equipment = record { geometry = c.self.inside.geometry } in
-    let old : ControllerModel g.row.R.Denot = record { journal = c.self.inside.journal; session = c.self.inside.session; lines = c.self.inside.lines; equipment = equipment } in
-    let new : ControllerModel g.row.R.Denot = record { journal = c.commit.new.self; session = c.exchange_tools-before.new.self; lines = c.self.inside.lines; equipment = equipment } in
+    let geometry : Geometry = c.self.inside.geometry in
+    let old : ControllerModel g.row.R.Denot = record { journal = c.self.inside.journal; session = c.self.inside.session; lines = c.self.inside.lines; geometry = geometry } in
+    let new : ControllerModel g.row.R.Denot = record { journal = c.commit.new.self; session = c.exchange_tools-before.new.self; lines = c.self.inside.lines; geometry = geometry } in
     let next : SessionModel = with_table old.session c.args.tools in
     let count : c.behind-self.inside.entries ≡ old.session.stored.entries = ap (λ (x : StoredModel). x.entries) (c.behind-self.view_is ∙ c.stored.ensures.value) in
     let there : c.exchange_tools-before.new.self ≡ next =
@@ -40,16 +40,16 @@ returns-in-Ok g c = λ entry committed.
       line = λ none. absurd none;
       hindered = tt;
       broken = c.in-Ok.ensures.broken;
-      equipment = refl;
+      geometry = refl;
       size = c.in-Ok.ensures.size;
       failures = c.in-Ok.ensures.failures;
     })
 
 pub returns-in-Err : goal.returns-in-Err
 returns-in-Err g c = λ entry committed.
-    let equipment : Equipment = record { geometry = c.self.inside.geometry } in
-    let old : ControllerModel g.row.R.Denot = record { journal = c.self.inside.journal; session = c.self.inside.session; lines = c.self.inside.lines; equipment = equipment } in
-    let new : ControllerModel g.row.R.Denot = record { journal = c.commit.new.self; session = c.exchange_tools.new.self; lines = c.self.inside.lines; equipment = equipment } in
+    let geometry : Geometry = c.self.inside.geometry in
+    let old : ControllerModel g.row.R.Denot = record { journal = c.self.inside.journal; session = c.self.inside.session; lines = c.self.inside.lines; geometry = geometry } in
+    let new : ControllerModel g.row.R.Denot = record { journal = c.commit.new.self; session = c.exchange_tools.new.self; lines = c.self.inside.lines; geometry = geometry } in
     let next : SessionModel = with_table old.session c.args.tools in
     let count : c.behind-self.inside.entries ≡ old.session.stored.entries = ap (λ (x : StoredModel). x.entries) (c.behind-self.view_is ∙ c.stored.ensures.value) in
     let there : c.exchange_tools-before.new.self ≡ next =

@@ -5,7 +5,7 @@ use Rattle.ng_num.specs.declared.fault.Fault.TheVariants.{DeviceFailed, Counters
 use Rattle.ng_layout.specs.Stored.{StoredModel}
 use Rattle.ng_journal.specs.Journal.{kept_by}
 use Rattle.ng_journal.specs.Storing.{ledger_of}
-use Rattle.ng_session.specs.Entries.{Equipment}
+use Rattle.ng_canon.specs.declared.geometry.Geometry.{Geometry}
 use Rattle.ng_session.proofs.Ahead.{plan_none}
 use Rattle.ng_session.specs.Session.{SessionModel, load, load_unless, load_refusal, loaded}
 use Rattle.ng_session.specs.declared.reply.Reply.{Reply}
@@ -55,9 +55,9 @@ pub returns-in_err-load_program : goal.returns-in_err-load_program
 returns-in_err-load_program g c =
     let p = err_from_is_err_and c.from_residual-in_err-load_program.result c.from_residual-in_err-load_program.ensures.1 in
     let e = c.in_err-load_program.field-0.0 in
-    let equipment : Equipment = record { geometry = c.self.inside.geometry } in
-    let old : ControllerModel g.row.R.Denot = record { journal = c.self.inside.journal; session = c.self.inside.session; lines = c.self.inside.lines; equipment = equipment } in
-    let new : ControllerModel g.row.R.Denot = record { journal = c.load_program.new.self; session = c.self.inside.session; lines = c.self.inside.lines; equipment = equipment } in
+    let geometry : Geometry = c.self.inside.geometry in
+    let old : ControllerModel g.row.R.Denot = record { journal = c.self.inside.journal; session = c.self.inside.session; lines = c.self.inside.lines; geometry = geometry } in
+    let new : ControllerModel g.row.R.Denot = record { journal = c.load_program.new.self; session = c.self.inside.session; lines = c.self.inside.lines; geometry = geometry } in
     let free : load_refusal old.session c.args.text.now ≡ None = sym c.in_default.ensures.value in
     let whole = ap (λ (x : ControllerModel g.row.R.Denot). x.journal.broken) c.self.view_is ∙ c.requires.whole in
     let small : length c.args.text.now ≤ c.self.inside.journal.saved.room = subst (λ (x : StoredModel). length c.args.text.now ≤ x.room) (c.self.invariant.saved whole) c.in_default.ensures.none.1 in
@@ -74,9 +74,9 @@ returns-in_err-load_program g c =
 
 pub returns : goal.returns
 returns g c =
-    let equipment : Equipment = record { geometry = c.self.inside.geometry } in
-    let old : ControllerModel g.row.R.Denot = record { journal = c.self.inside.journal; session = c.self.inside.session; lines = c.self.inside.lines; equipment = equipment } in
-    let new : ControllerModel g.row.R.Denot = record { journal = c.load_program.new.self; session = c.load.new.self; lines = c.forget.new.self; equipment = equipment } in
+    let geometry : Geometry = c.self.inside.geometry in
+    let old : ControllerModel g.row.R.Denot = record { journal = c.self.inside.journal; session = c.self.inside.session; lines = c.self.inside.lines; geometry = geometry } in
+    let new : ControllerModel g.row.R.Denot = record { journal = c.load_program.new.self; session = c.load.new.self; lines = c.forget.new.self; geometry = geometry } in
     let free : load_refusal old.session c.args.text.now ≡ None = sym c.in_default.ensures.value in
     let whole = ap (λ (x : ControllerModel g.row.R.Denot). x.journal.broken) c.self.view_is ∙ c.requires.whole in
     let kept = kept_whole old.journal c.in_ok-stored.stored old.session.stored (c.self.invariant.saved whole) (ap (λ (x : StoredModel). x.room) c.in_ok-stored.ensures.value) in
@@ -87,7 +87,7 @@ returns g c =
       line = λ none. absurd none;
       hindered = tt;
       broken = c.in_ok-load_program.ensures.broken;
-      equipment = refl;
+      geometry = refl;
       size = c.in_ok-load_program.ensures.size;
       failures = c.in_ok-load_program.ensures.failures;
     })

@@ -5,7 +5,7 @@ use Rattle.ng_num.specs.declared.fault.Fault.TheVariants.{CountersUsed}
 use Rattle.ng_journal.specs.Storing.{ledger_of}
 use Rattle.std.specs.Prelude.{IsSome}
 use Rattle.ng_layout.specs.Stored.{StoredModel}
-use Rattle.ng_session.specs.Entries.{Equipment}
+use Rattle.ng_canon.specs.declared.geometry.Geometry.{Geometry}
 use Rattle.ng_session.specs.Session.{SessionModel}
 use Rattle.ng_session.specs.Planned.{base_of}
 use Rattle.ng_session.proofs.Ahead.{opened_base, plan_as}
@@ -21,31 +21,31 @@ pub returns-in_err-open_segment : goal.returns-in_err-open_segment
 returns-in_err-open_segment g c =
     let p = err_from_is_err_and c.from_residual.result c.from_residual.ensures.1 in
     let e = c.in_err-open_segment.field-0.0 in
-    let equipment : Equipment = record { geometry = c.self.inside.geometry } in
-    let old : ControllerModel g.row.R.Denot = record { journal = c.self.inside.journal; session = c.self.inside.session; lines = c.self.inside.lines; equipment = equipment } in
-    let new : ControllerModel g.row.R.Denot = record { journal = c.open_segment.new.self; session = c.self.inside.session; lines = c.self.inside.lines; equipment = equipment } in
+    let geometry : Geometry = c.self.inside.geometry in
+    let old : ControllerModel g.row.R.Denot = record { journal = c.self.inside.journal; session = c.self.inside.session; lines = c.self.inside.lines; geometry = geometry } in
+    let new : ControllerModel g.row.R.Denot = record { journal = c.open_segment.new.self; session = c.self.inside.session; lines = c.self.inside.lines; geometry = geometry } in
     let whole = ap (λ (x : ControllerModel g.row.R.Denot). x.journal.broken) c.self.view_is ∙ c.requires.whole in
     let unchanged : e ≡ CountersUsed → new.journal ≡ old.journal = λ used. c.in_err-open_segment.ensures.unchanged (ap (λ (f : Fault). Err f) used) in
-    rw (p.1) (carried_as g.R.Rig.seen (λ (x : ControllerModel g.row.R.Denot). ⊥) (λ (x : ControllerModel g.row.R.Denot). Unit {0}) (λ (x : ControllerModel g.row.R.Denot). ⊥) (λ (x : ControllerModel g.row.R.Denot) (program : List ℕ). opening c.args.half program x.equipment x.session) (Err p.0) c.args.self.now old new c.self.view_is
-    (carried_failed g.R.Rig.seen ⊥ (Unit {0}) ⊥ p.0 e (λ (program : List ℕ). opening c.args.half program equipment old.session) old new p.2
+    rw (p.1) (carried_as g.R.Rig.seen (λ (x : ControllerModel g.row.R.Denot). ⊥) (λ (x : ControllerModel g.row.R.Denot). Unit {0}) (λ (x : ControllerModel g.row.R.Denot). ⊥) (λ (x : ControllerModel g.row.R.Denot) (program : List ℕ). opening c.args.half program x.geometry x.session) (Err p.0) c.args.self.now old new c.self.view_is
+    (carried_failed g.R.Rig.seen ⊥ (Unit {0}) ⊥ p.0 e (λ (program : List ℕ). opening c.args.half program geometry old.session) old new p.2
     (opens_none g.R.Rig.seen e e c.args.half old new refl (c.self.invariant.saved whole) c.in_err-open_segment.ensures.errors unchanged c.in_err-open_segment.ensures.stops refl)
     c.in_err-open_segment.ensures.errors unchanged refl refl
-    (hindered_opening (Unit {0}) e equipment old.session (ledger_of old.journal) c.args.half c.in_err-open_segment.ensures.errors c.in_err-open_segment.ensures.used_up)
+    (hindered_opening (Unit {0}) e geometry old.session (ledger_of old.journal) c.args.half c.in_err-open_segment.ensures.errors c.in_err-open_segment.ensures.used_up)
     c.in_err-open_segment.ensures.broken c.in_err-open_segment.ensures.size c.in_err-open_segment.ensures.failures))
 
 pub returns : goal.returns
 returns g c =
-    let equipment : Equipment = record { geometry = c.self.inside.geometry } in
-    let old : ControllerModel g.row.R.Denot = record { journal = c.self.inside.journal; session = c.self.inside.session; lines = c.self.inside.lines; equipment = equipment } in
-    let new : ControllerModel g.row.R.Denot = record { journal = c.open_segment.new.self; session = c.open.new.self; lines = c.self.inside.lines; equipment = equipment } in
+    let geometry : Geometry = c.self.inside.geometry in
+    let old : ControllerModel g.row.R.Denot = record { journal = c.self.inside.journal; session = c.self.inside.session; lines = c.self.inside.lines; geometry = geometry } in
+    let new : ControllerModel g.row.R.Denot = record { journal = c.open_segment.new.self; session = c.open.new.self; lines = c.self.inside.lines; geometry = geometry } in
     let whole = ap (λ (x : ControllerModel g.row.R.Denot). x.journal.broken) c.self.view_is ∙ c.requires.whole in
-    carried_as g.R.Rig.seen (λ (x : ControllerModel g.row.R.Denot). ⊥) (λ (x : ControllerModel g.row.R.Denot). Unit {0}) (λ (x : ControllerModel g.row.R.Denot). ⊥) (λ (x : ControllerModel g.row.R.Denot) (program : List ℕ). opening c.args.half program x.equipment x.session) (Ok c.open.result) c.args.self.now old new c.self.view_is (record {
+    carried_as g.R.Rig.seen (λ (x : ControllerModel g.row.R.Denot). ⊥) (λ (x : ControllerModel g.row.R.Denot). Unit {0}) (λ (x : ControllerModel g.row.R.Denot). ⊥) (λ (x : ControllerModel g.row.R.Denot) (program : List ℕ). opening c.args.half program x.geometry x.session) (Ok c.open.result) c.args.self.now old new c.self.view_is (record {
       does = opens g.R.Rig.seen c.in_ok-open_segment.field-0 c.open.result c.args.half old new c.open.ensures.reply c.open.ensures.next (c.self.invariant.saved whole) c.in_ok-open_segment.ensures.stops refl;
-      comes = comes_by ⊥ c.open.result (λ program. opening c.args.half program equipment old.session) old new (λ program. c.open.ensures.reply) (λ program. c.open.ensures.next);
+      comes = comes_by ⊥ c.open.result (λ program. opening c.args.half program geometry old.session) old new (λ program. c.open.ensures.reply) (λ program. c.open.ensures.next);
       line = λ none. absurd none;
       hindered = tt;
       broken = c.in_ok-open_segment.ensures.broken;
-      equipment = refl;
+      geometry = refl;
       size = c.in_ok-open_segment.ensures.size;
       failures = c.in_ok-open_segment.ensures.failures;
     })

@@ -5,7 +5,7 @@ use Rattle.ng_journal.specs.Journal.{CountsFailure}
 use Rattle.ng_text.specs.LinesBefore.{IsTrueOf, IsLineBetween}
 use Rattle.ng_text.specs.Programs.{ProgramLineModel}
 use Rattle.ng_text.specs.declared.lines_before.LinesBefore.{LinesBefore}
-use Rattle.ng_session.specs.Entries.{Equipment}
+use Rattle.ng_canon.specs.declared.geometry.Geometry.{Geometry}
 use Rattle.ng_session.specs.Planned.{KnownModel, IsKnownOf}
 use Rattle.ng_core.specs.Model.{ControllerModel}
 use Rattle.ng_core.specs.Private.Ahead.{PlansAhead}
@@ -17,9 +17,9 @@ pub returns-in_err-first : goal.returns-in_err-first
 returns-in_err-first g c =
     let p = err_from_is_err_and c.from_residual.result c.from_residual.ensures.1 in
     let e = c.in_err-first.field-0.0 in
-    let equipment : Equipment = record { geometry = c.self.inside.geometry } in
-    let old : ControllerModel g.row.R.Denot = record { journal = c.self.inside.journal; session = c.self.inside.session; lines = c.self.inside.lines; equipment = equipment } in
-    let new : ControllerModel g.row.R.Denot = record { journal = c.first_kind_before.new.journal; session = c.self.inside.session; lines = c.self.inside.lines; equipment = equipment } in
+    let geometry : Geometry = c.self.inside.geometry in
+    let old : ControllerModel g.row.R.Denot = record { journal = c.self.inside.journal; session = c.self.inside.session; lines = c.self.inside.lines; geometry = geometry } in
+    let new : ControllerModel g.row.R.Denot = record { journal = c.first_kind_before.new.journal; session = c.self.inside.session; lines = c.self.inside.lines; geometry = geometry } in
     rw (p.1) (subst (λ (x : ControllerModel g.row.R.Denot). PlansAhead g.R.Rig.seen (Err p.0) x new) c.self.view_is
     (plans_lost g.R.Rig.seen p.0 e old new p.2 (unread_first g.R.Rig.seen e c.in-Some.place old new.journal c.in_err-first.ensures.kind) c.in_err-first.ensures.errors refl refl c.in_err-first.ensures.ledger
     c.in_err-first.ensures.broken c.in_err-first.ensures.size c.in_err-first.ensures.failures))
@@ -28,9 +28,9 @@ pub returns-in_err-line : goal.returns-in_err-line
 returns-in_err-line g c =
     let p = err_from_is_err_and c.from_residual-in_err-line.result c.from_residual-in_err-line.ensures.1 in
     let e = c.in_err-line.field-0.0 in
-    let equipment : Equipment = record { geometry = c.self.inside.geometry } in
-    let old : ControllerModel g.row.R.Denot = record { journal = c.self.inside.journal; session = c.self.inside.session; lines = c.self.inside.lines; equipment = equipment } in
-    let new : ControllerModel g.row.R.Denot = record { journal = c.program_line.new.self; session = c.self.inside.session; lines = c.self.inside.lines; equipment = equipment } in
+    let geometry : Geometry = c.self.inside.geometry in
+    let old : ControllerModel g.row.R.Denot = record { journal = c.self.inside.journal; session = c.self.inside.session; lines = c.self.inside.lines; geometry = geometry } in
+    let new : ControllerModel g.row.R.Denot = record { journal = c.program_line.new.self; session = c.self.inside.session; lines = c.self.inside.lines; geometry = geometry } in
     rw (p.1) (subst (λ (x : ControllerModel g.row.R.Denot). PlansAhead g.R.Rig.seen (Err p.0) x new) c.self.view_is
     (plans_lost g.R.Rig.seen p.0 e old new p.2 (unread_line g.R.Rig.seen c.in_ok-first.first e c.in-Some.place old c.first_kind_before.new.journal new.journal c.in_ok-first.ensures.kind c.in_err-line.ensures.line)
     c.in_err-line.ensures.errors refl refl (c.in_err-line.ensures.ledger ∙ c.in_ok-first.ensures.ledger)
@@ -39,9 +39,9 @@ returns-in_err-line g c =
 
 pub returns-in-Some-2 : goal.returns-in-Some-2
 returns-in-Some-2 g c =
-    let equipment : Equipment = record { geometry = c.self.inside.geometry } in
-    let old : ControllerModel g.row.R.Denot = record { journal = c.self.inside.journal; session = c.self.inside.session; lines = c.self.inside.lines; equipment = equipment } in
-    let new : ControllerModel g.row.R.Denot = record { journal = c.program_line.new.self; session = c.plan.new.self; lines = c.set_before.new.self; equipment = equipment } in
+    let geometry : Geometry = c.self.inside.geometry in
+    let old : ControllerModel g.row.R.Denot = record { journal = c.self.inside.journal; session = c.self.inside.session; lines = c.self.inside.lines; geometry = geometry } in
+    let new : ControllerModel g.row.R.Denot = record { journal = c.program_line.new.self; session = c.plan.new.self; lines = c.set_before.new.self; geometry = geometry } in
     let line : ProgramLineModel = record { text = c.as_slice-text.result.now; next = c.line.inside.next } in
     let read : line ≡ c.in-Some-2.line = (λ i. record { text = c.as_slice-text.ensures.value i; next = c.line.inside.next }) ∙ c.line.view_is in
     let reading = subst (λ (l : Option ProgramLineModel). Reading {E = Fault} g.R.Rig.seen (Ok l) c.in-Some.place c.first_kind_before.new.journal c.program_line.new.self)
@@ -60,9 +60,9 @@ returns-in-Some-2 g c =
 
 pub returns-in-None : goal.returns-in-None
 returns-in-None g c =
-    let equipment : Equipment = record { geometry = c.self.inside.geometry } in
-    let old : ControllerModel g.row.R.Denot = record { journal = c.self.inside.journal; session = c.self.inside.session; lines = c.self.inside.lines; equipment = equipment } in
-    let new : ControllerModel g.row.R.Denot = record { journal = c.program_line.new.self; session = c.self.inside.session; lines = c.end.new.self; equipment = equipment } in
+    let geometry : Geometry = c.self.inside.geometry in
+    let old : ControllerModel g.row.R.Denot = record { journal = c.self.inside.journal; session = c.self.inside.session; lines = c.self.inside.lines; geometry = geometry } in
+    let new : ControllerModel g.row.R.Denot = record { journal = c.program_line.new.self; session = c.self.inside.session; lines = c.end.new.self; geometry = geometry } in
     let reading = subst (λ (l : Option ProgramLineModel). Reading {E = Fault} g.R.Rig.seen (Ok l) c.in-Some.place c.first_kind_before.new.journal c.program_line.new.self) c.in-None.is c.in_ok-line.ensures.line in
     subst (λ (x : ControllerModel g.row.R.Denot). PlansAhead g.R.Rig.seen (Ok tt) x new) c.self.view_is
     (plans_found g.R.Rig.seen c.in_ok-first.first None c.in-Some.place old new

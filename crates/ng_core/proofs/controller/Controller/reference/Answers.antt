@@ -3,7 +3,8 @@ use Rattle.ng_num.specs.declared.fault.Fault.{Fault}
 use Rattle.ng_num.specs.declared.fault.Fault.TheVariants.{CountersUsed}
 use Rattle.ng_layout.specs.Stored.{StoredModel, with_decoded_state}
 use Rattle.ng_journal.specs.Storing.{ledger_of}
-use Rattle.ng_session.specs.Entries.{Equipment, Referenced, after_reference}
+use Rattle.ng_canon.specs.declared.geometry.Geometry.{Geometry}
+use Rattle.ng_session.specs.Entries.{Referenced, after_reference}
 use Rattle.ng_session.specs.Session.{SessionModel, commits, reference, reference_unless, reference_refusal}
 use Rattle.ng_core.specs.Causes.{IsCausedBy}
 use Rattle.ng_core.specs.Model.{ControllerModel}
@@ -15,34 +16,34 @@ use Rattle.ng_core.proofs.controller.Controller.reference.Goals as goal
 pub returns-in-Some : goal.returns-in-Some
 returns-in-Some g c =
     let old : ControllerModel g.row.R.Denot = c.args.self.now in
-    let refused : Some c.in-Some.fault ≡ reference_refusal old.equipment.geometry old.session c.args.point.now =
-    subst (λ (x : ControllerModel g.row.R.Denot). Some c.in-Some.fault ≡ reference_refusal x.equipment.geometry x.session c.args.point.now) c.self.view_is c.in-Some.ensures in
-    carried_refused g.R.Rig.seen ⊥ (reference_refusal old.equipment.geometry old.session c.args.point.now ≡ None) ⊥ c.in-Some.fault (λ (program : List ℕ). reference old.equipment program old.session c.args.point.now) old c.requires.whole (λ none. none)
+    let refused : Some c.in-Some.fault ≡ reference_refusal old.geometry old.session c.args.point.now =
+    subst (λ (x : ControllerModel g.row.R.Denot). Some c.in-Some.fault ≡ reference_refusal x.geometry x.session c.args.point.now) c.self.view_is c.in-Some.ensures in
+    carried_refused g.R.Rig.seen ⊥ (reference_refusal old.geometry old.session c.args.point.now ≡ None) ⊥ c.in-Some.fault (λ (program : List ℕ). reference old.geometry program old.session c.args.point.now) old c.requires.whole (λ none. none)
     (λ program. ap (λ (o : Option Fault). reference_unless program old.session c.args.point.now o) refused)
 
 pub returns-then-is_count_used_up : goal.returns-then-is_count_used_up
 returns-then-is_count_used_up g c =
     let old : ControllerModel g.row.R.Denot = c.args.self.now in
-    let equipment : Equipment = record { geometry = c.self.inside.geometry } in
+    let geometry : Geometry = c.self.inside.geometry in
     let session = c.self.inside.session in
     let ledger = ledger_of c.self.inside.journal in
     let saved = after_reference session.stored c.args.point.now in
-    let free : reference_refusal equipment.geometry session c.args.point.now ≡ None = sym c.in_default.ensures in
-    carried_used g.R.Rig.seen ⊥ (reference_refusal old.equipment.geometry old.session c.args.point.now ≡ None) ⊥ (λ (program : List ℕ). reference old.equipment program old.session c.args.point.now) old c.requires.whole
-    (subst (λ (x : ControllerModel g.row.R.Denot). IsCausedBy ⊥ (reference_refusal x.equipment.geometry x.session c.args.point.now ≡ None) (ledger_of x.journal) (λ (program : List ℕ). reference x.equipment program x.session c.args.point.now) CountersUsed) c.self.view_is
-    (hindered_count ledger (λ program. reference equipment program session c.args.point.now) saved (reference_refusal equipment.geometry session c.args.point.now ≡ None)
+    let free : reference_refusal geometry session c.args.point.now ≡ None = sym c.in_default.ensures in
+    carried_used g.R.Rig.seen ⊥ (reference_refusal old.geometry old.session c.args.point.now ≡ None) ⊥ (λ (program : List ℕ). reference old.geometry program old.session c.args.point.now) old c.requires.whole
+    (subst (λ (x : ControllerModel g.row.R.Denot). IsCausedBy ⊥ (reference_refusal x.geometry x.session c.args.point.now ≡ None) (ledger_of x.journal) (λ (program : List ℕ). reference x.geometry program x.session c.args.point.now) CountersUsed) c.self.view_is
+    (hindered_count ledger (λ program. reference geometry program session c.args.point.now) saved (reference_refusal geometry session c.args.point.now ≡ None)
     (c.counters.ensures.past ledger saved (past_referenced session.stored c.args.point.now c.if-is_count_used_up.ensures))
-    (λ program. stored_reference equipment program session c.args.point.now free)))
+    (λ program. stored_reference geometry program session c.args.point.now free)))
 
 pub returns : goal.returns
 returns g c =
     let old : ControllerModel g.row.R.Denot = c.args.self.now in
-    let none : reference_refusal old.equipment.geometry old.session c.args.point.now ≡ None =
-    subst (λ (x : ControllerModel g.row.R.Denot). reference_refusal x.equipment.geometry x.session c.args.point.now ≡ None) c.self.view_is (sym c.in_default.ensures) in
+    let none : reference_refusal old.geometry old.session c.args.point.now ≡ None =
+    subst (λ (x : ControllerModel g.row.R.Denot). reference_refusal x.geometry x.session c.args.point.now ≡ None) c.self.view_is (sym c.in_default.ensures) in
     let is : with_decoded_state old.session.stored c.referenced-report.result old.session.stored.length ≡ after_reference old.session.stored c.args.point.now =
     subst (λ (x : ControllerModel g.row.R.Denot). with_decoded_state x.session.stored c.referenced-report.result x.session.stored.length ≡ after_reference x.session.stored c.args.point.now) c.self.view_is c.referenced-report.ensures.value in
-    carried_to g.R.Rig.seen ⊥ ⊥ (Unit {0}) (reference_refusal old.equipment.geometry old.session c.args.point.now ≡ None) ⊥ ⊥
-    (λ (program : List ℕ). commits program (Referenced c.args.point.now) (record old.session { stored = with_decoded_state old.session.stored c.referenced-report.result old.session.stored.length })) (λ (program : List ℕ). reference old.equipment program old.session c.args.point.now)
+    carried_to g.R.Rig.seen ⊥ ⊥ (Unit {0}) (reference_refusal old.geometry old.session c.args.point.now ≡ None) ⊥ ⊥
+    (λ (program : List ℕ). commits program (Referenced c.args.point.now) (record old.session { stored = with_decoded_state old.session.stored c.referenced-report.result old.session.stored.length })) (λ (program : List ℕ). reference old.geometry program old.session c.args.point.now)
     c.keep.result old c.keep.new.self (λ m. m) (λ u. none) (λ e. e) (λ e. e)
     (λ program. ap (λ (y : StoredModel). commits program (Referenced c.args.point.now) (let s : SessionModel = record old.session { stored = y } in s)) is ∙ sym (ap (λ (o : Option Fault). reference_unless program old.session c.args.point.now o) none))
     (c.keep.ensures (Referenced c.args.point.now) (λ saved. refl))

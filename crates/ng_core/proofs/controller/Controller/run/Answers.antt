@@ -1,6 +1,6 @@
 use Rattle.std.proofs.Common.{refl, ◌∙◌, arith}
 use Rattle.ng_core.specs.AnsweredEvents.{AreAnsweredEvents, answered_at}
-use Rattle.ng_core.proofs.InTurn.{turns_more, turns_all, turns_fail, turns_equipment}
+use Rattle.ng_core.proofs.InTurn.{turns_more, turns_all, turns_fail, turns_geometry}
 use Rattle.ng_core.proofs.Pasts.{are_run}
 use Rattle.ng_core.proofs.controller.Controller.run.Goals as goal
 
@@ -31,5 +31,5 @@ returns-clause-runs g c =
 pub returns-clause-failures : goal.returns-clause-failures
 returns-clause-failures g c = turns_fail g.R.Rig.seen c.args.events.now c.loop-event.replies.items c.args.self.now c.loop-event.self (returns-clause-runs g c).1.turns
 
-pub returns-clause-equipment : goal.returns-clause-equipment
-returns-clause-equipment g c = turns_equipment g.R.Rig.seen c.args.events.now c.loop-event.replies.items c.args.self.now c.loop-event.self (returns-clause-runs g c).1.turns
+pub returns-clause-geometry : goal.returns-clause-geometry
+returns-clause-geometry g c = turns_geometry g.R.Rig.seen c.args.events.now c.loop-event.replies.items c.args.self.now c.loop-event.self (returns-clause-runs g c).1.turns

@@ -1,20 +1,20 @@
 use Rattle.std.proofs.Common.{◌∙◌, sym}
 use Rattle.ng_cycles.specs.Faults.{names_no_axis}
-use Rattle.ng_cycles.proofs.Lawful.{lawful_far, lawful_axis, lawful_r, lawful_hole, lawful_travel, lawful_ok, not_true, not_false, some_not_none, lengths_x}
+use Rattle.ng_cycles.proofs.ValidCycles.{valid_far, valid_axis, valid_r, valid_hole, valid_travel, valid_ok, not_true, not_false, some_not_none, lengths_x}
 use Rattle.ng_cycles.proofs.canned.Canned.of.Goals as goal
 
 pub returns-in-Err : goal.returns-in-Err
-returns-in-Err c = lawful_far c.args.words.now c.args.setting.now c.args.geometry.now c.in-Err.fault (rw c.over-in_force.ensures at c.in-Err.ensures.found)
+returns-in-Err c = valid_far c.args.words.now c.args.context.now c.args.geometry.now c.in-Err.fault (rw c.over-in_force.ensures at c.in-Err.ensures.found)
 
 pub returns-then-not-names_axis : goal.returns-then-not-names_axis
 returns-then-not-names_axis c =
-    lawful_axis c.args.words.now c.args.setting.now c.args.geometry.now c.in-Ok.found (rw c.over-in_force.ensures at c.in-Ok.ensures.found)
+    valid_axis c.args.words.now c.args.context.now c.args.geometry.now c.in-Ok.found (rw c.over-in_force.ensures at c.in-Ok.ensures.found)
     (not_false (names_no_axis c.args.words.now) c.names_axis.result c.names_axis.ensures c.if-not-names_axis.true)
 
 pub returns-in-None : goal.returns-in-None
 returns-in-None c =
     let z = some_not_none c.over-in_force.result.z c.is_none.result c.is_none.ensures c.if-is_none.false in
-    lawful_r c.args.words.now c.args.setting.now c.args.geometry.now c.in-Ok.found (rw c.over-in_force.ensures at c.in-Ok.ensures.found)
+    valid_r c.args.words.now c.args.context.now c.args.geometry.now c.in-Ok.found (rw c.over-in_force.ensures at c.in-Ok.ensures.found)
     (not_true (names_no_axis c.args.words.now) c.names_axis.result c.names_axis.ensures c.if-not-names_axis.false)
     (rw c.over-in_force.ensures at z)
     (sym c.in-None.is ∙ c.lengths.ensures)
@@ -26,14 +26,14 @@ drill_in-requires-clause-x c =
 
 pub returns-in-Err-drill_in : goal.returns-in-Err-drill_in
 returns-in-Err-drill_in c =
-    lawful_hole c.args.words.now c.args.setting.now c.args.geometry.now c.in-Ok.found c.in-Some.lengths c.in-Err-drill_in.fault (rw c.over-in_force.ensures at c.in-Ok.ensures.found)
+    valid_hole c.args.words.now c.args.context.now c.args.geometry.now c.in-Ok.found c.in-Some.lengths c.in-Err-drill_in.fault (rw c.over-in_force.ensures at c.in-Ok.ensures.found)
     (not_true (names_no_axis c.args.words.now) c.names_axis.result c.names_axis.ensures c.if-not-names_axis.false)
     (sym c.in-Some.is ∙ c.lengths.ensures)
     (rw c.over-in_force.ensures at c.in-Err-drill_in.ensures.drill)
 
 pub returns-then-leaves_travel : goal.returns-then-leaves_travel
 returns-then-leaves_travel c =
-    lawful_travel c.args.words.now c.args.setting.now c.args.geometry.now c.in-Ok.found c.in-Some.lengths c.in-Ok-drill_in.drill (rw c.over-in_force.ensures at c.in-Ok.ensures.found)
+    valid_travel c.args.words.now c.args.context.now c.args.geometry.now c.in-Ok.found c.in-Some.lengths c.in-Ok-drill_in.drill (rw c.over-in_force.ensures at c.in-Ok.ensures.found)
     (not_true (names_no_axis c.args.words.now) c.names_axis.result c.names_axis.ensures c.if-not-names_axis.false)
     (sym c.in-Some.is ∙ c.lengths.ensures)
     (rw c.over-in_force.ensures at c.in-Ok-drill_in.ensures.drill)
@@ -41,7 +41,7 @@ returns-then-leaves_travel c =
 
 pub returns : goal.returns
 returns c =
-    lawful_ok c.args.words.now c.args.setting.now c.args.geometry.now c.in-Ok.found c.in-Some.lengths c.in-Ok-drill_in.drill (rw c.over-in_force.ensures at c.in-Ok.ensures.found)
+    valid_ok c.args.words.now c.args.context.now c.args.geometry.now c.in-Ok.found c.in-Some.lengths c.in-Ok-drill_in.drill (rw c.over-in_force.ensures at c.in-Ok.ensures.found)
     (not_true (names_no_axis c.args.words.now) c.names_axis.result c.names_axis.ensures c.if-not-names_axis.false)
     (sym c.in-Some.is ∙ c.lengths.ensures)
     (rw c.over-in_force.ensures at c.in-Ok-drill_in.ensures.drill)

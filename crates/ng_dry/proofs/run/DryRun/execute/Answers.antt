@@ -41,6 +41,6 @@ returns-clause-step g c =
     LineStepSpec-onto _ _ (λ more. due c.args.self.now (c.args.line.now ∷ more)) (λ more. onto left (outcome_by here.terms (kind_before here.first (kind_of c.args.line.now)) done.setup (here.number + 1) more)) _ (Ok None)
     (λ more.
     ap (λ f. onto left (outcome_by here.terms f done.setup (here.number + 1) more)) (sym c.first_kind-self-inside.ensures.value)
-    ∙ ap (λ s. onto left (outcome_by here.terms c.first_kind-self-inside.result s (here.number + 1) more)) (sym (c.take_over.ensures ∙ ap (changed c.self.inside.state c.in-Ok.effect.now.machine) c.as_slice.ensures.value)))
+    ∙ ap (λ s. onto left (outcome_by here.terms c.first_kind-self-inside.result s (here.number + 1) more)) (sym (c.take_over.ensures ∙ ap (changed c.self.inside.state c.in-Ok.effect.now.modal) c.as_slice.ensures.value)))
     (Goes-drained {T = Unit {0}} _ _ (λ more. due c.args.self.now (c.args.line.now ∷ more)) (here.text ++ commands_text done.commands) left (λ more. outcome_by here.terms (kind_before here.first (kind_of c.args.line.now)) done.setup (here.number + 1) more) tt
     (λ more. due-next here c.args.self.now c.args.line.now done more c.self.view_is c.in-Ok.ensures (sym c.is_end.ensures ∙ c.if-is_end.false)) c.in_default.ensures)

@@ -7,7 +7,7 @@ use Rattle.ng_expr.proofs.values.Values.evaluate_into.Given as goal
 abbrev pub invariant-loop-piece : goal.invariant-loop-piece
 invariant-loop-piece g l = record {
   found : followed_if_ok (settled_of l.self) (settled_pieces (pieces_by l.pieces) l.params) ≡ settled_pieces (pieces_by l.line.places) l.params;
-  few : length l.self.words.items + length l.self.settings.items + length (pieces_by l.pieces) ≤ 128;
+  few : length l.self.words.items + length l.self.assignments.items + length (pieces_by l.pieces) ≤ 128;
 }
 
 abbrev pub decreases-loop-piece : goal.decreases-loop-piece

@@ -11,7 +11,7 @@ use Rattle.ng_layout.proofs.field.StateField.of.Goals as goal
 pub returns-clause-is : goal.returns-clause-is
 unfolding field_of
 returns-clause-is c =
-    let m = c.args.machine.now in
+    let m = c.args.modal.now in
     let feed : c.unsigned_abs.result ≡ unsigned_abs m.feed_per_min = grind (arith, to_z-of_z) in
     let speed : c.unsigned_abs-2.result ≡ unsigned_abs m.outputs.speed = grind (arith, to_z-of_z) in
     let tool : cast_signed w64 (cast_unsigned w64 c.nm.result) ≡ m.offsets.tool_length = grind (arith, to_z-of_z) in
@@ -33,8 +33,8 @@ returns-clause-is c =
 
 pub returns-clause-means : goal.returns-clause-means
 returns-clause-means c = λ length within.
-    let m = c.args.machine.now in
-    let r : DecodedStateModel = record { entries = c.args.entries; place = c.args.place; machine = m; half = option_copied c.args.half } in
+    let m = c.args.modal.now in
+    let r : DecodedStateModel = record { entries = c.args.entries; place = c.args.place; modal = m; half = option_copied c.args.half } in
     let counted : IsCounted m = record {
       feed = c.nm_per_min.ensures.range;
       speed = c.count.ensures.range;
@@ -46,4 +46,4 @@ returns-clause-means c = λ length within.
       g92 = sym (ap point_of c.triple_of-2.ensures.is) ∙ c.triple_of-2.ensures.means;
     } in
     ap (decoded_state_of length) (returns-clause-is c)
-    ∙ report-back length r c.requires.count within c.requires.machine counted (sym (ap half_of c.half_field_of.ensures.is) ∙ c.half_field_of.ensures.means)
+    ∙ report-back length r c.requires.count within c.requires.modal counted (sym (ap half_of c.half_field_of.ensures.is) ∙ c.half_field_of.ensures.means)

@@ -2,7 +2,7 @@
 use Rattle.std.proofs.Common.{ℕ, ◌≤◌, List, length, take, drop, ap, sym, subst, ◌∙◌, arith, length-drop}
 use Rattle.ng_words.specs.Kept.{IsTree, AreEncodedPieces}
 use Rattle.ng_words.specs.declared.tree.Node.{Node}
-use Rattle.ng_words.proofs.Kept.{kept_word, kept_setting, kept_comment}
+use Rattle.ng_words.proofs.Kept.{kept_word, kept_assignment, kept_comment}
 use Rattle.ng_words.proofs.pieces.Pieces.next.Goals as goal
 
 pub split_tree-value-requires-clause-within : goal.split_tree-value-requires-clause-within
@@ -20,25 +20,25 @@ invariant_of-self c =
     )
 
 pub split_tree-index-requires-clause-within : goal.split_tree-index-requires-clause-within
-split_tree-index-requires-clause-within c = (kept_setting _ _ _ _ _ c.self.invariant.0 c.in_ok-item.ensures.cases.0 c.in-Setting.is).index_within
+split_tree-index-requires-clause-within c = (kept_assignment _ _ _ _ _ c.self.invariant.0 c.in_ok-item.ensures.cases.0 c.in-Assignment.is).index_within
 
 pub split_tree-index-requires-clause-tree : goal.split_tree-index-requires-clause-tree
-split_tree-index-requires-clause-tree c = (kept_setting _ _ _ _ _ c.self.invariant.0 c.in_ok-item.ensures.cases.0 c.in-Setting.is).index
+split_tree-index-requires-clause-tree c = (kept_assignment _ _ _ _ _ c.self.invariant.0 c.in_ok-item.ensures.cases.0 c.in-Assignment.is).index
 
-pub split_tree-value-requires-in-Setting-clause-within : goal.split_tree-value-requires-in-Setting-clause-within
-split_tree-value-requires-in-Setting-clause-within c =
-    subst (λ (nodes : List Node). c.in-Setting.n ≤ length nodes) (sym c.split_tree-index.ensures.rest) (kept_setting _ _ _ _ _ c.self.invariant.0 c.in_ok-item.ensures.cases.0 c.in-Setting.is).value_within
+pub split_tree-value-requires-in-Assignment-clause-within : goal.split_tree-value-requires-in-Assignment-clause-within
+split_tree-value-requires-in-Assignment-clause-within c =
+    subst (λ (nodes : List Node). c.in-Assignment.n ≤ length nodes) (sym c.split_tree-index.ensures.rest) (kept_assignment _ _ _ _ _ c.self.invariant.0 c.in_ok-item.ensures.cases.0 c.in-Assignment.is).value_within
 
-pub split_tree-value-requires-in-Setting-clause-tree : goal.split_tree-value-requires-in-Setting-clause-tree
-split_tree-value-requires-in-Setting-clause-tree c =
-    subst (λ (nodes : List Node). IsTree (take c.in-Setting.n nodes)) (sym c.split_tree-index.ensures.rest) (kept_setting _ _ _ _ _ c.self.invariant.0 c.in_ok-item.ensures.cases.0 c.in-Setting.is).value
+pub split_tree-value-requires-in-Assignment-clause-tree : goal.split_tree-value-requires-in-Assignment-clause-tree
+split_tree-value-requires-in-Assignment-clause-tree c =
+    subst (λ (nodes : List Node). IsTree (take c.in-Assignment.n nodes)) (sym c.split_tree-index.ensures.rest) (kept_assignment _ _ _ _ _ c.self.invariant.0 c.in_ok-item.ensures.cases.0 c.in-Assignment.is).value
 
-pub invariant_of-self-in-Setting : goal.invariant_of-self-in-Setting
-invariant_of-self-in-Setting c =
-    let first = kept_setting _ _ _ _ _ c.self.invariant.0 c.in_ok-item.ensures.cases.0 c.in-Setting.is in
-    let rest = c.split_tree-value-in-Setting.ensures.rest ∙ ap (drop c.in-Setting.n) c.split_tree-index.ensures.rest in (
+pub invariant_of-self-in-Assignment : goal.invariant_of-self-in-Assignment
+invariant_of-self-in-Assignment c =
+    let first = kept_assignment _ _ _ _ _ c.self.invariant.0 c.in_ok-item.ensures.cases.0 c.in-Assignment.is in
+    let rest = c.split_tree-value-in-Assignment.ensures.rest ∙ ap (drop c.in-Assignment.n) c.split_tree-index.ensures.rest in (
       subst (λ (nodes : List Node). AreEncodedPieces (record { items = c.in_ok-item.others.now; nodes = nodes; bytes = c.self.inside.bytes.now })) (sym rest) first.kept,
-      omega (arith, c.self.invariant.1, ap length rest, length-drop c.in-Setting.n (drop c.in-Setting.i c.self.inside.nodes.now), length-drop c.in-Setting.i c.self.inside.nodes.now),
+      omega (arith, c.self.invariant.1, ap length rest, length-drop c.in-Assignment.n (drop c.in-Assignment.i c.self.inside.nodes.now), length-drop c.in-Assignment.i c.self.inside.nodes.now),
     )
 
 pub split_at-requires : goal.split_at-requires

@@ -1,6 +1,6 @@
 use Rattle.std.proofs.Common.{arith, codes, length, ◌≤◌}
 use Rattle.ng_words.proofs.Adding.{strip_prefix_shorter}
-use Rattle.ng_words.proofs.reading.setting.Goals as goal
+use Rattle.ng_words.proofs.reading.assignment.Goals as goal
 
 pub returns-in-Some-value-clause-room : goal.returns-in-Some-value-clause-room
 returns-in-Some-value-clause-room c =

@@ -1,4 +1,4 @@
-//! The machine as a block finds it: all of the state except the parameter table.
+//! The modal state of the interpreter: all of its state except the parameter table.
 ghost use Rattle.std.specs.Prelude.{◌≡◌};
 
 use crate::kept_words::KeptWords;
@@ -9,7 +9,7 @@ use ng_offsets::Offsets;
 
 /// Everything that a block can read or change, except the parameter table.
 #[derive(Clone, Copy, Debug, PartialEq, Eq)]
-pub struct Machine {
+pub struct ModalState {
     pub modes: Modes,
     pub feed_per_min: Feed,
     pub outputs: Outputs,
@@ -22,14 +22,14 @@ pub struct Machine {
     pub point_known: bool,
 }
 
-impl Machine {
-    ghost use Rattle.ng_state.specs.Fresh.{fresh_machine};
+impl ModalState {
+    ghost use Rattle.ng_state.specs.Fresh.{fresh_modal_state};
 
-    /// The machine of the fresh state (own): fresh modes, feed 0, everything off, no offsets, at point 0.
-    pub fn fresh() -> Machine
-        ensures { result ≡ fresh_machine }
+    /// The fresh modal state (own): fresh modes, feed 0, everything off, no offsets, at point 0.
+    pub fn fresh() -> ModalState
+        ensures { result ≡ fresh_modal_state }
     {
-        Machine {
+        ModalState {
             modes: Modes::fresh(),
             feed_per_min: Feed::zero(),
             outputs: Outputs::fresh(),

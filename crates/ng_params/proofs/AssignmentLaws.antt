@@ -1,10 +1,10 @@
--- The last setting of a parameter counts, and all other parameters stay.
+-- The last assignment of a parameter counts, and all other parameters stay.
 use Rattle.std.proofs.Common.{◌≡◌, ◌≤◌, ◌-◌, ℕ, List, [], ◌∷◌, ◌++◌, ℤ, pos, length, refl, ap, ◌∙◌, arith, get_or-set_other, get_or-set_same}
 use Rattle.std.proofs.lemmas.List.{length-set}
 use Rattle.ng_params.specs.Changes.{with_changes}
 use Rattle.ng_params.specs.Table.{at, with_value}
 use Rattle.ng_params.specs.declared.change.Change.{Change}
-use Rattle.ng_params.specs.Settings.{AreOthers}
+use Rattle.ng_params.specs.Assignments.{AreOthers}
 
 length-with_changes : (table : List ℤ) (changes : List Change) → length (with_changes table changes) ≡ length table
 length-with_changes table [] = refl
@@ -14,7 +14,7 @@ with_changes-append : (table : List ℤ) (before others : List Change) → with_
 with_changes-append table [] others = refl
 with_changes-append table (c ∷ before) others = with_changes-append (with_value table c.index c.value) before others
 
--- settings of other parameters leave p as it was
+-- assignments of other parameters leave p as it was
 pub at-others : (table : List ℤ) (changes : List Change) (p : ℕ) → 1 ≤ p → AreOthers p changes → at (with_changes table changes) p ≡ at table p
 at-others table [] p some h = refl
 at-others table (c ∷ changes) p some h =

@@ -1,16 +1,16 @@
--- The effect of settings on a table (NISTIR 6556, 3.3.3): the last setting of a parameter counts, and all other
+-- The effect of assignments on a table (NISTIR 6556, 3.3.3): the last assignment of a parameter counts, and all other
 -- parameters stay.
 use Rattle.std.specs.Prelude.{◌≡◌, ◌≢◌, ◌≤◌, ℕ, List, [], ◌∷◌, ◌++◌, ℤ, length}
 use Rattle.ng_params.specs.Changes.{with_changes}
 use Rattle.ng_params.specs.Table.{at}
 use Rattle.ng_params.specs.declared.change.Change.{Change}
 
--- none of these settings sets parameter p
+-- none of these assignments sets parameter p
 abbrev pub AreOthers : ℕ → List Change → Type 0
 AreOthers p [] = Unit {0}
 AreOthers p (c ∷ changes) = (1 ≤ c.index) × (c.index ≢ p) × AreOthers p changes
 
--- after settings, a parameter has the value of its last setting
+-- after assignments, a parameter has the value of its last assignment
 abbrev pub TheLastCounts : Type 0
 TheLastCounts = (table : List ℤ) (before others : List Change) (c : Change) → 1 ≤ c.index → c.index ≤ length table → AreOthers c.index others
     → at (with_changes table (before ++ c ∷ others)) c.index ≡ c.value

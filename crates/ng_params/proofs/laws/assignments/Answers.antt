@@ -1,5 +1,5 @@
-use Rattle.ng_params.proofs.SettingLaws.{last_counts, at-others}
-use Rattle.ng_params.proofs.laws.settings.Goals as goal
+use Rattle.ng_params.proofs.AssignmentLaws.{last_counts, at-others}
+use Rattle.ng_params.proofs.laws.assignments.Goals as goal
 
 pub returns-clause-last : goal.returns-clause-last
 returns-clause-last c = last_counts

@@ -1,4 +1,4 @@
-//! The value of a setting.
+//! The value of an assignment.
 ghost use Rattle.std.specs.Prelude.{◌≡◌};
 ghost use Rattle.ng_words.specs.Kept.{tree_by};
 ghost use Rattle.ng_expr.specs.Settle.{change, index};
