@@ -2,4 +2,4 @@ pub mod Radii
 pub mod Asked
 pub mod Check
 pub mod Extremes
-pub mod Quadrants
+pub mod Private

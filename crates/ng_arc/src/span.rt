@@ -2,7 +2,7 @@
 ghost use Rattle.std.specs.Prelude.{◌≡◌, ◌^◌, ◌<◌, ◌||◌, ◌==◌, not, unsigned_abs};
 ghost use Rattle.ng_canon.specs.Planes.{square_of, cross, dot, AreBelowInSize};
 ghost use Rattle.ng_arc.specs.Extremes.{has_room, is_passed, sweep_by};
-ghost use Rattle.ng_arc.specs.Quadrants.{direction, changes, passes_toward};
+ghost use Rattle.ng_arc.specs.Private.Quadrants.{direction, changes, passes_toward};
 
 use ng_canon::{ArcDirection, PlanePoint, Quadrant};
 
@@ -38,7 +38,7 @@ impl ArcSpan {
     }
 
     /// Whether the arc passes the direction at which a quadrant begins.
-    #[tactic(auto, unfolding(crate::specs::Quadrants::passes_toward))]
+    #[tactic(auto, unfolding(crate::specs::Private::Quadrants::passes_toward))]
     fn passes(self, towards: Quadrant) -> bool
         ensures { result ≡ passes_toward self towards }
     {
@@ -58,7 +58,7 @@ impl ArcSpan {
 
 /// How often an arc enters the next quadrant. If the end is in the same direction from the centre as the start, it is a
 /// full turn.
-#[tactic(auto, unfolding(crate::specs::Quadrants::changes))]
+#[tactic(auto, unfolding(crate::specs::Private::Quadrants::changes))]
 fn changes(start: PlanePoint, end: PlanePoint) -> u8
     requires start { AreBelowInSize start (2 ^ 45) }
     requires end { AreBelowInSize end (2 ^ 45) }

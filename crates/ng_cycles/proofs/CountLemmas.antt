@@ -5,7 +5,7 @@ use Rattle.std.proofs.lemmas.List.{length-append}
 use Rattle.ng_num.specs.declared.point.Point.{Point}
 use Rattle.ng_cycles.specs.declared.drill.Drill.{Drill}
 use Rattle.ng_cycles.specs.declared.motion_state.MotionState.{MotionState}
-use Rattle.ng_cycles.specs.Counts.{lead_length}
+use Rattle.ng_cycles.specs.Private.Counts.{lead_length}
 use Rattle.ng_cycles.specs.Left.{work_length, repeat_length}
 use Rattle.ng_cycles.specs.Strokes.{Stroke, TraverseTo, numbers_from, coordinate, strokes_of, repeat}
 use Rattle.ng_cycles.specs.Segments.{cycle_segments, traced, after_segments}

@@ -11,7 +11,7 @@ use Rattle.ng_cycles.specs.declared.drill.Drill.{Drill}
 use Rattle.ng_cycles.specs.declared.drill.Work.{Work}
 use Rattle.ng_cycles.specs.declared.drill.Work.TheVariants.{Drilling, DrillingWithDwell, PeckDrilling, Boring, BoringWithStop, BoringWithDwell}
 use Rattle.ng_cycles.specs.declared.motion_state.MotionState.{MotionState}
-use Rattle.ng_cycles.specs.Counts.{lead_length, has_switch, stops}
+use Rattle.ng_cycles.specs.Private.Counts.{lead_length, has_switch, stops}
 use Rattle.ng_canon.specs.declared.outputs.Spindle.TheVariants.{Stopped}
 use Rattle.ng_cycles.specs.Left.{seconds_of}
 use Rattle.ng_cycles.specs.Strokes.{Stroke, Across, ToR, TraverseTo, FeedTo, Wait, Turn, numbers_from, pecks, again, strokes_of, strokes, repeat}

@@ -17,7 +17,7 @@ use Rattle.ng_cycles.specs.declared.drill.Drill.{Drill}
 use Rattle.ng_cycles.specs.declared.drill.Work.{Work}
 use Rattle.ng_cycles.specs.declared.drill.Work.TheVariants.{Drilling, DrillingWithDwell, PeckDrilling, Boring, BoringWithStop, BoringWithDwell}
 use Rattle.ng_cycles.specs.declared.motion_state.MotionState.{MotionState}
-use Rattle.ng_cycles.specs.Inside.{top_of, rises_inside, extremes_inside}
+use Rattle.ng_cycles.specs.Private.Inside.{top_of, rises_inside, extremes_inside}
 use Rattle.ng_cycles.specs.Faults.{ends_outside, leaves_travel}
 use Rattle.ng_cycles.specs.Strokes.{Stroke, Across, ToR, TraverseTo, FeedTo, Wait, Turn, numbers_from, coordinate, bottom, pecks, clearance, again, strokes_of, repeat}
 use Rattle.ng_cycles.specs.Segments.{traced, segments_of, after_segments, begin}

@@ -2,7 +2,6 @@ pub mod Strokes
 pub mod Canned
 pub mod Segments
 pub mod Left
-pub mod Counts
 pub mod Lengths
 pub mod Faults
-pub mod Inside
+pub mod Private

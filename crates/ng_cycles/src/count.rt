@@ -1,6 +1,6 @@
 //! How many segments a cycle has.
 ghost use Rattle.std.specs.Prelude.{◌≡◌, ◌≤◌, ◌*◌, ◌^◌, length};
-ghost use Rattle.ng_cycles.specs.Counts.{lead_length};
+ghost use Rattle.ng_cycles.specs.Private.Counts.{lead_length};
 
 use crate::canned::Canned;
 use crate::drill::Drill;

@@ -26,7 +26,7 @@ impl HoleAxis {
 impl Drill {
     ghost use Rattle.std.specs.Prelude.{◌≤ℤ◌, ◌+ℤ◌, pos, false};
     ghost use Rattle.ng_cycles.specs.Faults.{leaves_travel};
-    ghost use Rattle.ng_cycles.specs.Inside.{top_of, rises_inside, extremes_inside};
+    ghost use Rattle.ng_cycles.specs.Private.Inside.{top_of, rises_inside, extremes_inside};
 
     /// The highest end of a move: the height of the first move in X and Y.
     fn top(&self) -> Len

@@ -1,6 +1,6 @@
 //! The machine's position and outputs after some segments of a cycle, from any position and outputs before it.
 ghost use Rattle.std.specs.Prelude.{◌≡◌, ◌≤◌, take};
-ghost use Rattle.ng_cycles.specs.Counts.{has_switch, stops};
+ghost use Rattle.ng_cycles.specs.Private.Counts.{has_switch, stops};
 
 use crate::canned::Canned;
 use crate::cycle::Cycle;

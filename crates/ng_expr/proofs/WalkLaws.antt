@@ -9,7 +9,7 @@ use Rattle.ng_words.specs.declared.tree.Node.TheVariants as node
 use Rattle.ng_words.proofs.Kept.{tree_by-postfix}
 use Rattle.ng_num.specs.Results.{and_then}
 use Rattle.ng_expr.specs.Value.{written, parameter_value, apply, join, value}
-use Rattle.ng_expr.specs.Walk.{onto, after_node, after_nodes}
+use Rattle.ng_expr.specs.Private.Walk.{onto, after_node, after_nodes}
 
 -- going on after a value was pushed is going on with the value
 go_on : (found : List ℤ) (r : Result ℤ Fault) (g : List ℤ → Result (List ℤ) Fault) → and_then (onto found r) g ≡ and_then r (λ z. g (z ∷ found))

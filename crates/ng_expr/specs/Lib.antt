@@ -1,3 +1,3 @@
 pub mod Value
 pub mod Settle
-pub mod Walk
+pub mod Private

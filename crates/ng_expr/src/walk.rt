@@ -3,7 +3,7 @@ ghost use Rattle.std.specs.Prelude.{◌≡◌, ◌<◌, ◌≤◌, ◌+◌, [], 
 ghost use Rattle.ng_words.specs.Kept.{tree_by, IsTree};
 ghost use Rattle.ng_words.specs.declared.tree.Node.TheVariants as node;
 ghost use Rattle.ng_expr.specs.Value.{apply, join, named, parameter_value, value, written};
-ghost use Rattle.ng_expr.specs.Walk.{after_node, of_one, of_two, onto};
+ghost use Rattle.ng_expr.specs.Private.Walk.{after_node, of_one, of_two, onto};
 
 use crate::operation::{apply, join};
 use crate::stack::Stack;

@@ -14,7 +14,7 @@ use Rattle.ng_step.specs.declared.centred.CentredArc.{CentredArc}
 use Rattle.ng_canon.specs.Planes.{pick_a, pick_b}
 use Rattle.ng_step.specs.Frames.{of_third, at_x, at_y, at_z, mirrored}
 use Rattle.ng_step.specs.Hands.{from_centre, programmed, rounded_start, step_a, step_b, centred, closing_after}
-use Rattle.ng_step.specs.Sizes.{AreSized}
+use Rattle.ng_step.specs.Private.Sizes.{AreSized}
 use Rattle.ng_step.proofs.RoundLemmas.{stored}
 
 pub from_centre_is : (arc : Arc) (a b x y z m : ℤ) → x ≡ a -ℤ arc.centre_a → y ≡ z → z ≡ mirrored arc.turn m → m ≡ b -ℤ arc.centre_b

@@ -6,7 +6,7 @@ use Rattle.ng_canon.specs.declared.plane_point.PlanePoint.{PlanePoint}
 use Rattle.ng_step.specs.declared.quadrant.PlaneStep.{PlaneStep}
 use Rattle.ng_step.specs.declared.quadrant.PlaneStep.TheVariants.{AddA, SubA, AddB, SubB}
 use Rattle.ng_step.specs.Arcs.{along_a, along_b, net_a, net_b, stops, left_after, IsArc, next_spot, step_at, moved}
-use Rattle.ng_step.specs.Leaps.{reach_a, reach_b}
+use Rattle.ng_step.specs.Private.Leaps.{reach_a, reach_b}
 
 -- how far a number of steps goes
 pub scaled_more : (n : ℤ) (s : ℕ) → (pos 1 +ℤ n) *ℤ pos s ≡ pos s +ℤ n *ℤ pos s

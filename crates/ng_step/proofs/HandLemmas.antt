@@ -11,7 +11,7 @@ use Rattle.ng_step.specs.declared.centred.CentredArc.{CentredArc}
 use Rattle.ng_step.specs.Arcs.{larger, IsArc, plane_steps, quadrants_to_walk, net_a as net_a_of, net_b as net_b_of}
 use Rattle.ng_step.specs.ArcPulses.{interleaved, arc_pulses, pulses_from}
 use Rattle.ng_step.specs.Turned.{spot_of}
-use Rattle.ng_step.specs.Sizes.{IsWalkable}
+use Rattle.ng_step.specs.Private.Sizes.{IsWalkable}
 use Rattle.ng_step.proofs.ArcLemmas.{is_arc}
 use Rattle.ng_step.proofs.PulseLemmas.{pulses_of}
 use Rattle.ng_num.specs.declared.point.Point.{Point}

@@ -13,8 +13,8 @@ use Rattle.ng_step.specs.declared.walk.ArcWalk.{ArcWalk}
 use Rattle.ng_canon.specs.Quadrants.{quadrant_after}
 use Rattle.ng_step.specs.Arcs.{next_spot, left_after, larger, stops, IsArc, HasSteps}
 use Rattle.ng_step.specs.Turned.{Walks, point_of_quadrant, in_step, out_step, norm, Sound, Roomy, farthest, beyond, budget}
-use Rattle.ng_step.specs.Sweeps.{inner_at, outer_at, OnWay, IsLast}
-use Rattle.ng_step.specs.Leaps.{reach_a, reach_b, Leads, WalkLeads, PassesFrom, NeverStopsUntil}
+use Rattle.ng_step.specs.Private.Sweeps.{inner_at, outer_at, OnWay, IsLast}
+use Rattle.ng_step.specs.Private.Leaps.{reach_a, reach_b, Leads, WalkLeads, PassesFrom, NeverStopsUntil}
 use Rattle.ng_step.proofs.TurnLemmas.{sound_outward, sound_inward, sound_crossing}
 use Rattle.ng_step.proofs.PlaceLemmas.{quadrant-place, moved_inward, moved_crossing, moved_outward, next_outside, next_inside, in_step_le, same_quadrant-self, same_quadrant-quadrant_after}
 use Rattle.ng_step.proofs.ArcLemmas.{in_step_some}

@@ -7,7 +7,7 @@ use Rattle.ng_step.specs.declared.sweep.SweepSteps.{SweepSteps}
 use Rattle.ng_step.specs.declared.sweep.QuadrantEnd.{QuadrantEnd}
 use Rattle.ng_step.specs.Turned.{norm}
 use Rattle.ng_step.specs.Periods.{ceil_div}
-use Rattle.ng_step.specs.Sweeps.{IsLeaving, inner_at, outer_at, OnWay, IsLast, IsPast, IsBefore, LeavesPast, LeavesBefore, ComesInward, ComesOutward, IsFirstPast}
+use Rattle.ng_step.specs.Private.Sweeps.{IsLeaving, inner_at, outer_at, OnWay, IsLast, IsPast, IsBefore, LeavesPast, LeavesBefore, ComesInward, ComesOutward, IsFirstPast}
 
 pub norm_le : (i o i' o' : ℕ) → i ≤ i' → o ≤ o' → norm i o ≤ norm i' o'
 norm_le i o i' o' h k =

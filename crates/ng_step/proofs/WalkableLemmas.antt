@@ -7,7 +7,7 @@ use Rattle.ng_step.specs.declared.centred.CentredArc.{CentredArc}
 use Rattle.ng_step.specs.Arcs.{larger}
 use Rattle.ng_step.specs.Turned.{beyond}
 use Rattle.ng_step.specs.Hands.{is_small}
-use Rattle.ng_step.specs.Sizes.{IsSized, IsWalkable}
+use Rattle.ng_step.specs.Private.Sizes.{IsSized, IsWalkable}
 use Rattle.ng_step.proofs.StartLemmas.{start_some}
 use Rattle.ng_step.proofs.ArcLemmas.{larger_some}
 

@@ -9,7 +9,5 @@ pub mod ArcInvariant
 pub mod Periods
 pub mod Hands
 pub mod StepperInvariant
-pub mod Sizes
 pub mod Promises
-pub mod Sweeps
-pub mod Leaps
+pub mod Private

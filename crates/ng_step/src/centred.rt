@@ -23,7 +23,7 @@ pub struct CentredArc {
 impl CentredArc {
     ghost use Rattle.std.specs.Prelude.{◌≡◌};
     ghost use Rattle.ng_step.specs.Hands.{centred};
-    ghost use Rattle.ng_step.specs.Sizes.{IsSized};
+    ghost use Rattle.ng_step.specs.Private.Sizes.{IsSized};
 
     /// An arc of the machine, relative to its centre.
     pub(crate) fn of(geometry: &Geometry, arc: &Arc) -> CentredArc

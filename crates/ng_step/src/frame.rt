@@ -16,7 +16,7 @@ impl Frame {
     ghost use Rattle.std.specs.Prelude.{◌≡◌, ◌<◌, ◌^◌, unsigned_abs};
     ghost use Rattle.ng_step.specs.Frames.{pulse_with, pulse_without};
     ghost use Rattle.ng_step.specs.Hands.{across, closing_after};
-    ghost use Rattle.ng_step.specs.Sizes.{AreSized};
+    ghost use Rattle.ng_step.specs.Private.Sizes.{AreSized};
 
     /// The pulse with this step of the arc and this step of the third axis.
     pub(crate) fn pulse_with(self, made: PlaneStep, third: AxisStep) -> AxisSteps

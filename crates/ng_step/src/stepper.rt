@@ -37,7 +37,7 @@ impl Stepper {
     ghost use Rattle.std.specs.Prelude.{◌≡◌, ◌∷◌, ◌++◌, ◌^◌, [], MatchOption, map};
     ghost use Rattle.ng_step.specs.Hands.{pulse_item, line_items, arc_items, large_arc_items, hand};
     ghost use Rattle.ng_step.specs.Promises.{EndsOnItsEnd, FollowsItsLine, StaysInside, KeepsToItsCircle, FollowsItsPath};
-    ghost use Rattle.ng_step.specs.Sizes.{AreSized, IsWalkable};
+    ghost use Rattle.ng_step.specs.Private.Sizes.{AreSized, IsWalkable};
     ghost use Rattle.ng_step.specs.StepperInvariant.{or_none};
 
     /// A stepper at the start of a segment, which may be any segment, inside the travel or not. It doesn't allocate and

@@ -24,7 +24,7 @@ impl Distances {
     ghost use Rattle.std.specs.Prelude.{◌≡◌, ◌^◌, ◌<◌};
     ghost use Rattle.ng_step.specs.Hands.{distances};
     ghost use Rattle.ng_step.specs.Lines.{largest};
-    ghost use Rattle.ng_step.specs.Sizes.{AreSized};
+    ghost use Rattle.ng_step.specs.Private.Sizes.{AreSized};
 
     /// The distances from one machine point to another, each rounded to whole steps.
     pub(crate) fn between(geometry: &Geometry, start: &Point, end: &Point) -> Distances

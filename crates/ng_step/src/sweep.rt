@@ -54,7 +54,7 @@ impl QuadrantEnd {
 
 impl QuadrantSweep {
     ghost use Rattle.std.specs.Prelude.{◌≡◌, ◌⊎◌, ◌+◌, ◌*◌, ◌-◌, ◌<◌, ◌≤◌, ◌^◌, true, false};
-    ghost use Rattle.ng_step.specs.Sweeps.{IsLeaving, IsLast, LeavesPast, LeavesBefore, IsFirstPast};
+    ghost use Rattle.ng_step.specs.Private.Sweeps.{IsLeaving, IsLast, LeavesPast, LeavesBefore, IsFirstPast};
 
     /// How many outward steps it takes to get outside the circle.
     fn outward_steps(square: u128, inner: u64, outer: u64, step: u64) -> u64

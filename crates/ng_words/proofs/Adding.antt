@@ -11,7 +11,7 @@ use Rattle.ng_words.specs.Scan.{letter_of}
 use Rattle.ng_words.specs.Values.{strip_prefix, value_at}
 use Rattle.ng_words.specs.Pieces.{comment_at, piece_at, pieces_at}
 use Rattle.ng_words.specs.Kept.{item_of, nodes_of, bytes_of, PieceStore, EncodesPieces, pieces_by}
-use Rattle.ng_words.specs.Walks.{store_of, AddsWord, assignment_at, AddsAssignment, AddsComment, Adds, TakesPiece, TakesPieces}
+use Rattle.ng_words.specs.Private.Walks.{store_of, AddsWord, assignment_at, AddsAssignment, AddsComment, Adds, TakesPiece, TakesPieces}
 use Rattle.ng_words.specs.declared.letter.Letter.{Letter}
 use Rattle.ng_words.specs.declared.piece_entry.PieceEntry.{PieceEntry}
 use Rattle.ng_words.specs.declared.tree.Node.{Node}

@@ -6,7 +6,7 @@ use Rattle.std.proofs.lemmas.List.{append-nil, take_at, drop_at, take_rest}
 use Rattle.std.proofs.Math.Seq.{take-append_seam, drop-append_seam, drop-append-add}
 use Rattle.ng_words.specs.Grammar.{Tree, number, parameter, bracketed, applied, joined, Piece, word, assignment, comment}
 use Rattle.ng_words.specs.Kept.{postfix, IsTree, built, latest, tree_by, item_of, nodes_of, bytes_of, PieceStore, EncodesPieces, AreEncodedPieces, pieces_from, pieces_by}
-use Rattle.ng_words.specs.Items.{last_size}
+use Rattle.ng_words.specs.Private.Items.{last_size}
 use Rattle.ng_words.specs.Lines.{last_comment}
 use Rattle.ng_words.specs.declared.letter.Letter.{Letter}
 use Rattle.ng_words.specs.declared.tree.Node.{Node}

@@ -7,7 +7,7 @@ use Rattle.ng_words.specs.Grammar.{Tree, number, parameter, bracketed, applied, 
 use Rattle.ng_words.specs.Scan.{number_at}
 use Rattle.ng_words.specs.Values.{strip_prefix, Waiting, index, brackets, function, left, openings, operations, entry_at, WalkPosition, before, after, settled_value, gathered, closed, opened, continued, step_at, value_from, value_at}
 use Rattle.ng_words.specs.Kept.{postfix}
-use Rattle.ng_words.specs.Walks.{mark, marks, waiting_nodes, HoldsBefore, HoldsAfter, Stands, nearest, is_index, operation_within, closing, IsOpening, function_openings, TakesValue, WalkStepSpec, Settles, Gathers, ClosesBrackets, BeginsNumber}
+use Rattle.ng_words.specs.Private.Walks.{mark, marks, waiting_nodes, HoldsBefore, HoldsAfter, Stands, nearest, is_index, operation_within, closing, IsOpening, function_openings, TakesValue, WalkStepSpec, Settles, Gathers, ClosesBrackets, BeginsNumber}
 use Rattle.ng_words.specs.declared.tree.Operation.{Operation}
 use Rattle.ng_words.specs.declared.tree.Function.{Function}
 use Rattle.ng_words.specs.declared.tree.Node.{Node}

@@ -7,7 +7,7 @@ use Rattle.std.proofs.lemmas.Bool.Decides.{nat_tests, Decides-eqb}
 use Rattle.ng_words.specs.Plain.{plain, StartsWithByte, IsOutside, HasNoComment}
 use Rattle.ng_words.specs.Values.{strip_prefix}
 use Rattle.ng_words.specs.Pieces.{comment_at}
-use Rattle.ng_words.specs.Walks.{ClosesAt}
+use Rattle.ng_words.specs.Private.Walks.{ClosesAt}
 
 -- ---- a text
 

@@ -6,7 +6,6 @@ pub mod Pieces
 pub mod Reading
 pub mod Kept
 pub mod Lines
-pub mod Items
 pub mod Kinds
 pub mod Comments
-pub mod Walks
+pub mod Private

@@ -2,7 +2,7 @@ ghost use Rattle.std.specs.Prelude.{◌≡◌, ◌≢◌, ◌<◌, [], ◌∷◌
 ghost use Rattle.ng_words.specs.Plain.{plain, is_blank, capital, StartsWithByte, IsOutside, AtPlain, HasNoComment};
 ghost use Rattle.ng_words.specs.Values.{strip_prefix};
 ghost use Rattle.ng_words.specs.Pieces.{comment_at};
-ghost use Rattle.ng_words.specs.Walks.{ClosesAt};
+ghost use Rattle.ng_words.specs.Private.Walks.{ClosesAt};
 ghost use Rattle.ng_words.specs.Scan.{front_digits, after_digits, is_empty, sign_at};
 
 use crate::digits::{Digits, is_digit};

@@ -2,7 +2,7 @@ ghost use Rattle.std.specs.Prelude.{◌≡◌, ◌<◌, ◌≤◌, ◌↔◌, �
 ghost use Rattle.ng_words.specs.Grammar.{ParsedLine, IsLineOf, is_too_long};
 ghost use Rattle.ng_words.specs.Reading.{read};
 ghost use Rattle.ng_words.specs.Kept.{pieces_by, written_by};
-ghost use Rattle.ng_words.specs.Items.{last_size};
+ghost use Rattle.ng_words.specs.Private.Items.{last_size};
 ghost use Rattle.ng_words.specs.Lines.{last_comment};
 
 use crate::cursor::Cursor;

@@ -3,7 +3,7 @@ ghost use Rattle.std.specs.Prelude.{◌≡◌, ◌+◌, ◌*◌, ◌<◌, ◌≤
 ghost use Rattle.ng_words.specs.Plain.{StartsWithByte};
 ghost use Rattle.ng_words.specs.Values.{value_at};
 ghost use Rattle.ng_words.specs.Pieces.{comment_at};
-ghost use Rattle.ng_words.specs.Walks.{store_of, AddsWord, assignment_at, AddsAssignment, AddsComment, TakesPiece, TakesPieces};
+ghost use Rattle.ng_words.specs.Private.Walks.{store_of, AddsWord, assignment_at, AddsAssignment, AddsComment, TakesPiece, TakesPieces};
 
 use crate::cursor::Cursor;
 use crate::letter::{Letter, letter_of};

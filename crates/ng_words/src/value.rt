@@ -3,7 +3,7 @@ ghost use Rattle.std.specs.Prelude.{◌≡◌, ◌+◌, ◌<◌, ◌≤◌, ◌�
 ghost use Rattle.ng_words.specs.Grammar.{level};
 ghost use Rattle.ng_words.specs.Scan.{number_at};
 ghost use Rattle.ng_words.specs.Values.{operations, entry_at};
-ghost use Rattle.ng_words.specs.Walks.{nearest, is_index, operation_within, closing, IsOpening, IsFunction, TakesValue, WalkStepSpec, Settles, Gathers, ClosesBrackets, BeginsNumber};
+ghost use Rattle.ng_words.specs.Private.Walks.{nearest, is_index, operation_within, closing, IsOpening, IsFunction, TakesValue, WalkStepSpec, Settles, Gathers, ClosesBrackets, BeginsNumber};
 
 use crate::cursor::Cursor;
 use crate::number::number;

@@ -26,8 +26,8 @@ impl ArcWalk {
     ghost use Rattle.ng_step.specs.Arcs.{stops, IsArc, net_a, net_b};
     ghost use Rattle.ng_step.specs.declared.quadrant.PlaneStep.{PlaneStep};
     ghost use Rattle.ng_step.specs.Turned.{spot_of, Walks, beyond};
-    ghost use Rattle.ng_step.specs.Sweeps.{inner_at, outer_at, IsLast};
-    ghost use Rattle.ng_step.specs.Leaps.{WalkLeads, EndsArc, PassesFrom, NeverStopsUntil, NeverStops, IsAhead, StopsAt};
+    ghost use Rattle.ng_step.specs.Private.Sweeps.{inner_at, outer_at, IsLast};
+    ghost use Rattle.ng_step.specs.Private.Leaps.{WalkLeads, EndsArc, PassesFrom, NeverStopsUntil, NeverStops, IsAhead, StopsAt};
 
     /// The number of steps to the end, and how far they go. It takes one square root for each quadrant, and one for
     /// each step of the binary search in the last quadrant: at most 60.

@@ -1,6 +1,6 @@
 use Rattle.std.proofs.Common.{refl, ◌≡◌, ◌-ℤ◌}
 use Rattle.ng_arc.specs.Extremes.{axis_a, axis_b, is_kept}
-use Rattle.ng_arc.specs.Quadrants.{direction}
+use Rattle.ng_arc.specs.Private.Quadrants.{direction}
 use Rattle.ng_canon.specs.declared.quadrant.Quadrant.TheVariants.{First, Second, Third, Fourth}
 use Rattle.ng_arc.proofs.ExtremesLemmas.{kept_is}
 use Rattle.ng_arc.proofs.extremes.extremes_inside.Goals as goal

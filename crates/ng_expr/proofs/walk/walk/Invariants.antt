@@ -1,5 +1,5 @@
 use Rattle.std.proofs.Common.{◌≡◌, ◌≤◌, [], length, drop}
-use Rattle.ng_expr.specs.Walk.{after_nodes}
+use Rattle.ng_expr.specs.Private.Walk.{after_nodes}
 use Rattle.ng_expr.proofs.walk.walk.Given as goal
 
 -- the walk over the remaining nodes, from what was found, ends as the whole walk does; each node adds at most one value

@@ -1,6 +1,6 @@
 use Rattle.std.proofs.Common.{◌≡◌, drop}
 use Rattle.std.specs.Option.{option_or}
-use Rattle.ng_words.specs.Items.{last_size}
+use Rattle.ng_words.specs.Private.Items.{last_size}
 use Rattle.ng_words.proofs.line.last_length.Given as goal
 
 -- the last comment of the remaining items, or else of those before

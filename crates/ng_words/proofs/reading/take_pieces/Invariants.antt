@@ -1,5 +1,5 @@
 use Rattle.std.proofs.Common.{◌+◌, ◌*◌, ◌≤◌, length}
-use Rattle.ng_words.specs.Walks.{store_of}
+use Rattle.ng_words.specs.Private.Walks.{store_of}
 use Rattle.ng_words.proofs.Adding.{IsTaking}
 use Rattle.ng_words.proofs.reading.take_pieces.Given as goal
 

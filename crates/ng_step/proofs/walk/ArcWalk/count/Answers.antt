@@ -3,7 +3,7 @@ use Rattle.std.proofs.lemmas.Int.{ints}
 use Rattle.ng_canon.specs.declared.plane_point.PlanePoint.{PlanePoint}
 use Rattle.ng_step.specs.Arcs.{net_a, net_b}
 use Rattle.ng_step.specs.Turned.{spot_of, point_of_quadrant}
-use Rattle.ng_step.specs.Leaps.{WalkLeads, EndsArc}
+use Rattle.ng_step.specs.Private.Leaps.{WalkLeads, EndsArc}
 use Rattle.ng_step.proofs.RoundLemmas.{stored}
 use Rattle.ng_step.proofs.StopLemmas.{goes_on_before, reached_more, reached_end, few_steps}
 use Rattle.ng_step.proofs.walk.ArcWalk.count.Goals as goal

@@ -1,4 +1,4 @@
-use Rattle.ng_step.specs.Sweeps.{inner_at, outer_at}
+use Rattle.ng_step.specs.Private.Sweeps.{inner_at, outer_at}
 use Rattle.ng_step.proofs.StopLemmas.{before_of, goes_on_up_to}
 use Rattle.ng_step.proofs.walk.ArcWalk.stop.Goals as goal
 

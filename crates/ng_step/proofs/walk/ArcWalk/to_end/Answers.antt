@@ -1,8 +1,8 @@
 use Rattle.std.proofs.Common.{arith, ℕ, sym, subst, ◌∙◌, ◌≡◌, false}
 use Rattle.ng_step.specs.Arcs.{stops}
 use Rattle.ng_step.specs.Turned.{spot_of}
-use Rattle.ng_step.specs.Sweeps.{inner_at, outer_at}
-use Rattle.ng_step.specs.Leaps.{NeverStopsUntil}
+use Rattle.ng_step.specs.Private.Sweeps.{inner_at, outer_at}
+use Rattle.ng_step.specs.Private.Leaps.{NeverStopsUntil}
 use Rattle.ng_step.proofs.StopLemmas.{last_left, stands_ends, stop_ends, across_ends}
 use Rattle.ng_step.proofs.walk.ArcWalk.to_end.Goals as goal
 

@@ -10,7 +10,7 @@ use Rattle.ng_step.specs.declared.sweep.SweepSteps.{SweepSteps}
 use Rattle.ng_step.specs.declared.walk.ArcWalk.{ArcWalk}
 use Rattle.ng_step.specs.Arcs.{larger, stops, IsArc, net_a, net_b}
 use Rattle.ng_step.specs.Turned.{point_of_quadrant, turned, Sound, farthest, beyond, budget}
-use Rattle.ng_step.specs.Sweeps.{IsFirstPast}
+use Rattle.ng_step.specs.Private.Sweeps.{IsFirstPast}
 
 -- where the remaining steps lead
 abbrev pub reach_a : Circle → PlanePoint → List PlaneStep → ℤ

@@ -1,0 +1,4 @@
+-- What only contracts of private functions cite.
+pub mod Leaps
+pub mod Sizes
+pub mod Sweeps
