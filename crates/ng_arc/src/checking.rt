@@ -47,7 +47,8 @@ fn arc_fault(asked: &AskedArc, arc: &Arc) -> Option<Fault>
 pub fn check_arc(asked: &AskedArc) -> Result<Arc, Fault>
     ensures value { result ≡ checked asked.now }
     ensures least { MatchResult result (λ _. NoneHolds (causes asked.now)) (λ fault. IsFirstFault (causes asked.now) fault) }
-    ensures radii { IsFalse (have_radii_differing asked.now.unit (arc_of asked.now)) ↔ AreAlike (start_square (arc_of asked.now)) (end_square (arc_of asked.now)) (tolerance asked.now.unit) }
+    ensures radii { IsFalse (have_radii_differing asked.now.unit (arc_of asked.now))
+        ↔ AreAlike (start_square (arc_of asked.now)) (end_square (arc_of asked.now)) (tolerance asked.now.unit) }
 {
     let arc = asked.arc()?;
     match arc_fault(asked, &arc) {

@@ -123,7 +123,9 @@ fn push_arc<A: Allocator + Copy + Drop>(
     text: &mut Vec<u8, A>,
     arc: ArcFeed,
 ) -> Result<(), AllocError>
-    ensures ok { OnOk result (text.new.items ≡ text.old.items ++ (codes "ARC_FEED(" ++ point_text arc.end ++ codes ", " ++ round_text arc ++ codes ")\n")) }
+    ensures ok { OnOk result
+        (text.new.items ≡ text.old.items ++
+        (codes "ARC_FEED(" ++ point_text arc.end ++ codes ", " ++ round_text arc ++ codes ")\n")) }
     ensures err { OnErr result (StaysWithin text.old.items text.new.items) }
 {
     text.extend_from_slice(b"ARC_FEED(")?;

@@ -59,7 +59,8 @@ pub fn command_of(line: &[u8]) -> Option<ConsoleCommand<'_>>
 /// The length of a program, from its digits.
 #[tactic(auto, using(crate::proofs::Written::no_length))]
 fn loading(digits: &[u8]) -> Option<u32>
-    ensures { MatchOption result ((n : ℕ) → AreDigitsOf digits.now n → length digits.now ≤ 7 → ⊥) (λ n. AreDigitsOf digits.now n × (length digits.now ≤ 7)) }
+    ensures { MatchOption result ((n : ℕ) → AreDigitsOf digits.now n → length digits.now ≤ 7 → ⊥)
+        (λ n. AreDigitsOf digits.now n × (length digits.now ≤ 7)) }
 {
     if digits.len() > LENGTH_DIGITS {
         return None;
@@ -72,7 +73,8 @@ fn loading(digits: &[u8]) -> Option<u32>
 
 /// The number of ticks, from its digits.
 fn ticks(digits: &[u8]) -> Option<u32>
-    ensures { MatchOption result ((n : ℕ) → AreDigitsOf digits.now n → 1 ≤ n → n ≤ 1_000_000 → ⊥) (λ n. AreDigitsOf digits.now n × (1 ≤ n) × (n ≤ 1_000_000)) }
+    ensures { MatchOption result ((n : ℕ) → AreDigitsOf digits.now n → 1 ≤ n → n ≤ 1_000_000 → ⊥)
+        (λ n. AreDigitsOf digits.now n × (1 ≤ n) × (n ≤ 1_000_000)) }
 {
     match whole(digits, MOST_TICKS) {
         None | Some(0) => None,

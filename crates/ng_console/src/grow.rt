@@ -77,7 +77,8 @@ fn grow<S: Append>(file: &mut S) -> Result<(), Fault>
 fn lengthen_device<S: Append>(file: &mut S) -> Result<(), Fault>
     ensures lengthened { OnOk result (Lengthened large_bytes (S.content file.old) (S.content file.new)) }
     ensures lasts { OnOk result (IfSome (S.lasting file.new) (λ kept. S.content file.new ≡ Some kept)) }
-    ensures failed { IfErr result (λ fault. (fault ≡ DeviceFailed) × LengthenedInPart large_bytes (S.content file.old) (S.content file.new)) }
+    ensures failed { IfErr result
+        (λ fault. (fault ≡ DeviceFailed) × LengthenedInPart large_bytes (S.content file.old) (S.content file.new)) }
 {
     match lengthen(file, LARGE_BYTES) {
         Ok(()) => Ok(()),
@@ -103,7 +104,9 @@ fn is_device<S: Storage>(file: &mut S) -> io::Result<bool>
 /// The header that a sector, 0 or 1, holds, if it is valid on a large device or on a small one.
 fn read_header<S: Storage>(file: &mut S, is_large: bool, sector: u64) -> io::Result<Option<Header>>
     requires { sector ≤ 1 }
-    ensures value { IfOk result (λ header. IfSome (S.content file.old) (λ held. header ≡ header_in is_large sector (sector_of sector held))) }
+    ensures value { IfOk result
+        (λ header. IfSome (S.content file.old) (λ held. header ≡ header_in is_large sector
+        (sector_of sector held))) }
     ensures stays { S.content file.new ≡ S.content file.old }
 {
     let mut bytes = [0; SECTOR_BYTES];

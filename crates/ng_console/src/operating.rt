@@ -58,7 +58,10 @@ fn operate_files<R: Files + AllocGlobal, I: Read, W: Write>(
 ) -> io::Result<u8>
 where
     R::File: Hold,
-    ensures run { IfOk result (λ status. (device : Result (OpenedFile R.File) NoDevice) × OperatesOpened settings device (I.remaining reader.old) (W.contents writer.old) (W.contents writer.new) status) }
+    ensures run { IfOk result
+        (λ status. (device : Result (OpenedFile R.File) NoDevice)
+        × OperatesOpened settings device (I.remaining reader.old) (W.contents writer.old)
+        (W.contents writer.new) status) }
     ensures range { IfOk result (λ status. status ≤ 2) }
 {
     match open_device(rt, device) {
@@ -94,7 +97,9 @@ fn operate_device<S: Storage + Drop, O: Write + Drop, I: Read, W: Write>(
     reader: &mut I,
     writer: &mut W,
 ) -> io::Result<u8>
-    ensures run { IfOk result (OperatesDevice S.content settings device out (I.remaining reader.old) (W.contents writer.old) (W.contents writer.new)) }
+    ensures run { IfOk result
+        (OperatesDevice S.content settings device out (I.remaining reader.old) (W.contents writer.old)
+        (W.contents writer.new)) }
     ensures range { IfOk result (λ status. status ≤ 2) }
 {
     match FileRig::over(alloc, device, out) {

@@ -38,7 +38,9 @@ pub fn start<R: Env + Files + AllocGlobal, I: Read, W: Write>(
 where
     R::File: Hold,
     ensures status { result ≤ 2 }
-    ensures run { (result ≡ 2) ⊎ ((texts : List (List ℕ)) × ((job : Job) × RequestsJob texts job × JobSpec R.File.remaining job (I.remaining reader.old) (W.contents writer.old) (W.contents writer.new) result)) }
+    ensures run { (result ≡ 2) ⊎ ((texts : List (List ℕ)) × ((job : Job) × RequestsJob texts job
+        × JobSpec R.File.remaining job (I.remaining reader.old) (W.contents writer.old)
+        (W.contents writer.new) result)) }
 {
     let Ok(_streams) = open_streams(rt) else {
         return FAILED;
@@ -99,7 +101,9 @@ where
     R::File: Hold,
     ensures status { result ≤ 2 }
     ensures refused { ((job : Job) → RequestsJob (map (λ s. s.now) given.now) job → ⊥) → result ≡ 2 }
-    ensures run { (result ≡ 2) ⊎ ((job : Job) × RequestsJob (map (λ s. s.now) given.now) job × JobSpec R.File.remaining job (I.remaining reader.old) (W.contents writer.old) (W.contents writer.new) result) }
+    ensures run { (result ≡ 2) ⊎ ((job : Job) × RequestsJob (map (λ s. s.now) given.now) job
+        × JobSpec R.File.remaining job (I.remaining reader.old) (W.contents writer.old)
+        (W.contents writer.new) result) }
 {
     match words(rt.alloc(), given) {
         Ok(job) => carry_out(rt, job, reader, writer),
@@ -121,7 +125,8 @@ fn carry_out<R: Files + AllocGlobal, I: Read, W: Write>(
 where
     R::File: Hold,
     ensures status { result ≤ 2 }
-    ensures run { (result ≡ 2) ⊎ JobSpec R.File.remaining job.entry (I.remaining reader.old) (W.contents writer.old) (W.contents writer.new) result }
+    ensures run { (result ≡ 2) ⊎ JobSpec R.File.remaining job.entry (I.remaining reader.old) (W.contents writer.old)
+        (W.contents writer.new) result }
 {
     match job {
         Job::Dry {
@@ -170,7 +175,9 @@ fn run_chosen<R: Read + Drop, W: Write, A: Allocator + Copy + Drop>(
     writer: &mut W,
     block_delete: bool,
 ) -> io::Result<u8>
-    ensures run { IfOk result (λ status. RunsChosen R.remaining chosen block_delete program (W.contents writer.old) (W.contents writer.new) status) }
+    ensures run { IfOk result
+        (λ status. RunsChosen R.remaining chosen block_delete program (W.contents writer.old)
+        (W.contents writer.new) status) }
     ensures range { IfOk result (λ status. status ≤ 2) }
 {
     match chosen {

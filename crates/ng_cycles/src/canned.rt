@@ -53,7 +53,8 @@ fn seconds_of(p: Option<Num>) -> Result<Num, Fault>
 
 /// G83 with its Q.
 fn pecking(q: Option<Len>) -> Result<Work, Fault>
-    ensures work { result ≡ unless (first_fault ((is_none (option_and_then above_zero q), Fault.BadQ) ∷ [])) (Work.PeckDrilling (unwrap_or (option_and_then above_zero q) 1)) }
+    ensures work { result ≡ unless (first_fault ((is_none (option_and_then above_zero q), Fault.BadQ) ∷ []))
+        (Work.PeckDrilling (unwrap_or (option_and_then above_zero q) 1)) }
     ensures deep { IfOk result IsDeep }
 {
     match q {
@@ -129,7 +130,8 @@ fn drill_in(
     requires some { 1 ≤ words.now.repeats }
     requires x { IsCount (coordinate lengths.now.x words.now.repeats) }
     requires y { IsCount (coordinate lengths.now.y words.now.repeats) }
-    ensures drill { result ≡ unless (first_fault (hole_causes words.now context.now in_force.now (int_lt lengths.now.r lengths.now.z))) (drill_by words.now context.now in_force.now lengths.now) }
+    ensures drill { result ≡ unless (first_fault (hole_causes words.now context.now in_force.now
+        (int_lt lengths.now.r lengths.now.z))) (drill_by words.now context.now in_force.now lengths.now) }
     ensures made { IfOk result IsMade }
 {
     if lengths.r.nm() < lengths.z.nm() {

@@ -87,7 +87,8 @@ pub fn hole_axis_of(
     repeats: u32,
 ) -> Result<HoleAxis, Fault>
     requires { 1 ≤ repeats }
-    ensures hole_axis { result ≡ far_unless (place_lengths is_incremental word shift at repeats) (hole_axis_of is_incremental word shift at) }
+    ensures hole_axis { result ≡ far_unless (place_lengths is_incremental word shift at repeats)
+        (hole_axis_of is_incremental word shift at) }
     ensures reaches { IfOk result (λ hole_axis. IsCount (coordinate hole_axis repeats)) }
 {
     match word {
@@ -140,7 +141,9 @@ fn z_from(r: Len, word: Len, shift: Shift, at: Len) -> Result<Len, Fault>
 
 /// R and Z under G91.
 fn heights_from(words: &KeptWords, shift: Shift, at: Len) -> Result<Heights, Fault>
-    ensures { result ≡ far_unless (r_lengths true words.now.r shift at ++ z_lengths true words.now.r words.now.z shift at) (heights_of true words.now shift at) }
+    ensures { result ≡ far_unless
+        (r_lengths true words.now.r shift at ++ z_lengths true words.now.r words.now.z shift at)
+        (heights_of true words.now shift at) }
 {
     let (r, z) = match words.r {
         None => (None, None),
@@ -157,7 +160,9 @@ fn heights_from(words: &KeptWords, shift: Shift, at: Len) -> Result<Heights, Fau
 
 /// R and Z under G90.
 fn heights_at(words: &KeptWords, shift: Shift, at: Len) -> Result<Heights, Fault>
-    ensures { result ≡ far_unless (r_lengths false words.now.r shift at ++ z_lengths false words.now.r words.now.z shift at) (heights_of false words.now shift at) }
+    ensures { result ≡ far_unless
+        (r_lengths false words.now.r shift at ++ z_lengths false words.now.r words.now.z shift at)
+        (heights_of false words.now shift at) }
 {
     let r = match words.r {
         None => None,
@@ -172,7 +177,8 @@ fn heights_at(words: &KeptWords, shift: Shift, at: Len) -> Result<Heights, Fault
 
 /// R and Z in machine coordinates.
 pub fn heights_of(words: &KeptWords, context: &CycleContext) -> Result<Heights, Fault>
-    ensures { result ≡ far_unless (height_lengths words.now context.now) (heights_of context.now.is_incremental words.now (shift_z context.now.offsets) context.now.point.z) }
+    ensures { result ≡ far_unless (height_lengths words.now context.now)
+        (heights_of context.now.is_incremental words.now (shift_z context.now.offsets) context.now.point.z) }
 {
     let shift = context.offsets.z();
     if context.is_incremental {
@@ -209,7 +215,8 @@ pub fn optional_lengths_of(
     context: &CycleContext,
 ) -> Result<OptionalLengths, Fault>
     requires { 1 ≤ words.now.repeats }
-    ensures found { result ≡ far_unless (lengths words.now in_force.now context.now) (optional_lengths_of words.now in_force.now context.now) }
+    ensures found { result ≡ far_unless (lengths words.now in_force.now context.now)
+        (optional_lengths_of words.now in_force.now context.now) }
     ensures x { IfOk result (λ found. IsCount (coordinate found.x words.now.repeats)) }
     ensures y { IfOk result (λ found. IsCount (coordinate found.y words.now.repeats)) }
 {

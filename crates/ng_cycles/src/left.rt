@@ -74,7 +74,8 @@ fn way_out(work: Work) -> Phase
 impl Canned {
     /// What comes at a hole, at a height.
     fn at_place(&self, z: Len) -> Phase
-        ensures { strokes_in self.now result ≡ (if int_eq z self.now.r then [] else TraverseTo self.now.r ∷ []) ++ strokes_of self.now self.now.work }
+        ensures { strokes_in self.now result ≡ (if int_eq z self.now.r then []
+            else TraverseTo self.now.r ∷ []) ++ strokes_of self.now self.now.work }
     {
         if z.nm() == self.drill().r.nm() {
             Phase::Down
@@ -121,7 +122,8 @@ impl CycleLeft {
 
     /// A feed in Z.
     fn feed(&mut self, z: Len, next: Phase) -> Segment
-        ensures segment { result ≡ line_to (pace.Feed self.old.canned.rate) self.old.standing.point (record self.old.standing.point { z = z }) }
+        ensures segment { result ≡ line_to (pace.Feed self.old.canned.rate) self.old.standing.point
+            (record self.old.standing.point { z = z }) }
         ensures left { self.new ≡ record self.old { standing = after_segment self.old.standing result; phase = next } }
     {
         self.phase = next;

@@ -61,7 +61,8 @@ impl Canned {
 impl CycleLeft {
     /// Whether the machine is at the height at which repeats end.
     fn stands_clear(&self) -> bool
-        ensures { result ≡ true → (self.now.standing.point.z ≡ self.now.canned.clear) × (self.now.standing.outputs ≡ self.now.canned.outputs) }
+        ensures { result ≡ true → (self.now.standing.point.z ≡ self.now.canned.clear)
+            × (self.now.standing.outputs ≡ self.now.canned.outputs) }
     {
         let drill = self.canned.drill();
         self.standing.point.z.nm() == drill.clear.nm() && self.standing.outputs == drill.outputs

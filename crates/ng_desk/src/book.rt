@@ -41,7 +41,8 @@ impl<R: Rig, A: Allocator + Copy + Drop, O: Origin<R>> Model for Book<R, A, O> {
 
     ghost view = { λ b. record { controller = b.controller; history = b.history.items; moments = b.moments } };
 
-    ghost invariant = { λ b. (length b.history.items ≡ b.calls.total) × (b.spare.parts ≡ 0) × NumberedFrom 0 b.history.items × RunsFrom R.seen O.start b.history.items b.moments b.controller };
+    ghost invariant = { λ b. (length b.history.items ≡ b.calls.total) × (b.spare.parts ≡ 0)
+        × NumberedFrom 0 b.history.items × RunsFrom R.seen O.start b.history.items b.moments b.controller };
 }
 
 impl<R: Rig, A: Allocator + Copy + Drop, O: Origin<R>> Book<R, A, O> {

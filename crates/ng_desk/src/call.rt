@@ -61,7 +61,8 @@ fn is_same_fault(one: &Fault, other: &Fault) -> bool
 
 /// Whether two statuses show the same of what is stored.
 fn is_same_stored(one: &Status, other: &Status) -> bool
-    ensures { IsTrue result ↔ ((one.now.entries ≡ other.now.entries) × (one.now.place ≡ other.now.place) × (one.now.point ≡ other.now.point) × (one.now.point_known ≡ other.now.point_known)) }
+    ensures { IsTrue result ↔ ((one.now.entries ≡ other.now.entries) × (one.now.place ≡ other.now.place)
+        × (one.now.point ≡ other.now.point) × (one.now.point_known ≡ other.now.point_known)) }
 {
     one.entries == other.entries
         && one.place == other.place

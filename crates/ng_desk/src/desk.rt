@@ -69,7 +69,9 @@ impl<R: Rig, A: Allocator + Copy + Drop, O: Origin<R>> Desk<R, A, O> {
         event: &Event<A>,
     ) -> Result<Reply, Fault>
         requires { seat.old.parts ≡ 1 }
-        ensures call { IfOk result (λ reply. (call : Call A) × (seat.new.calls ≡ seat.old.calls ++ call ∷ []) × (call.event ≡ event.now) × (call.reply ≡ reply)) }
+        ensures call { IfOk result
+            (λ reply. (call : Call A) × (seat.new.calls ≡ seat.old.calls ++ call ∷ []) × (call.event ≡ event.now)
+            × (call.reply ≡ reply)) }
         ensures seat { seat.new.parts ≡ 1 }
         ensures memory { IfErr result (λ fault. (fault ≡ OutOfMemory) × (seat.new ≡ seat.old)) }
     {

@@ -36,7 +36,9 @@ pub fn take_bytes<R: Read, A: Allocator + Copy + Drop>(
     text: &mut Vec<u8, A>,
 ) -> Result<TakenBytes, ReadError>
     requires { text.old.items ≡ [] }
-    ensures bytes { IfOk result (TakesBytes length (text_left input.old (R.remaining reader.old)) (text_left input.new (R.remaining reader.new)) text.new.items) }
+    ensures bytes { IfOk result
+        (TakesBytes length (text_left input.old (R.remaining reader.old))
+        (text_left input.new (R.remaining reader.new)) text.new.items) }
     ensures holds { EndHolds input.old (R.remaining reader.old) → EndHolds input.new (R.remaining reader.new) }
     ensures last { input.old.ended ≡ true → (input.new ≡ input.old) × (reader.new ≡ reader.old) }
 {

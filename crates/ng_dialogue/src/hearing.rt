@@ -46,7 +46,9 @@ fn load<R: Read, A: Allocator + Copy + Drop>(
     reader: &mut R,
     length: u32,
 ) -> Result<Order<A>, ReadError>
-    ensures order { IfOk result (λ order. AfterCommand (ConsoleCommand.Load length) (text_left input.old (R.remaining reader.old)) (text_left input.new (R.remaining reader.new)) order) }
+    ensures order { IfOk result
+        (λ order. AfterCommand (ConsoleCommand.Load length) (text_left input.old (R.remaining reader.old))
+        (text_left input.new (R.remaining reader.new)) order) }
     ensures holds { EndHolds input.old (R.remaining reader.old) → EndHolds input.new (R.remaining reader.new) }
     ensures last { input.old.ended ≡ true → (input.new ≡ input.old) × (reader.new ≡ reader.old) }
 {
@@ -65,7 +67,9 @@ fn ask<R: Read, A: Allocator + Copy + Drop>(
     reader: &mut R,
     command: &ConsoleCommand<'_>,
 ) -> Result<Option<Order<A>>, InputError>
-    ensures order { IfOk result (TakesCommand command.now (text_left input.old (R.remaining reader.old)) (text_left input.new (R.remaining reader.new))) }
+    ensures order { IfOk result
+        (TakesCommand command.now (text_left input.old (R.remaining reader.old))
+        (text_left input.new (R.remaining reader.new))) }
     ensures holds { EndHolds input.old (R.remaining reader.old) → EndHolds input.new (R.remaining reader.new) }
     ensures last { input.old.ended ≡ true → (input.new ≡ input.old) × (reader.new ≡ reader.old) }
 {

@@ -31,7 +31,9 @@ pub fn next_line<R: Read>(
     reader: &mut R,
     line: &mut ArrayVec<u8, KEPT_COMMAND>,
 ) -> Result<bool, ReadError>
-    ensures some { IfOk result (λ more. more ≡ true → TakesLine 301 (text_left input.old (R.remaining reader.old)) (text_left input.new (R.remaining reader.new)) line.new.items) }
+    ensures some { IfOk result
+        (λ more. more ≡ true → TakesLine 301 (text_left input.old (R.remaining reader.old))
+        (text_left input.new (R.remaining reader.new)) line.new.items) }
     ensures end { IfOk result (λ more. more ≡ false → IsAtEnd (text_left input.old (R.remaining reader.old)) × (input.new.ended ≡ true)) }
     ensures holds { EndHolds input.old (R.remaining reader.old) → EndHolds input.new (R.remaining reader.new) }
     ensures last { input.old.ended ≡ true → (result ≡ Ok false) × (input.new ≡ input.old) × (reader.new ≡ reader.old) }

@@ -94,7 +94,8 @@ pub fn put_canon<W: Write, A: Allocator + Copy + Drop>(
     writer: &mut W,
     canon: &Canon<'_>,
 ) -> Result<(), DryFault>
-    ensures { FlushSpec (W.contents writer.old) (W.contents writer.new) (text.old.items ++ canonical_text (canonical canon.now)) text.new.items result }
+    ensures { FlushSpec (W.contents writer.old) (W.contents writer.new)
+        (text.old.items ++ canonical_text (canonical canon.now)) text.new.items result }
 {
     match print(text, canon) {
         Ok(()) => relieve(text, writer),
@@ -123,7 +124,8 @@ fn put_commands<W: Write, A: Allocator + Copy + Drop>(
     writer: &mut W,
     commands: &mut Commands<'_>,
 ) -> Result<(), DryFault>
-    ensures { FlushSpec (W.contents writer.old) (W.contents writer.new) (text.old.items ++ commands_text commands.old) text.new.items result }
+    ensures { FlushSpec (W.contents writer.old) (W.contents writer.new)
+        (text.old.items ++ commands_text commands.old) text.new.items result }
 {
     while let Some(canon) = commands.next() {
         match put_canon(text, writer, &canon) {
@@ -184,7 +186,8 @@ fn put_straight<W: Write, A: Allocator + Copy + Drop>(
     writer: &mut W,
     line: &StraightMove,
 ) -> Result<(), DryFault>
-    ensures { FlushSpec (W.contents writer.old) (W.contents writer.new) (text.old.items ++ command_text (pace_command line.now.pace line.now.end)) text.new.items result }
+    ensures { FlushSpec (W.contents writer.old) (W.contents writer.new)
+        (text.old.items ++ command_text (pace_command line.now.pace line.now.end)) text.new.items result }
 {
     match print_straight(text, line) {
         Ok(()) => relieve(text, writer),
@@ -200,7 +203,10 @@ fn put_move<W: Write, A: Allocator + Copy + Drop>(
     feed_per_min: Option<Feed>,
     line: &StraightMove,
 ) -> Result<(), DryFault>
-    ensures { FlushSpec (W.contents writer.old) (W.contents writer.new) (text.old.items ++ commands_text (map numeric (command_for CanonicalCommand.FeedRate feed_per_min ++ pace_command line.now.pace line.now.end ∷ []))) text.new.items result }
+    ensures { FlushSpec (W.contents writer.old) (W.contents writer.new)
+        (text.old.items ++ commands_text
+        (map numeric
+        (command_for CanonicalCommand.FeedRate feed_per_min ++ pace_command line.now.pace line.now.end ∷ []))) text.new.items result }
 {
     match feed_per_min {
         None => put_straight(text, writer, line),
@@ -221,7 +227,8 @@ fn put_all<W: Write, A: Allocator + Copy + Drop>(
     writer: &mut W,
     effect: &Effect,
 ) -> Result<(), DryFault>
-    ensures { FlushSpec (W.contents writer.old) (W.contents writer.new) (text.old.items ++ commands_text (commands_by effect.now)) text.new.items result }
+    ensures { FlushSpec (W.contents writer.old) (W.contents writer.new)
+        (text.old.items ++ commands_text (commands_by effect.now)) text.new.items result }
 {
     put_commands(text, writer, &mut effect.commands())
 }
@@ -232,7 +239,8 @@ pub fn put_effect<W: Write, A: Allocator + Copy + Drop>(
     writer: &mut W,
     effect: &Effect,
 ) -> Result<(), DryFault>
-    ensures { FlushSpec (W.contents writer.old) (W.contents writer.new) (text.old.items ++ commands_text (commands_by effect.now)) text.new.items result }
+    ensures { FlushSpec (W.contents writer.old) (W.contents writer.new)
+        (text.old.items ++ commands_text (commands_by effect.now)) text.new.items result }
 {
     match effect.only_move() {
         Some((feed_per_min, line)) => put_move(text, writer, feed_per_min, line),
@@ -247,7 +255,8 @@ pub fn put_refusal<W: Write, A: Allocator + Copy + Drop>(
     number: u64,
     fault: Fault,
 ) -> Result<(), DryFault>
-    ensures drains { FlushSpec (W.contents writer.old) (W.contents writer.new) (text.old.items ++ refusal_text number fault) text.new.items result }
+    ensures drains { FlushSpec (W.contents writer.old) (W.contents writer.new)
+        (text.old.items ++ refusal_text number fault) text.new.items result }
     ensures empty { OnOk result (text.new.items ≡ []) }
 {
     match print_refusal(text, number, fault) {

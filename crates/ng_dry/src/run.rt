@@ -83,7 +83,8 @@ impl<'a, A: Allocator + Copy + Drop> DryRun<'a, A> {
 
     /// Ends the run because the next line is refused.
     pub fn refuse<W: Write>(&mut self, writer: &mut W, fault: Fault) -> Result<Ended, DryFault>
-        ensures ended { DryRunSpec (W.contents writer.old) (W.contents writer.new) (onto self.old.text (refused self.old.number fault)) result }
+        ensures ended { DryRunSpec (W.contents writer.old) (W.contents writer.new)
+            (onto self.old.text (refused self.old.number fault)) result }
         ensures number { self.new.number ≡ self.old.number }
     {
         let number = self.number;
@@ -102,7 +103,8 @@ impl<'a, A: Allocator + Copy + Drop> DryRun<'a, A> {
         line: &[u8],
     ) -> Result<Option<Ended>, DryFault>
         requires { self.old.number < 2 ^ 63 }
-        ensures step { LineStepSpec (W.contents writer.old) (W.contents writer.new) (λ more. due self.old (line.now ∷ more)) (λ more. due self.new more) result }
+        ensures step { LineStepSpec (W.contents writer.old) (W.contents writer.new)
+            (λ more. due self.old (line.now ∷ more)) (λ more. due self.new more) result }
         ensures number { self.new.number ≤ self.old.number + 1 }
     {
         let effect = match self

@@ -40,7 +40,9 @@ impl<'a, A: Allocator + Copy + Drop> LineSplitter<'a, A> {
         requires kept { HasNoNewline self.old.kept.items }
         requires line { HasNoNewline line.now }
         requires room { self.old.run.number < 2 ^ 63 }
-        ensures step { LineStepSpec (W.contents writer.old) (W.contents writer.new) (λ more. rest_of self.old.run self.old.kept.items (line.now ++ 10 ∷ more)) (λ more. rest_of self.new.run self.new.kept.items more) result }
+        ensures step { LineStepSpec (W.contents writer.old) (W.contents writer.new)
+            (λ more. rest_of self.old.run self.old.kept.items (line.now ++ 10 ∷ more))
+            (λ more. rest_of self.new.run self.new.kept.items more) result }
         ensures kept { HasNoNewline self.new.kept.items }
         ensures number { self.new.run.number ≤ self.old.run.number + 1 }
     {
@@ -61,7 +63,10 @@ impl<'a, A: Allocator + Copy + Drop> LineSplitter<'a, A> {
 
     /// Ends the run: the next line is too long.
     fn refuse_long<W: Write>(&mut self, writer: &mut W) -> Result<Option<Ended>, DryFault>
-        ensures step { (f : List ℕ → Output) → ((more : List ℕ) → f more ≡ onto self.old.run.text (refused self.old.run.number LineTooLong)) → LineStepSpec (W.contents writer.old) (W.contents writer.new) f (λ more. rest_of self.new.run self.new.kept.items more) result }
+        ensures step { (f : List ℕ → Output) → ((more : List ℕ)
+            → f more ≡ onto self.old.run.text (refused self.old.run.number LineTooLong))
+            → LineStepSpec (W.contents writer.old) (W.contents writer.new) f
+            (λ more. rest_of self.new.run self.new.kept.items more) result }
         ensures kept { self.new.kept ≡ self.old.kept }
         ensures number { self.new.run.number ≡ self.old.run.number }
     {
@@ -75,7 +80,9 @@ impl<'a, A: Allocator + Copy + Drop> LineSplitter<'a, A> {
     fn keep<W: Write>(&mut self, writer: &mut W, bytes: &[u8]) -> Result<Option<Ended>, DryFault>
         requires kept { HasNoNewline self.old.kept.items }
         requires bytes { HasNoNewline bytes.now }
-        ensures step { LineStepSpec (W.contents writer.old) (W.contents writer.new) (λ more. rest_of self.old.run self.old.kept.items (bytes.now ++ more)) (λ more. rest_of self.new.run self.new.kept.items more) result }
+        ensures step { LineStepSpec (W.contents writer.old) (W.contents writer.new)
+            (λ more. rest_of self.old.run self.old.kept.items (bytes.now ++ more))
+            (λ more. rest_of self.new.run self.new.kept.items more) result }
         ensures kept { HasNoNewline self.new.kept.items }
         ensures number { self.new.run.number ≡ self.old.run.number }
     {
@@ -93,7 +100,9 @@ impl<'a, A: Allocator + Copy + Drop> LineSplitter<'a, A> {
     ) -> Result<Option<Ended>, DryFault>
         requires kept { HasNoNewline self.old.kept.items }
         requires room { self.old.run.number + length bytes.now < 2 ^ 63 }
-        ensures step { LineStepSpec (W.contents writer.old) (W.contents writer.new) (λ more. rest_of self.old.run self.old.kept.items (bytes.now ++ more)) (λ more. rest_of self.new.run self.new.kept.items more) result }
+        ensures step { LineStepSpec (W.contents writer.old) (W.contents writer.new)
+            (λ more. rest_of self.old.run self.old.kept.items (bytes.now ++ more))
+            (λ more. rest_of self.new.run self.new.kept.items more) result }
         ensures kept { HasNoNewline self.new.kept.items }
         ensures number { self.new.run.number ≤ self.old.run.number + length bytes.now }
     {

@@ -47,8 +47,12 @@ impl Values {
         tree: &Tree<'_>,
     ) -> Result<(), Fault>
         requires { length self.old.words.items < 128 }
-        ensures found { MatchResult result (λ _. followed_if_ok (settled_of self.old) (given params.now (word letter (tree_by tree.now))) ≡ Ok (settled_of self.new)) (λ e. given params.now (word letter (tree_by tree.now)) ≡ Err e) }
-        ensures few { length self.new.words.items + length self.new.assignments.items ≤ length self.old.words.items + length self.old.assignments.items + 1 }
+        ensures found { MatchResult result
+            (λ _. followed_if_ok (settled_of self.old) (given params.now (word letter (tree_by tree.now))) ≡ Ok
+            (settled_of self.new))
+            (λ e. given params.now (word letter (tree_by tree.now)) ≡ Err e) }
+        ensures few { length self.new.words.items + length self.new.assignments.items
+            ≤ length self.old.words.items + length self.old.assignments.items + 1 }
     {
         match value_on(&mut self.stack, params, tree) {
             Ok(value) => {
@@ -67,8 +71,12 @@ impl Values {
         value: &Tree<'_>,
     ) -> Result<(), Fault>
         requires { length self.old.assignments.items < 128 }
-        ensures found { MatchResult result (λ _. followed_if_ok (settled_of self.old) (given params.now (assignment (tree_by index.now) (tree_by value.now))) ≡ Ok (settled_of self.new)) (λ e. given params.now (assignment (tree_by index.now) (tree_by value.now)) ≡ Err e) }
-        ensures few { length self.new.words.items + length self.new.assignments.items ≤ length self.old.words.items + length self.old.assignments.items + 1 }
+        ensures found { MatchResult result
+            (λ _. followed_if_ok (settled_of self.old) (given params.now
+            (assignment (tree_by index.now) (tree_by value.now))) ≡ Ok (settled_of self.new))
+            (λ e. given params.now (assignment (tree_by index.now) (tree_by value.now)) ≡ Err e) }
+        ensures few { length self.new.words.items + length self.new.assignments.items
+            ≤ length self.old.words.items + length self.old.assignments.items + 1 }
     {
         match change_on(&mut self.stack, params, index, value) {
             Ok(change) => {
@@ -87,8 +95,12 @@ impl Values {
         piece: &PieceRef<'_>,
     ) -> Result<(), Fault>
         requires { length self.old.words.items + length self.old.assignments.items < 128 }
-        ensures found { MatchResult result (λ _. followed_if_ok (settled_of self.old) (given params.now (piece_of piece.now)) ≡ Ok (settled_of self.new)) (λ e. given params.now (piece_of piece.now) ≡ Err e) }
-        ensures few { length self.new.words.items + length self.new.assignments.items ≤ length self.old.words.items + length self.old.assignments.items + 1 }
+        ensures found { MatchResult result
+            (λ _. followed_if_ok (settled_of self.old) (given params.now (piece_of piece.now)) ≡ Ok
+            (settled_of self.new))
+            (λ e. given params.now (piece_of piece.now) ≡ Err e) }
+        ensures few { length self.new.words.items + length self.new.assignments.items
+            ≤ length self.old.words.items + length self.old.assignments.items + 1 }
     {
         match piece {
             PieceRef::Word(letter, value) => self.add_word(params, *letter, value),
@@ -113,7 +125,9 @@ impl Values {
         line: &Line,
         params: &Params<A>,
     ) -> Result<(), Fault>
-        ensures values { MatchResult result (λ _. settled_pieces (pieces_by line.now.places) params.now ≡ Ok (settled_of self.new)) (λ e. settled_pieces (pieces_by line.now.places) params.now ≡ Err e) }
+        ensures values { MatchResult result
+            (λ _. settled_pieces (pieces_by line.now.places) params.now ≡ Ok (settled_of self.new))
+            (λ e. settled_pieces (pieces_by line.now.places) params.now ≡ Err e) }
         ensures cleared { OnErr result (settled_of self.new ≡ nothing) }
     {
         self.clear();
@@ -136,7 +150,9 @@ pub fn evaluate<A: Allocator + Copy + Drop>(
     line: &Line,
     params: &Params<A>,
 ) -> Result<Values, Fault>
-    ensures { MatchResult result (λ v. settled_pieces (pieces_by line.now.places) params.now ≡ Ok (settled_of v)) (λ e. settled_pieces (pieces_by line.now.places) params.now ≡ Err e) }
+    ensures { MatchResult result
+        (λ v. settled_pieces (pieces_by line.now.places) params.now ≡ Ok (settled_of v))
+        (λ e. settled_pieces (pieces_by line.now.places) params.now ≡ Err e) }
 {
     let mut values = Values::new();
     match values.evaluate_into(line, params) {

@@ -66,7 +66,9 @@ fn put_parameter<A: Allocator + Copy + Drop>(
     params: &Params<A>,
 ) -> Result<(), Fault>
     requires { length stack.old < 256 }
-    ensures found { MatchResult result (λ _. of_one (parameter_value params.now) stack.old ≡ Ok stack.new) (λ e. of_one (parameter_value params.now) stack.old ≡ Err e) }
+    ensures found { MatchResult result
+        (λ _. of_one (parameter_value params.now) stack.old ≡ Ok stack.new)
+        (λ e. of_one (parameter_value params.now) stack.old ≡ Err e) }
     ensures few { length stack.new ≤ length stack.old + 1 }
 {
     match stack.pop() {
@@ -78,7 +80,9 @@ fn put_parameter<A: Allocator + Copy + Drop>(
 /// Replaces the value on top by a function of it.
 fn put_applied(stack: &mut Stack, function: Function) -> Result<(), Fault>
     requires { length stack.old < 256 }
-    ensures found { MatchResult result (λ _. of_one (apply function) stack.old ≡ Ok stack.new) (λ e. of_one (apply function) stack.old ≡ Err e) }
+    ensures found { MatchResult result
+        (λ _. of_one (apply function) stack.old ≡ Ok stack.new)
+        (λ e. of_one (apply function) stack.old ≡ Err e) }
     ensures few { length stack.new ≤ length stack.old + 1 }
 {
     match stack.pop() {
@@ -90,7 +94,9 @@ fn put_applied(stack: &mut Stack, function: Function) -> Result<(), Fault>
 /// Replaces the two values on top by the result of an operation.
 fn put_joined(stack: &mut Stack, operation: Operation) -> Result<(), Fault>
     requires { length stack.old < 256 }
-    ensures found { MatchResult result (λ _. of_two (join operation) stack.old ≡ Ok stack.new) (λ e. of_two (join operation) stack.old ≡ Err e) }
+    ensures found { MatchResult result
+        (λ _. of_two (join operation) stack.old ≡ Ok stack.new)
+        (λ e. of_two (join operation) stack.old ≡ Err e) }
     ensures few { length stack.new ≤ length stack.old + 1 }
 {
     let Some(right) = stack.pop() else {
@@ -109,7 +115,9 @@ fn step<A: Allocator + Copy + Drop>(
     next: Node,
 ) -> Result<(), Fault>
     requires { length stack.old < 256 }
-    ensures found { MatchResult result (λ _. after_node params.now next stack.old ≡ Ok stack.new) (λ e. after_node params.now next stack.old ≡ Err e) }
+    ensures found { MatchResult result
+        (λ _. after_node params.now next stack.old ≡ Ok stack.new)
+        (λ e. after_node params.now next stack.old ≡ Err e) }
     ensures few { length stack.new ≤ length stack.old + 1 }
 {
     match next {

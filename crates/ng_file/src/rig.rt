@@ -74,7 +74,8 @@ impl<S: Storage + Drop, W: Write + Drop, A: Allocator + Copy + Drop> FileRig<S, 
         ensures ok { OnOk result (IfSome (S.content (storage self.old)) (λ held. 512 * sector + 512 ≤ length held)) }
         ensures put { OnOk result (Put (512 * sector) bytes.now (S.content (storage self.old)) (S.content (storage self.new))) }
         ensures part { OnErr result (PutInPart (512 * sector) (S.content (storage self.old)) (S.content (storage self.new))) }
-        ensures others { (outlet self.new ≡ outlet self.old) × (sector_count self.new ≡ sector_count self.old) × (failure_count self.new ≡ failure_count self.old) }
+        ensures others { (outlet self.new ≡ outlet self.old) × (sector_count self.new ≡ sector_count self.old)
+            × (failure_count self.new ≡ failure_count self.old) }
     {
         let place = sector as u64 * SECTOR as u64;
         if self.file.length()? < place + SECTOR as u64 {
@@ -87,7 +88,8 @@ impl<S: Storage + Drop, W: Write + Drop, A: Allocator + Copy + Drop> FileRig<S, 
     fn put_line(&mut self, item: Item) -> io::Result<()>
         ensures line { OnOk result (Appends (W.contents (outlet self.old)) (W.contents (outlet self.new)) (item_line item)) }
         ensures part { OnErr result (AppendsBeginning (W.contents (outlet self.old)) (W.contents (outlet self.new)) (item_line item)) }
-        ensures others { (storage self.new ≡ storage self.old) × (sector_count self.new ≡ sector_count self.old) × (failure_count self.new ≡ failure_count self.old) }
+        ensures others { (storage self.new ≡ storage self.old) × (sector_count self.new ≡ sector_count self.old)
+            × (failure_count self.new ≡ failure_count self.old) }
     {
         self.line.clear();
         push_item(&mut self.line, item)?;
@@ -99,7 +101,8 @@ impl<S: Storage + Drop, W: Write + Drop, A: Allocator + Copy + Drop> FileRig<S, 
     fn counted(&mut self, outcome: io::Result<()>) -> Result<(), Failed>
         ensures same { is_ok result ≡ is_ok outcome }
         ensures failures { FailureCountSpec result (failure_count self.old) (failure_count self.new) }
-        ensures others { (storage self.new ≡ storage self.old) × (outlet self.new ≡ outlet self.old) × (sector_count self.new ≡ sector_count self.old) }
+        ensures others { (storage self.new ≡ storage self.old) × (outlet self.new ≡ outlet self.old)
+            × (sector_count self.new ≡ sector_count self.old) }
     {
         match outcome {
             Ok(()) => Ok(()),

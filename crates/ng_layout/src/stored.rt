@@ -45,7 +45,15 @@ impl<A: Allocator> Model for Stored<A> {
 
     ghost Value = { StoredModel };
 
-    ghost view = { λ s. record { entries = s.entries; setup = s.state; tools = s.tools; place = s.place; length = s.length; room = s.room; half = s.half } };
+    ghost view = { λ s. record {
+      entries = s.entries;
+      setup = s.state;
+      tools = s.tools;
+      place = s.place;
+      length = s.length;
+      room = s.room;
+      half = s.half;
+    } };
 }
 
 impl<A: Allocator + Copy + Drop> Stored<A> {

@@ -55,7 +55,9 @@ impl Sorted {
 
     /// Finds what words ask for, or the first fault whose cause holds.
     fn check_words(&mut self, words: &[Word], modes: &Modes, slots: u8) -> Result<(), Fault>
-        ensures { MatchResult result (λ _. checked words.now modes.now slots ≡ Ok self.new.block) (λ fault. checked words.now modes.now slots ≡ Err fault) }
+        ensures { MatchResult result
+            (λ _. checked words.now modes.now slots ≡ Ok self.new.block)
+            (λ fault. checked words.now modes.now slots ≡ Err fault) }
     {
         self.sort_in(words, modes);
         if self.is_plain() {
@@ -93,8 +95,12 @@ impl Sorted {
     /// Otherwise returns the first of B1 to B19 whose cause holds (NISTIR 6556, 3.3 to 3.7; numbers own). After an
     /// error the block here is meaningless.
     pub fn check(&mut self, values: &Values, modes: &Modes, slots: u8) -> Result<(), Fault>
-        ensures value { MatchResult result (λ _. checked values.now.words.items modes.now slots ≡ Ok self.new.block) (λ fault. checked values.now.words.items modes.now slots ≡ Err fault) }
-        ensures least { MatchResult result (λ _. NoneHolds (faults values.now.words.items modes.now slots)) (λ fault. IsFirstFault (faults values.now.words.items modes.now slots) fault) }
+        ensures value { MatchResult result
+            (λ _. checked values.now.words.items modes.now slots ≡ Ok self.new.block)
+            (λ fault. checked values.now.words.items modes.now slots ≡ Err fault) }
+        ensures least { MatchResult result
+            (λ _. NoneHolds (faults values.now.words.items modes.now slots))
+            (λ fault. IsFirstFault (faults values.now.words.items modes.now slots) fault) }
         ensures accepted { OnOk result (IsAccepted self.new.block modes.now slots) }
     {
         self.check_words(values.words.as_slice(), modes, slots)
@@ -105,7 +111,9 @@ impl Sorted {
 /// holds (NISTIR 6556, 3.3 to 3.7; numbers own).
 pub fn check(values: &Values, modes: &Modes, slots: u8) -> Result<Block, Fault>
     ensures value { result ≡ checked values.now.words.items modes.now slots }
-    ensures least { MatchResult result (λ _. NoneHolds (faults values.now.words.items modes.now slots)) (λ fault. IsFirstFault (faults values.now.words.items modes.now slots) fault) }
+    ensures least { MatchResult result
+        (λ _. NoneHolds (faults values.now.words.items modes.now slots))
+        (λ fault. IsFirstFault (faults values.now.words.items modes.now slots) fault) }
     ensures accepted { IfOk result (λ block. IsAccepted block modes.now slots) }
 {
     let mut sorted = Sorted::nothing();

@@ -19,7 +19,8 @@ pub(crate) fn talk<I: Read, W: Write, R: Rig, A: Allocator + Copy + Drop>(
     writer: &mut W,
     controller: &mut Controller<R, A>,
 ) -> Result<ConsoleEnd, ConsoleAbort>
-    ensures { Conversation A R.seen result (I.remaining reader.old) (W.contents writer.old) (W.contents writer.new) controller.old controller.new }
+    ensures { Conversation A R.seen result (I.remaining reader.old) (W.contents writer.old)
+        (W.contents writer.new) controller.old controller.new }
 {
     let mut input = Input::new();
     talk_on(alloc, &mut input, reader, writer, controller)
@@ -34,9 +35,11 @@ fn talk_on<I: Read, W: Write, R: Rig, A: Allocator + Copy + Drop>(
     writer: &mut W,
     controller: &mut Controller<R, A>,
 ) -> Result<ConsoleEnd, ConsoleAbort>
-    ensures talk { Conversation A R.seen result (text_left input.old (I.remaining reader.old)) (W.contents writer.old) (W.contents writer.new) controller.old controller.new }
+    ensures talk { Conversation A R.seen result (text_left input.old (I.remaining reader.old))
+        (W.contents writer.old) (W.contents writer.new) controller.old controller.new }
     ensures holds { EndHolds input.old (I.remaining reader.old) → EndHolds input.new (I.remaining reader.new) }
-    ensures last { input.old.ended ≡ true → (result ≡ Ok (ended_by controller.old.journal.broken)) × (reader.new ≡ reader.old) × (writer.new ≡ writer.old) × (controller.new ≡ controller.old) }
+    ensures last { input.old.ended ≡ true → (result ≡ Ok (ended_by controller.old.journal.broken))
+        × (reader.new ≡ reader.old) × (writer.new ≡ writer.old) × (controller.new ≡ controller.old) }
 {
     for _turn in 0..u64::MAX {
         match next_order(alloc, input, reader) {

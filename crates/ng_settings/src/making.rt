@@ -87,7 +87,10 @@ impl<'a> SettingNumbers<'a> {
 /// 128.
 pub(crate) fn tools_of(lengths: &Array) -> Option<Tools>
     requires { are_beyond (pos 0) (pos 1_000_000_000) (filter_map as_integer (listed (array_view lengths.now))) ≡ false }
-    ensures { MatchOption result (nat_lt 128 (length (filter_map as_integer (listed (array_view lengths.now)))) ≡ true) (λ tools. (nat_lt 128 (length tools) ≡ false) × (filter_map as_integer (listed (array_view lengths.now)) ≡ tools)) }
+    ensures { MatchOption result
+        (nat_lt 128 (length (filter_map as_integer (listed (array_view lengths.now)))) ≡ true)
+        (λ tools. (nat_lt 128 (length tools) ≡ false) × (filter_map as_integer
+        (listed (array_view lengths.now)) ≡ tools)) }
 {
     let mut tools = Tools::new();
     for value in lengths {

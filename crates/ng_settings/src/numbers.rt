@@ -27,7 +27,8 @@ fn are_whole(array: &Array) -> bool
 
 /// The three whole numbers of an array. `None` for any other value.
 pub(crate) fn triple(value: &Value) -> Option<PerAxis>
-    ensures { MatchOption result (is_triple (view value.now) ≡ false) (λ triple. (is_triple (view value.now) ≡ true) × (numbers_of (view value.now) ≡ three triple)) }
+    ensures { MatchOption result (is_triple (view value.now) ≡ false)
+        (λ triple. (is_triple (view value.now) ≡ true) × (numbers_of (view value.now) ≡ three triple)) }
 {
     let array = value.as_array()?;
     if array.len() != 3 {
@@ -46,7 +47,8 @@ pub(crate) fn triple(value: &Value) -> Option<PerAxis>
 /// A whole number. `None` for any other value.
 #[tactic(auto, unfolding(crate::specs::Numbers::is_whole, crate::specs::Numbers::numbers_of))]
 pub(crate) fn single(value: &Value) -> Option<Whole>
-    ensures { MatchOption result (is_whole (view value.now) ≡ false) (λ number. (is_whole (view value.now) ≡ true) × (numbers_of (view value.now) ≡ number ∷ [])) }
+    ensures { MatchOption result (is_whole (view value.now) ≡ false)
+        (λ number. (is_whole (view value.now) ≡ true) × (numbers_of (view value.now) ≡ number ∷ [])) }
 {
     Some(Whole::of(value.as_integer()?))
 }
@@ -54,7 +56,9 @@ pub(crate) fn single(value: &Value) -> Option<Whole>
 /// An array of whole numbers. `None` for any other value.
 #[tactic(auto, unfolding(crate::specs::Numbers::is_list, crate::specs::Numbers::numbers_of))]
 pub(crate) fn list(value: &Value) -> Option<&Array>
-    ensures { MatchOption result (is_list (view value.now) ≡ false) (λ array. (is_list (view value.now) ≡ true) × (numbers_of (view value.now) ≡ filter_map as_integer (listed (array_view array.now)))) }
+    ensures { MatchOption result (is_list (view value.now) ≡ false)
+        (λ array. (is_list (view value.now) ≡ true) × (numbers_of (view value.now) ≡ filter_map as_integer
+        (listed (array_view array.now)))) }
 {
     let array = value.as_array()?;
     if are_whole(array) { Some(array) } else { None }

@@ -15,7 +15,10 @@ use toml::Table;
 
 /// The settings of a table, or the first of S2 to S6 whose cause holds.
 fn settings_of(table: &Table) -> Result<Settings, Fault>
-    ensures { MatchResult result (λ settings. NoneHolds (faults (table_view table.now)) × (numbers_set settings ≡ numbers_in (table_view table.now))) (λ fault. IsFirstFault (faults (table_view table.now)) fault) }
+    ensures { MatchResult result
+        (λ settings. NoneHolds (faults (table_view table.now))
+        × (numbers_set settings ≡ numbers_in (table_view table.now)))
+        (λ fault. IsFirstFault (faults (table_view table.now)) fault) }
 {
     let found = match find(table) {
         Some(found) => found,

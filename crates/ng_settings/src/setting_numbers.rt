@@ -24,7 +24,8 @@ impl<'a> KeyValues<'a> {
     /// The whole numbers of the values. `None` if one has the wrong type.
     #[tactic(auto, unfolding(crate::specs::Given::has_other_type))]
     pub(crate) fn given(self) -> Option<SettingNumbers<'a>>
-        ensures { MatchOption result (has_other_type self.entry ≡ true) (λ given. (has_other_type self.entry ≡ false) × (numbers_found self.entry ≡ numbers_given given)) }
+        ensures { MatchOption result (has_other_type self.entry ≡ true)
+            (λ given. (has_other_type self.entry ≡ false) × (numbers_found self.entry ≡ numbers_given given)) }
     {
         Some(SettingNumbers {
             steps: triple(self.steps)?,

@@ -41,7 +41,8 @@ impl ArcPulses {
         requires walks { Walks walk }
         requires count { count < 2 ^ 60 }
         requires third { unsigned_abs third < 2 ^ 60 }
-        ensures { result ≡ pulses_from walk.frame (max count (unsigned_abs third)) count (int_le (pos 0) third) (unsigned_abs third) walk.circle (spot_of walk) (max count (unsigned_abs third)) }
+        ensures { result ≡ pulses_from walk.frame (max count (unsigned_abs third)) count (int_le (pos 0) third)
+            (unsigned_abs third) walk.circle (spot_of walk) (max count (unsigned_abs third)) }
     {
         let total = count.max(third.unsigned_abs());
         ArcPulses {

@@ -76,7 +76,8 @@ impl QuadrantSweep {
     /// How many outward steps were made when it goes inward from a level.
     fn outward_to(&self, level: u64) -> u64
         requires { level * self.now.inner_step < self.now.inner }
-        ensures leaving { IsLeaving self.now.square (self.now.inner - level * self.now.inner_step) self.now.outer self.now.outer_step result }
+        ensures leaving { IsLeaving self.now.square
+            (self.now.inner - level * self.now.inner_step) self.now.outer self.now.outer_step result }
         ensures room { self.now.outer + result * self.now.outer_step ≤ 2 ^ 48 }
     {
         let inner = self.inner - level * self.inner_step;

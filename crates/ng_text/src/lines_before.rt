@@ -36,7 +36,8 @@ impl LinesBefore {
     /// The kind of the first line before a place that isn't blank, if it is known.
     pub fn first_before(&self, place: u64) -> Option<LineKind>
         ensures value { result ≡ (if self.now.place == place then self.now.first else None) }
-        ensures holds { (program : List ℕ) → IsTrueOf program self.now → IfSome result (λ kind. kind ≡ first_kind (lines_before program place)) }
+        ensures holds { (program : List ℕ) → IsTrueOf program self.now
+            → IfSome result (λ kind. kind ≡ first_kind (lines_before program place)) }
     {
         if self.place == place {
             self.first
@@ -51,7 +52,8 @@ impl LinesBefore {
         requires { length text.now ≤ 256 }
         ensures place { result.place ≡ next }
         ensures first { self.now.place ≡ place → result.first ≡ Some (kind_before first (kind_of text.now)) }
-        ensures holds { (program : List ℕ) → IsTrueOf program self.now → IsLineBetween program place first text.now next → IsTrueOf program result }
+        ensures holds { (program : List ℕ) → IsTrueOf program self.now
+            → IsLineBetween program place first text.now next → IsTrueOf program result }
     {
         let first = if self.place == place {
             Some(first_kind(first, text))

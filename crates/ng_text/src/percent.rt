@@ -46,7 +46,8 @@ fn kind_before(first: LineKind, line: &[u8]) -> LineKind
 #[inline]
 pub fn first_kind(first: LineKind, line: &[u8]) -> LineKind
     ensures value { result ≡ kind_before first (kind_of line.now) }
-    ensures program { (lines_before : List (List ℕ)) → first ≡ first_kind lines_before → result ≡ first_kind (lines_before ++ line.now ∷ []) }
+    ensures program { (lines_before : List (List ℕ)) → first ≡ first_kind lines_before
+        → result ≡ first_kind (lines_before ++ line.now ∷ []) }
 {
     kind_before(first, line)
 }

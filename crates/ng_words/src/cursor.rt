@@ -165,7 +165,8 @@ impl<'a> Cursor<'a> {
     /// Whether a digit comes next.
     #[inline]
     pub(crate) fn is_at_digit(&self) -> bool
-        ensures { MatchBool result (is_empty (front_digits self.now) ≡ false) ((front_digits self.now ≡ []) × (after_digits self.now ≡ self.now)) }
+        ensures { MatchBool result (is_empty (front_digits self.now) ≡ false)
+            ((front_digits self.now ≡ []) × (after_digits self.now ≡ self.now)) }
     {
         match self.rest.first() {
             None => false,
@@ -214,7 +215,8 @@ impl<'a> Cursor<'a> {
     /// Skips a text if it comes next. Returns whether it does.
     pub(crate) fn skip(&mut self, text: &[u8]) -> bool
         requires { HasNoComment text.now }
-        ensures { MatchBool result (strip_prefix text.now self.old ≡ Some self.new) ((strip_prefix text.now self.old ≡ None) × (self.new ≡ self.old)) }
+        ensures { MatchBool result (strip_prefix text.now self.old ≡ Some self.new)
+            ((strip_prefix text.now self.old ≡ None) × (self.new ≡ self.old)) }
     {
         let mut ahead = Cursor { rest: self.rest };
         for expected in text {
@@ -231,7 +233,8 @@ impl<'a> Cursor<'a> {
     /// cursor doesn't move.
     pub(crate) fn comment(&mut self) -> Option<&'a [u8]>
         requires { StartsWithByte self.old 40 }
-        ensures { MatchOption result (comment_at (drop 1 self.old) ≡ None) (λ text. comment_at (drop 1 self.old) ≡ Some (text.now, self.new)) }
+        ensures { MatchOption result (comment_at (drop 1 self.old) ≡ None)
+            (λ text. comment_at (drop 1 self.old) ≡ Some (text.now, self.new)) }
     {
         let (_, bytes) = self.rest.split_first()?;
         let n = comment_length(bytes)?;

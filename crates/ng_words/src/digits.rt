@@ -33,7 +33,8 @@ pub(crate) fn is_digit(byte: u8) -> bool
 /// The first byte, if it is a digit, and the bytes after it.
 #[inline]
 fn first_digit(bytes: &[u8]) -> Option<(u8, &[u8])>
-    ensures { MatchOption result (AtPlain bytes.now → (front_digits (plain false bytes.now) ≡ []) × (after_digits (plain false bytes.now) ≡ plain false bytes.now))
+    ensures { MatchOption result (AtPlain bytes.now → (front_digits (plain false bytes.now) ≡ [])
+        × (after_digits (plain false bytes.now) ≡ plain false bytes.now))
         (λ x. (plain false bytes.now ≡ x.0 ∷ plain false x.1.now) × IsTrue (is_digit x.0)) }
 {
     match bytes.split_first() {

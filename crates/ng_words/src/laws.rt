@@ -11,5 +11,6 @@ pub fn lines()
     ensures reads { (text : List ℕ) (line : ParsedLine) → (read text ≡ Ok line) ↔ IsLineOf text line }
     ensures one { (text : List ℕ) (line other : ParsedLine) → IsLineOf text line → IsLineOf text other → line ≡ other }
     ensures too_long { (text : List ℕ) → (read text ≡ Err LineTooLong) ↔ (longest < length text) }
-    ensures unreadable { (text : List ℕ) → (read text ≡ Err Unreadable) ↔ ((length text ≤ longest) × ((line : ParsedLine) → IsLineOf text line → ⊥)) }
+    ensures unreadable { (text : List ℕ) → (read text ≡ Err Unreadable)
+        ↔ ((length text ≤ longest) × ((line : ParsedLine) → IsLineOf text line → ⊥)) }
 {}

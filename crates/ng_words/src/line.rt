@@ -42,7 +42,11 @@ impl Model for Line {
 
     ghost Value = { LineModel };
 
-    ghost view = { λ l. record { deletable = l.head.deletable; number = l.head.number; places = record { items = l.items.items; nodes = l.nodes.items; bytes = l.bytes.items } } };
+    ghost view = { λ l. record {
+      deletable = l.head.deletable;
+      number = l.head.number;
+      places = record { items = l.items.items; nodes = l.nodes.items; bytes = l.bytes.items };
+    } };
 
     ghost invariant = { λ l. AreEncodedPieces (record { items = l.items.items; nodes = l.nodes.items; bytes = l.bytes.items }) };
 }
@@ -131,7 +135,8 @@ impl Line {
     /// The bytes between the parentheses of its last comment, the only one that counts (NISTIR 6556, 3.3.4).
     pub fn last_comment(&self) -> Option<&[u8]>
         ensures few { IfSome result (λ text. length text.now ≤ 256) }
-        ensures text { MatchOption result (last_comment (pieces_by self.now.places) ≡ None) (λ text. last_comment (pieces_by self.now.places) ≡ Some text.now) }
+        ensures text { MatchOption result (last_comment (pieces_by self.now.places) ≡ None)
+            (λ text. last_comment (pieces_by self.now.places) ≡ Some text.now) }
     {
         match last_length(self.items.as_slice()) {
             Some(n) => Some(&self.bytes.as_slice()[self.bytes.len() - n as usize..]),

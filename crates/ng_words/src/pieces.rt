@@ -35,7 +35,11 @@ impl<'a> Model for Pieces<'a> {
 
     ghost view = { λ p. record { items = p.items.now; nodes = p.nodes.now; bytes = p.bytes.now } };
 
-    ghost invariant = { λ p. AreEncodedPieces (record { items = p.items.now; nodes = p.nodes.now; bytes = p.bytes.now }) × (length p.nodes.now ≤ 256) };
+    ghost invariant = { λ p. AreEncodedPieces (record {
+      items = p.items.now;
+      nodes = p.nodes.now;
+      bytes = p.bytes.now;
+    }) × (length p.nodes.now ≤ 256) };
 }
 
 /// The tree that the first n nodes form, and the other nodes.
@@ -54,7 +58,8 @@ fn split_tree(nodes: &[Node], n: u16) -> (Tree<'_>, &[Node])
 impl<'a> Pieces<'a> {
     /// The next piece. `None` at the end.
     pub fn next(&mut self) -> Option<PieceRef<'a>>
-        ensures { MatchOption result ((pieces_by self.old ≡ []) × (self.new ≡ self.old)) (λ p. pieces_by self.old ≡ piece_of p ∷ pieces_by self.new) }
+        ensures { MatchOption result ((pieces_by self.old ≡ []) × (self.new ≡ self.old))
+            (λ p. pieces_by self.old ≡ piece_of p ∷ pieces_by self.new) }
     {
         let (item, others) = self.items.split_first()?;
         match *item {

@@ -41,7 +41,9 @@ fn word(
 ) -> bool
     requires few { length items.old.items < 128 }
     requires room { length nodes.old.items + length cursor.old ≤ 256 }
-    ensures word { MatchBool result (AddsWord letter cursor.old cursor.new items.old.items items.new.items nodes.old.items nodes.new.items) (value_at cursor.old ≡ None) }
+    ensures word { MatchBool result
+        (AddsWord letter cursor.old cursor.new items.old.items items.new.items nodes.old.items nodes.new.items)
+        (value_at cursor.old ≡ None) }
     ensures room { IsTrue result → length nodes.new.items + length cursor.new ≤ length nodes.old.items + length cursor.old }
 {
     match value(cursor, stack, nodes) {
@@ -62,7 +64,9 @@ fn assignment(
 ) -> bool
     requires few { length items.old.items < 128 }
     requires room { length nodes.old.items + length cursor.old ≤ 256 }
-    ensures assignment { MatchBool result (AddsAssignment cursor.old cursor.new items.old.items items.new.items nodes.old.items nodes.new.items) (assignment_at cursor.old ≡ None) }
+    ensures assignment { MatchBool result
+        (AddsAssignment cursor.old cursor.new items.old.items items.new.items nodes.old.items nodes.new.items)
+        (assignment_at cursor.old ≡ None) }
     ensures room { IsTrue result → length nodes.new.items + length cursor.new ≤ length nodes.old.items + length cursor.old }
 {
     let index = match value(cursor, stack, nodes) {
@@ -86,7 +90,9 @@ fn comment(cursor: &mut Cursor<'_>, items: &mut Items, bytes: &mut Bytes) -> boo
     requires begins { StartsWithByte cursor.old 40 }
     requires few { length items.old.items < 128 }
     requires room { length bytes.old.items + length cursor.old ≤ 256 }
-    ensures comment { MatchBool result (AddsComment cursor.old cursor.new items.old.items items.new.items bytes.old.items bytes.new.items) (comment_at (drop 1 cursor.old) ≡ None) }
+    ensures comment { MatchBool result
+        (AddsComment cursor.old cursor.new items.old.items items.new.items bytes.old.items bytes.new.items)
+        (comment_at (drop 1 cursor.old) ≡ None) }
     ensures room { IsTrue result → length bytes.new.items + length cursor.new ≤ length bytes.old.items + length cursor.old }
 {
     match cursor.comment() {
@@ -110,7 +116,9 @@ fn piece(
     requires few { length items.old.items < 128 }
     requires nodes_fit { length nodes.old.items + length cursor.old ≤ 256 }
     requires bytes_fit { length bytes.old.items + length cursor.old ≤ 256 }
-    ensures piece { TakesPiece cursor.old result cursor.new (store_of items.old.items nodes.old.items bytes.old.items) (store_of items.new.items nodes.new.items bytes.new.items) }
+    ensures piece { TakesPiece cursor.old result cursor.new
+        (store_of items.old.items nodes.old.items bytes.old.items)
+        (store_of items.new.items nodes.new.items bytes.new.items) }
     ensures nodes_fit { IsTrue result → length nodes.new.items + length cursor.new ≤ 256 }
     ensures bytes_fit { IsTrue result → length bytes.new.items + length cursor.new ≤ 256 }
 {

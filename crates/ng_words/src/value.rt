@@ -82,7 +82,8 @@ fn function(cursor: &mut Cursor<'_>) -> Option<Function>
 
 /// The operation that comes next.
 fn operation(cursor: &mut Cursor<'_>) -> Option<Operation>
-    ensures value { MatchOption result (entry_at operations cursor.old ≡ None) (λ op. entry_at operations cursor.old ≡ Some (op, cursor.new)) }
+    ensures value { MatchOption result (entry_at operations cursor.old ≡ None)
+        (λ op. entry_at operations cursor.old ≡ Some (op, cursor.new)) }
     ensures shorter { OnSome result (length cursor.new < length cursor.old) }
 {
     if cursor.skip(b"**") {
@@ -229,7 +230,8 @@ fn close(stack: &mut WaitingList, nodes: &mut Nodes) -> bool
 fn begin(cursor: &mut Cursor<'_>, stack: &mut WaitingList, nodes: &mut Nodes) -> Option<bool>
     requires { length stack.old.items + length nodes.old.items + length cursor.old ≤ 256 }
     ensures steps { WalkStepSpec false cursor.old stack.old.items nodes.old.items result cursor.new stack.new.items nodes.new.items }
-    ensures room { OnSome result (length stack.new.items + length nodes.new.items + length cursor.new ≤ length stack.old.items + length nodes.old.items + length cursor.old) }
+    ensures room { OnSome result (length stack.new.items + length nodes.new.items + length cursor.new
+        ≤ length stack.old.items + length nodes.old.items + length cursor.old) }
 {
     match opening(cursor) {
         Some(waiting) => {
@@ -249,7 +251,8 @@ fn begin(cursor: &mut Cursor<'_>, stack: &mut WaitingList, nodes: &mut Nodes) ->
 fn go_on(cursor: &mut Cursor<'_>, stack: &mut WaitingList, nodes: &mut Nodes) -> Option<bool>
     requires { length stack.old.items + length nodes.old.items + length cursor.old ≤ 256 }
     ensures steps { WalkStepSpec true cursor.old stack.old.items nodes.old.items result cursor.new stack.new.items nodes.new.items }
-    ensures room { OnSome result (length stack.new.items + length nodes.new.items + length cursor.new ≤ length stack.old.items + length nodes.old.items + length cursor.old) }
+    ensures room { OnSome result (length stack.new.items + length nodes.new.items + length cursor.new
+        ≤ length stack.old.items + length nodes.old.items + length cursor.old) }
 {
     if cursor.skip(b"]") {
         gather(LOOSEST, stack, nodes);
@@ -278,7 +281,8 @@ fn step(
 ) -> Option<bool>
     requires { length stack.old.items + length nodes.old.items + length cursor.old ≤ 256 }
     ensures steps { WalkStepSpec after_value cursor.old stack.old.items nodes.old.items result cursor.new stack.new.items nodes.new.items }
-    ensures room { OnSome result (length stack.new.items + length nodes.new.items + length cursor.new ≤ length stack.old.items + length nodes.old.items + length cursor.old) }
+    ensures room { OnSome result (length stack.new.items + length nodes.new.items + length cursor.new
+        ≤ length stack.old.items + length nodes.old.items + length cursor.old) }
 {
     if after_value {
         go_on(cursor, stack, nodes)

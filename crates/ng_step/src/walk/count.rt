@@ -84,7 +84,8 @@ impl ArcWalk {
         requires room { outer_at passage last.outward ≤ beyond }
         ensures walks { Walks result.walk }
         ensures circle { result.walk.circle ≡ self.now.circle }
-        ensures leads { (e : PlanePoint) (left : ℕ) → 0 < left → NeverStopsUntil e left self.now (inner_at passage last.inward) (outer_at passage last.outward)
+        ensures leads { (e : PlanePoint) (left : ℕ) → 0 < left
+            → NeverStopsUntil e left self.now (inner_at passage last.inward) (outer_at passage last.outward)
             → WalkLeads e self.now left result.walk (left - 1) result.steps }
     {
         let walk = ArcWalk::begin(
