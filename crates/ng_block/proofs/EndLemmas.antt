@@ -5,7 +5,7 @@ use Rattle.ng_params.specs.Changes.{with_changes}
 use Rattle.ng_params.specs.Points.{origin_of, selection}
 use Rattle.ng_params.specs.Table.{at, with_value}
 use Rattle.ng_params.specs.declared.change.Change.{Change}
-use Rattle.ng_params.proofs.SettingLaws.{at-others, last_counts}
+use Rattle.ng_params.proofs.AssignmentLaws.{at-others, last_counts}
 use Rattle.ng_canon.specs.declared.geometry.Geometry.{Geometry}
 use Rattle.ng_words.specs.Grammar.{ParsedLine}
 use Rattle.ng_words.proofs.ReadLaws.{reads_iff}
