@@ -25,10 +25,6 @@ use Rattle.ng_layout.specs.declared.half.Source.TheVariants.{Program, Mdi}
 use Rattle.ng_text.specs.Programs.{lines_before}
 use Rattle.ng_session.specs.declared.stage.Approach.{Approach}
 
--- the geometry, which never changes
-pub record Geometry : Type 0 where
-  pub geometry : Geometry
-
 -- what is committed: a line of the program or of the operator, begun with block delete on or off; a program; the point
 -- at which the machine is; the approach to where a half-done block goes on; that such a block is given up; a tool's
 -- length, in a slot of the table
