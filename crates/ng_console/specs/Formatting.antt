@@ -1,12 +1,11 @@
 -- What the job `format` does (own).
-use Rattle.std.specs.Prelude.{ℕ, ◌≡◌, ◌⊎◌, ◌↔◌, ◌<◌, ◌≤◌, Bool, List, [], Option, Result, Ok, Err, IfErr, IsErrOf}
+use Rattle.std.specs.Prelude.{ℕ, ◌≡◌, ◌⊎◌, ◌↔◌, ◌<◌, ◌≤◌, Bool, List, Option, Result, Ok, Err, IfErr, IsErrOf}
 use Rattle.std.specs.declared.alloc.Global.{Global}
 use Rattle.std.specs.declared.io.Error.{Error}
 use Rattle.std.specs.declared.io.Sink.{Sink}
 use Rattle.ng_num.specs.declared.fault.Fault.{Fault}
 use Rattle.ng_num.specs.declared.fault.Fault.TheVariants.{DeviceFailed, NotFormatted}
 use Rattle.ng_rig.specs.Device.{Device}
-use Rattle.ng_rig.specs.Trace.{Began}
 use Rattle.ng_rig.specs.Calls.{IfHonest}
 use Rattle.ng_file.specs.FileRig.{device_of}
 use Rattle.ng_file.specs.declared.device.NoDevice.{NoDevice}

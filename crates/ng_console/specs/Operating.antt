@@ -1,6 +1,6 @@
 -- What the job `run` does (own): an operator commands a controller over a device in a file, and what it hands out is
 -- appended to another file.
-use Rattle.std.specs.Prelude.{ℕ, ◌⊎◌, List, [], Option, Some, None, Result, Ok, Err}
+use Rattle.std.specs.Prelude.{ℕ, ◌⊎◌, List, Option, Some, None, Result, Ok, Err}
 use Rattle.std.specs.declared.io.Error.{Error}
 use Rattle.std.specs.declared.alloc.Global.{Global}
 use Rattle.ng_settings.specs.declared.standard.Settings.{Settings}
