@@ -161,7 +161,7 @@ fn compare_states<R: Print>(rt: &R, alloc: Global, whole: &Run, resumed: &Resume
     let state = &resumed.run.stored.state;
     let modes = tell(
         rt,
-        first.machine == state.machine,
+        first.modal == state.modal,
         "modes, offsets, feed and outputs at the end",
     )?;
     let differ = difference_count(&first.params, &state.params);
