@@ -1,4 +1,5 @@
-"""What the scripts of the gate share that run the program `ngc`: where it is, as the gate proved and built it, devices that the cases keep, and a folder in memory."""
+"""What the gate's scripts that run the program `ngc` share: where it is, as the gate proved and built it, the devices
+that the cases keep, and a folder in memory."""
 import contextlib, os, shutil, sys, tempfile
 
 HERE = os.path.dirname(os.path.dirname(os.path.abspath(__file__)))
@@ -21,11 +22,11 @@ tools_nm = []
 
 
 class Wrong(Exception):
-    """What isn't as it has to be."""
+    """Something isn't as it has to be."""
 
 
 def contents(path):
-    """The bytes of a file, none where it isn't there."""
+    """The bytes of a file; none if it isn't there."""
     try:
         with open(path, "rb") as file:
             return file.read()
@@ -46,13 +47,13 @@ def stored_device(name):
 
 @contextlib.contextmanager
 def new_folder():
-    """A folder in memory where that is to be had, since what is written to a device is made safe; gone in the end."""
+    """A folder in memory if there is one, since all writes to a device are synced. It is removed at the end."""
     with tempfile.TemporaryDirectory(dir="/dev/shm" if os.path.isdir("/dev/shm") else None) as folder:
         yield folder
 
 
 def judge(name, programs, test):
-    """Makes a test: says that it passed, or ends with status 1 and says what is wrong, or which program is missing."""
+    """Runs a test: says that it passed, or ends with status 1 and says what is wrong or which program is missing."""
     for program in programs:
         if not shutil.which(program):
             sys.exit(f"{name}: FAILED, there is no {program}")

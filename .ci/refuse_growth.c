@@ -1,5 +1,7 @@
-/* Counts the growths of memory of a process, and refuses one. A growth is a call of malloc or realloc; preloaded, this takes the place of the C library's own. The file that
-   GROWTHS names holds two numbers: how many growths were asked for, and which of them, from 1 on, is refused. Who started the process reads and sets them meanwhile. */
+/* Counts the growths of memory of a process, and refuses one. A growth is a call of malloc or realloc. This library is
+   preloaded, so that its functions replace those of the C library. The file that GROWTHS names holds two numbers: how
+   many growths were asked for, and which of them, from 1 on, is refused. The parent of the process reads and sets them
+   while it runs. */
 #include <fcntl.h>
 #include <stdlib.h>
 #include <sys/mman.h>

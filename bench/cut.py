@@ -1,36 +1,38 @@
 #!/usr/bin/env python3
-"""Ends `ngc run` by kill -9 in the midst of jobs, goes on each time where the job was cut, and looks at what each session
-leaves.
+"""Ends `ngc run` by kill -9 in the midst of jobs, goes on each time from the cut, and checks what each session leaves.
 
 usage, at the top of the repository: bench/cut.py [JOBS [SEED]] [--ngc PATH] [--folder FOLDER] [--cuts N] [--loads N]
 
-Each job (100 where JOBS isn't given; made by jobs.py, by chance from SEED) begins over a new device, by telling its
-tools, or, one in three, over one of format 1, which takes the tools of the settings; over a device of format 2 the
-settings name no tool. It is run to its end once, a tick and a status at a time: that gives the segments of each block
-with their lines of OUT, and the status after each entry. Then it is run again over another device, and its process is
-ended: over a device of format 1 twice within power on; then within a `load`, then within power on, right before one of
-the writes or syncs of that; and then at a moment taken by chance, up to N times (4) over the job: right before its n-th
-write to the device, its n-th sync, or its n-th line of OUT, by strace, and now and then, or where strace isn't there,
-by the clock: then none is surely within a `load`. Each time the device is read by tools/ngc_tools, and `ngc run` is
-started again with a new OUT, asked for its status, told where the machine stands (by the pulses of all OUTs; now and
-then the axes were moved by hand besides), and goes on: `resume` where a block is half done, then the rest of the job.
+There are 100 jobs if JOBS isn't given; jobs.py makes them at random from SEED. Two jobs in three begin over a new
+device, by telling its tools. The others begin over a device of format 1, which takes the tools of the settings; over a
+device of format 2 the settings name no tool.
 
-For each cut there has to be one moment of the session at which all of these were so: the lines of OUT, to the byte;
-what the device stands for, with its tool table, and the number of records in its log since it was last written anew as
-a whole; and the entries, of which the last `done N` that was written is the last or the one before. Power on has to
-show what the device stood for, under the next epoch, or over format 1 under the one after that in format 2, with an
-empty log. At the end the machine has to stand, and the device has to stand for all but the number of entries, as after
-the run that wasn't cut. Status 0 where that holds for each job.
+Each job is first run to its end, a tick and a status at a time. That gives the segments of each block with their lines
+of OUT, and the status after each entry. Then it is run again over another device, and its process is ended several
+times: over a device of format 1 twice within power on; then within a `load`; then within power on, right before one of
+its writes or syncs; and then at random moments, up to N times (4) over the job. Such a moment is right before the n-th
+write to the device, the n-th sync, or the n-th line of OUT, by strace. Sometimes, or if strace isn't there, it is a
+moment by the clock; without strace no cut is certain to be within a `load`. Each time tools/ngc_tools reads the device,
+and `ngc run` is started again with a new OUT. It is asked for its status, told where the machine stands (by the pulses
+of all OUTs; sometimes the axes were also moved by hand), and goes on: `resume` if a block is half done, then the rest
+of the job.
 
-Then N loads (100) of programs of 200,000 bytes are cut, over devices that had a short program and were grown; of ten
+For each cut there has to be exactly one moment of the session that fits all of these: the lines of OUT, to the byte;
+what the device stands for, with its tool table, and the number of records in its log since the whole device was last
+written anew; and the entries, where the last `done N` that was written is the last entry or the one before. Power on
+has to show what the device stood for, under the next epoch, or over format 1 under the one after that, in format 2,
+with an empty log. At the end the machine has to stand where it stands after the run that wasn't cut, and the device has
+to stand for the same, except for the number of entries. The status is 0 if that holds for each job.
+
+Then N loads (100) of programs of 200,000 bytes are cut, over devices that had a short program and were grown. Of ten
 loads the first is over such a device, the others over what the one before left. A session powers on, does a line that
-sets a parameter, which is an entry, and is ended within the load that follows: right before one of its writes or syncs,
-or one in five, and all where strace isn't there, by the clock, at any moment of the session. The device then has to
-stand for all that it stood for before the load or for all of what it stands for after it: the program to the byte and
-its area, the parameters, the state, the tool table, the entries and the records. The next power on has to find the
-same. After ten loads one more isn't cut, and its program is run, from its first line to its last.
+sets a parameter, which is an entry, and is ended within the load that follows: right before one of its writes or syncs.
+One load in five, and all if strace isn't there, is cut by the clock instead, at any moment of the session. The device
+then has to stand for all that it stood for before the load, or for all that it stands for after it: the program to the
+byte and its area, the parameters, the state, the tool table, the entries and the records. The next power on has to find
+the same. After ten loads one more isn't cut, and its program is run from its first line to its last.
 
-It builds ngc by rt where that is needed and no PATH is given."""
+It builds ngc by rt if that is needed and no PATH is given."""
 import argparse, collections, contextlib, dataclasses, functools, math, os, random, re, shutil, subprocess, sys
 import tempfile, threading, time
 
@@ -42,31 +44,44 @@ from ngc_tools.device import LARGE_SIZE, SIZE, Device
 
 STATUS = re.compile(r"status entries (\d+) place (\d+) at (\S+ \S+ \S+) (known|unknown) half (none|\S+ \d+) (\w+)\n")
 OFF = "S 0 0.000000 0 0 0 0\n"
-# The first sector of the log, as docs/DEVICE.md has it.
+# The first sector of the log, as in docs/DEVICE.md.
 LOG = 686
 
-# The device of format 1 with which some jobs begin: rows of a sector, a place in it, and the bytes there.
+# The device of format 1 that some jobs begin with: rows of a sector, a place in it, and the bytes there.
 FORMAT_1 = os.path.join(here, "crates/ngc_cases/data/format1/formatted.hex")
 
-# An entry of the job: "load", "mdi", "tool" or "line" of a program, its text (none of a line), its segments as lines of OUT, and after it
-# the place, the point and what the controller does; and the parts of its record, none of a load.
+# An entry of the job: "load", "mdi", "tool" or "line" of a program; its text (none for a line); its segments as lines
+# of OUT; the place, the point and what the controller does after it; and the number of parts of its record, 0 for a
+# load.
 Step = collections.namedtuple("Step", "kind text segments place point activity parts")
-# What a device stands for: the entries, the number of steps that are done, the segment of a half-done block, where the machine
-# stands if that is told of it, in steps; the records of its log; and what that is called in the table of cuts.
+# What a device stands for: the entries, the number of steps that are done, the segment of a half-done block, where the
+# machine stands, in steps, if it was told; the records of its log; and the name of this state in the table of cuts.
 State = collections.namedtuple("State", "entries done half at records kind")
 NOTHING, SEGMENT, TOLD, APPROACH, APPROACHED = (
-    "nothing half done", "a segment open", "a reference told", "an approach open", "an approach done")
-POWER_ON, LOAD, MORE, LATE, TORN = "in power on", "in a load", "one entry more than told done", "after the job's end", "a part of a record"
+    "nothing half done",
+    "a segment open",
+    "a reference told",
+    "an approach open",
+    "an approach done",
+)
+POWER_ON, LOAD, MORE, LATE, TORN = (
+    "in power on",
+    "in a load",
+    "one entry more than told done",
+    "after the job's end",
+    "a part of a record",
+)
 MIGRATION = "in power on over format 1"
-# The seconds of power on, and of a write, a sync or a line of OUT.
+# How many seconds power on takes, and a write, a sync or a line of OUT.
 Pace = collections.namedtuple("Pace", "power_on call")
-# What a session that is cut by its calls counts: writes to the device, syncs, or lines of OUT; and how many of them power on makes over each format.
+# The calls that are counted in a session that is cut at a call: writes to the device, syncs, or lines of OUT; and how
+# many of them power on makes over each format.
 CALLS = ("write", "fsync", "line")
 OF_POWER_ON = {1: (176, 5, 0), 2: (89, 3, 0)}
 
 
 class Wrong(Exception):
-    """What isn't as it has to be."""
+    """Something isn't as it has to be."""
 
 
 def millimetres(nm):
@@ -113,8 +128,8 @@ class Mill:
             file.write(device)
 
     def start(self, call=None, number=0):
-        """A session, which hands out to a file of its own; cut right before its n-th call of a kind, if one is named. Its settings have the tools only
-        where the device is of format 1."""
+        """A session, which hands out to a file of its own. It is cut right before its n-th call of a kind, if one is
+        named. Its settings have the tools only if the device is of format 1."""
         self.outs += 1
         with open(f"{self.folder}/mill.toml", "w") as file:
             file.write(f"{jobs.SETTINGS}tools_nm = {jobs.TOOLS_NM if self.stands().format == 1 else []}\n")
@@ -138,7 +153,7 @@ class Mill:
             return []
 
     def stands(self):
-        """What the device stands for, as docs/DEVICE.md has it."""
+        """What the device stands for, according to docs/DEVICE.md."""
         device = Device.read(f"{self.folder}/mill.dev")
         if device.damage:
             raise Wrong(f"the device is damaged: {device.damage}")
@@ -165,7 +180,7 @@ def shown(device):
 
 
 def asked(child, text):
-    """The lines that are answered up to the status, which is asked after the text."""
+    """The lines of the answer up to the status, which is asked for after the text."""
     child.stdin.write(text + b"status\n")
     child.stdin.flush()
     lines = []
@@ -183,18 +198,19 @@ def load(text):
 
 
 def whole_run(mill, does):
-    """The steps of a job, by a run to its end, a tick at a time."""
+    """The steps of a job, found by running it to its end, a tick at a time."""
     child, steps, segments, handed = mill.start(), [], [], 0
     half, end = "none", LOG
 
     def parts():
-        """How many sectors of the log the last entry's record has, where each of its segments has one."""
+        """How many sectors of the log the last entry's record has, if each of its segments has one."""
         nonlocal end
         before, end = end + len(segments), mill.stands().end
         return end - before
 
     def tick():
-        """A tick: what it answered, and the status after it. What it handed out comes after what its segment has."""
+        """A tick: its answer, and the status after it. A line that it hands out comes after those that its segment
+        already has."""
         nonlocal half, handed
         told = asked(child, b"tick 1\n")
         _, place, point, _, now, activity = STATUS.fullmatch(told[-1]).groups()
@@ -251,7 +267,7 @@ def before(steps, state):
 
 
 def tools_of(steps, state, tools):
-    """The tool table in a state, where the job began with this one."""
+    """The tool table in a state, if the job began with these tools."""
     tools = list(tools)
     for step in steps[:state.done]:
         if step.kind == "tool":
@@ -262,7 +278,9 @@ def tools_of(steps, state, tools):
 
 def status_of(steps, state):
     """What the status says of a state after power on."""
-    place, point = (steps[state.done - 1].place, steps[state.done - 1].point) if state.done else (0, point_text((0, 0, 0)))
+    place, point = (
+        (steps[state.done - 1].place, steps[state.done - 1].point) if state.done else (0, point_text((0, 0, 0)))
+    )
     known, half = "known", "none"
     if state.half is not None:
         source = "mdi" if steps[state.done].kind == "mdi" else "program"
@@ -272,8 +290,8 @@ def status_of(steps, state):
 
 
 class Session:
-    """What a session does from a state to the job's end: its commands, the state at each moment with the number of lines handed out, the calls by
-    their kind, and of each load the entries, the calls before it and its own."""
+    """What a session does from a state to the job's end: its commands; the state at each moment, with the number of
+    lines handed out; the calls by their kind; and for each load the entries, the calls before it and its own."""
 
     def __init__(self, steps, state, reference, form):
         # power on leaves an empty log
@@ -297,11 +315,18 @@ class Session:
             if step.kind in ("load", "line"):
                 going, stopped = step.activity == "running", step.activity == "stopped"
             if step.kind == "load":
-                # which writes the device anew as a whole
+                # a load writes the whole device anew
                 own = calls_of_load(step.text)
                 self.loads.append((self.state().entries, tuple(self.calls), own))
                 self.calls = [before + more for before, more in zip(self.calls, own)]
-                self.comes(entries=self.state().entries + 1, done=self.state().done + 1, half=None, at=None, records=0, kind=NOTHING)
+                self.comes(
+                    entries=self.state().entries + 1,
+                    done=self.state().done + 1,
+                    half=None,
+                    at=None,
+                    records=0,
+                    kind=NOTHING,
+                )
             else:
                 self.work(0)
 
@@ -312,7 +337,7 @@ class Session:
         self.moments.append((self.state()._replace(**changes), len(self.lines)))
 
     def records(self, parts=1, **changes):
-        """A record more, of so many parts."""
+        """One more record, of this number of parts."""
         self.calls[0] += parts
         self.calls[1] += 1
         self.comes(records=self.state().records + 1, **changes)
@@ -329,10 +354,13 @@ class Session:
             self.records(half=n, at=None, kind=SEGMENT)
             self.hands_out(segment)
         parts = self.steps[self.state().done].parts
-        self.records(parts, entries=self.state().entries + 1, done=self.state().done + 1, half=None, at=None, kind=NOTHING)
+        self.records(
+            parts, entries=self.state().entries + 1, done=self.state().done + 1, half=None, at=None, kind=NOTHING
+        )
 
     def go_on(self, state, reference):
-        """A reference if one is told, the approach, and the rest of the block. Whether the program then goes, and whether it waits."""
+        """A reference if one is told, the approach, and the rest of the block. It returns whether the program then goes
+        on, and whether it waits."""
         if reference:
             self.commands.append(f"reference {point_text(reference)}\n".encode())
             self.records(entries=self.state().entries + 1, at=reference, kind=TOLD)
@@ -348,7 +376,8 @@ class Session:
 
 
 class Cutting:
-    """A job that is cut: the moments at which its last session may have ended, and where the machine stands, in steps."""
+    """A job that is cut: the moments at which its last session may have ended, and where the machine stands, in
+    steps."""
 
     def __init__(self, mill, steps, chance, counts, tools):
         self.mill, self.steps, self.chance, self.counts, self.tools = mill, steps, chance, counts, tools
@@ -356,17 +385,24 @@ class Cutting:
         self.moments = [(State(0, 0, None, None, 0, NOTHING), 0)]
 
     def found(self, device, status):
-        """The state of the one moment at which the last session can have ended."""
-        fits = [state for state, lines in self.moments
-                if (lines, state.records) == (len(self.handed), len(device.records))
-                and status_of(self.steps, state) == status]
+        """The state at the one moment when the last session can have ended."""
+        fits = [
+            state
+            for state, lines in self.moments
+            if (lines, state.records) == (len(self.handed), len(device.records))
+            and status_of(self.steps, state) == status
+        ]
         if len(fits) != 1 or fits[0].entries - self.told not in (0, 1):
-            raise Wrong(f"{len(fits)} moments fit: {status!r}, {len(device.records)} records, "
-                        f"{len(self.handed)} lines of OUT, {self.told} told done")
+            raise Wrong(
+                f"{len(fits)} moments fit: {status!r}, {len(device.records)} records, "
+                f"{len(self.handed)} lines of OUT, {self.told} told done"
+            )
         tools = [] if device.format == 1 else tools_of(self.steps, fits[0], self.tools)
         if device.tools_nm != tools:
-            raise Wrong(f"the device of format {device.format} has the tools {device.tools_nm}, "
-                        f"wanted was {tools}, at {fits[0]}")
+            raise Wrong(
+                f"the device of format {device.format} has the tools {device.tools_nm}, "
+                f"wanted was {tools}, at {fits[0]}"
+            )
         return fits[0]
 
     def counted(self, device, state):
@@ -385,17 +421,27 @@ class Cutting:
         return None if state.at == self.at and self.chance.random() < 0.5 else self.at
 
     def moment(self, state, calls):
-        """How many of so many calls come before the cut: in two of three cuts of a half-done block few, so that it falls about its approach, which
-        takes the record of a reference, two of its own, and then that of the segment."""
-        return self.chance.uniform(0, min(4, calls) if state.half is not None and self.chance.random() < 2 / 3 else calls)
+        """How many of these calls come before the cut. In two of three cuts of a half-done block they are few, so that
+        the cut falls near its approach, which takes the record of a reference, two of its own, and then that of the
+        segment."""
+        return self.chance.uniform(
+            0, min(4, calls) if state.half is not None and self.chance.random() < 2 / 3 else calls
+        )
 
     def cut(self, state, session, pace, within):
-        """How a session is cut, within power on or a load if that is named, else one in ten times in power on: before a call with its number, or after so
-        many seconds in power on or of the work; and the entries before the load that it is in, if it is to be in one."""
+        """How a session is cut: within power on or a load if that is named, otherwise one time in ten within power on.
+        It returns a call and its number, to cut before it, or the seconds after which to cut in power on or the work;
+        and the entries before the load that it has to be in, if any."""
         early = within == POWER_ON or within is None and self.chance.random() < 0.1
         if not can_trace() or within is None and self.chance.random() < 0.2:
             most = sum(session.calls) - sum(session.of_power_on)
-            return None, 0, self.chance.uniform(0, pace.power_on) if early else None, pace.call * self.moment(state, most), None
+            return (
+                None,
+                0,
+                self.chance.uniform(0, pace.power_on) if early else None,
+                pace.call * self.moment(state, most),
+                None,
+            )
         kind = self.chance.randrange(2 if early or within else 3)
         call, first = CALLS[kind], session.of_power_on[kind]
         if early:
@@ -406,11 +452,14 @@ class Cutting:
         return call, int(first + 1 + self.moment(state, session.calls[kind] - first + 1)), None, None, None
 
     def session(self, pace=None, within=None):
-        """A session, cut somewhere if a pace is given: within power on or a load, if that is named. Whether it came to the job's end."""
+        """A session, cut somewhere if a pace is given: within power on or a load, if that is named. It returns whether
+        the session came to the job's end."""
         device = self.mill.stands()
         state = self.found(device, shown(device))
         session = Session(self.steps, state, self.reference(state), device.format)
-        call, number, in_power_on, later, in_load = self.cut(state, session, pace, within) if pace else (None, 0, None, None, None)
+        call, number, in_power_on, later, in_load = (
+            self.cut(state, session, pace, within) if pace else (None, 0, None, None, None)
+        )
         child = self.mill.start(call, number)
         timer = None if in_power_on is None else threading.Timer(in_power_on, child.kill)
         if timer:
@@ -441,7 +490,8 @@ class Cutting:
         return child.returncode == 0
 
     def was_within(self, within, in_load, status):
-        """The cut was where it was to be: in power on before it answered, or in a load after the entries before it were told done."""
+        """Checks that the cut was where it had to be: in power on before its answer, or in a load after the entries
+        before it were told done."""
         if within == POWER_ON and can_trace() and status:
             raise Wrong(f"a cut in power on came after it: {status!r}")
         if in_load is not None:
@@ -450,36 +500,46 @@ class Cutting:
             self.counts[LOAD] += 1
 
     def powered_on(self, before, status):
-        """Power on shows what stood, and has written it under the next epoch."""
+        """Checks that power on shows what the device stood for, and has written it under the next epoch."""
         if status != shown(before):
             raise Wrong(f"power on shows {status!r}, and the device stood for {shown(before)!r}")
         device = self.mill.stands()
         epoch = before.epoch + (2 if before.format == 1 else 1)
         if (device.epoch, device.format, len(device.records), device.torn) != (epoch, 2, 0, []):
-            raise Wrong(f"over epoch {before.epoch} of format {before.format} power on left epoch {device.epoch} of format {device.format} with "
-                        f"{len(device.records)} records, and parts in {device.torn}")
+            raise Wrong(
+                f"over epoch {before.epoch} of format {before.format} power on left epoch {device.epoch} "
+                f"of format {device.format} with {len(device.records)} records, and parts in {device.torn}"
+            )
         if device.tools_nm != (jobs.TOOLS_NM if before.format == 1 else before.tools_nm):
-            raise Wrong(f"over format {before.format} with the tools {before.tools_nm} "
-                        f"power on left the tools {device.tools_nm}")
+            raise Wrong(
+                f"over format {before.format} with the tools {before.tools_nm} "
+                f"power on left the tools {device.tools_nm}"
+            )
 
     def cut_in_power_on(self, before):
-        """It left what the session before left, or its recovered under the next epoch, or of format 1 under the one after that in format 2."""
+        """Checks what power on that was cut left: what the session before left, or the same recovered under the next
+        epoch, or over format 1 under the one after that in format 2."""
         device, next_epoch = self.mill.stands(), before.epoch + 1
-        valid = [(before.epoch, before.format, len(before.records), before.tools_nm),
-                 (next_epoch, before.format, 0, before.tools_nm)]
+        valid = [
+            (before.epoch, before.format, len(before.records), before.tools_nm),
+            (next_epoch, before.format, 0, before.tools_nm),
+        ]
         if before.format == 1:
             valid.append((next_epoch + 1, 2, 0, jobs.TOOLS_NM))
         left, stood = ((it.epoch, it.format, len(it.records), it.tools_nm) for it in (device, before))
         if shown(device) != shown(before) or left not in valid:
             raise Wrong(f"power on that was cut left {left}, {shown(device)!r}, and {stood}, {shown(before)!r} stood")
         self.counts[MIGRATION] += before.format == 1
-        # what it wrote anew as a whole has no record
-        self.moments = [(state._replace(records=len(device.records)), lines) for state, lines in self.moments
-                        if state.records == len(before.records)]
+        # the whole device was written anew, so it has no record
+        self.moments = [
+            (state._replace(records=len(device.records)), lines)
+            for state, lines in self.moments
+            if state.records == len(before.records)
+        ]
         self.counts[POWER_ON] += 1
 
     def goes_on(self, child, state, session, begins):
-        """Gives all commands up to the job's end, and looks at what was told and handed out until the session ended."""
+        """Gives all commands up to the job's end, and checks what was told and handed out until the session ended."""
         begins()
         written(child, b"".join(session.commands), last=True)
         text = child.stdout.read().decode()
@@ -487,25 +547,41 @@ class Cutting:
         self.handed = self.mill.handed_out()
         if self.handed != session.lines[:len(self.handed)]:
             n = next(n for n, line in enumerate(self.handed) if session.lines[n:n + 1] != [line])
-            raise Wrong(f"from {state} on, line {n + 1} of OUT is {self.handed[n]!r}, wanted was {session.lines[n:n + 1]}")
+            raise Wrong(
+                f"from {state} on, line {n + 1} of OUT is {self.handed[n]!r}, wanted was {session.lines[n:n + 1]}"
+            )
         told = [int(n) for n in re.findall(r"^done (\d+)\n", text, re.M)]
         if "refused" in text or told != [state.entries + 1 + n for n in range(len(told))] or status not in (0, -9):
             raise Wrong(f"from {state} on, with status {status}: {text}")
         self.at = moved(self.at, self.handed)
         self.told = state.entries + len(told)
         self.was_cut = status != 0
-        # nothing is cut off a session that came to its end
+        # a session that came to its end lost nothing
         self.moments = session.moments if self.was_cut else session.moments[-1:]
 
 
 def calls_of_load(text):
-    """How many writes to the device, syncs and lines of OUT a load makes: it writes its text, and the device anew as a whole."""
+    """How many writes to the device, syncs and lines of OUT a load makes: it writes its text, and the whole device
+    anew."""
     return 89 + (len(text.encode()) + 511) // 512, 3, 0
 
 
 def traced(call, path, number, words):
     """A command that is ended right before its n-th call of this kind on a file."""
-    return ["strace", "-f", "-qq", "-o", "/dev/null", "-e", f"trace={call}", "-P", path, "-e", f"inject={call}:signal=KILL:when={number}", *words]
+    return [
+        "strace",
+        "-f",
+        "-qq",
+        "-o",
+        "/dev/null",
+        "-e",
+        f"trace={call}",
+        "-P",
+        path,
+        "-e",
+        f"inject={call}:signal=KILL:when={number}",
+        *words,
+    ]
 
 
 @functools.cache
@@ -514,7 +590,10 @@ def can_trace():
     with tempfile.TemporaryDirectory() as folder:
         path = os.path.realpath(folder) + "/file"
         writes = ["sh", "-c", 'echo a > "$1"; echo b >> "$1"', "sh", path]
-        return bool(shutil.which("strace")) and subprocess.run(traced("write", path, 2, writes), stderr=subprocess.DEVNULL).returncode == -9
+        return (
+            bool(shutil.which("strace"))
+            and subprocess.run(traced("write", path, 2, writes), stderr=subprocess.DEVNULL).returncode == -9
+        )
 
 
 def written(child, commands, last=False):
@@ -537,14 +616,15 @@ def left(cutting):
 
 
 def job_of(chance):
-    """Whether a job begins over a new device, and what the operator does in it: over a new one the tools come first."""
+    """Whether a job begins over a new device, and what the operator does in it; over a new device the tools come
+    first."""
     is_new, does = chance.random() < 2 / 3, jobs.job(chance)
     tools = [("tool", f"{slot} {millimetres(nm)}") for slot, nm in enumerate(jobs.TOOLS_NM, 1)]
     return is_new, tools + does if is_new else does
 
 
 def try_job(ngc, folder, chance, counts, cuts):
-    """A job, a tick at a time, then whole, then cut."""
+    """Runs a job a tick at a time, then whole, then cut."""
     is_new, does = job_of(chance)
     tools = [] if is_new else jobs.TOOLS_NM
     first, second, third = (Mill(ngc, tempfile.mkdtemp(dir=folder), is_new) for _ in range(3))
@@ -576,7 +656,7 @@ class LongLoads:
     """Loads of long programs over a device that had a short one and was grown, each cut."""
 
     BYTES = 200_000
-    # of each session the line before the load, and how many writes and syncs its record takes
+    # in each session the line before the load, and how many writes and syncs its record takes
     SET, OF_SET = b"mdi #1=5\ntick 9\n", (1, 1)
 
     def __init__(self, ngc, folder, chance, counts):
@@ -586,7 +666,7 @@ class LongLoads:
         self.took = self.seconds()
 
     def seconds(self):
-        """How long a session takes that isn't cut; the device is then as before it."""
+        """How long a session takes that isn't cut; afterwards the device is as before."""
         path = f"{self.mill.folder}/mill.dev"
         with open(path, "rb") as file:
             image = file.read()
@@ -598,7 +678,7 @@ class LongLoads:
         return took
 
     def program(self):
-        """A program that goes to X0.003 first, and back in the end; between them are comments by chance."""
+        """A program that first goes to X0.003, and back at its end; random comments stand between."""
         comments = "".join(f"({self.chance.getrandbits(500):0125x})\n" for _ in range(self.BYTES // 128 - 1))
         end = "G0 X0\nM2\n"
         return ("G0 X0.003\n" + comments).ljust(self.BYTES - len(end), "\n") + end
@@ -630,25 +710,34 @@ class LongLoads:
         self.look(self.states(before, text), told)
 
     def states(self, before, text):
-        """What the device may stand for: as it was, after the line, and after the load, each with the records of its log."""
+        """What the device may stand for: as it was, after power on, after the line, and after the load, each with the
+        number of records of its log."""
         state, parameters, tools, program = stored(before)
         with_five = {**parameters, 1: 5_000_000}
         area, entries = before.header.area, before.state.entries
-        return ((entries, len(before.records), area, (state, parameters, tools, program)),
-                (entries, 0, area, (state, parameters, tools, program)),
-                (entries + 1, 1, area, (state, with_five, tools, program)),
-                (entries + 2, 0, 3 if area == 2 else 2,
-                 (dataclasses.replace(state, place=0), {**parameters, 1: 0}, tools, text.encode())))
+        return (
+            (entries, len(before.records), area, (state, parameters, tools, program)),
+            (entries, 0, area, (state, parameters, tools, program)),
+            (entries + 1, 1, area, (state, with_five, tools, program)),
+            (
+                entries + 2,
+                0,
+                3 if area == 2 else 2,
+                (dataclasses.replace(state, place=0), {**parameters, 1: 0}, tools, text.encode()),
+            ),
+        )
 
     def look(self, states, told):
-        """Looks at what a cut left, and at what the next power on makes of it."""
+        """Checks what a cut left, and what the next power on makes of it."""
         device = self.mill.stands()
         found = (device.state.entries, len(device.records), device.header.area, stored(device))
-        # by how many entries were told done
+        # by the number of entries that were told done
         fits = [n for n in ((0, 1, 2), (2, 3), (3,))[told] if states[n] == found]
         if not fits or len(device.image) != LARGE_SIZE:
-            raise Wrong(f"a load that was cut left {found[:3]} or another state, {told} told done; "
-                        f"there were {[state[:3] for state in states]}")
+            raise Wrong(
+                f"a load that was cut left {found[:3]} or another state, {told} told done; "
+                f"there were {[state[:3] for state in states]}"
+            )
         self.counts["new program" if fits == [3] else "old program"] += 1
         again = self.whole(b"")
         now = (again.state.entries, len(again.records), again.header.area, stored(again))
@@ -663,12 +752,14 @@ class LongLoads:
         # 0.3 m a minute are 1 um in 200 us
         wanted = [f"P {way} 0 0 200\n" for way in (1, 1, 1, -1, -1, -1)] + [OFF]
         if self.mill.handed_out() != wanted or self.mill.stands().state.entries != entries + lines:
-            raise Wrong(f"a program of {lines} lines was run to entry {self.mill.stands().state.entries} from {entries}, "
-                        f"and handed out {self.mill.handed_out()}")
+            raise Wrong(
+                f"a program of {lines} lines was run to entry {self.mill.stands().state.entries} from {entries}, "
+                f"and handed out {self.mill.handed_out()}"
+            )
 
 
 def try_loads(ngc, folder, seed, number, counts):
-    """Cuts so many loads of long programs, ten over each device."""
+    """Cuts this number of loads of long programs, ten over each device."""
     for device in range(-(-number // 10)):
         chance = random.Random(f"{seed} load {device}")
         with tempfile.TemporaryDirectory(dir=folder) as own:
@@ -700,7 +791,9 @@ def main():
             try:
                 made, handed = try_job(ngc, folder, chance, counts, given.cuts)
             except Wrong as wrong:
-                sys.exit(f"job {number} of seed {given.seed}: {wrong}\n{job_of(random.Random(f'{given.seed} {number}'))}")
+                sys.exit(
+                    f"job {number} of seed {given.seed}: {wrong}\n{job_of(random.Random(f'{given.seed} {number}'))}"
+                )
         segments += made
         lines += handed
     try:
@@ -708,13 +801,20 @@ def main():
     except Wrong as wrong:
         sys.exit(f"a load of seed {given.seed}: {wrong}")
     kinds = (NOTHING, SEGMENT, TOLD, APPROACH, APPROACHED)
-    print(f"{given.jobs} jobs of {segments} segments, {counts['tool']} tools and {lines} lines of OUT, {counts[LATE]} of them to their end before the next cut")
-    print(f"cut {sum(counts[kind] for kind in (*kinds, POWER_ON))} times: {counts[POWER_ON]} in power on, {counts[MIGRATION]} of them over format 1, after which stood what had stood "
-          f"before; {counts[LOAD]} in a load;")
+    print(
+        f"{given.jobs} jobs of {segments} segments, {counts['tool']} tools and {lines} lines of OUT, "
+        f"{counts[LATE]} of them to their end before the next cut"
+    )
+    print(
+        f"cut {sum(counts[kind] for kind in (*kinds, POWER_ON))} times: {counts[POWER_ON]} in power on, "
+        f"{counts[MIGRATION]} of them over format 1, after which stood what had stood before; {counts[LOAD]} in a load;"
+    )
     print("then stood " + ", ".join(f"{kind} {counts[kind]}" for kind in kinds))
     print(f"{counts[MORE]} times {MORE}, {counts[TORN]} times {TORN}, which counted for nothing")
-    print(f"{given.loads} loads of {LongLoads.BYTES:,} bytes were cut on devices that were grown: then stood the old program "
-          f"{counts['old program']} times, the new one {counts['new program']} times")
+    print(
+        f"{given.loads} loads of {LongLoads.BYTES:,} bytes were cut on devices that were grown: "
+        f"then stood the old program {counts['old program']} times, the new one {counts['new program']} times"
+    )
 
 
 if __name__ == "__main__":

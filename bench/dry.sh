@@ -1,21 +1,22 @@
 #!/bin/sh
-# Lines per second and peak memory of `ngc dry` on programs of G0 and G1 moves, with plain numbers as a CAM system writes
-# them and with an expression in each line, and on a program of arcs and canned cycles.
+# Lines per second and peak memory of `ngc dry` on programs of G0 and G1 moves, with plain numbers as a CAM system
+# writes them and with an expression in each line, and on a program of arcs and canned cycles.
 #
 # usage, at the top of the repository: bench/dry.sh [--beside NGC] [--rounds N] [--instructions] [LINES..]
 #
 #   --beside NGC   also runs another executable of ngc, in turns with this one, so that both figures stand side by side
-#                  (but on a program that it refuses)
-#   --rounds N     how often each is run on each program (3 where it isn't given)
-#   --instructions in place of all that counts the instructions (callgrind of valgrind) of a line and of a command that it
-#                  prints, as the difference of a program of 40,000 lines and one of 20,000
-#   LINES..        the programs' lengths (200000 and 2000000 where none is given)
+#                  (except on a program that it refuses)
+#   --rounds N     how often each is run on each program (3 if it isn't given)
+#   --instructions instead of all that, counts the instructions (callgrind of valgrind) of a line and of a command that
+#                  it prints, as the difference of a program of 40,000 lines and one of 20,000
+#   LINES..        the programs' lengths (200000 and 2000000 if none is given)
 #
-# It proves and builds ngc by rt where that is needed, writes each program itself from a fixed seed, and runs
-# the executable on it with its output to /dev/null and to a file. It shows the time of the whole process on the clock,
-# and the processor time that the system counted for it (wait4), which other work on the machine disturbs less. Memory
-# is the greatest resident size (VmHWM of /proc/PID/status, read until the process ends, in a run of its own). A cycle's line
-# prints several commands, so that commands are counted too; at last it runs a cycle of 30,000 segments and one traverse.
+# It proves and builds ngc by rt if that is needed, writes each program itself from a fixed seed, and runs the
+# executable on it with its output to /dev/null and to a file. It shows the time of the whole process on the clock, and
+# the processor time that the system counted for it (wait4), which other work on the machine disturbs less. Memory is
+# the greatest resident size (VmHWM of /proc/PID/status, read until the process ends, in a run of its own). A cycle's
+# line prints several commands, so commands are counted too. At the end it runs a cycle of 30,000 segments and one
+# traverse.
 set -eu
 beside= rounds=3 instructions=
 while [ $# -gt 0 ]; do
@@ -32,8 +33,8 @@ cd "$(dirname "$0")/.."
 work=$(mktemp -d)
 trap 'rm -rf "$work"' EXIT
 
-# A program of $1 lines: a header, then passes of short cuts, each begun by a traverse and a plunge, then M2. With $2
-# "expressions", the X of each cut is an expression over a number and a parameter. With "arcs", see write_arcs.
+# A program of $1 lines: a header, then passes of short cuts, each begun by a traverse and a plunge, then M2. If $2 is
+# "expressions", the X of each cut is an expression of a number and a parameter. For "arcs", see write_arcs.
 write_program() {
     if [ "$2" = arcs ]; then write_arcs "$1"; return; fi
     awk -v lines="$1" -v kind="$2" -v seed=7 '
@@ -67,8 +68,8 @@ write_program() {
     }'
 }
 
-# A program of $1 lines: a header, then again and again 60 arcs whose radii are within a thousandth of a millimetre or so, 20
-# holes drilled by G81 and 15 by G83 in four pecks each, then M2.
+# A program of $1 lines: a header, then again and again 60 arcs whose radii agree to about a thousandth of a millimetre,
+# 20 holes drilled by G81 and 15 by G83 in four pecks each, then M2.
 write_arcs() {
     awk -v lines="$1" -v seed=7 '
     function below(n) { state = (state * 16807) % 2147483647; return state % n }
@@ -93,7 +94,8 @@ write_arcs() {
             if (step == 0) print "G0 Z5."
             else if (step == 1) print "G0 " place()
             else if (step == 2) print "G1 Z-2. F300"
-            else if (step < 63) print (step % 20 == 3 ? (below(2) ? "G2 " : "G3 ") : "") arc() (step == 3 ? " F1200" : "")
+            else if (step < 63)
+                print (step % 20 == 3 ? (below(2) ? "G2 " : "G3 ") : "") arc() (step == 3 ? " F1200" : "")
             else if (step == 63) print "G0 Z5."
             else if (step == 64) print "G81 " place() " Z-4. R1. F200"
             else if (step < 84) print place()
@@ -106,11 +108,12 @@ write_arcs() {
     }'
 }
 
-# Instructions for a line and a printed command of the programs of 40,000 lines, without those for its first 20,000.
+# The instructions for a line and for a printed command of a program of 40,000 lines, without its first 20,000 lines.
 count_instructions() {
     for lines in 20000 40000; do
         write_program $lines "$1" >"$work/program.ngc"
-        valgrind --tool=callgrind --callgrind-out-file="$work/calls" crates/ngc/out/ngc dry "$work/program.ngc" >"$work/text" 2>"$work/said"
+        valgrind --tool=callgrind --callgrind-out-file="$work/calls" \
+            crates/ngc/out/ngc dry "$work/program.ngc" >"$work/text" 2>"$work/said"
         echo "$(sed -n 's/.*Collected : \([0-9]*\).*/\1/p' "$work/said") $(wc -l <"$work/text")"
     done | awk -v kind="$1" '
     NR == 1 { instructions = $1; commands = $2 }
@@ -160,7 +163,10 @@ def peak(ngc):
     return most
 
 commands = subprocess.run([programs[0][1], "dry", program], stdout=subprocess.PIPE).stdout.count(b"\n")
-print(f"{lines} lines with {kind}, {os.path.getsize(program)} bytes, {commands} commands, load {os.getloadavg()[0]:.2f} on {os.cpu_count()} processors")
+print(
+    f"{lines} lines with {kind}, {os.path.getsize(program)} bytes, {commands} commands, "
+    f"load {os.getloadavg()[0]:.2f} on {os.cpu_count()} processors"
+)
 for target, path in [("/dev/null", os.devnull), ("a file", os.path.join(work, "text"))]:
     runs = {name: [] for name, _ in programs}
     for _ in range(rounds):
@@ -168,17 +174,23 @@ for target, path in [("/dev/null", os.devnull), ("a file", os.path.join(work, "t
             with open(path, "wb") as text:
                 runs[name].append(run(ngc, text))
     for name, _ in programs:
-        for clock, times in [("on the clock", [r[0] for r in runs[name]]), ("of processor", [r[1] for r in runs[name]])]:
+        for clock, times in [
+            ("on the clock", [r[0] for r in runs[name]]),
+            ("of processor", [r[1] for r in runs[name]]),
+        ]:
             best, median = min(times), statistics.median(times)
-            print(f"  {name} to {target}, a second {clock}: best {lines / best:,.0f} lines ({best:.3f} s), median {lines / median:,.0f} ({median:.3f} s)")
+            print(
+                f"  {name} to {target}, a second {clock}: best {lines / best:,.0f} lines ({best:.3f} s), "
+                f"median {lines / median:,.0f} ({median:.3f} s)"
+            )
 for name, ngc in programs:
     print(f"  {name}: peak resident memory {peak(ngc)} KiB")
 PY
 done
 done
 
-# The memory of a cycle that prints 30,000 segments, beside that of one traverse. The program is a pipe, so that its process waits
-# after that line for more, and its greatest resident size can be read.
+# The memory of a cycle that prints 30,000 segments, beside that of one traverse. The program is a pipe, so ngc waits
+# for more after that line, and its greatest resident size can be read.
 mkfifo "$work/pipe"
 for line in 'G0 X1' 'G83 X0 Z-1000 R0 Q0.1 F100'; do
     python3 - "$work/pipe" "$line" <<'PY'

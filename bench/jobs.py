@@ -1,11 +1,13 @@
-"""Makes jobs by chance: lines and tools of the operator, and programs that stop now and then, for `ngc run` under the settings given here.
+"""Makes random jobs for `ngc run` under the settings given here: the operator's lines and tools, and programs that stop
+now and then.
 
-All points lie on the steps of each axis, so that the pulses handed out say exactly where the machine stands. Nothing is refused."""
+All points lie on the steps of each axis, so that the pulses handed out say exactly where the machine stands. Nothing is
+refused."""
 
 STEP_NM = (1000, 1000, 500)
 TRAVERSE_NM_PER_MIN = 300_000_000
 PERIOD_US = 50
-# The tool lengths with which a job begins, in nm, by slot.
+# The tool lengths that a job begins with, in nm, by slot.
 TOOLS_NM = [2000, 5000]
 SETTINGS = f"""step_nm = {list(STEP_NM)}
 low_nm = [-1000000000, -1000000000, -1000000000]
@@ -16,7 +18,7 @@ period_us = {PERIOD_US}
 
 
 def length(chance, most):
-    """A length of so many micrometres at most, to either side, as a number of millimetres."""
+    """A length of at most this number of micrometres, either way, as a number of millimetres."""
     return f"{chance.randint(-most, most) / 1000:.3f}"
 
 
@@ -43,7 +45,8 @@ def move(chance):
 
 
 def arc(chance):
-    """A quarter, half or full turn, perhaps as a helix; the axes of the plane and the third, and the letters of the centre."""
+    """A quarter, half or full turn, perhaps as a helix. The choice names the plane, its axes and the third one, and
+    the letters of the centre."""
     plane, (a, b, third), (i, j) = chance.choice((("G17", "XYZ", "IJ"), ("G18", "ZXY", "KI"), ("G19", "YZX", "JK")))
     radius = chance.choice((-1, 1)) * chance.randint(1, 6)
     way = chance.choice((
@@ -64,10 +67,18 @@ def cycle(chance):
 
 
 def switches(chance):
-    words = [word for word in (
-        f"S{chance.randint(0, 9000)}", f"T{chance.randint(0, 2)}", "M6", chance.choice(("M3", "M4", "M5")), chance.choice(("M7", "M8", "M9")),
-        f"G4 P{chance.choice(('0', '0.25', '0.000001'))}",
-    ) if chance.random() < 0.4]
+    words = [
+        word
+        for word in (
+            f"S{chance.randint(0, 9000)}",
+            f"T{chance.randint(0, 2)}",
+            "M6",
+            chance.choice(("M3", "M4", "M5")),
+            chance.choice(("M7", "M8", "M9")),
+            f"G4 P{chance.choice(('0', '0.25', '0.000001'))}",
+        )
+        if chance.random() < 0.4
+    ]
     return " ".join([*words, chance.choice(("", f"G90 G0 {axes(chance, 9)}"))]).strip()
 
 
@@ -84,7 +95,7 @@ def setting(chance):
         f"G10 L2 P{chance.randint(1, 3)} {axes(chance, 6)}",
         f"{chance.choice(('G54', 'G55', 'G56'))} G90 G0 {axes(chance, 9)}",
         f"{chance.choice(('G43 H1', 'G43 H2', 'G43 H0', 'G49'))} G90 G0 Z{length(chance, 9)}",
-        # 49 parameters, which are one more than a part of a record has room for
+        # 49 parameters, one more than fits into a part of a record
         "".join(f"#{parameter}={chance.randint(1, 9)}" for parameter in range(50, 99)),
     ))
 
@@ -99,7 +110,7 @@ def line(chance):
 
 
 def program(chance):
-    """A program's text, and how often it has to be set going until it has ended."""
+    """A program's text, and how often it has to be started or continued until it has ended."""
     lines, goings = [], 1
     for _ in range(chance.randint(2, 9)):
         stop = chance.choice((" M0", " M1", " M60", "")) if chance.random() < 0.25 else ""
@@ -115,12 +126,13 @@ def program(chance):
 
 
 def tool(chance):
-    """A slot that a job begins with, or the one after them, and a length."""
+    """A slot that a job begins with, or the next one, and a length."""
     return f"{chance.randint(1, len(TOOLS_NM) + 1)} {chance.randint(0, 9) / 1000:.3f}"
 
 
 def job(chance):
-    """What the operator does, one after the other: ("mdi", line), ("tool", slot and length), ("load", text), or ("go", "") for `start` or `continue`."""
+    """What the operator does, in order: ("mdi", line), ("tool", slot and length), ("load", text), or ("go", "") for
+    `start` or `continue`."""
     does = [("mdi", line(chance)) for _ in range(chance.randint(0, 3))]
     for _ in range(chance.choice((1, 1, 2))):
         text, goings = program(chance)

@@ -4,17 +4,17 @@ late in such a program.
 
 usage, at the top of the repository: bench/long.py [--ngc PATH] [--rounds N] [--instructions] [FOLDER..]
 
-Without --instructions it gives a console over a large device a `load` of 1,048,576 bytes, N times (20), each answered
-by `done`; in turn with that it writes as many bytes into a file that has its length already, at once and in 2,048
-pieces of 512 bytes, each time with one sync. Times are those of the clock, in a folder here and in one in /dev/shm, or
-in those that are named; the median and the best are shown.
+Without --instructions it gives a console over a large device a `load` of 1,048,576 bytes, N times (20), and waits each
+time for `done`. In turn with that it writes as many bytes into a file that has its length already, at once and in 2,048
+pieces of 512 bytes, each time with one sync. Times are by the clock, in a folder here and in one in /dev/shm, or in
+those that are named. It shows the median and the best.
 
-With --instructions it counts those of a line by callgrind: of `X1` and `X0` by turns under G0, one pulse each at steps
-of 1 mm, as the difference of 1,100 and 100 lines from the same place on. The places are the beginning of a program of
-3,600 bytes, the beginning of one of 1,048,576, and byte 1,044,480 of that, 680 * 1536: so all three begin a line and a
-sector. The device is in /dev/shm.
+With --instructions it counts the instructions of a line by callgrind. The lines are `X1` and `X0` by turns under G0,
+one pulse each at steps of 1 mm; the count is the difference of 1,100 and 100 lines from the same place on. The places
+are the beginning of a program of 3,600 bytes, the beginning of one of 1,048,576, and byte 1,044,480 of that one,
+680 * 1536: so a line and a sector begin at each. The device is in /dev/shm.
 
-It builds ngc by rt where that is needed and no PATH is given."""
+It builds ngc by rt if that is needed and no PATH is given."""
 import argparse
 import os
 import re
@@ -43,7 +43,7 @@ FEW, MANY = 100, 1100
 
 
 def short_lines(size):
-    """A program of so many bytes: X1 and X0 by turns, and M2."""
+    """A program of this length in bytes: X1 and X0 by turns, and M2."""
     return (b"X1\nX0\n" * (size // 6 - 1) + b"M2\n").ljust(size, b"\n")
 
 
@@ -90,11 +90,14 @@ class Plain:
 
 
 def loads(ngc, folder, rounds):
-    """Shows what a load takes, in turn with plain writes of as many bytes."""
+    """Shows how long a load takes, in turn with plain writes of as many bytes."""
     console = Console(ngc, folder)
     load = b"load %d\n" % MOST_LARGE_PROGRAM
-    ways = {"load": (console.seconds, load), "one write and a sync": (Plain(folder, MOST_LARGE_PROGRAM).seconds, b""),
-            "2,048 writes and a sync": (Plain(folder, SECTOR).seconds, b"")}
+    ways = {
+        "load": (console.seconds, load),
+        "one write and a sync": (Plain(folder, MOST_LARGE_PROGRAM).seconds, b""),
+        "2,048 writes and a sync": (Plain(folder, SECTOR).seconds, b""),
+    }
     found = {name: [] for name in ways}
     for _ in range(rounds):
         text = os.urandom(MOST_LARGE_PROGRAM)
@@ -120,10 +123,18 @@ def stored(ngc, folder, size, place):
 
 
 def instructions(ngc, folder, image, lines):
-    """Those of a session that does so many lines over a device."""
+    """The instructions of a session that does this number of lines over a device."""
     Path(f"{folder}/mill.dev").write_bytes(image)
-    words = ["valgrind", "--tool=callgrind", f"--callgrind-out-file={folder}/calls", ngc, "run", f"{folder}/mill.dev",
-             f"{folder}/mill.toml", "/dev/null"]
+    words = [
+        "valgrind",
+        "--tool=callgrind",
+        f"--callgrind-out-file={folder}/calls",
+        ngc,
+        "run",
+        f"{folder}/mill.dev",
+        f"{folder}/mill.toml",
+        "/dev/null",
+    ]
     # a line is begun, opened, moved and done
     given = f"start\ntick {4 * lines}\n"
     ended = subprocess.run(words, input=given, capture_output=True, text=True, check=True)
@@ -134,8 +145,11 @@ def instructions(ngc, folder, image, lines):
 
 def count(ngc):
     """Shows the instructions of a line at each place."""
-    for name, size, place in (("of 3,600 bytes", 3600, 0), ("of 1,048,576 bytes, early", MOST_LARGE_PROGRAM, 0),
-                              ("of 1,048,576 bytes, late", MOST_LARGE_PROGRAM, LATE)):
+    for name, size, place in (
+        ("of 3,600 bytes", 3600, 0),
+        ("of 1,048,576 bytes, early", MOST_LARGE_PROGRAM, 0),
+        ("of 1,048,576 bytes, late", MOST_LARGE_PROGRAM, LATE),
+    ):
         with tempfile.TemporaryDirectory(dir="/dev/shm") as folder:
             image = stored(ngc, folder, size, place)
             few, many = (instructions(ngc, folder, image, lines) for lines in (FEW, MANY))

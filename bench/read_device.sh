@@ -1,13 +1,15 @@
 #!/bin/sh
-# Reads devices by examples/read_device.py: those of the rows in examples/device.hex and device2.hex, of formats 1 and 2, over which cases of
-# crates/ngc_cases power on, which have to give the states in examples/device.txt and device2.txt; those worked in docs/DEVICE.md, which have to
-# give what the page says, and the log less where parts of it are missing; and those of format 1 that the cases keep.
+# Reads devices by examples/read_device.py:
+# - those of the rows in examples/device.hex and device2.hex, of formats 1 and 2, over which cases of crates/ngc_cases
+#   power on; they have to give the states in examples/device.txt and device2.txt
+# - those worked in docs/DEVICE.md; they have to give what the page says, and a shorter log if parts of it are missing
+# - those of format 1 that the cases keep
 set -e
 top=$(cd "$(dirname "$0")/.." && pwd)
 examples=$top/crates/ngc_cases/data/examples
 work=$(mktemp -d)
 trap 'rm -rf "$work"' EXIT
-# a device file of rows of a sector, a place in it, and the bytes there
+# makes a device file from rows of a sector, a place in it, and the bytes there
 cat > "$work/make.py" <<'END'
 import sys
 device = bytearray(512 * 1710)
@@ -46,10 +48,11 @@ grep -qx "entry count: 1021" "$work/state"
 grep -qx "log: 1020 records; it ends after sector 1705: it is full" "$work/state"
 echo "read_device.py: the stored devices of format 1"
 
-# a worked device of the page, by its title: at least so many rows, and so many lines that are printed of it
+# a worked device of the page: its title, the least number of its rows, and the least number of lines printed of it
 worked() {
     awk -v title="## $1" '/^#/ { on = $0 == title } on' "$top/docs/DEVICE.md" > "$work/page"
-    sed -n 's/^ \{3,\}\([0-9]\+ \+[0-9]\+\)   \(\([0-9a-f]\{2\} \)*[0-9a-f]\{2\}\)   .*/\1 \2/p' "$work/page" > "$work/rows"
+    sed -n 's/^ \{3,\}\([0-9]\+ \+[0-9]\+\)   \(\([0-9a-f]\{2\} \)*[0-9a-f]\{2\}\)   .*/\1 \2/p' \
+        "$work/page" > "$work/rows"
     sed -n 's/^    \([a-z#][^:]*: .*\)/\1/p' "$work/page" > "$work/lines"
     test "$(wc -l < "$work/rows")" = "$(grep -c '^ \{3,\}[0-9]\+ \+[0-9]\+ ' "$work/page")"
     test "$(wc -l < "$work/rows")" -ge "$2"
@@ -63,7 +66,7 @@ worked() {
 worked "A worked device of format 2" 30 7
 echo "read_device.py: the worked device of docs/DEVICE.md, of format 2"
 worked "A worked log" 40 8
-# without one sector of the log or another: the log as it is after that many records, and the sectors that are left over
+# without some sectors of the log: the log as it is after this number of records, and the sectors that are left over
 lose() {
     cp "$work/device" "$work/torn"
     for sector in $1; do dd if=/dev/zero of="$work/torn" bs=512 seek="$sector" count=1 conv=notrunc 2> "$work/dd"; done
@@ -81,7 +84,7 @@ lose "687 688" 0 686 0 "686"
 lose "686 687 688" 0 686 0 ""
 echo "read_device.py: the worked log of docs/DEVICE.md, whole and in parts"
 
-# files that are no device, and a device whose header in force is lost: the state before it, a fresh controller
+# files that aren't devices, and a device that lost its header in force: the state before it, a fresh controller
 head -c 875520 /dev/zero > "$work/zeros"
 head -c 875519 "$work/device" > "$work/short"
 for file in zeros short; do
@@ -125,7 +128,7 @@ damaged "$record 050000000000000001" "sector 686, record 0: slot 5 1"
 damaged "$record 000000000000000001ca9a3b" "sector 686, record 0: slot 0 1000000001"
 echo "read_device.py: refuses what isn't a device, finds the older header, and says what is damaged"
 
-# a header that names area 2 counts on a device of 5,806 sectors, and not on one that is a byte shorter
+# a header that names area 2 counts on a device of 5,806 sectors, but not on one that is a byte shorter
 { cat "$examples/device2.hex"; echo "1 24 02"; } | python3 "$work/make.py" "$work/device"
 python3 "$examples/read_device.py" "$work/device" > "$work/state"
 grep -qx "epoch: 2" "$work/state"

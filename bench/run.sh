@@ -1,25 +1,29 @@
 #!/bin/sh
-# What an entry of `ngc run` costs beside a row of sqlite3, how many pulses it hands out in a second, how many short lines of a program it does
-# in a second, and how long power on takes.
+# What an entry of `ngc run` costs beside a row of sqlite3, how many pulses it hands out in a second, how many short
+# lines of a program it does in a second, and how long power on takes.
 #
-# usage, at the top of the repository: bench/run.sh [--ngc PATH] [--beside PATH] [--rounds N] [--entries N] [--lines N] [FOLDER..]
+# usage, at the top of the repository:
+#   bench/run.sh [--ngc PATH] [--beside PATH] [--rounds N] [--entries N] [--lines N] [FOLDER..]
 #
-#   --ngc PATH    the program; crates/ngc/out/ngc, which rt builds where that is needed, if none is named
-#   --beside PATH another executable of ngc, say one that plans no line ahead: it does the short lines too, in turns with the first
+#   --ngc PATH    the program; crates/ngc/out/ngc, which rt builds if that is needed, if none is named
+#   --beside PATH another executable of ngc, say one that plans no line ahead: it does the short lines too, in turns
+#                 with the first
 #   --rounds N    how often pulses, short lines and power on are measured (3): the best and the median are shown
 #   --entries N   how many entries are made for the rate of entries (2048)
 #   --lines N     how many short lines are done in a round (100000)
-#   FOLDER..      where the files lie: a temporary folder here and one in /dev/shm, where none is given. Only a file system on a disk
-#                 says what a sync costs; the script says of each folder what it is, and a loop device or a tmpfs isn't a disk
+#   FOLDER..      where the files lie: a temporary folder here and one in /dev/shm, if none is given. Only a file system
+#                 on a disk says what a sync costs. The script says of each folder what it is; a loop device or a tmpfs
+#                 isn't a disk
 #
-# An entry is an operator's line that moves nothing (`mdi F100`, `tick 1`). Beside it, by the module sqlite3 of python3, in WAL mode with
-# synchronous=FULL: a row of 512 bytes, inserted in a transaction of its own; and a write of 512 bytes over a file that has its length, with
-# an fsync, which is what the disk can do. These take turns, 64 at a time, so that all meet the same disk with the same other work on it.
-# Writes, bytes and syncs are those of the system calls (strace) on the device, or on the database and its WAL: the difference of 2,140 and
-# 100 entries, so a full log and sqlite3's own checkpoints are among them. A pulse is one of `G0 X500` at steps of 1 um, a line that is
-# written to OUT: `tick 400000` in the midst of the move. A short line is `X1` or `X0` by turns, one pulse at steps of 1 mm, in programs of 25,000
-# lines; it takes two syncs. Power on is from the start of the process to the answer to `status`, over a log without
-# a record and over one of 1,020, with the file in the system's memory. Times are those of the clock.
+# An entry is an operator's line that moves nothing (`mdi F100`, `tick 1`). Beside it, by the module sqlite3 of python3,
+# in WAL mode with synchronous=FULL: a row of 512 bytes, inserted in a transaction of its own; and a write of 512 bytes
+# over a file that has its length, with an fsync, which is what the disk can do. These take turns, 64 at a time, so that
+# all meet the same disk with the same other work on it. Writes, bytes and syncs are those of the system calls (strace)
+# on the device, or on the database and its WAL. They are the difference of 2,140 and 100 entries, so a full log and
+# sqlite3's own checkpoints are among them. A pulse is one of `G0 X500` at steps of 1 um, a line that is written to OUT:
+# `tick 400000` in the midst of the move. A short line is `X1` or `X0` by turns, one pulse at steps of 1 mm, in programs
+# of 25,000 lines; it takes two syncs. Power on is from the start of the process to the answer to `status`, over a log
+# without a record and over one of 1,020, with the file in the system's memory. Times are by the clock.
 set -eu
 ngc= beside= rounds=3 entries=2048 lines=100000
 while [ $# -gt 0 ]; do
@@ -62,7 +66,11 @@ tools_nm = [50000000]
 
 def where(path):
     """The file system of a folder, and whether it is a disk's."""
-    kind, source = subprocess.run(["df", "--output=fstype,source", path], capture_output=True, text=True, check=True).stdout.split("\n")[1].split()
+    kind, source = (
+        subprocess.run(["df", "--output=fstype,source", path], capture_output=True, text=True, check=True)
+        .stdout.split("\n")[1]
+        .split()
+    )
     number = os.stat(path).st_dev
     block = os.path.realpath(f"/sys/dev/block/{os.major(number)}:{os.minor(number)}")
     if kind in ("tmpfs", "ramfs"):
@@ -95,7 +103,7 @@ class Mill:
         sys.exit(f"no {answer!r} after {text!r}")
 
     def enter(self, count):
-        """Seconds of so many entries."""
+        """The seconds that this number of entries take."""
         self.entries += count
         return self.ask(b"mdi F100\ntick 1\n" * count + b"status\n", b"status entries %d " % self.entries)
 
@@ -140,7 +148,7 @@ class Bare:
 
 
 def counted(trace, names):
-    """Writes, bytes and syncs of the calls in a trace of strace -y on files that are called so."""
+    """Writes, bytes and syncs of the calls in a trace of strace -y on files with such names."""
     writes = size = syncs = 0
     with open(trace, errors="replace") as file:
         for line in file:
@@ -154,7 +162,7 @@ def counted(trace, names):
 
 
 def counts(enter, names):
-    """Writes, bytes and syncs of an entry, by the difference of many and few."""
+    """Writes, bytes and syncs of an entry: the difference of many entries and few, for each."""
     found = []
     for count in (FEW, FEW + 2 * LOG):
         trace = f"{folder}/trace"
@@ -189,13 +197,20 @@ def per_entry():
     if not shutil.which("strace"):
         print("  writes, bytes and syncs an entry: strace isn't here")
         return
-    for name, values in (("ngc", counts(traced_mill, r"traced\.dev$")), ("sqlite3", counts(traced_rows, r"traced\.db(-wal)?$"))):
+    for name, values in (
+        ("ngc", counts(traced_mill, r"traced\.dev$")),
+        ("sqlite3", counts(traced_rows, r"traced\.db(-wal)?$")),
+    ):
         print("  {} an entry: {:.3f} writes, {:,.0f} bytes, {:.3f} syncs".format(name, *values))
 
 
 def rates():
     """Entries a second of each, in turns."""
-    rivals = {"ngc": Mill("rates"), f"sqlite3 {sqlite3.sqlite_version}": Database(), "a write and an fsync alone": Bare()}
+    rivals = {
+        "ngc": Mill("rates"),
+        f"sqlite3 {sqlite3.sqlite_version}": Database(),
+        "a write and an fsync alone": Bare(),
+    }
     seconds = {name: [] for name in rivals}
     for rival in rivals.values():
         rival.enter(TURN)
@@ -205,10 +220,16 @@ def rates():
     rivals["ngc"].end()
     made = {name: TURN * len(turns) / sum(turns) for name, turns in seconds.items()}
     for name, turns in seconds.items():
-        print(f"  {name}: {made[name]:,.0f} entries a second over {TURN * len(turns)}, median of turns {TURN / statistics.median(turns):,.0f}")
+        print(
+            f"  {name}: {made[name]:,.0f} entries a second over {TURN * len(turns)}, "
+            f"median of turns {TURN / statistics.median(turns):,.0f}"
+        )
     first, second, _ = made.values()
     turn = statistics.median(row / entry for entry, row in zip(*list(seconds.values())[:2]))
-    print(f"  ngc makes {first / second:.2f} times as many entries a second as sqlite3; in the median of the turns {turn:.2f} times")
+    print(
+        f"  ngc makes {first / second:.2f} times as many entries a second as sqlite3; "
+        f"in the median of the turns {turn:.2f} times"
+    )
 
 
 def told(name, form, values, best):
@@ -246,8 +267,10 @@ def short_lines():
 
 
 def records(device):
-    """What the script for a stranger says of the log."""
-    lines = subprocess.run([sys.executable, "examples/read_device.py", device], capture_output=True, text=True, check=True).stdout.split("\n")
+    """What examples/read_device.py says of the log."""
+    lines = subprocess.run(
+        [sys.executable, "examples/read_device.py", device], capture_output=True, text=True, check=True
+    ).stdout.split("\n")
     return next(line for line in lines if line.startswith("log: "))
 
 

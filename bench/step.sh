@@ -1,8 +1,8 @@
 #!/bin/sh
-# Pulses of a long line (100,000,000) and of a full circle (80,000,000) by the stepper, beside a C loop of the same rules:
-# what each counted, which must agree, and milliseconds. Then a thousand steppers of each made: the sum of their first
-# pulses, and microseconds, which are nanoseconds for each; C has nothing to begin. `--rounds N` runs both N times and
-# takes the best: time is the clock's, so other work on the machine shows.
+# Pulses of a long line (100,000,000) and of a full circle (80,000,000) by the stepper, beside a C loop of the same
+# rules. It shows what each counted, which must agree, and milliseconds. Then a thousand steppers of each are made: it
+# shows the sum of their first pulses, and microseconds, which are nanoseconds for each stepper. C has nothing to begin.
+# `--rounds N` runs both N times and takes the best: times are by the clock, so other work on the machine shows.
 set -e
 rounds=1
 if [ "$1" = --rounds ]; then rounds=$2; fi
@@ -13,7 +13,7 @@ mkdir "$work/crates"
 for crate in ng_num ng_canon ng_step; do
     cp -r "$here/../crates/$crate" "$work/crates/"
 done
-# The gate reads every source file of the repository, so these carry another ending here.
+# The gate reads every source file of the repository, so these files have another ending here.
 mkdir -p "$work/crates/step_bench/src"
 cp "$here/step/main.txt" "$work/crates/step_bench/src/main.rt"
 for function in line_steps circle_steps; do
@@ -41,7 +41,8 @@ awk '
         for (i = 1; i <= 2; i++) {
             part = parts[i]
             if (sum["stepper " part] != sum["C " part]) { print part ": the sums differ"; exit 1 }
-            printf "%s: %d ms, C %d ms: %d %% of its rate\n", part, best["stepper " part], best["C " part], 100 * best["C " part] / best["stepper " part]
+            printf "%s: %d ms, C %d ms: %d %% of its rate\n", part, best["stepper " part], best["C " part],
+                100 * best["C " part] / best["stepper " part]
         }
         printf "new: a line %d ns, a circle %d ns\n", best["stepper begin_lines"], best["stepper begin_circles"]
     }' "$work/times"

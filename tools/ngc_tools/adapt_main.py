@@ -125,7 +125,7 @@ def _rewritten(given: argparse.Namespace, texts: list[str], warn: Callable[[int,
 
 
 def _ask(why: Missing, places: Places) -> Places:
-    """Asks at the terminal. Raises Missing where nothing is answered, ValueError where it is no number."""
+    """Asks at the terminal. Raises Missing if there is no answer, ValueError if it isn't a number."""
     print(f"{why}\n{_ASKS[why.what][1]}, in the program's unit: ", end="", file=sys.stderr, flush=True)
     words = sys.stdin.readline().split()
     if len(words) != (1 if why.what == "lift" else 2):

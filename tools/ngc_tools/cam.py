@@ -60,7 +60,7 @@ class Line:
         return "".join(piece.blanks + piece.text for piece in self.pieces)
 
     def find(self, letter: str, *values: float | str) -> Piece | None:
-        """The first word of this letter, and of one of these numbers where some are named."""
+        """The first word of this letter, and of one of these numbers if some are named."""
         for piece in self.pieces:
             if piece.is_code(letter, *values) if values else piece.letter == letter:
                 return piece
@@ -101,7 +101,7 @@ class Line:
 
 @dataclass(slots=True)
 class Modes:
-    """What the words before say: the plane, 90 or 91, the motion's number, None where none was named. `lost` says that
+    """What the words before say: the plane, 90 or 91, the motion's number, None if none was named. `lost` says that
     a motion that was written for another word changed it; `begun` that there was a word."""
 
     plane: int = 17
@@ -124,7 +124,7 @@ class Modes:
 
 @dataclass(frozen=True, slots=True)
 class Places:
-    """Where G28 and G30 are to go instead: machine coordinates as text, in the program's unit; None where nobody said
+    """Where G28 and G30 are to go instead: machine coordinates as text, in the program's unit; None if nobody said
     it."""
 
     lift: str | None = None

@@ -1,4 +1,4 @@
-"""Where the motors were after so many lines of OUT: found from the device's log, by `ngc run` over copies."""
+"""Where the motors were after a number of lines of OUT: found from the device's log, by `ngc run` over copies."""
 from collections.abc import Callable, Iterator
 from dataclasses import dataclass, replace
 from pathlib import Path
@@ -27,7 +27,7 @@ class OtherMoves(CannotTell):
 @dataclass(frozen=True, slots=True)
 class Run:
     """What a session did from an image on, by commands. `record` is the record of the log that it begins with, `ends`
-    the entries at its end, None where the session ended in it."""
+    the entries at its end, None if the session ended in it."""
 
     image: bytes
     commands: tuple[str, ...]
@@ -94,7 +94,7 @@ class Replay:
         self.ngc, self.settings, self.device = ngc, settings, device
 
     def find(self, parts: list[Run], lines: int) -> Found:
-        """Where the motors were after so many lines, at least 1. Raises CannotTell, Refused, Ended, OSError.
+        """Where the motors were after this number of lines, at least 1. Raises CannotTell, Refused, Ended, OSError.
 
         The device doesn't keep whether lines with a slash were left out, so both are tried."""
         try:
@@ -149,7 +149,7 @@ class Replay:
             return copy.lines
 
     def _compare(self, run: Run, again: Device) -> None:
-        """Raises OtherMoves where the copy's log isn't the session's; from a copy of before, where its end isn't."""
+        """Raises OtherMoves if the copy's log isn't the session's; for a copy of before, if its end isn't."""
         if run.record < 0:
             if _recovered(again.state) != _recovered(self.device.state):
                 raise OtherMoves()

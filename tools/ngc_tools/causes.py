@@ -1,4 +1,4 @@
-"""What people are told where a file can't be used: its path, and the cause."""
+"""What people are told if a file can't be used: its path, and the cause."""
 from collections.abc import Iterator
 from contextlib import contextmanager
 from pathlib import Path

@@ -79,7 +79,7 @@ def main() -> int:
 
 
 def _settings_refused(ngc: str, path: str) -> Refusal | None:
-    with open(path, "rb"):  # says why it can't be read, where `ngc` says nothing
+    with open(path, "rb"):  # says why it can't be read, as `ngc` says nothing
         return settings_refusal(ngc, path)
 
 

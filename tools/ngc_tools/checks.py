@@ -14,7 +14,7 @@ class Refused(Exception):
 
 
 def look(device: str, settings: str, out: str) -> int | None:
-    """Raises Refused where `ngc run` with these three would end without a word, or stand still for want of a reader.
+    """Raises Refused if `ngc run` with these three would end without a word, or stand still without a reader.
 
     Of a named pipe it returns an open writing end, to be closed once `ngc` has opened its own: else the reader might
     take its closing for the end."""
@@ -73,7 +73,7 @@ def _device(path: str) -> None:
 
 
 def _free(file: int, path: str, what: str) -> None:
-    """Raises Refused where another process holds the file by the system's lock."""
+    """Raises Refused if another process holds the file by the system's lock."""
     try:
         fcntl.flock(file, fcntl.LOCK_EX | fcntl.LOCK_NB)
         fcntl.flock(file, fcntl.LOCK_UN)
@@ -131,7 +131,7 @@ def _open_out(path: str) -> int:
 
 
 def _whole_lines(path: str) -> None:
-    """Raises Refused where a file ends in a part of a line."""
+    """Raises Refused if a file ends in a part of a line."""
     try:
         with open(path, "rb") as file:
             size = file.seek(0, os.SEEK_END)
@@ -144,7 +144,7 @@ def _whole_lines(path: str) -> None:
 
 
 def _raw(file: int, path: str) -> None:
-    """Raises Refused where a serial line would change what is written."""
+    """Raises Refused if a serial line would change what is written."""
     _, output, _, local, *_ = termios.tcgetattr(file)
     if output & termios.OPOST or local & termios.ECHO:
         raise Refused(f"{path}: a serial line that isn't raw, so it changes lines or sends them back:"

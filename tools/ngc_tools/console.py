@@ -52,7 +52,7 @@ class Console:
 
     def __init__(self, ngc: str | Path, device: str | Path, settings: str | Path, out: str | Path,
                  waiting: Callable[[float], None] | None = None) -> None:
-        """Starts it, in a process group of its own, so that Ctrl-C at the terminal doesn't end it. Raises OSError where
+        """Starts it, in a process group of its own, so that Ctrl-C at the terminal doesn't end it. Raises OSError if
         `ngc` can't be started."""
         words = [str(ngc), "run", str(device), str(settings), str(out)]
         self.child = subprocess.Popen(words, stdin=subprocess.PIPE, stdout=subprocess.PIPE, process_group=0)
@@ -61,7 +61,7 @@ class Console:
 
     def ask(self, command: str | bytes) -> list[str]:
         """Gives a command (without its newline) and returns its replies: those of `tick N` up to `ticks K` or to a
-        refusal of the command itself, else one. Raises Ended where `ngc` ends before that."""
+        refusal of the command itself, else one. Raises Ended if `ngc` ends before that."""
         text = command.encode() if isinstance(command, str) else command
         self._send(text + b"\n")
         return self._replies(text.startswith(b"tick "))

@@ -78,7 +78,7 @@ class _Console(Console):
     """A console that is given commands at once."""
 
     def tick_often(self, ticks: int, times: int) -> list[tuple[list[str], Status]]:
-        """Gives `tick` so many times, and asks for the status after each."""
+        """Gives `tick` this number of times, and asks for the status after each."""
         self._send(b"tick %d\nstatus\n" % ticks * times)
         return [(self._replies(True), Status.read(self._replies(False)[0])) for _ in range(times)]
 
@@ -86,7 +86,7 @@ class _Console(Console):
 class Copy:
     """A session of `ngc run` over a copy of a device. `ticks` are made, and `lines` of OUT handed out; `stops` are the
     places after the lines at which the program waited for `continue`, which is given; `idle` says that nothing is left
-    to do. `tally` counts the lines, where `counted` is set."""
+    to do. `tally` counts the lines if `counted` is set."""
 
     def __init__(self, ngc: str, settings: str | Path, image: bytes, commands: list[str],
                  counted: bool = False) -> None:
@@ -128,7 +128,7 @@ class Copy:
         self._folder.cleanup()
 
     def go(self, ticks: int) -> None:
-        """Makes so many ticks, fewer where nothing is left to do. Raises Refused where a line of the program is."""
+        """Makes this number of ticks, fewer if nothing is left to do. Raises Refused if a line of the program is."""
         left = ticks
         while left and not self.idle:
             replies = self.console.ask(f"tick {min(left, _AT_ONCE)}")
@@ -136,9 +136,9 @@ class Copy:
             self._after(replies)
 
     def reached(self, ticks: int, holds: Callable[[Status], bool]) -> tuple[int, int]:
-        """Goes on by so many ticks at once until something holds, or nothing is left to do, and perhaps some further:
-        how many were made before it held, and when it did. Raises Refused where a line of the program is before that.
-        """
+        """Goes on by this number of ticks at once until something holds, or nothing is left to do, and perhaps further.
+        It returns how many were made before it held, and when it did. Raises Refused if a line of the program is
+        before that."""
         before = self.ticks
         if holds(self.console.status()):
             return before, before
@@ -159,7 +159,7 @@ class Copy:
         return made
 
     def _after(self, replies: list[str]) -> None:
-        """Takes the lines of OUT, and goes on where the program waits."""
+        """Takes the lines of OUT, and goes on if the program waits."""
         self._read()
         refused = [reply for reply in replies if reply.startswith("refused")]
         if refused:
@@ -170,7 +170,7 @@ class Copy:
             self.console.ask("continue")
 
     def hand_out(self, lines: int) -> None:
-        """Goes on until so many lines are handed out in all, or nothing is left to do."""
+        """Goes on until this number of lines is handed out in all, or nothing is left to do."""
         while self.lines < lines and not self.idle:
             self.go(lines - self.lines)
 
@@ -189,8 +189,8 @@ class Copy:
 
 
 def first(make: Callable[[bool], Copy], holds: Callable[[Status], bool]) -> Copy:
-    """A copy right after the first tick after which something holds, which from then on has to; or where nothing is
-    left to do. `make` begins a copy; it is told whether lines are to be counted."""
+    """A copy right after the first tick after which something holds, and has to hold from then on; or when nothing
+    is left to do. `make` begins a copy; it is told whether lines are to be counted."""
     with make(False) as scout:
         before, _ = scout.reached(_SEARCHED, holds)
     with make(False) as scout:

@@ -98,7 +98,7 @@ def _too_long(lines: Lines, is_large: bool) -> list[Danger]:
 
 
 def _homes(lines: Lines, printed: Printed) -> list[Danger]:
-    """G28 and G30 by their text, where the line then prints a traverse."""
+    """G28 and G30 by their text, if the line then prints a traverse."""
     found = []
     for number, line in enumerate(lines.all, 1):
         code = _HOME.search(_ASIDE.sub(b"", line))

@@ -178,10 +178,10 @@ class Device:
     """What an image stands for.
 
     `is_large` says that it has the sectors of a large device. `header` is the one in force, `headers` those in sectors
-    0 and 1, None where none is valid; `snapshot` is the state at its checkpoint, `records` the log's, which ends before
+    0 and 1, None if none is valid; `snapshot` is the state at its checkpoint, `records` the log's, which ends before
     sector `end`, and `state` what stands after them. `parameters` are 1 to 5399 in millionths, `tools_nm` the lengths
     of slots 1, 2 .., `program` its text. `torn` are sectors of a record that isn't complete. `damage` says what is out
-    of its range (J3); where it isn't empty, the rest is as found."""
+    of its range (J3); if it isn't empty, the rest is as found."""
 
     def __init__(self, image: bytes) -> None:
         """Raises NoDevice."""
@@ -231,7 +231,7 @@ class Device:
         return self.image[:SECTOR * first] + bytes(SECTOR) + self.image[SECTOR * (first + 1):]
 
     def without_header(self) -> bytes | None:
-        """The image without the header in force, or None where the other sector has no valid one: what stood before
+        """The image without the header in force, or None if the other sector has no valid one: what stood before
         the last checkpoint, as long as nothing was recorded after it."""
         sector = self.epoch % 2
         if self.headers[1 - sector] is None:
@@ -239,7 +239,7 @@ class Device:
         return self.image[:SECTOR * sector] + bytes(SECTOR) + self.image[SECTOR * (sector + 1):]
 
     def _header(self, sector: int) -> Header | None:
-        """The header in a sector, where it is valid on a device of this length."""
+        """The header in a sector, if it is valid on a device of this length."""
         mark, form, epoch, area, length = struct.unpack_from("<8sI4xQQQ", self.image, SECTOR * sector)
         rooms = [room for _, room in AREAS if self.is_large or room == MOST_PROGRAM]
         right = (mark == b"RS274NGC" and form in LOG_END and 1 <= epoch <= 10**12 and epoch % 2 == sector
@@ -268,7 +268,7 @@ class Device:
                         for slot, nm in enumerate(self.tools_nm, 1) if nm not in LENGTHS]
 
     def _complete(self, first: int) -> int:
-        """How many parts the complete record has that begins at a sector, 0 where there is none."""
+        """How many parts the complete record that begins at a sector has, 0 if there is none."""
         end = LOG_END[self.format]
         if first == end:
             return 0
@@ -313,7 +313,7 @@ def copied(path: str | Path) -> bytes:
     """The sectors of a device that no session holds, up to the 5,806 of a large one. It is opened to read, and held (by
     a shared lock) for as long as that takes.
 
-    Raises Held where a session has it, or OSError."""
+    Raises Held if a session has it, or OSError."""
     file = os.open(path, os.O_RDONLY | os.O_CLOEXEC)
     try:
         fcntl.flock(file, fcntl.LOCK_SH | fcntl.LOCK_NB)

@@ -31,7 +31,7 @@ def duration(us: int) -> str:
 
 
 def box(moves: Iterable[Move]) -> Box | None:
-    """The least and the greatest coordinates of the moves' points in nm, or None where there are none."""
+    """The least and the greatest coordinates of the moves' points in nm, or None if there are none."""
     points = [point for move in moves for point in move.points]
     if not points:
         return None

@@ -1,4 +1,4 @@
-"""Ticks by measure: lines are handed out only while the player is at most so many of them behind."""
+"""Ticks by measure: lines are handed out only while the player is at most a given number of them behind."""
 import time
 from collections.abc import Callable
 
@@ -27,8 +27,8 @@ class Meter:
         self.look_s = look_s
 
     def room(self, go_on: Callable[[Report], bool] = lambda report: True) -> int:
-        """Waits until the player is at most half the bound behind, and returns how many ticks may be given; 0 where
-        `go_on`, which sees each report, says no. Raises NoAnswer where the player is gone."""
+        """Waits until the player is at most half the bound behind, and returns how many ticks may be given; 0 if
+        `go_on`, which sees each report, says no. Raises NoAnswer if the player is gone."""
         while True:
             report = self.link.ask()
             if not go_on(report):
@@ -38,7 +38,7 @@ class Meter:
             time.sleep(self.look_s)
 
     def drained(self, go_on: Callable[[Report], bool] = lambda report: True) -> bool:
-        """Waits until the player has carried out all that was handed out; False where `go_on` says no before. Raises
+        """Waits until the player has carried out all that was handed out; False if `go_on` says no before. Raises
         NoAnswer."""
         while (report := self.link.ask()).behind:
             if not go_on(report):

@@ -120,7 +120,7 @@ def arc_points(start: Point, end: Point, arc: Arc) -> tuple[Point, ...]:
 
 
 def _round_about(first: Pair, last: Pair) -> list[Pair]:
-    """Points counter-clockwise about 0, from one to another, or once round where they are equal."""
+    """Points counter-clockwise about 0, from one to another, or once round if they are equal."""
     points, here = [first], first
     for quarter in range(4):
         if within_quarter(here, last) and (quarter > 0 or first != last):

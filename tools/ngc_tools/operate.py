@@ -68,7 +68,7 @@ def explained(refusal: str) -> str:
 
 @dataclass
 class Chunk:
-    """How many ticks are given at once where nothing is metered: so many that one command lasts some 50 ms."""
+    """How many ticks are given at once if nothing is metered: enough for one command to last about 50 ms."""
 
     ticks: int = FIRST_TICKS
 
@@ -112,7 +112,7 @@ class Operator:
         self._warn_place(self.console.status())
 
     def do(self, line: str) -> None:
-        """Does what a person typed. Raises Ended where `ngc` ends."""
+        """Does what a person typed. Raises Ended if `ngc` ends."""
         words = line.split()
         if not words:
             return
@@ -245,7 +245,7 @@ class Operator:
         self._rest(ended)
 
     def _ticks(self) -> str | None:
-        """What ended them: idle, stopped, held or refused; None where somebody wants to hold."""
+        """What ended them: idle, stopped, held or refused; None if somebody wants to hold."""
         while count := self._room():
             begun = time.monotonic()
             replies = self.console.ask(f"tick {count}")
@@ -263,7 +263,7 @@ class Operator:
         return None
 
     def _room(self) -> int:
-        """How many ticks may be given now; 0 where somebody wants to hold, or the player is gone."""
+        """How many ticks may be given now; 0 if somebody wants to hold, or the player is gone."""
         if not self.meter:
             return 0 if self.screen.interrupted() else self.chunk.ticks
         try:
@@ -280,7 +280,7 @@ class Operator:
         return not self.screen.interrupted()
 
     def _await_motors(self) -> bool:
-        """Waits until the player has carried out what was handed out; False where somebody wants to hold before that,
+        """Waits until the player has carried out what was handed out; False if somebody wants to hold before that,
         or the player is gone."""
         try:
             if not self.meter or self.meter.drained(self._goes_on):
@@ -371,7 +371,7 @@ class Operator:
             self.screen.say(f"the player says: reference {report.at}")
 
     def _place_fits(self, status: Status) -> bool:
-        """Whether the motors are where `ngc` takes them to be; says it where they aren't."""
+        """Whether the motors are where `ngc` takes them to be; says so if they aren't."""
         report = self._report()
         if not report or report.behind or not status.known or self._same(report, status):
             return True

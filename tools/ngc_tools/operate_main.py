@@ -70,7 +70,7 @@ def main(arguments: list[str] | None = None) -> int:
 
 
 def metered(given: argparse.Namespace) -> Meter | None:
-    """The meter, where a player is named. Raises Refused where that player reads another OUT, NoAnswer, ValueError."""
+    """The meter, if a player is named. Raises Refused if that player reads another OUT, NoAnswer, ValueError."""
     check_limit(given.ahead)
     if given.player is None:
         return None
@@ -96,7 +96,7 @@ def bound(given: argparse.Namespace, meter: Meter | None, pipe: int | None) -> s
 
 
 def session(ngc: str, given: argparse.Namespace, meter: Meter | None, pipe: int | None) -> int:
-    """From the start of `ngc` to its end. Raises Ended where it ends by itself."""
+    """From the start of `ngc` to its end. Raises Ended if it ends by itself."""
     screen = Screen()
     console = Console(ngc, given.device, given.settings, given.out, Patience(screen))
     try:
@@ -133,7 +133,7 @@ def converse(operator: Operator) -> None:
 
 
 class Patience:
-    """Says it once where `ngc` doesn't answer, since nobody reads OUT; the third Ctrl-C then ends it."""
+    """Says it once if `ngc` doesn't answer, since nobody reads OUT; the third Ctrl-C then ends it."""
 
     def __init__(self, screen: Screen) -> None:
         self.screen = screen

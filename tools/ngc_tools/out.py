@@ -98,7 +98,7 @@ def parse(line: bytes | str, number: int, least_period_us: int = 1) -> Line:
 
 
 def _in_range(line: Line, number: int, least_period_us: int) -> None:
-    """Raises BadLine where a number of the line is beyond what docs/OUTPUT.md says."""
+    """Raises BadLine if a number of the line is beyond what docs/OUTPUT.md says."""
     if isinstance(line, Switch):
         if max(line.selected, line.slot) > SLOTS:
             raise BadLine(number, f"a slot above {SLOTS}: {line}")
@@ -109,5 +109,5 @@ def _in_range(line: Line, number: int, least_period_us: int) -> None:
 
 
 def _shown(text: bytes) -> str:
-    """The line in quotes, its end left out where it is long, other bytes than printable ASCII escaped."""
+    """The line in quotes, its end left out if it is long, other bytes than printable ASCII escaped."""
     return ascii(text[:60].decode("latin-1") + ("..." if len(text) > 60 else ""))

@@ -31,7 +31,7 @@ class Source:
     `received` counts the whole lines that were read, from the first line of OUT on."""
 
     def __init__(self, path: str | Path, begun: Record, pipe_bytes: int = PIPE_BYTES, follow: bool = False) -> None:
-        """Opens OUT; `begun` says how much of a file was carried out before. Raises OSError, or ValueError where the
+        """Opens OUT; `begun` says how much of a file was carried out before. Raises OSError, or ValueError if the
         file isn't the one that the record speaks of."""
         self.path = str(path)
         self.file = os.open(path, os.O_RDONLY | os.O_NONBLOCK | os.O_CLOEXEC)
@@ -56,7 +56,7 @@ class Source:
         self.received = begun.lines
 
     def next(self) -> bytes | None:
-        """The next whole line, without its newline, or None where none is in hand."""
+        """The next whole line, without its newline, or None if none is in hand."""
         return self._lines.popleft() if self._lines else None
 
     def has_line(self) -> bool:
@@ -68,7 +68,7 @@ class Source:
         return self._part
 
     def read(self, most: int = HAND_BYTES) -> bool:
-        """Reads up to so many bytes, without waiting; whether there were any."""
+        """Reads up to this number of bytes, without waiting; whether there were any."""
         try:
             got = os.read(self.file, most)
         except BlockingIOError:
@@ -95,7 +95,7 @@ class Source:
 
 
 def _resize(pipe: int, size: int) -> int:
-    """Asks for a pipe of so many bytes; returns how many it has."""
+    """Asks for a pipe of this size in bytes; returns how many it has."""
     try:
         fcntl.fcntl(pipe, fcntl.F_SETPIPE_SZ, size)
     except OSError:
@@ -189,7 +189,7 @@ class Player:
         self._poll = select.poll()
 
     def run(self) -> None:
-        """Carries out lines until OUT ends. Raises BadLine at the first line that isn't one, and where OUT ends in a
+        """Carries out lines until OUT ends. Raises BadLine at the first line that isn't one, and if OUT ends in a
         part of a line; Stopped after `stopping` was set or the record failed. Then spindle and coolant are off."""
         self._listen()
         try:
@@ -229,7 +229,7 @@ class Player:
         return not over or self.source.read()
 
     def _heed(self) -> None:
-        """Raises Stopped where it is asked to stop, or can't keep its record any more."""
+        """Raises Stopped if it is asked to stop, or can't keep its record any more."""
         if self.stopping or self.keeper and self.keeper.failed:
             raise Stopped
 

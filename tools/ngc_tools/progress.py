@@ -1,7 +1,7 @@
 """How a player tells how far it is: a Unix socket, asked by a datagram `progress N`.
 
 It answers `progress N carried C received R works reference X Y Z out PATH`: C of the R lines that stand in OUT then are
-carried out; `waits` in the place of `works` where a person has to put a tool in, whose answer is a datagram `go`. N is
+carried out; `waits` in place of `works` if a person has to put a tool in, whose answer is a datagram `go`. N is
 the asker's own number, so that a late answer is known as one."""
 import errno
 import os
@@ -56,7 +56,7 @@ class Listener:
     """The player's end."""
 
     def __init__(self, path: str | Path) -> None:
-        """Makes the socket. Raises OSError, also where another player listens there."""
+        """Makes the socket. Raises OSError, also if another player listens there."""
         self.path = str(path)
         if os.path.exists(self.path):
             _remove_stale(self.path)
@@ -70,7 +70,7 @@ class Listener:
             raise
 
     def next(self) -> tuple[bytes, str | bytes] | None:
-        """A question and whom to answer, or None where nobody asks."""
+        """A question and whom to answer, or None if nobody asks."""
         try:
             question, sender = self.socket.recvfrom(64)
         except BlockingIOError:
@@ -94,7 +94,7 @@ class Listener:
 
 
 def _remove_stale(path: str) -> None:
-    """Removes a socket to which nobody listens any more. Raises OSError where somebody does, or it is no socket."""
+    """Removes a socket to which nobody listens any more. Raises OSError if somebody does, or it is no socket."""
     if not stat.S_ISSOCK(os.stat(path).st_mode):
         raise OSError(errno.EADDRINUSE, "it is there, and is no socket", path)
     with socket.socket(socket.AF_UNIX, socket.SOCK_DGRAM) as probe:
@@ -110,7 +110,7 @@ class Link:
     """The other end: asks a player."""
 
     def __init__(self, path: str | Path, patience_s: float = 5.0) -> None:
-        """Raises NoAnswer where no player listens there. A question waits `patience_s` seconds for its answer."""
+        """Raises NoAnswer if no player listens there. A question waits `patience_s` seconds for its answer."""
         self.path = str(path)
         self.patience_s = patience_s
         self.count = 0
@@ -146,7 +146,7 @@ class Link:
             raise NoAnswer(f"{self.path}: the player is gone: {why.strerror or why}") from None
 
     def _look(self) -> None:
-        """Raises NoAnswer where nobody listens any more."""
+        """Raises NoAnswer if nobody listens any more."""
         with socket.socket(socket.AF_UNIX, socket.SOCK_DGRAM) as probe:
             try:
                 probe.connect(self.path)

@@ -94,7 +94,7 @@ def _ends(commands: list[Command]) -> dict[int, Ends]:
 
 
 def centre(ends: Ends, radius: Decimal, clockwise: bool) -> str | None:
-    """The offsets of the centre from the start as words, as `I3 J0`; None where no such circle goes through both ends.
+    """The offsets of the centre from the start as words, as `I3 J0`; None if no such circle goes through both ends.
 
     A radius below 0 means the longer of the two arcs."""
     a, b, _ = PLANES[ends.plane]

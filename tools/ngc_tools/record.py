@@ -19,7 +19,7 @@ class BadRecord(ValueError):
 
 @dataclass(frozen=True, slots=True)
 class Record:
-    """So many whole `lines` of `out`, its first `size` bytes, are carried out. `outputs` are as the last switch left
+    """The first `lines` lines of `out`, its first `size` bytes, are carried out. `outputs` are as the last switch left
     them, and the machine stands at `at_nm`."""
 
     out: str
@@ -29,7 +29,7 @@ class Record:
     at_nm: tuple[int, int, int] = (0, 0, 0)
 
     def text(self) -> bytes:
-        """What stands in the file, 512 bytes. Raises BadRecord where the path of OUT is too long for it."""
+        """What stands in the file, 512 bytes. Raises BadRecord if the path of OUT is too long for it."""
         lines = [
             f"out {self.out}",
             f"lines {self.lines}",
@@ -81,7 +81,7 @@ class Keeper:
 
     def __init__(self, path: str | Path, first: Record, every_ms: int = 20) -> None:
         """Writes the first record, and syncs it and its folder; holds the file by the system's lock. Raises OSError,
-        also where another player holds it, or BadRecord."""
+        also if another player holds it, or BadRecord."""
         self.path = path
         self.now = first
         self.worst_ms = 0.0
@@ -103,7 +103,7 @@ class Keeper:
         self._thread.start()
 
     def close(self) -> None:
-        """Syncs the last record. Raises OSError where a write or a sync failed."""
+        """Syncs the last record. Raises OSError if a write or a sync failed."""
         self._end.set()
         self._thread.join()
         try:

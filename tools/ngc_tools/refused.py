@@ -37,8 +37,8 @@ class Piece:
 @dataclass(frozen=True, slots=True)
 class Finding:
     """A refused line. `text` is the line as it was asked, without its end: what an earlier finding of the line left
-    out is blank in it. `marks` are the pieces without which the fault goes away: without each of them alone, or where
-    that is so of none, without all of them. `left_out` is what was left out to go on: pieces, or `None` for the line as
+    out is blank in it. `marks` are the pieces without which the fault goes away: without each of them alone, or if that
+    is so for none, without all of them. `left_out` is what was left out to go on: pieces, or `None` for the line as
     a whole; `added` is what was written at its end instead."""
 
     refusal: Refusal
@@ -100,9 +100,9 @@ class Lines:
 def find_all(lines: Lines, ask: Ask, most: int = 0) -> Iterator[Finding]:
     """Each refusal of a program in turn, `most` of them at most, 0 for all. `lines` are at last what it went on with.
 
-    After X1 it goes on with an F on the line; else with the line without a marked piece, or without all of them, if it
-    is taken so; where one piece alone is marked without it, so that the line's next fault is told too; else with a
-    blank line in its place."""
+    After X1 it goes on with an F on the line. Otherwise it leaves out a marked piece, or all of them, if the line is
+    then taken; if only one piece is marked, it leaves that one out, so that the line's next fault is told too.
+    Otherwise it goes on with a blank line in its place."""
     refusal = ask(b"".join(lines.all))
     count = 0
     while refusal is not None and (count < most or not most):
@@ -147,14 +147,14 @@ def _looked_at(lines: Lines, refusal: Refusal, ask: Ask) -> tuple[Finding, bytes
 
 
 def goes(code: str, found: str | None) -> bool:
-    """Whether a fault has gone where another one is found, or none: the first that holds is found, so one that stands
+    """Whether a fault is gone when another one is found, or none: the first that holds is found, so one that stands
     before it in docs/LANGUAGE.md's order may only hide it."""
     return found is None or _RANKS.get(found, 0) > _RANKS.get(code, 0)
 
 
 def _together(all_pieces: list[Piece], gone: Callable[[tuple[Piece, ...]], bool]) -> tuple[Piece, ...]:
-    """Pieces without all of which the fault goes away, as few as are found by putting back one or two in turn; none,
-    where it stays without all of the line."""
+    """Pieces without all of which the fault goes away, as few as are found by putting back one or two in turn; none
+    if it stays even without the whole line."""
     left_out = tuple(all_pieces)
     if not gone(left_out):
         return ()

@@ -1,4 +1,4 @@
-"""What `resume` would do, or `start` where no block is half-done: said in lines, by `ngc run` over a copy."""
+"""What `resume` would do, or `start` if no block is half-done: said in lines, by `ngc run` over a copy."""
 from dataclasses import dataclass, field
 from pathlib import Path
 
@@ -74,7 +74,7 @@ class Rehearsal:
         return [*said, *rest]
 
     def _commands(self) -> list[str]:
-        """What takes the block up; where nobody knows where the machine stands, from the point before it."""
+        """What takes the block up; if nobody knows where the machine stands, from the point before it."""
         at = self.at or (None if self._known() else self._before())
         return [f"reference {' '.join(at)}", "resume"] if at else ["resume"]
 
@@ -89,7 +89,7 @@ class Rehearsal:
             return list(copy.start.at)
 
     def _approach(self, start: tuple[str, ...], end: tuple[str, ...], us: int) -> list[str]:
-        """How the approach goes; where nobody said where the machine stands, that this is missing."""
+        """How the approach goes; if nobody said where the machine stands, that this is missing."""
         if self.at is None and not self._known():
             return ["the approach: it isn't known where the machine stands; name it: X Y Z"]
         a, b = (tuple(map(nanometres, at)) for at in (start, end))

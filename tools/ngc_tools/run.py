@@ -42,7 +42,7 @@ def dry(ngc: str | Path, program: bytes | str | Path, settings: str | Path | Non
         block_delete: bool = False) -> tuple[int, bytes]:
     """The exit status and the standard output of `ngc dry`. `program` is its text, or the path of its file.
 
-    Raises OSError where `ngc` can't be started or the text can't be kept in a file."""
+    Raises OSError if `ngc` can't be started or the text can't be kept in a file."""
     if isinstance(program, bytes):
         with tempfile.NamedTemporaryFile(prefix="ngc-dry-", suffix=".ngc") as file:
             file.write(program)
@@ -56,9 +56,9 @@ def dry(ngc: str | Path, program: bytes | str | Path, settings: str | Path | Non
 
 
 def refusal(status: int, text: bytes) -> Refusal | None:
-    """What the last line of a dry run refuses, or None where the program ran to its end.
+    """What the last line of a dry run refuses, or None if the program ran to its end.
 
-    Raises CannotRun where it was no dry run at all."""
+    Raises CannotRun if it was no dry run at all."""
     if status == 0:
         return None
     last = text.rstrip(b"\n").rpartition(b"\n")[2].decode("latin-1")
@@ -69,7 +69,7 @@ def refusal(status: int, text: bytes) -> Refusal | None:
 
 
 def settings_refusal(ngc: str | Path, settings: str | Path) -> Refusal | None:
-    """The fault of a settings file, S1 to S6 or M1, or None where `ngc` takes it. Raises CannotRun or OSError."""
+    """The fault of a settings file, S1 to S6 or M1, or None if `ngc` takes it. Raises CannotRun or OSError."""
     status, text = dry(ngc, b"M2\n", settings)
     if status == 0:
         return None

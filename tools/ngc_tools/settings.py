@@ -9,7 +9,7 @@ AXES = "XYZ"
 
 
 class BadSettings(ValueError):
-    """A settings file that can't be used; the text names the path, and the key where one is to blame."""
+    """A settings file that can't be used; the text names the path, and the key if one is to blame."""
 
 
 @dataclass(frozen=True, slots=True)
@@ -25,7 +25,7 @@ class Settings:
 
     @staticmethod
     def read(path: str | Path) -> "Settings":
-        """Reads the file. Raises BadSettings, or OSError where it can't be read. Limits aren't looked at."""
+        """Reads the file. Raises BadSettings, or OSError if it can't be read. Limits aren't looked at."""
         table = read_table(path)
         step, low, high = (_triple(path, table, key) for key in ("step_nm", "low_nm", "high_nm"))
         traverse, period = (_whole(path, table, key) for key in ("traverse_nm_per_min", "period_us"))
@@ -37,7 +37,7 @@ class Settings:
 
 
 def read_table(path: str | Path) -> dict[str, Any]:
-    """The keys of the file and their values. Raises BadSettings where it isn't TOML, or OSError."""
+    """The keys of the file and their values. Raises BadSettings if it isn't TOML, or OSError."""
     with open(path, "rb") as file:
         text = file.read()
     try:

@@ -161,7 +161,7 @@ class Program:
         return found, commands
 
     def part(self, begin: Place | None, end: int, named: str) -> Part:
-        """The part from a place on, the program's beginning where it is None, to before line `end`."""
+        """The part from a place on, the program's beginning if it is None, to before line `end`."""
         first = begin.line if begin else 0
         head = self._head(begin, named) if begin else b""
         last = b"" if end == len(self.lines) else b"M2\n"
@@ -219,7 +219,7 @@ def _too_long(program: Program, places: list[Place], first: int, limit: int) -> 
 def compare(whole: list[Command], parts: list[Part], ask: Ask) -> None:
     """Does dry runs of the parts, and compares what they do, one after the other, with the whole.
 
-    Raises CannotPart where they differ, LineRefused where a line of a part is refused."""
+    Raises CannotPart if they differ, LineRefused if a line of a part is refused."""
     each = [_acts(commands, part.place) for part, commands in ((part, _dry(ask, part.text)) for part in parts)]
     wanted = list(_acts(whole, None))
     found = [act for acts in each for act in acts]
@@ -259,7 +259,7 @@ def _dry(ask: Ask, text: bytes) -> list[Command]:
 
 def _highest_cut(commands: list[Command]) -> int:
     """The greatest Z in nm of the tool's tip, machine Z less the tool length in force, at which a cut begins or ends;
-    0 where there is none."""
+    0 if there is none."""
     at, length, found = 0, 0, []
     for command in commands:
         if command.name == "USE_TOOL_LENGTH_OFFSET":
@@ -274,7 +274,7 @@ def _highest_cut(commands: list[Command]) -> int:
 def _after_traverse(before: bool, line: bytes) -> tuple[bool, bool]:
     """Whether a line can be the first one after a head, which leaves G0 in force; and whether G0 is in force after it.
 
-    It can if it names an axis, and a motion G0 to G3 or none where G0 is in force `before` it. What is read wrongly
+    It can if it names an axis, and a motion G0 to G3 or none if G0 is in force `before` it. What is read wrongly
     here makes parts that do other moves, and is found."""
     words = _COMMENT.sub(b"", line)
     motions = _MOTION.findall(words)

@@ -6,7 +6,7 @@ from ngc_tools.settings import BadSettings
 
 
 def look_at_settings(ngc: str, path: str | Path) -> None:
-    """Raises OSError where the file can't be read, BadSettings where `ngc` refuses it, CannotRun."""
+    """Raises OSError if the file can't be read, BadSettings if `ngc` refuses it, CannotRun."""
     with open(path, "rb") as file:
         file.read()
     refused = settings_refusal(ngc, path)
