@@ -65,9 +65,11 @@ fn write_decimals(size: u64, buffer: &mut [u8], end: usize) -> usize
     ensures written { drop result buffer.new ≡ 46 ∷ (six_digits size ++ drop end buffer.old) }
 {
     let n = (size % 1_000_000) as u32;
-    put_pair(n % 100, buffer, end - 2);
-    put_pair(n / 100 % 100, buffer, end - 4);
-    put_pair(n / 10_000, buffer, end - 6);
+    let high = n / 10_000;
+    let low = n - high * 10_000;
+    put_pair(low % 100, buffer, end - 2);
+    put_pair(low / 100, buffer, end - 4);
+    put_pair(high, buffer, end - 6);
     put(b'.', buffer, end - 7);
     end - 7
 }
