@@ -1,22 +1,26 @@
 -- What the reader's calls have to show about pieces: each is added to the places after those that are there.
-use Rattle.std.proofs.Common.{ℕ, ◌+◌, ◌≤◌, ◌≡◌, List, [], ◌∷◌, ◌++◌, length, drop, Bool, true, false, ◌==◌, Option, Some, None, MatchBool, IsTrue, refl, sym, ap, ◌∙◌, arith, append-nil, length-append, length-drop}
+use Rattle.std.proofs.Common.{ℕ, ◌+◌, ◌≤◌, ◌≡◌, List, [], ◌∷◌, ◌++◌, length, drop, Bool, true, false, ◌==◌, ℤ, Option, Some, None, MatchBool, IsTrue, inl, inr, refl, sym, ap, ◌∙◌, arith, append-nil, length-append, length-drop}
 use Rattle.std.specs.List.{flat_map}
 use Rattle.std.specs.Option.{option_map, option_and_then}
 use Rattle.std.proofs.lemmas.List.{map-append}
 use Rattle.std.proofs.lemmas.Grind.{flat_map-append}
 use Rattle.std.proofs.lemmas.Bool.Decides.{nat_tests, Decides-eqb}
 use Rattle.ng_words.specs.Plain.{StartsWithByte}
-use Rattle.ng_words.specs.Grammar.{Tree, Piece, word, assignment, comment}
-use Rattle.ng_words.specs.Scan.{letter_of}
+use Rattle.ng_words.specs.Grammar.{Tree, number, Piece, word, assignment, comment}
+use Rattle.ng_words.specs.Scan.{letter_of, number_at}
 use Rattle.ng_words.specs.Values.{strip_prefix, value_at}
 use Rattle.ng_words.specs.Pieces.{comment_at, piece_at, pieces_at}
 use Rattle.ng_words.specs.Kept.{item_of, nodes_of, bytes_of, PieceStore, EncodesPieces, pieces_by}
-use Rattle.ng_words.specs.Private.Walks.{store_of, AddsWord, assignment_at, AddsAssignment, AddsComment, Adds, TakesPiece, TakesPieces}
+use Rattle.ng_words.specs.Private.Items.{last_size}
+use Rattle.ng_words.specs.Private.Walks.{store_of, AddsWord, assignment_at, AddsAssignment, AddsComment, Adds, TakesPiece, TakesPieces, TakesValue, BeginsNumber}
 use Rattle.ng_words.specs.declared.letter.Letter.{Letter}
 use Rattle.ng_words.specs.declared.piece_entry.PieceEntry.{PieceEntry}
+use Rattle.ng_words.specs.declared.piece_entry.PieceEntry.TheVariants as item
 use Rattle.ng_words.specs.declared.tree.Node.{Node}
-use Rattle.ng_words.proofs.Kept.{kept_is}
+use Rattle.ng_words.specs.declared.tree.Node.TheVariants as node
+use Rattle.ng_words.proofs.Kept.{word_kept, last_after_word, last_after_assignment, kept_is}
 use Rattle.ng_words.proofs.Walk.{strip_prefix_is}
+use Rattle.ng_words.proofs.Places.{number_value, value_begins}
 use Rattle.ng_words.proofs.PieceLaws.{comment_sound, length-piece_at, found_before, found_before_start, found_before_more}
 
 -- ---- how many bytes are left
@@ -83,6 +87,24 @@ no_letter b n l e none = at (b == n) refl
     at true t = let same : b ≡ n = (Decides-eqb b n).0 t in let found : letter_of n ≡ Some l = ap letter_of (sym same) ∙ sym e in absurd (cc)
     at false t = t
 
+-- a word whose value is a number alone
+pub number_word : (letter : Letter) (bytes rest : List ℕ) (value : Option ℤ) (items items_then : List PieceEntry) (nodes : List Node) → BeginsNumber bytes → number_at bytes ≡ Some (value, rest)
+    → items_then ≡ items ++ item.Number letter (node.Number value) ∷ [] → AddsWord letter bytes rest items items_then nodes nodes
+number_word letter bytes rest value items items_then nodes h e i = (number value, number_value bytes rest value h e, i, sym (append-nil nodes))
+
+-- another word
+pub walked_word : (letter : Letter) (bytes rest : List ℕ) (n : ℕ) (items items_then : List PieceEntry) (nodes nodes_then : List Node) → (BeginsNumber bytes → ⊥)
+    → TakesValue bytes nodes (Some n) rest nodes_then → items_then ≡ items ++ item.Word letter n ∷ [] → AddsWord letter bytes rest items items_then nodes nodes_then
+walked_word letter bytes rest n items items_then nodes nodes_then other h i = elim (word_kept letter h.0) [
+  | inl k ↦ absurd (other (value_begins bytes rest k.0 (h.1 ∙ ap {B = Option (Tree × List ℕ)} (λ (t : Tree). Some (t, rest)) k.1)))
+  | inr k ↦ (
+    h.0,
+    h.1,
+    i ∙ ap (λ (m : ℕ). items ++ item.Word letter m ∷ []) h.3 ∙ ap (λ (x : PieceEntry). items ++ x ∷ []) (sym k.0),
+    h.2 ∙ ap (λ (l : List Node). nodes ++ l) (sym k.1),
+  )
+]
+
 -- a word
 pub takes_word : (bytes after_it rest : List ℕ) (b : ℕ) (l : Letter) (taken : Bool) (items items_then : List PieceEntry) (nodes nodes_then : List Node) (texts : List ℕ) → StartsWithByte bytes b
     → Some l ≡ letter_of b → after_it ≡ drop 1 bytes → MatchBool taken (AddsWord l after_it rest items items_then nodes nodes_then) (value_at after_it ≡ None)
@@ -107,6 +129,18 @@ takes_word (c ∷ bs) after_it rest b l taken items items_then nodes nodes_then 
         → TakesPiece (c ∷ bs) taken rest (store_of items nodes texts) (store_of items_then nodes_then texts)
     takes true h = (word l h.0, found (Some (h.0, rest)) h.1, record { items_more = h.2; nodes_more = h.3; bytes_more = sym (append-nil texts) })
     takes false h = found None h
+
+-- ---- a word or an assignment leaves the last comment
+
+pub word_last : (letter : Letter) (bytes rest : List ℕ) (taken : Bool) (items items_then : List PieceEntry) (nodes nodes_then : List Node)
+    → MatchBool taken (AddsWord letter bytes rest items items_then nodes nodes_then) (value_at bytes ≡ None) → IsTrue taken → last_size items_then ≡ last_size items
+word_last letter bytes rest true items items_then nodes nodes_then h t = ap last_size h.2 ∙ last_after_word items letter h.0
+word_last letter bytes rest false items items_then nodes nodes_then h t = absurd (cc)
+
+pub assignment_last : (bytes rest : List ℕ) (taken : Bool) (items items_then : List PieceEntry) (nodes nodes_then : List Node)
+    → MatchBool taken (AddsAssignment bytes rest items items_then nodes nodes_then) (assignment_at bytes ≡ None) → IsTrue taken → last_size items_then ≡ last_size items
+assignment_last bytes rest true items items_then nodes nodes_then h t = ap last_size h.3 ∙ last_after_assignment items _ _
+assignment_last bytes rest false items items_then nodes nodes_then h t = absurd (cc)
 
 -- ---- the loop over the pieces
 

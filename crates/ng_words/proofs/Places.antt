@@ -10,13 +10,14 @@ use Rattle.ng_words.specs.Kept.{postfix}
 use Rattle.ng_words.specs.Private.Walks.{mark, marks, waiting_nodes, HoldsBefore, HoldsAfter, Stands, nearest, is_index, operation_within, closing, IsOpening, function_openings, TakesValue, WalkStepSpec, Settles, Gathers, ClosesBrackets, BeginsNumber}
 use Rattle.ng_words.specs.declared.tree.Operation.{Operation}
 use Rattle.ng_words.specs.declared.tree.Function.{Function}
+use Rattle.ng_words.specs.declared.tree.Function.TheVariants.{Abs, Fix, Fup, Round, Sqrt}
 use Rattle.ng_words.specs.declared.tree.Node.{Node}
 use Rattle.ng_words.specs.declared.tree.Node.TheVariants as node
 use Rattle.ng_words.specs.declared.value.Waiting.{Waiting as Mark}
 use Rattle.ng_words.specs.declared.value.Waiting.TheVariants as marked
 use Rattle.ng_words.proofs.Numbers.{number_sound, length-number}
-use Rattle.ng_words.proofs.ValueLaws.{length-value_at}
-use Rattle.ng_words.proofs.Walk.{step_shorter, walk_before, walk_after, walk_before_none, walk_after_none}
+use Rattle.ng_words.proofs.ValueLaws.{length-value_at, no_bracket, number_begins, value_sound}
+use Rattle.ng_words.proofs.Walk.{opener, IsOpener, entry_found, operation_found, step_shorter, walk_before, walk_after, walk_before_none, walk_after_none}
 
 -- ---- the end of a list
 
@@ -238,12 +239,18 @@ closes_none stack stack_last nodes nodes_last o e f t ws base holds =
 
 -- ---- what opens a value
 
-pub opening_function : (bytes one two rest : List ℕ) (f : Function) → strip_prefix (codes "#") bytes ≡ None → one ≡ bytes → strip_prefix (codes "[") one ≡ None → two ≡ one
-    → entry_at function_openings two ≡ Some (function f, rest) → IsOpening bytes (Some (marked.Function f)) rest
-opening_function bytes one two rest f none_0 e none_1 g found =
-    let second : strip_prefix (codes "[") bytes ≡ None = ap (strip_prefix (codes "[")) (sym e) ∙ none_1 in
-    let third : entry_at function_openings bytes ≡ Some (function f, rest) = ap (entry_at function_openings) (sym e ∙ sym g) ∙ found in
-    (function f, rw (none_0, second) third, refl, refl)
+-- a function's name and bracket begin with neither of the first two openings
+name_opens : (f : Function) (rest : List ℕ) → entry_at openings (opener (function f) ++ rest) ≡ Some (function f, rest)
+name_opens Abs rest = refl
+name_opens Fix rest = refl
+name_opens Fup rest = refl
+name_opens Round rest = refl
+name_opens Sqrt rest = refl
+
+pub opening_function : (bytes rest : List ℕ) (f : Function) → entry_at function_openings bytes ≡ Some (function f, rest) → IsOpening bytes (Some (marked.Function f)) rest
+opening_function bytes rest f found =
+    let e = entry_found IsOpener function_openings bytes (function f, rest) ((refl, tt), ((refl, tt), ((refl, tt), ((refl, tt), ((refl, tt), tt))))) found in
+    (function f, ap (entry_at openings) (e.1 ∙ ap (λ text. text ++ rest) e.2.0) ∙ name_opens f rest, refl, refl)
 
 -- a number has at least one byte
 pub number_shorter : (bytes same rest : List ℕ) (value : Option ℤ) → same ≡ bytes → number_at same ≡ Some (value, rest) → length rest < length bytes
@@ -318,15 +325,16 @@ go_on_unopened bytes rest after_it stack stack_then stack_last nodes nodes_then 
     ap (continued t ws bytes) found ∙ ap (option_map (λ (p : WalkPosition). (p, rest))) (closes (gathered 3 t ws).0 (gathered 3 t ws).1 base (gathers t ws base stands.1))
 
 -- an operation
-pub go_on_operation : (bytes same rest : List ℕ) (op : Operation) (most : ℕ) (stack stack_then stack_last : List Mark) (nodes nodes_then : List Node) → strip_prefix (codes "]") bytes ≡ None → same ≡ bytes
-    → entry_at operations same ≡ Some (op, rest) → most ≡ level op → Gathers most stack nodes stack_then nodes_then → stack_last ≡ stack_then ++ marked.Operation op ∷ []
-    → WalkStepSpec true bytes stack nodes (Some false) rest stack_last nodes_then
-go_on_operation bytes same rest op most stack stack_then stack_last nodes nodes_then none e found m gathers s (before ws) base stands = absurd (let f : true ≡ false = stands.0 in cc)
-go_on_operation bytes same rest op most stack stack_then stack_last nodes nodes_then none e found m gathers s (after t ws) base stands =
+pub go_on_operation : (bytes rest : List ℕ) (op : Operation) (most : ℕ) (stack stack_then stack_last : List Mark) (nodes nodes_then : List Node) → entry_at operations bytes ≡ Some (op, rest) → most ≡ level op
+    → Gathers most stack nodes stack_then nodes_then → stack_last ≡ stack_then ++ marked.Operation op ∷ [] → WalkStepSpec true bytes stack nodes (Some false) rest stack_last nodes_then
+go_on_operation bytes rest op most stack stack_then stack_last nodes nodes_then found m gathers s (before ws) base stands = absurd (let f : true ≡ false = stands.0 in cc)
+go_on_operation bytes rest op most stack stack_then stack_last nodes nodes_then found m gathers s (after t ws) base stands =
     let P : ℕ → Type 0 = λ n. HoldsAfter (gathered n t ws).0 (gathered n t ws).1 base stack_then nodes_then in
-    let g = subst P m (gathers t ws base stands.1) in (
+    let g = subst P m (gathers t ws base stands.1) in
+    let e = operation_found bytes (op, rest) found in
+    let none : strip_prefix (codes "]") bytes ≡ None = ap (strip_prefix (codes "]")) (e.1 ∙ ap (λ text. text ++ rest) e.2) ∙ no_bracket op rest in (
       before (left op (gathered (level op) t ws).0 ∷ (gathered (level op) t ws).1),
-      ap (continued t ws bytes) none ∙ ap (option_map (λ (x : Operation × List ℕ). (before (left x.0 (gathered (level x.0) t ws).0 ∷ (gathered (level x.0) t ws).1), x.1))) (ap (entry_at operations) (sym e) ∙ found),
+      ap (continued t ws bytes) none ∙ ap (option_map (λ (x : Operation × List ℕ). (before (left x.0 (gathered (level x.0) t ws).0 ∷ (gathered (level x.0) t ws).1), x.1))) found,
       (refl, record { stack_is = s ∙ ap (λ l. l ++ marked.Operation op ∷ []) g.stack_is; nodes_are = g.nodes_are }),
     )
 
@@ -420,17 +428,36 @@ number_first b bs h =
     let not_s : (b == 83) ≡ false = grind (arith, nat_tests, h) in
     rw (not_sign, not_bracket, not_a, not_f, not_r, not_s) refl
 
-no_opening : (bytes : List ℕ) → BeginsNumber bytes → entry_at openings bytes ≡ None
+pub no_opening : (bytes : List ℕ) → BeginsNumber bytes → entry_at openings bytes ≡ None
 no_opening [] h = absurd h
 no_opening (b ∷ bs) h = number_first b bs h
 
--- a number
-pub number_taken : (bytes rest : List ℕ) (value : Option ℤ) (nodes nodes_then : List Node) → BeginsNumber bytes → number_at bytes ≡ Some (value, rest)
-    → nodes_then ≡ nodes ++ node.Number value ∷ [] → TakesValue bytes nodes (Some 1) rest nodes_then
-number_taken bytes rest value nodes nodes_then h e n =
+-- the result of a test of the first byte
+pub begins_so : (t : Bool) (bytes : List ℕ) → (IsTrue t ↔ BeginsNumber bytes) → t ≡ true → BeginsNumber bytes
+begins_so true bytes h e = h.0 (search rules)
+begins_so false bytes h e = absurd (cc)
+
+pub begins_otherwise : (t : Bool) (bytes : List ℕ) → (IsTrue t ↔ BeginsNumber bytes) → t ≡ false → BeginsNumber bytes → ⊥
+begins_otherwise true bytes h e b = absurd (cc)
+begins_otherwise false bytes h e b = let t : IsTrue false = h.1 b in grind (arith, nat_tests)
+
+-- a number is the value
+pub number_value : (bytes rest : List ℕ) (value : Option ℤ) → BeginsNumber bytes → number_at bytes ≡ Some (value, rest) → value_at bytes ≡ Some (number value, rest)
+number_value bytes rest value h e =
     let stepped : step_at (before []) bytes ≡ Some (after (number value) [], rest) =
     ap (opened [] bytes) (no_opening bytes h) ∙ ap (option_map (λ (v : Option ℤ × List ℕ). (settled_value (number v.0) [], v.1))) e in
-    (number value, walk_before [] bytes (after (number value) [], rest) stepped ∙ value_from-end (length rest) (number value) rest, n, refl)
+    walk_before [] bytes (after (number value) [], rest) stepped ∙ value_from-end (length rest) (number value) rest
+
+pub number_taken : (bytes rest : List ℕ) (value : Option ℤ) (nodes nodes_then : List Node) → BeginsNumber bytes → number_at bytes ≡ Some (value, rest)
+    → nodes_then ≡ nodes ++ node.Number value ∷ [] → TakesValue bytes nodes (Some 1) rest nodes_then
+number_taken bytes rest value nodes nodes_then h e n = (number value, number_value bytes rest value h e, n, refl)
+
+-- a value that is a number alone begins so
+pub value_begins : (bytes rest : List ℕ) (value : Option ℤ) → value_at bytes ≡ Some (number value, rest) → BeginsNumber bytes
+value_begins bytes rest value e =
+    let found = value_sound bytes (number value, rest) e in
+    let first = number_begins found.0 found.2.0.0 found.2.0.1 in
+    subst BeginsNumber (sym (found.1 ∙ ap (λ l. l ++ rest) first.is)) (first.low, first.high)
 
 pub number_missing : (bytes : List ℕ) → BeginsNumber bytes → number_at bytes ≡ None → value_at bytes ≡ None
 number_missing bytes h e =

@@ -107,12 +107,12 @@ gathered_joined op l r ws h =
 -- ---- how chains begin
 
 -- the first byte of a number: a digit, a sign or a point
-record BeginsNumber (bytes : List ℕ) : Type 0 where
-  first : ℕ
-  others : List ℕ
-  is : bytes ≡ first ∷ others
-  low : 43 ≤ first
-  high : first ≤ 57
+pub record BeginsNumber (bytes : List ℕ) : Type 0 where
+  pub first : ℕ
+  pub others : List ℕ
+  pub is : bytes ≡ first ∷ others
+  pub low : 43 ≤ first
+  pub high : first ≤ 57
 
 unsigned_begins : (whole fraction digits : List ℕ) → AreDigits whole → 0 < length whole + length fraction
     → ((digits ≡ whole) × (fraction ≡ [])) ⊎ (digits ≡ whole ++ (46 ∷ fraction)) → BeginsNumber digits
@@ -123,7 +123,7 @@ unsigned_begins (b ∷ whole) fraction digits d some (inl e) =
 unsigned_begins (b ∷ whole) fraction digits d some (inr e) =
     record { first = b; others = whole ++ (46 ∷ fraction); is = e; low = grind (arith, nat_tests, d.0); high = grind (arith, nat_tests, d.0) }
 
-number_begins : (bytes : List ℕ) (z : ℤ) → IsNumber bytes z → BeginsNumber bytes
+pub number_begins : (bytes : List ℕ) (z : ℤ) → IsNumber bytes z → BeginsNumber bytes
 number_begins bytes z h =
     let u = h.2 in
     let begins = unsigned_begins u.whole u.fraction h.1 u.whole_digits u.some u.spelled in
@@ -202,7 +202,7 @@ close_leads u t [] ws w p rest e f = let nothing : [] ≡ w ∷ ws = ap (λ x. x
 close_leads u t (v ∷ waits) ws w p rest e f =
     walk_after u v waits (93 ∷ rest) (p, rest) (ap {A = Tree × List Waiting} (λ x. option_map (λ (p : WalkPosition). (p, rest)) (closed x.0 x.1)) e ∙ ap (option_map (λ (p : WalkPosition). (p, rest))) f)
 
-no_bracket : (op : Operation) (tail : List ℕ) → strip_prefix (codes "]") (symbol op ++ tail) ≡ None
+pub no_bracket : (op : Operation) (tail : List ℕ) → strip_prefix (codes "]") (symbol op ++ tail) ≡ None
 no_bracket Power tail = refl
 no_bracket Times tail = refl
 no_bracket Over tail = refl

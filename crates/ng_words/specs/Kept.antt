@@ -1,6 +1,7 @@
 -- How a line is kept in storage of fixed size (own): trees as lists of nodes, each node after its parts.
 use Rattle.std.specs.Prelude.{ℕ, ◌≡◌, List, [], ◌∷◌, ◌++◌, length, map, flat_map, take, drop, Bool, Option, None}
 use Rattle.ng_words.specs.Grammar.{Tree, number, parameter, bracketed, applied, joined, Piece, word, assignment, comment, ParsedLine}
+use Rattle.ng_words.specs.declared.letter.Letter.{Letter}
 use Rattle.ng_words.specs.declared.tree.Node.{Node}
 use Rattle.ng_words.specs.declared.tree.Node.TheVariants as node
 use Rattle.ng_words.specs.declared.piece_entry.PieceEntry.{PieceEntry}
@@ -39,15 +40,24 @@ tree_by nodes = latest (built [] nodes)
 
 -- ---- the pieces of a line: an item for each; its nodes or bytes come after those of the pieces before it
 
--- a letter and the number of nodes of its value; the numbers of nodes of an index and a value; the number of bytes of a
--- comment
+-- a word whose value is a number alone is kept as its letter and its only node, any other as its letter and the number
+-- of its nodes
+abbrev pub word_item : Letter → Tree → PieceEntry
+word_item letter (number value) = item.Number letter (node.Number value)
+word_item letter t = item.Word letter (length (postfix t))
+
+abbrev pub word_nodes : Tree → List Node
+word_nodes (number value) = []
+word_nodes t = postfix t
+
+-- a word; the numbers of nodes of an index and a value; the number of bytes of a comment
 abbrev pub item_of : Piece → PieceEntry
-item_of (word letter t) = item.Word letter (length (postfix t))
+item_of (word letter t) = word_item letter t
 item_of (assignment index value) = item.Assignment (length (postfix index)) (length (postfix value))
 item_of (comment text) = item.Comment (length text)
 
 abbrev pub nodes_of : Piece → List Node
-nodes_of (word letter t) = postfix t
+nodes_of (word letter t) = word_nodes t
 nodes_of (assignment index value) = postfix index ++ postfix value
 nodes_of (comment text) = []
 
@@ -75,6 +85,7 @@ AreEncodedPieces places = (pieces : List Piece) × EncodesPieces places pieces
 -- the pieces that items, nodes and bytes keep
 abbrev pub pieces_from : List PieceEntry → List Node → List ℕ → List Piece
 pieces_from [] nodes bytes = []
+pieces_from (item.Number letter n ∷ items) nodes bytes = word letter (tree_by (n ∷ [])) ∷ pieces_from items nodes bytes
 pieces_from (item.Word letter n ∷ items) nodes bytes = word letter (tree_by (take n nodes)) ∷ pieces_from items (drop n nodes) bytes
 pieces_from (item.Assignment i n ∷ items) nodes bytes =
     assignment (tree_by (take i nodes)) (tree_by (take n (drop i nodes))) ∷ pieces_from items (drop n (drop i nodes)) bytes

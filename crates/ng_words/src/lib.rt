@@ -7,6 +7,7 @@
 #![tactic(auto)]
 
 mod comment;
+mod comments;
 mod cursor;
 mod digits;
 pub mod laws;

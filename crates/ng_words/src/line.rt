@@ -2,9 +2,9 @@ ghost use Rattle.std.specs.Prelude.{◌≡◌, ◌<◌, ◌≤◌, ◌↔◌, �
 ghost use Rattle.ng_words.specs.Grammar.{ParsedLine, IsLineOf, is_too_long};
 ghost use Rattle.ng_words.specs.Reading.{read};
 ghost use Rattle.ng_words.specs.Kept.{pieces_by, written_by};
-ghost use Rattle.ng_words.specs.Private.Items.{last_size};
 ghost use Rattle.ng_words.specs.Lines.{last_comment};
 
+use crate::comments::{BYTES, Comments};
 use crate::cursor::Cursor;
 use crate::piece_entry::PieceEntry;
 use crate::pieces::Pieces;
@@ -19,9 +19,6 @@ use std::marker::Model;
 /// The most pieces that a line can have: each takes at least two bytes, and a line has at most 256.
 pub const PIECES: usize = 128;
 
-/// The most bytes that a line can have.
-pub(crate) const BYTES: usize = 256;
-
 /// A line that was read (NISTIR 6556, 3.3): whether it begins with a slash, its block number, its pieces.
 ///
 /// It keeps them in storage of its own, of fixed size, which is reused for one line after another.
@@ -31,24 +28,29 @@ pub struct Line {
     items: ArrayVec<PieceEntry, PIECES>,
     /// The nodes of all values, in order.
     nodes: ArrayVec<Node, NODES>,
-    /// The bytes of all comments, in order.
-    bytes: ArrayVec<u8, BYTES>,
+    comments: Comments,
     /// What waits while a value is read; empty between lines.
     stack: WaitingList,
 }
 
 impl Model for Line {
+    ghost use Rattle.std.specs.Prelude.{◌≡◌};
     ghost use Rattle.ng_words.specs.Kept.{LineModel, AreEncodedPieces};
+    ghost use Rattle.ng_words.specs.Private.Items.{last_size};
 
     ghost Value = { LineModel };
 
     ghost view = { λ l. record {
       deletable = l.head.deletable;
       number = l.head.number;
-      places = record { items = l.items.items; nodes = l.nodes.items; bytes = l.bytes.items };
+      places = record { items = l.items.items; nodes = l.nodes.items; bytes = l.comments.bytes.items };
     } };
 
-    ghost invariant = { λ l. AreEncodedPieces (record { items = l.items.items; nodes = l.nodes.items; bytes = l.bytes.items }) };
+    ghost invariant = { λ l. AreEncodedPieces (record {
+      items = l.items.items;
+      nodes = l.nodes.items;
+      bytes = l.comments.bytes.items;
+    }) × (l.comments.last ≡ last_size l.items.items) };
 }
 
 impl Line {
@@ -62,7 +64,7 @@ impl Line {
             head: Head::none(),
             items: ArrayVec::new(),
             nodes: ArrayVec::new(),
-            bytes: ArrayVec::new(),
+            comments: Comments::new(),
             stack: ArrayVec::new(),
         }
     }
@@ -83,7 +85,7 @@ impl Line {
         self.head = Head::none();
         self.items.clear();
         self.nodes.clear();
-        self.bytes.clear();
+        self.comments.clear();
         if is_too_long(text) {
             return Err(Fault::LineTooLong);
         }
@@ -97,7 +99,7 @@ impl Line {
             &mut cursor,
             &mut self.items,
             &mut self.nodes,
-            &mut self.bytes,
+            &mut self.comments,
             &mut self.stack,
         ) {
             return Err(Fault::Unreadable);
@@ -128,7 +130,7 @@ impl Line {
         Pieces {
             items: self.items.as_slice(),
             nodes: self.nodes.as_slice(),
-            bytes: self.bytes.as_slice(),
+            bytes: self.comments.bytes.as_slice(),
         }
     }
 
@@ -138,8 +140,11 @@ impl Line {
         ensures text { MatchOption result (last_comment (pieces_by self.now.places) ≡ None)
             (λ text. last_comment (pieces_by self.now.places) ≡ Some text.now) }
     {
-        match last_length(self.items.as_slice()) {
-            Some(n) => Some(&self.bytes.as_slice()[self.bytes.len() - n as usize..]),
+        match self.comments.last {
+            Some(n) => {
+                let bytes = &self.comments.bytes;
+                Some(&bytes.as_slice()[bytes.len() - n as usize..])
+            }
             None => None,
         }
     }
@@ -168,17 +173,4 @@ pub fn read_line(text: &[u8]) -> Result<Line, Fault>
         Ok(()) => Ok(line),
         Err(fault) => Err(fault),
     }
-}
-
-/// How many bytes the last comment among some items has.
-fn last_length(items: &[PieceEntry]) -> Option<u16>
-    ensures { result ≡ last_size items.now }
-{
-    let mut last = None;
-    for item in items {
-        if let PieceEntry::Comment(n) = item {
-            last = Some(*n);
-        }
-    }
-    last
 }

@@ -113,6 +113,7 @@ fn number_apart(cursor: &mut Cursor<'_>) -> Option<Option<Num>>
 }
 
 /// Takes a number, and returns its count of millionths. The inner `None` says that it is out of range.
+#[inline(always)]
 pub(crate) fn number(cursor: &mut Cursor<'_>) -> Option<Option<Num>>
     ensures { MatchOption result (number_at cursor.old ≡ None) (λ v. number_at cursor.old ≡ Some (v, cursor.new)) }
 {

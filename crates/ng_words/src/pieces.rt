@@ -7,6 +7,7 @@ use crate::letter::Letter;
 use crate::piece_entry::PieceEntry;
 use crate::tree::{Node, Tree};
 use std::marker::Model;
+use std::slice;
 
 /// A piece of a line (NISTIR 6556, 3.3).
 #[derive(Drop)]
@@ -62,22 +63,29 @@ impl<'a> Pieces<'a> {
             (λ p. pieces_by self.old ≡ piece_of p ∷ pieces_by self.new) }
     {
         let (item, others) = self.items.split_first()?;
-        match *item {
+        match item {
+            PieceEntry::Number(letter, node) => {
+                self.items = others;
+                let value = Tree {
+                    nodes: slice::from_ref(node),
+                };
+                Some(PieceRef::Word(*letter, value))
+            }
             PieceEntry::Word(letter, n) => {
-                let (value, rest) = split_tree(self.nodes, n);
+                let (value, rest) = split_tree(self.nodes, *n);
                 self.items = others;
                 self.nodes = rest;
-                Some(PieceRef::Word(letter, value))
+                Some(PieceRef::Word(*letter, value))
             }
             PieceEntry::Assignment(i, n) => {
-                let (index, after) = split_tree(self.nodes, i);
-                let (value, rest) = split_tree(after, n);
+                let (index, after) = split_tree(self.nodes, *i);
+                let (value, rest) = split_tree(after, *n);
                 self.items = others;
                 self.nodes = rest;
                 Some(PieceRef::Assignment(index, value))
             }
             PieceEntry::Comment(n) => {
-                let (text, rest) = self.bytes.split_at(n as usize);
+                let (text, rest) = self.bytes.split_at(*n as usize);
                 self.items = others;
                 self.bytes = rest;
                 Some(PieceRef::Comment(text))

@@ -3,28 +3,32 @@ ghost use Rattle.std.specs.Prelude.{◌≡◌, ◌+◌, ◌*◌, ◌<◌, ◌≤
 ghost use Rattle.ng_words.specs.Plain.{StartsWithByte};
 ghost use Rattle.ng_words.specs.Values.{value_at};
 ghost use Rattle.ng_words.specs.Pieces.{comment_at};
+ghost use Rattle.ng_words.specs.Private.Items.{last_size};
 ghost use Rattle.ng_words.specs.Private.Walks.{store_of, AddsWord, assignment_at, AddsAssignment, AddsComment, TakesPiece, TakesPieces};
 
+use crate::comments::Comments;
 use crate::cursor::Cursor;
 use crate::letter::{Letter, letter_of};
-use crate::line::{BYTES, PIECES};
+use crate::line::PIECES;
+use crate::number::number;
 use crate::piece_entry::PieceEntry;
-use crate::value::{Nodes, WaitingList, value};
+use crate::tree::Node;
+use crate::value::{Nodes, WaitingList, begins_number, value, walk};
 use arrayvec::ArrayVec;
 
 /// The items of a line.
 pub(crate) type Items = ArrayVec<PieceEntry, PIECES>;
 
-/// The bytes of a line's comments.
-pub(crate) type Bytes = ArrayVec<u8, BYTES>;
-
-/// Adds an item. (The arm for words is separate for the prover's sake.)
+/// Adds an item. (The arms for words are separate for the prover's sake.)
 #[inline]
 fn push_item(items: &mut Items, item: PieceEntry)
     requires { length items.old.items < 128 }
     ensures { items.new.items ≡ items.old.items ++ item ∷ [] }
 {
     match item {
+        PieceEntry::Number(letter, Node::Number(value)) => {
+            items.push(PieceEntry::Number(letter, Node::Number(value)))
+        }
         PieceEntry::Word(letter, n) => items.push(PieceEntry::Word(letter, n)),
         other => items.push(other),
     }
@@ -46,7 +50,16 @@ fn word(
         (value_at cursor.old ≡ None) }
     ensures room { IsTrue result → length nodes.new.items + length cursor.new ≤ length nodes.old.items + length cursor.old }
 {
-    match value(cursor, stack, nodes) {
+    if begins_number(cursor) {
+        return match number(cursor) {
+            Some(value) => {
+                items.push(PieceEntry::Number(letter, Node::Number(value)));
+                true
+            }
+            None => false,
+        };
+    }
+    match walk(cursor, stack, nodes) {
         Some(n) => {
             items.push(PieceEntry::Word(letter, n));
             true
@@ -86,19 +99,23 @@ fn assignment(
 }
 
 /// Takes a comment, whose opening parenthesis comes next.
-fn comment(cursor: &mut Cursor<'_>, items: &mut Items, bytes: &mut Bytes) -> bool
+fn comment(cursor: &mut Cursor<'_>, items: &mut Items, comments: &mut Comments) -> bool
     requires begins { StartsWithByte cursor.old 40 }
     requires few { length items.old.items < 128 }
-    requires room { length bytes.old.items + length cursor.old ≤ 256 }
+    requires room { length comments.old.bytes.items + length cursor.old ≤ 256 }
     ensures comment { MatchBool result
-        (AddsComment cursor.old cursor.new items.old.items items.new.items bytes.old.items bytes.new.items)
+        (AddsComment cursor.old cursor.new items.old.items items.new.items comments.old.bytes.items comments.new.bytes.items)
         (comment_at (drop 1 cursor.old) ≡ None) }
-    ensures room { IsTrue result → length bytes.new.items + length cursor.new ≤ length bytes.old.items + length cursor.old }
+    ensures room { IsTrue result → length comments.new.bytes.items + length cursor.new
+        ≤ length comments.old.bytes.items + length cursor.old }
+    ensures last { IsTrue result → comments.new.last ≡ last_size items.new.items }
 {
     match cursor.comment() {
         Some(text) => {
-            bytes.try_extend_from_slice(text).unwrap();
-            push_item(items, PieceEntry::Comment(text.len() as u16));
+            comments.bytes.try_extend_from_slice(text).unwrap();
+            let size = text.len() as u16;
+            comments.last = Some(size);
+            push_item(items, PieceEntry::Comment(size));
             true
         }
         None => false,
@@ -110,32 +127,36 @@ fn piece(
     cursor: &mut Cursor<'_>,
     items: &mut Items,
     nodes: &mut Nodes,
-    bytes: &mut Bytes,
+    comments: &mut Comments,
     stack: &mut WaitingList,
 ) -> bool
     requires few { length items.old.items < 128 }
     requires nodes_fit { length nodes.old.items + length cursor.old ≤ 256 }
-    requires bytes_fit { length bytes.old.items + length cursor.old ≤ 256 }
+    requires bytes_fit { length comments.old.bytes.items + length cursor.old ≤ 256 }
+    requires last { comments.old.last ≡ last_size items.old.items }
     ensures piece { TakesPiece cursor.old result cursor.new
-        (store_of items.old.items nodes.old.items bytes.old.items)
-        (store_of items.new.items nodes.new.items bytes.new.items) }
+        (store_of items.old.items nodes.old.items comments.old.bytes.items)
+        (store_of items.new.items nodes.new.items comments.new.bytes.items) }
     ensures nodes_fit { IsTrue result → length nodes.new.items + length cursor.new ≤ 256 }
-    ensures bytes_fit { IsTrue result → length bytes.new.items + length cursor.new ≤ 256 }
+    ensures bytes_fit { IsTrue result → length comments.new.bytes.items + length cursor.new ≤ 256 }
+    ensures last { IsTrue result → comments.new.last ≡ last_size items.new.items }
 {
-    match cursor.peek() {
-        Some(b'(') => comment(cursor, items, bytes),
-        Some(b'#') => {
+    let Some(byte) = cursor.first() else {
+        return false;
+    };
+    match letter_of(byte) {
+        Some(letter) => {
             cursor.advance();
-            assignment(cursor, items, nodes, stack)
+            word(letter, cursor, items, nodes, stack)
         }
-        Some(byte) => match letter_of(byte) {
-            Some(letter) => {
+        None => match byte {
+            b'(' => comment(cursor, items, comments),
+            b'#' => {
                 cursor.advance();
-                word(letter, cursor, items, nodes, stack)
+                assignment(cursor, items, nodes, stack)
             }
-            None => false,
+            _ => false,
         },
-        None => false,
     }
 }
 
@@ -144,17 +165,19 @@ fn take_pieces(
     cursor: &mut Cursor<'_>,
     items: &mut Items,
     nodes: &mut Nodes,
-    bytes: &mut Bytes,
+    comments: &mut Comments,
     stack: &mut WaitingList,
 ) -> bool
     requires no_items { items.old.items ≡ [] }
     requires no_nodes { nodes.old.items ≡ [] }
-    requires no_bytes { bytes.old.items ≡ [] }
+    requires no_bytes { comments.old.bytes.items ≡ [] }
+    requires no_comment { comments.old.last ≡ None }
     requires short { length cursor.old ≤ 256 }
-    ensures { TakesPieces cursor.old result (store_of items.new.items nodes.new.items bytes.new.items) }
+    ensures pieces { TakesPieces cursor.old result (store_of items.new.items nodes.new.items comments.new.bytes.items) }
+    ensures last { IsTrue result → comments.new.last ≡ last_size items.new.items }
 {
     while !cursor.is_empty() {
-        if !piece(cursor, items, nodes, bytes, stack) {
+        if !piece(cursor, items, nodes, comments, stack) {
             return false;
         }
     }
@@ -167,21 +190,23 @@ pub(crate) fn read_pieces(
     cursor: &mut Cursor<'_>,
     items: &mut Items,
     nodes: &mut Nodes,
-    bytes: &mut Bytes,
+    comments: &mut Comments,
     stack: &mut WaitingList,
 ) -> bool
     requires no_items { items.old.items ≡ [] }
     requires no_nodes { nodes.old.items ≡ [] }
-    requires no_bytes { bytes.old.items ≡ [] }
+    requires no_bytes { comments.old.bytes.items ≡ [] }
+    requires no_comment { comments.old.last ≡ None }
     requires short { length cursor.old ≤ 256 }
-    ensures pieces { TakesPieces cursor.old result (store_of items.new.items nodes.new.items bytes.new.items) }
-    ensures cleared { MatchBool result (Unit {0}) ((items.new.items ≡ []) × (nodes.new.items ≡ []) × (bytes.new.items ≡ [])) }
+    ensures pieces { TakesPieces cursor.old result (store_of items.new.items nodes.new.items comments.new.bytes.items) }
+    ensures last { comments.new.last ≡ last_size items.new.items }
+    ensures cleared { MatchBool result (Unit {0}) ((items.new.items ≡ []) × (nodes.new.items ≡ []) × (comments.new.bytes.items ≡ [])) }
 {
-    if take_pieces(cursor, items, nodes, bytes, stack) {
+    if take_pieces(cursor, items, nodes, comments, stack) {
         return true;
     }
     items.clear();
     nodes.clear();
-    bytes.clear();
+    comments.clear();
     false
 }

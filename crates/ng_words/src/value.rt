@@ -1,16 +1,13 @@
 //! Values: one walk over the bytes, with a list of what waits for a value to its right.
 ghost use Rattle.std.specs.Prelude.{◌≡◌, ◌+◌, ◌<◌, ◌≤◌, ◌↔◌, [], ◌∷◌, ◌++◌, false, true, length, None, Some, IsTrue, OnSome, MatchOption};
 ghost use Rattle.ng_words.specs.Grammar.{level};
-ghost use Rattle.ng_words.specs.Scan.{number_at};
 ghost use Rattle.ng_words.specs.Values.{operations, entry_at};
 ghost use Rattle.ng_words.specs.Private.Walks.{nearest, is_index, operation_within, closing, IsOpening, IsFunction, TakesValue, WalkStepSpec, Settles, Gathers, ClosesBrackets, BeginsNumber};
 
 use crate::cursor::Cursor;
 use crate::number::number;
-use crate::together::number_together;
 use crate::tree::{Function, NODES, Node, Operation};
 use arrayvec::ArrayVec;
-use ng_num::Num;
 
 /// What waits for the value to its right.
 #[derive(Clone, Copy)]
@@ -45,75 +42,74 @@ fn opening(cursor: &mut Cursor<'_>) -> Option<Waiting>
     ensures opening { IsOpening cursor.old result cursor.new }
     ensures shorter { OnSome result (length cursor.new < length cursor.old) }
 {
-    if cursor.skip(b"#") {
-        return Some(Waiting::Index);
-    }
-    if cursor.skip(b"[") {
-        return Some(Waiting::Brackets);
-    }
-    match function(cursor) {
-        Some(f) => Some(Waiting::Function(f)),
-        None => None,
+    match cursor.first() {
+        Some(b'#') => {
+            cursor.advance();
+            Some(Waiting::Index)
+        }
+        Some(b'[') => {
+            cursor.advance();
+            Some(Waiting::Brackets)
+        }
+        _ => match function(cursor) {
+            Some(f) => Some(Waiting::Function(f)),
+            None => None,
+        },
     }
 }
 
-/// The function whose name and bracket come next.
+/// The function whose name and bracket come next, told by its first letter.
 fn function(cursor: &mut Cursor<'_>) -> Option<Function>
     ensures value { IsFunction cursor.old result cursor.new }
     ensures shorter { OnSome result (length cursor.new < length cursor.old) }
 {
-    if cursor.skip(b"ABS[") {
-        return Some(Function::Abs);
+    match cursor.peek() {
+        Some(b'A') => cursor.skip(b"ABS[").then_some(Function::Abs),
+        Some(b'F') => {
+            if cursor.skip(b"FIX[") {
+                return Some(Function::Fix);
+            }
+            cursor.skip(b"FUP[").then_some(Function::Fup)
+        }
+        Some(b'R') => cursor.skip(b"ROUND[").then_some(Function::Round),
+        Some(b'S') => cursor.skip(b"SQRT[").then_some(Function::Sqrt),
+        _ => None,
     }
-    if cursor.skip(b"FIX[") {
-        return Some(Function::Fix);
-    }
-    if cursor.skip(b"FUP[") {
-        return Some(Function::Fup);
-    }
-    if cursor.skip(b"ROUND[") {
-        return Some(Function::Round);
-    }
-    if cursor.skip(b"SQRT[") {
-        return Some(Function::Sqrt);
-    }
-    None
 }
 
-/// The operation that comes next.
+/// The operation that comes next, told by its first byte; a second asterisk makes a power.
 fn operation(cursor: &mut Cursor<'_>) -> Option<Operation>
     ensures value { MatchOption result (entry_at operations cursor.old ≡ None)
         (λ op. entry_at operations cursor.old ≡ Some (op, cursor.new)) }
     ensures shorter { OnSome result (length cursor.new < length cursor.old) }
 {
-    if cursor.skip(b"**") {
-        return Some(Operation::Power);
+    match cursor.first() {
+        Some(b'*') => {
+            cursor.advance();
+            if cursor.is_at(b'*') {
+                cursor.advance();
+                return Some(Operation::Power);
+            }
+            Some(Operation::Times)
+        }
+        Some(b'/') => {
+            cursor.advance();
+            Some(Operation::Over)
+        }
+        Some(b'+') => {
+            cursor.advance();
+            Some(Operation::Plus)
+        }
+        Some(b'-') => {
+            cursor.advance();
+            Some(Operation::Minus)
+        }
+        Some(b'M') | Some(b'm') => cursor.skip(b"MOD").then_some(Operation::Modulo),
+        Some(b'O') | Some(b'o') => cursor.skip(b"OR").then_some(Operation::Or),
+        Some(b'X') | Some(b'x') => cursor.skip(b"XOR").then_some(Operation::Xor),
+        Some(b'A') | Some(b'a') => cursor.skip(b"AND").then_some(Operation::And),
+        _ => None,
     }
-    if cursor.skip(b"*") {
-        return Some(Operation::Times);
-    }
-    if cursor.skip(b"/") {
-        return Some(Operation::Over);
-    }
-    if cursor.skip(b"MOD") {
-        return Some(Operation::Modulo);
-    }
-    if cursor.skip(b"+") {
-        return Some(Operation::Plus);
-    }
-    if cursor.skip(b"-") {
-        return Some(Operation::Minus);
-    }
-    if cursor.skip(b"OR") {
-        return Some(Operation::Or);
-    }
-    if cursor.skip(b"XOR") {
-        return Some(Operation::Xor);
-    }
-    if cursor.skip(b"AND") {
-        return Some(Operation::And);
-    }
-    None
 }
 
 /// How loosely an operation binds (NISTIR 6556, 3.3.2.3).
@@ -226,24 +222,25 @@ fn close(stack: &mut WaitingList, nodes: &mut Nodes) -> bool
     }
 }
 
-/// A step before a value: it takes what opens one, or a number. Returns whether a value is complete after it.
+/// A step before a value: it takes a number, or what opens a value. Returns whether a value is complete after it.
 fn begin(cursor: &mut Cursor<'_>, stack: &mut WaitingList, nodes: &mut Nodes) -> Option<bool>
     requires { length stack.old.items + length nodes.old.items + length cursor.old ≤ 256 }
     ensures steps { WalkStepSpec false cursor.old stack.old.items nodes.old.items result cursor.new stack.new.items nodes.new.items }
     ensures room { OnSome result (length stack.new.items + length nodes.new.items + length cursor.new
         ≤ length stack.old.items + length nodes.old.items + length cursor.old) }
 {
+    if begins_number(cursor) {
+        let value = number(cursor)?;
+        nodes.push(Node::Number(value));
+        settle(stack, nodes);
+        return Some(true);
+    }
     match opening(cursor) {
         Some(waiting) => {
             stack.push(waiting);
             Some(false)
         }
-        None => {
-            let value = number(cursor)?;
-            nodes.push(Node::Number(value));
-            settle(stack, nodes);
-            Some(true)
-        }
+        None => None,
     }
 }
 
@@ -254,21 +251,24 @@ fn go_on(cursor: &mut Cursor<'_>, stack: &mut WaitingList, nodes: &mut Nodes) ->
     ensures room { OnSome result (length stack.new.items + length nodes.new.items + length cursor.new
         ≤ length stack.old.items + length nodes.old.items + length cursor.old) }
 {
-    if cursor.skip(b"]") {
-        gather(LOOSEST, stack, nodes);
-        return if close(stack, nodes) {
-            Some(true)
-        } else {
-            None
-        };
-    }
-    match operation(cursor) {
-        Some(operation) => {
-            gather(level(operation), stack, nodes);
-            stack.push(Waiting::Operation(operation));
-            Some(false)
+    match cursor.first() {
+        Some(b']') => {
+            cursor.advance();
+            gather(LOOSEST, stack, nodes);
+            if close(stack, nodes) {
+                Some(true)
+            } else {
+                None
+            }
         }
-        None => None,
+        _ => match operation(cursor) {
+            Some(operation) => {
+                gather(level(operation), stack, nodes);
+                stack.push(Waiting::Operation(operation));
+                Some(false)
+            }
+            None => None,
+        },
     }
 }
 
@@ -299,8 +299,12 @@ fn has_ended(after_value: bool, stack: &WaitingList) -> bool
     after_value && stack.is_empty()
 }
 
-/// Takes a value of any form. Pushes its nodes and returns how many there are.
-fn walk(cursor: &mut Cursor<'_>, stack: &mut WaitingList, nodes: &mut Nodes) -> Option<u16>
+/// Takes a value of any form, step by step. Pushes its nodes and returns how many there are.
+pub(crate) fn walk(
+    cursor: &mut Cursor<'_>,
+    stack: &mut WaitingList,
+    nodes: &mut Nodes,
+) -> Option<u16>
     requires { length nodes.old.items + length cursor.old ≤ 256 }
     ensures value { TakesValue cursor.old nodes.old.items result cursor.new nodes.new.items }
     ensures room { OnSome result (length nodes.new.items + length cursor.new ≤ length nodes.old.items + length cursor.old) }
@@ -317,11 +321,11 @@ fn walk(cursor: &mut Cursor<'_>, stack: &mut WaitingList, nodes: &mut Nodes) -> 
     Some((nodes.len() - start) as u16)
 }
 
-/// Whether the next byte shows that a value here can only be a number. (It tests for the bytes from the plus to the
-/// nine; those that don't begin a number don't begin any value.)
+/// Whether the next byte shows that a value here is a number alone, if there is one. (It tests for the bytes from the
+/// plus to the nine; those that don't begin a number don't begin any value.)
 #[inline]
-fn begins_number(cursor: &Cursor<'_>) -> bool
-    ensures { IsTrue result → BeginsNumber cursor.now }
+pub(crate) fn begins_number(cursor: &Cursor<'_>) -> bool
+    ensures { IsTrue result ↔ BeginsNumber cursor.now }
 {
     match cursor.first() {
         Some(b) => b'+' <= b && b <= b'9',
@@ -329,20 +333,7 @@ fn begins_number(cursor: &Cursor<'_>) -> bool
     }
 }
 
-/// Takes a value that is a number alone, its digits together. If there is none, the cursor stays.
-#[inline(always)]
-fn plain_number(cursor: &mut Cursor<'_>) -> Option<Option<Num>>
-    ensures { MatchOption result (cursor.new ≡ cursor.old) (λ v. (number_at cursor.old ≡ Some (v, cursor.new)) × BeginsNumber cursor.old) }
-{
-    if begins_number(cursor) {
-        number_together(cursor)
-    } else {
-        None
-    }
-}
-
 /// Takes a value. Pushes its nodes and returns how many there are. `stack` is used for its list of what waits.
-#[inline(always)]
 pub(crate) fn value(
     cursor: &mut Cursor<'_>,
     stack: &mut WaitingList,
@@ -353,11 +344,10 @@ pub(crate) fn value(
     ensures room { OnSome result (length nodes.new.items + length cursor.new ≤ length nodes.old.items + length cursor.old) }
     ensures shorter { OnSome result (length cursor.new < length cursor.old) }
 {
-    match plain_number(cursor) {
-        Some(count) => {
-            nodes.push(Node::Number(count));
-            Some(1)
-        }
-        None => walk(cursor, stack, nodes),
+    if !begins_number(cursor) {
+        return walk(cursor, stack, nodes);
     }
+    let value = number(cursor)?;
+    nodes.push(Node::Number(value));
+    Some(1)
 }

@@ -143,7 +143,7 @@ store_of items nodes bytes = record { items = items; nodes = nodes; bytes = byte
 -- a value was taken after a letter: its word is added
 abbrev pub AddsWord : Letter → List ℕ → List ℕ → List PieceEntry → List PieceEntry → List Node → List Node → Type 0
 AddsWord letter bytes rest items items_then nodes nodes_then =
-    (v : Tree) × (value_at bytes ≡ Some (v, rest)) × (items_then ≡ items ++ item_of (word letter v) ∷ []) × (nodes_then ≡ nodes ++ postfix v)
+    (v : Tree) × (value_at bytes ≡ Some (v, rest)) × (items_then ≡ items ++ item_of (word letter v) ∷ []) × (nodes_then ≡ nodes ++ nodes_of (word letter v))
 
 -- what comes after an assignment's sign
 abbrev pub assignment_at : List ℕ → Option (Piece × List ℕ)

@@ -1,4 +1,6 @@
-use Rattle.std.proofs.Common.{arith, length, ◌+◌, ◌≡◌}
+use Rattle.std.proofs.Common.{arith, sym, ap, ◌∙◌, length, ◌+◌, ◌≡◌}
+use Rattle.ng_words.specs.Private.Items.{last_size}
+use Rattle.ng_words.proofs.Kept.{last_after_comment}
 use Rattle.ng_words.proofs.Adding.{comment_size}
 use Rattle.ng_words.proofs.reading.comment.Goals as goal
 
@@ -9,6 +11,9 @@ unwrap-requires c =
 pub returns-in-Some-clause-room : goal.returns-in-Some-clause-room
 returns-in-Some-clause-room c =
     let size : length c.in-Some.text.now + length c.comment.new.self + 2 ≡ length c.args.cursor.now = comment_size _ _ _ c.requires.begins c.in-Some.ensures in
-    let longer : length c.try_extend_from_slice.new.self.items ≡ length c.args.bytes.now.items + length c.in-Some.text.now =
+    let longer : length c.try_extend_from_slice.new.self.items ≡ length c.args.comments.now.bytes.items + length c.in-Some.text.now =
     (rw c.unwrap.ensures at c.try_extend_from_slice.ensures.len) in
     λ t. omega arith
+
+pub returns-in-Some-clause-last : goal.returns-in-Some-clause-last
+returns-in-Some-clause-last c = λ t. sym (ap last_size c.push_item.ensures ∙ last_after_comment c.args.items.now.items _)

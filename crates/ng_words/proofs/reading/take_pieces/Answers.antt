@@ -1,4 +1,5 @@
-use Rattle.std.proofs.Common.{arith, rules, refl, ap, length, ◌+◌, ◌≤◌, ◌≡◌, true}
+use Rattle.std.proofs.Common.{arith, rules, refl, sym, ap, ◌∙◌, length, ◌+◌, ◌≤◌, ◌≡◌, true}
+use Rattle.ng_words.specs.Private.Items.{last_size}
 use Rattle.ng_words.proofs.Adding.{taking_starts, taking_goes, piece_shorter, one_item_more}
 use Rattle.ng_words.proofs.reading.take_pieces.Goals as goal
 
@@ -8,6 +9,7 @@ loop-cursor-init c = (
   omega (arith, ap length c.requires.no_items, c.requires.short),
   omega (arith, ap length c.requires.no_nodes, c.requires.short),
   omega (arith, ap length c.requires.no_bytes, c.requires.short),
+  c.requires.no_comment ∙ sym (ap last_size c.requires.no_items),
 )
 
 pub loop-cursor-smaller : goal.loop-cursor-smaller
@@ -22,4 +24,11 @@ loop-cursor-preserved c =
       omega arith,
       c.if-not-piece.ensures.nodes_fit (search rules),
       c.if-not-piece.ensures.bytes_fit (search rules),
+      c.if-not-piece.ensures.last (search rules),
     )
+
+pub piece-requires-clause-last : goal.piece-requires-clause-last
+piece-requires-clause-last c = c.loop-cursor.invariant.4
+
+pub returns-clause-last : goal.returns-clause-last
+returns-clause-last c = λ t. c.loop-cursor.invariant.4

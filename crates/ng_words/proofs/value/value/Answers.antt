@@ -1,18 +1,17 @@
-use Rattle.std.proofs.Common.{arith, refl, subst, length, ◌<◌, ℕ, List, OnSome}
-use Rattle.ng_words.proofs.Places.{number_taken, number_shorter, value_shorter}
+use Rattle.std.proofs.Common.{arith, refl, length, ◌<◌}
+use Rattle.ng_words.proofs.Places.{begins_so, number_taken, number_shorter, value_shorter}
 use Rattle.ng_words.proofs.value.value.Goals as goal
 
-pub returns-in-Some-clause-value : goal.returns-in-Some-clause-value
-returns-in-Some-clause-value c =
-    number_taken _ _ _ _ _ c.in-Some.ensures.1 c.in-Some.ensures.0 c.push.ensures.items
+pub returns-then-not-begins_number-clause-shorter : goal.returns-then-not-begins_number-clause-shorter
+returns-then-not-begins_number-clause-shorter c = value_shorter _ _ _ _ _ c.walk.ensures.value
 
-pub returns-in-Some-clause-room : goal.returns-in-Some-clause-room
-returns-in-Some-clause-room c =
-    let shorter : length c.plain_number.new.cursor < length c.args.cursor.now = number_shorter _ _ _ _ refl c.in-Some.ensures.0 in omega (arith, c.push.ensures.len)
+pub returns-clause-value : goal.returns-clause-value
+returns-clause-value c =
+    number_taken _ _ _ _ _ (begins_so _ _ c.begins_number.ensures c.if-not-begins_number.false) c.in_ok-value.ensures c.push.ensures.items
 
-pub returns-in-Some-clause-shorter : goal.returns-in-Some-clause-shorter
-returns-in-Some-clause-shorter c = number_shorter _ _ _ _ refl c.in-Some.ensures.0
+pub returns-clause-room : goal.returns-clause-room
+returns-clause-room c =
+    let shorter : length c.number.new.cursor < length c.args.cursor.now = number_shorter _ _ _ _ refl c.in_ok-value.ensures in omega (arith, c.push.ensures.len)
 
-pub returns-in-None-clause-shorter : goal.returns-in-None-clause-shorter
-returns-in-None-clause-shorter c =
-    subst (λ (l : List ℕ). OnSome c.walk.result (length c.walk.new.cursor < length l)) c.in-None.ensures (value_shorter _ _ _ _ _ c.walk.ensures.value)
+pub returns-clause-shorter : goal.returns-clause-shorter
+returns-clause-shorter c = number_shorter _ _ _ _ refl c.in_ok-value.ensures

@@ -7,15 +7,15 @@ use Rattle.ng_words.proofs.line.Line.last_comment.Goals as goal
 
 pub overflow_sub-result : goal.overflow_sub-result
 overflow_sub-result c =
-    let within = last_within _ _ _ c.in-Some.n c.self.invariant c.as_slice.ensures.value c.last_length.ensures c.in-Some.is in
+    let within = last_within _ _ c.in-Some.n c.self.invariant.0 c.self.invariant.1 c.in-Some.is in
     omega (arith, within, c.len.ensures.value)
 
 pub returns-in-Some-clause-text : goal.returns-in-Some-clause-text
 returns-in-Some-clause-text c =
     ap (λ (l : LineModel). last_comment (pieces_by l.places)) (sym c.self.view_is)
-    ∙ last_text _ _ _ c.in-Some.n c.len.result c.as_slice-in-Some.result.now c.self.invariant c.as_slice.ensures.value c.last_length.ensures c.in-Some.is c.as_slice-in-Some.ensures.value c.len.ensures.value
+    ∙ last_text _ _ c.in-Some.n c.len.result c.as_slice.result.now c.self.invariant.0 c.self.invariant.1 c.in-Some.is c.as_slice.ensures.value c.len.ensures.value
 
 pub returns-in-None-clause-text : goal.returns-in-None-clause-text
 returns-in-None-clause-text c =
     ap (λ (l : LineModel). last_comment (pieces_by l.places)) (sym c.self.view_is)
-    ∙ last_none _ _ _ c.self.invariant c.as_slice.ensures.value c.last_length.ensures c.in-None.is
+    ∙ last_none _ _ c.self.invariant.0 c.self.invariant.1 c.in-None.is

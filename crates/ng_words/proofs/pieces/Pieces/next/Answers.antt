@@ -2,8 +2,17 @@
 use Rattle.std.proofs.Common.{ℕ, ◌≤◌, List, length, take, drop, ap, sym, subst, ◌∙◌, arith, length-drop}
 use Rattle.ng_words.specs.Kept.{IsTree, AreEncodedPieces}
 use Rattle.ng_words.specs.declared.tree.Node.{Node}
-use Rattle.ng_words.proofs.Kept.{kept_word, kept_assignment, kept_comment}
+use Rattle.ng_words.proofs.Kept.{kept_number, kept_word, kept_assignment, kept_comment}
 use Rattle.ng_words.proofs.pieces.Pieces.next.Goals as goal
+
+pub invariant_of-self : goal.invariant_of-self
+invariant_of-self c = ((kept_number _ _ _ _ _ c.self.invariant.0 c.in_ok-item.ensures.cases.0 c.in-Number.is).kept, c.self.invariant.1)
+
+pub invariant_of-value : goal.invariant_of-value
+invariant_of-value c = (
+  subst IsTree (sym c.from_ref.ensures.value) (kept_number _ _ _ _ _ c.self.invariant.0 c.in_ok-item.ensures.cases.0 c.in-Number.is).tree,
+  omega (arith, c.from_ref.ensures.len),
+)
 
 pub split_tree-value-requires-clause-within : goal.split_tree-value-requires-clause-within
 split_tree-value-requires-clause-within c = (kept_word _ _ _ _ _ c.self.invariant.0 c.in_ok-item.ensures.cases.0 c.in-Word.is).within
@@ -11,8 +20,8 @@ split_tree-value-requires-clause-within c = (kept_word _ _ _ _ _ c.self.invarian
 pub split_tree-value-requires-clause-tree : goal.split_tree-value-requires-clause-tree
 split_tree-value-requires-clause-tree c = (kept_word _ _ _ _ _ c.self.invariant.0 c.in_ok-item.ensures.cases.0 c.in-Word.is).tree
 
-pub invariant_of-self : goal.invariant_of-self
-invariant_of-self c =
+pub invariant_of-self-in-Word : goal.invariant_of-self-in-Word
+invariant_of-self-in-Word c =
     let first = kept_word _ _ _ _ _ c.self.invariant.0 c.in_ok-item.ensures.cases.0 c.in-Word.is in
     let rest = c.split_tree-value.ensures.rest in (
       subst (λ (nodes : List Node). AreEncodedPieces (record { items = c.in_ok-item.others.now; nodes = nodes; bytes = c.self.inside.bytes.now })) (sym rest) first.kept,
