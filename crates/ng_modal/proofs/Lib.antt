@@ -1,6 +1,7 @@
 pub mod CodeLemmas
 pub mod GroupLemmas
 pub mod TwiceLemmas
+pub mod LetterLemmas
 pub mod SortedLemmas
 pub mod LeastLemmas
 pub mod TestLemmas

@@ -1,6 +1,7 @@
 pub mod Codes
 pub mod Groups
 pub mod Words
+pub mod ByLetterModel
 pub mod ByLetter
 pub mod ByGroup
 pub mod Lines

@@ -5,7 +5,7 @@ use Rattle.ng_expr.specs.declared.word.Word.{Word}
 use Rattle.ng_modal.specs.Words.{g_words_of, m_words_of}
 use Rattle.ng_modal.specs.ByLetter.{by_letter, has_axis}
 use Rattle.ng_modal.specs.ByGroup.{g_words, m_words}
-use Rattle.ng_modal.specs.WordCauses.{is_repeated, has_unknown, has_left_out, is_group_twice, is_m_group_twice, count_of_m}
+use Rattle.ng_modal.specs.WordCauses.{is_repeated, has_unknown, has_left_out, has_left_out_code, is_group_twice, is_m_group_twice, count_of_m}
 use Rattle.ng_modal.specs.Lines.{is_straight}
 use Rattle.ng_modal.specs.Blocks.{block_of}
 use Rattle.ng_modal.specs.Causes.{is_negative}
@@ -13,7 +13,7 @@ use Rattle.ng_modal.specs.declared.by_letter.ByLetter.{ByLetter}
 use Rattle.ng_state.specs.declared.modes.Modes.{Modes}
 use Rattle.ng_modal.specs.declared.sorted.Sorted.{Sorted}
 
--- the motion is found after all words were added
+-- the motion and the letters that are left out are found after all words were added
 abbrev pub sorted : List Word → Sorted
 sorted ws = record {
   block = record {
@@ -24,14 +24,14 @@ sorted ws = record {
   };
   repeated = is_repeated ws;
   unknown = has_unknown ws;
-  left_out = has_left_out ws;
+  left_out = has_left_out_code ws;
   group_twice = is_group_twice (g_words_of ws);
   m_group_twice = is_m_group_twice (m_words_of ws);
   m_count = count_of_m ws;
 }
 
 abbrev pub sorted_in : List Word → Modes → Sorted
-sorted_in ws m = record (sorted ws) { block = block_of ws m }
+sorted_in ws m = record (sorted ws) { block = block_of ws m; left_out = has_left_out ws }
 
 -- a cause of B1 to B5
 abbrev pub is_marked : Sorted → Bool

@@ -47,6 +47,14 @@ is_left_out_on letter value = is_left_out_letter letter
 abbrev pub has_left_out : List Word → Bool
 has_left_out ws = list_any (λ w. is_left_out_on w.letter w.value) ws
 
+-- the part of it that is a code
+abbrev pub is_left_out_code_on : Letter → ℤ → Bool
+is_left_out_code_on G value = is_left_out_code (g_word value)
+is_left_out_code_on _ value = false
+
+abbrev pub has_left_out_code : List Word → Bool
+has_left_out_code ws = list_any (λ w. is_left_out_code_on w.letter w.value) ws
+
 -- two words of one group
 abbrev pub is_group_twice : List GWord → Bool
 is_group_twice words = list_any (λ group. is_twice (of_group group words)) groups

@@ -9,7 +9,7 @@ use ng_canon::Plane;
 use ng_state::{Modes, Motion};
 
 /// What a line asks for.
-#[derive(Clone, Copy)]
+#[derive(Drop)]
 pub struct Block {
     /// The values by letter.
     pub values: ByLetter,

@@ -59,7 +59,7 @@ impl Block {
     pub(crate) fn has_radius_arc(&self) -> bool
         ensures { result ≡ has_radius_arc self.now }
     {
-        self.values.r.is_some() && is_arc(self.motion)
+        self.values.r().is_some() && is_arc(self.motion)
     }
 
     /// Whether there is a centre offset that an arc in the plane doesn't use.
@@ -67,9 +67,9 @@ impl Block {
     fn has_unused_offset(&self, plane: Plane) -> bool
         ensures { result ≡ has_unused_offset self.now plane }
     {
-        is_unused_word(self.values.i, is_arc(self.motion) && is_along_x(plane))
-            || is_unused_word(self.values.j, is_arc(self.motion) && is_along_y(plane))
-            || is_unused_word(self.values.k, is_arc(self.motion) && is_along_z(plane))
+        is_unused_word(self.values.i(), is_arc(self.motion) && is_along_x(plane))
+            || is_unused_word(self.values.j(), is_arc(self.motion) && is_along_y(plane))
+            || is_unused_word(self.values.k(), is_arc(self.motion) && is_along_z(plane))
     }
 
     /// B12: a word that nothing on the line uses.
@@ -77,20 +77,23 @@ impl Block {
     pub(crate) fn leaves_word_unused(&self, modes: &Modes) -> bool
         ensures { result ≡ leaves_word_unused self.now modes.now }
     {
-        is_unused_word(self.values.h, is_of_slot(self.g.tool_length))
+        is_unused_word(self.values.h(), is_of_slot(self.g.tool_length))
             || self.has_unused_offset(self.plane_after(modes))
             || is_unused_word(
-                self.values.l,
+                self.values.l(),
                 is_set_origin(self.g.non_modal) || is_cycle(self.motion),
             )
             || is_unused_word(
-                self.values.p,
+                self.values.p(),
                 is_dwell(self.g.non_modal)
                     || is_set_origin(self.g.non_modal)
                     || dwells(self.motion),
             )
-            || is_unused_word(self.values.q, pecks(self.motion))
-            || is_unused_word(self.values.r, is_cycle(self.motion) || is_arc(self.motion))
+            || is_unused_word(self.values.q(), pecks(self.motion))
+            || is_unused_word(
+                self.values.r(),
+                is_cycle(self.motion) || is_arc(self.motion),
+            )
     }
 
     /// B13: F, S, or P of G4 is negative.
@@ -98,9 +101,9 @@ impl Block {
     pub(crate) fn has_negative(&self) -> bool
         ensures { result ≡ has_negative self.now }
     {
-        is_negative(self.values.f)
-            || is_negative(self.values.s)
-            || is_dwell(self.g.non_modal) && is_negative(self.values.p)
+        is_negative(self.values.f())
+            || is_negative(self.values.s())
+            || is_dwell(self.g.non_modal) && is_negative(self.values.p())
     }
 
     /// B14: T or H isn't a slot.
@@ -109,11 +112,11 @@ impl Block {
         ensures { result ≡ has_bad_slot self.now slots }
     {
         is_unused_word(
-            self.values.t,
-            is_whole_within(0, slots as i64, self.values.t),
+            self.values.t(),
+            is_whole_within(0, slots as i64, self.values.t()),
         ) || is_unused_word(
-            self.values.h,
-            is_whole_within(0, slots as i64, self.values.h),
+            self.values.h(),
+            is_whole_within(0, slots as i64, self.values.h()),
         )
     }
 
@@ -122,8 +125,9 @@ impl Block {
     pub(crate) fn has_bad_l(&self) -> bool
         ensures { result ≡ has_bad_l self.now }
     {
-        is_set_origin(self.g.non_modal) && !is_whole_within(2, 2, self.values.l)
-            || is_cycle(self.motion) && is_unused_word(self.values.l, is_positive(self.values.l))
+        is_set_origin(self.g.non_modal) && !is_whole_within(2, 2, self.values.l())
+            || is_cycle(self.motion)
+                && is_unused_word(self.values.l(), is_positive(self.values.l()))
     }
 
     /// B16: P of G10 is missing, or isn't a whole number from 1 to 9.
@@ -131,7 +135,7 @@ impl Block {
     pub(crate) fn has_bad_system(&self) -> bool
         ensures { result ≡ has_bad_system self.now }
     {
-        is_set_origin(self.g.non_modal) && !is_whole_within(1, 9, self.values.p)
+        is_set_origin(self.g.non_modal) && !is_whole_within(1, 9, self.values.p())
     }
 
     /// B17: G4 without P.
@@ -139,7 +143,7 @@ impl Block {
     pub(crate) fn has_no_dwell(&self) -> bool
         ensures { result ≡ has_no_dwell self.now }
     {
-        is_dwell(self.g.non_modal) && self.values.p.is_none()
+        is_dwell(self.g.non_modal) && self.values.p().is_none()
     }
 
     /// B18: G43 without H.
@@ -147,7 +151,7 @@ impl Block {
     pub(crate) fn has_no_h(&self) -> bool
         ensures { result ≡ has_no_h self.now }
     {
-        is_of_slot(self.g.tool_length) && self.values.h.is_none()
+        is_of_slot(self.g.tool_length) && self.values.h().is_none()
     }
 
     /// B19: a cycle outside plane XY.

@@ -1,5 +1,6 @@
 //! Whether a line's words are valid together.
-ghost use Rattle.std.specs.Prelude.{◌≡◌, Ok, Err, MatchResult, OnOk, IfOk};
+ghost use Rattle.std.specs.Prelude.{◌≡◌, List, Ok, Err, MatchResult, OnOk, IfOk};
+ghost use Rattle.ng_expr.specs.declared.word.Word.{Word as TheWord};
 ghost use Rattle.ng_num.specs.Causes.{first_fault, NoneHolds, IsFirstFault};
 ghost use Rattle.ng_modal.specs.Check.{faults, checked};
 ghost use Rattle.ng_modal.specs.Accepted.{IsAccepted};
@@ -16,7 +17,7 @@ impl Sorted {
 
     /// Whether words ask for a straight move and for nothing else that may be refused. Most lines are of this kind, so
     /// this is checked before the causes one by one.
-    #[inline(never)]
+    #[inline]
     fn is_plain(&self) -> bool
         ensures { result ≡ is_plain self.now }
     {
@@ -28,43 +29,41 @@ impl Sorted {
             | self.group_twice
             | self.m_group_twice
             | (self.m_count > 4);
-        let others = values.h.is_some()
-            | values.i.is_some()
-            | values.j.is_some()
-            | values.k.is_some()
-            | values.l.is_some()
-            | values.p.is_some()
-            | values.q.is_some()
-            | values.r.is_some()
-            | values.s.is_some()
-            | values.t.is_some();
+        let others = values.h().is_some()
+            | values.i().is_some()
+            | values.j().is_some()
+            | values.k().is_some()
+            | values.l().is_some()
+            | values.p().is_some()
+            | values.q().is_some()
+            | values.r().is_some()
+            | values.s().is_some()
+            | values.t().is_some();
         let takers = block.g.non_modal.is_some() | block.g.tool_length.is_some();
         is_straight(block.motion)
             && values.has_axis()
-            && !is_negative(values.f)
+            && !is_negative(values.f())
             && !(marked | others | takers)
     }
 
-    /// Replaces what is kept by the words of a line, and finds the motion that the line makes in these modes.
+    /// Replaces what is kept by the words of a line, and finds whether a letter is left out and which motion the line
+    /// makes in these modes.
     fn sort_in(&mut self, words: &[Word], modes: &Modes)
         ensures { self.new ≡ sorted_in words.now modes.now }
     {
         self.sort(words);
+        self.left_out |= self.block.values.has_left_out_letter();
         self.block.motion = self.block.motion_for(modes.motion);
     }
 
-    /// Finds what words ask for, or the first fault whose cause holds.
-    fn check_words(&mut self, words: &[Word], modes: &Modes, slots: u8) -> Result<(), Fault>
-        ensures { MatchResult result
-            (λ _. checked words.now modes.now slots ≡ Ok self.new.block)
-            (λ fault. checked words.now modes.now slots ≡ Err fault) }
+    /// The first of B1 to B19 whose cause holds for the words that are kept. Few lines come here, so this is a call of
+    /// its own, and what it reads isn't loaded for the others.
+    #[inline(never)]
+    fn find_fault(&self, modes: &Modes, slots: u8) -> Option<Fault>
+        ensures { (ws : List TheWord) → self.now ≡ sorted_in ws modes.now → result ≡ first_fault (faults ws modes.now slots) }
     {
-        self.sort_in(words, modes);
-        if self.is_plain() {
-            return Ok(());
-        }
         let block = &self.block;
-        let found = first_fault(&[
+        first_fault(&[
             (self.repeated, Fault::RepeatedLetter),
             (self.unknown, Fault::UnknownCode),
             (self.left_out, Fault::LeftOutCode),
@@ -84,8 +83,20 @@ impl Sorted {
             (block.has_no_dwell(), Fault::NoDwell),
             (block.has_no_h(), Fault::NoH),
             (block.has_cycle_plane(modes), Fault::CyclePlane),
-        ]);
-        match found {
+        ])
+    }
+
+    /// Finds what words ask for, or the first fault whose cause holds.
+    fn check_words(&mut self, words: &[Word], modes: &Modes, slots: u8) -> Result<(), Fault>
+        ensures { MatchResult result
+            (λ _. checked words.now modes.now slots ≡ Ok self.new.block)
+            (λ fault. checked words.now modes.now slots ≡ Err fault) }
+    {
+        self.sort_in(words, modes);
+        if self.is_plain() {
+            return Ok(());
+        }
+        match self.find_fault(modes, slots) {
             Some(fault) => Err(fault),
             None => Ok(()),
         }

@@ -4,7 +4,7 @@ ghost use Rattle.ng_words.specs.declared.letter.Letter.TheVariants.{G, M};
 ghost use Rattle.ng_expr.specs.declared.word.Word.{Word as TheWord};
 ghost use Rattle.ng_modal.specs.Words.{of_letter};
 ghost use Rattle.ng_modal.specs.ByLetter.{takes_value};
-ghost use Rattle.ng_modal.specs.WordCauses.{is_left_out_code, is_left_out_letter, count_of_m};
+ghost use Rattle.ng_modal.specs.WordCauses.{is_left_out_code, count_of_m};
 
 use crate::block::Block;
 use crate::by_group::{GWords, MWords};
@@ -16,7 +16,7 @@ use ng_words::Letter;
 
 /// What the words of a line ask for together. The storage is reused for one line after another. The fields other than
 /// the block are meaningful only during a pass.
-#[derive(Clone, Copy)]
+#[derive(Drop)]
 pub struct Sorted {
     /// What the line asks for.
     pub block: Block,
@@ -24,7 +24,7 @@ pub struct Sorted {
     pub(crate) repeated: bool,
     /// There is a G or M word that isn't a code.
     pub(crate) unknown: bool,
-    /// There is a code or a letter that is left out.
+    /// There is a code that is left out; once all words were added, a code or a letter.
     pub(crate) left_out: bool,
     /// There are two G words of one modal group.
     pub(crate) group_twice: bool,
@@ -41,17 +41,6 @@ fn is_left_out_code(word: &GWord) -> bool
 {
     match *word {
         GWord::LeftOutMotion | GWord::LeftOutCompensation => true,
-        _ => false,
-    }
-}
-
-/// Whether words with a letter are left out.
-#[inline]
-fn is_left_out_letter(letter: Letter) -> bool
-    ensures { result ≡ is_left_out_letter letter }
-{
-    match letter {
-        Letter::A | Letter::B | Letter::C | Letter::D => true,
         _ => false,
     }
 }
@@ -90,7 +79,25 @@ impl Sorted {
         }
     }
 
+    /// Removes all words.
+    #[inline]
+    fn clear(&mut self)
+        ensures { self.new ≡ sorted [] }
+    {
+        self.block.values.clear();
+        self.block.g = GWords::nothing();
+        self.block.m = MWords::nothing();
+        self.block.motion = None;
+        self.repeated = false;
+        self.unknown = false;
+        self.left_out = false;
+        self.group_twice = false;
+        self.m_group_twice = false;
+        self.m_count = 0;
+    }
+
     /// Adds a G word in front of the words added before.
+    #[inline(never)]
     fn take_g(&mut self, value: Num)
         ghost ws: { List TheWord }
         requires { self.old ≡ sorted ws }
@@ -106,6 +113,7 @@ impl Sorted {
     }
 
     /// Adds an M word in front of the words added before.
+    #[inline(never)]
     fn take_m(&mut self, value: Num)
         ghost ws: { List TheWord }
         requires { self.old ≡ sorted ws }
@@ -127,12 +135,10 @@ impl Sorted {
         ensures { self.new ≡ sorted (record { letter = letter; value = value } ∷ ws) }
     {
         self.repeated |= self.block.values.take(letter, value);
-        self.left_out = is_left_out_letter(letter) | self.left_out;
     }
 
-    /// Adds a word in front of those added before. This is a call of its own, so that the fields stay in memory. If
-    /// they were kept in registers during the pass, they would be spilled and reloaded at each word.
-    #[inline(never)]
+    /// Adds a word in front of those added before.
+    #[inline]
     fn take(&mut self, word: &Word)
         ghost ws: { List TheWord }
         requires { self.old ≡ sorted ws }
@@ -158,11 +164,11 @@ impl Sorted {
     }
 
     /// Adds all words of a line, from the last to the first, after removing what was there.
-    #[inline(never)]
+    #[inline]
     pub(crate) fn sort(&mut self, words: &[Word])
         ensures { self.new ≡ sorted words.now }
     {
-        *self = Sorted::nothing();
+        self.clear();
         for i in (0..words.len()).rev() {
             self.take_at(words, i);
         }

@@ -68,7 +68,7 @@ impl Block {
     pub fn selected_slot(&self) -> Option<u8>
         ensures { result ≡ slot_on self.now.values.t }
     {
-        slot_on(self.values.t)
+        slot_on(self.values.t())
     }
 
     /// The slot that H names, whose length G43 takes; 0 for none. In an accepted block it is `None` only if there is no
@@ -77,7 +77,7 @@ impl Block {
     pub fn length_slot(&self) -> Option<u8>
         ensures { result ≡ slot_on self.now.values.h }
     {
-        slot_on(self.values.h)
+        slot_on(self.values.h())
     }
 
     /// The system that P names, whose origin G10 sets. In an accepted block with G10 it is never `None` (NISTIR 6556,
@@ -86,7 +86,7 @@ impl Block {
     pub fn origin_system(&self) -> Option<System>
         ensures { result ≡ system_on self.now.values.p }
     {
-        match whole_on(self.values.p) {
+        match whole_on(self.values.p()) {
             Some(number) => System::of(number),
             None => None,
         }
@@ -100,6 +100,6 @@ impl Block {
         ensures some { 1 ≤ result }
         ensures few { result ≤ 10_000_000 }
     {
-        repeats_by(whole_on(self.values.l))
+        repeats_by(whole_on(self.values.l()))
     }
 }

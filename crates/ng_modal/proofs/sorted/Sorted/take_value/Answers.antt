@@ -3,5 +3,5 @@ use Rattle.ng_modal.proofs.sorted.Sorted.take_value.Goals as goal
 
 pub returns : goal.returns
 returns g c =
-    sorted_with_value c.args.letter c.args.value g.ws c.args.self.now c.take.new.self c.take.result c.is_left_out_letter.result
-    c.requires.0 c.requires.1 c.take.ensures.taken c.take.ensures.was c.is_left_out_letter.ensures
+    sorted_with_value c.args.letter c.args.value g.ws c.args.self.now c.take.new.self c.take.result
+    c.requires.0 c.requires.1 c.take.ensures.taken c.take.ensures.was
