@@ -28,9 +28,9 @@ fn axes_on(values: &ByLetter) -> NamedAxes
     ensures { result ≡ axes_on values.now }
 {
     NamedAxes {
-        x: values.x.is_some(),
-        y: values.y.is_some(),
-        z: values.z.is_some(),
+        x: values.x().is_some(),
+        y: values.y().is_some(),
+        z: values.z().is_some(),
     }
 }
 
@@ -39,7 +39,7 @@ fn centre_offsets_on(block: &Block, modes: &Modes) -> Result<CentreOffsets, Faul
     ensures { result ≡ centre_offsets_on block.now modes.now }
 {
     let values = &block.values;
-    let named = Named::of(values.i, values.j, values.k, unit_after(block, modes))?;
+    let named = Named::of(values.i(), values.j(), values.k(), unit_after(block, modes))?;
     Ok(CentreOffsets {
         i: named.x,
         j: named.y,
@@ -110,6 +110,6 @@ pub fn path_along_arc(
         return Ok(Path::Still);
     };
     let mode = feed_mode_after(block, &modal.modes);
-    let pace = pace_by(block.motion, mode, feed_per_min, block.values.f);
+    let pace = pace_by(block.motion, mode, feed_per_min, block.values.f());
     turned(block, modal, offsets, pace, turn)
 }

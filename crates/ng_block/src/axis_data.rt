@@ -40,7 +40,7 @@ pub fn named_on(block: &Block, modes: &Modes) -> Result<Named, Fault>
     ensures { result ≡ named_on block.now modes.now }
 {
     let values = &block.values;
-    Named::of(values.x, values.y, values.z, unit_after(block, modes))
+    Named::of(values.x(), values.y(), values.z(), unit_after(block, modes))
 }
 
 /// What G10 does.

@@ -5,13 +5,14 @@ ghost use Rattle.ng_modal.specs.Accepted.{IsSlot};
 ghost use Rattle.ng_block.specs.Paths.{moving_at};
 ghost use Rattle.ng_block.specs.Goals.{selecting, storing, bearings_of, path_after_bearings, ended, goal_of, bearings_by, path_with_bearings, goal_by};
 
-use crate::cycles::{kept_beside, kept_in, kind_of};
+use crate::cycles::{kind_of, put_kept_beside, put_kept_in};
 use crate::effect::{CHANGES, Changes, Effect};
 use crate::ends::ends;
 use crate::goal::{
-    end_of, feed_mode_after, feed_of, is_straight, pace_by, path_of, path_unless_straight,
+    end_of, feed_mode_after, feed_of, is_straight, pace_by, path_of, put_path_unless_straight,
 };
 use crate::path::Path;
+use crate::place::clear;
 use crate::shifts::{keeps_offsets, shift_of};
 use crate::terms::Terms;
 use ng_canon::{Feed, Pace, StraightMove};
@@ -145,22 +146,21 @@ impl Effect {
             return self.find_path(terms, state, block, assignments, feed_per_min);
         }
         self.modal.offsets = state.modal.offsets;
-        self.plan.shown = None;
+        clear(&mut self.plan.shown);
         let modal = &state.modal;
         if !is_straight(block.motion) {
-            self.plan.path = path_unless_straight(
+            return put_path_unless_straight(
                 block,
                 state,
                 assignments,
-                &modal.offsets,
                 feed_per_min,
                 terms.geometry,
-            )?;
-            return Ok(());
+                &mut self.plan.path,
+            );
         }
         let end = end_of(block, modal, &modal.offsets)?;
         let mode = feed_mode_after(block, &modal.modes);
-        let pace = pace_by(block.motion, mode, feed_per_min, block.values.f);
+        let pace = pace_by(block.motion, mode, feed_per_min, block.values.f());
         self.go_straight(pace, modal.point, end);
         Ok(())
     }
@@ -203,9 +203,11 @@ impl Effect {
         }
         self.modal.feed_per_min = feed_per_min;
         match kind_of(block.motion) {
-            None => self.modal.kept = kept_beside(block, &state.modal),
-            Some(kind) => self.modal.kept = kept_in(kind, block, &state.modal)?,
+            None => {
+                put_kept_beside(block, &state.modal, &mut self.modal.kept);
+                Ok(())
+            }
+            Some(kind) => put_kept_in(kind, block, &state.modal, &mut self.modal.kept),
         }
-        Ok(())
     }
 }

@@ -184,23 +184,44 @@ impl<'a> Model for Commands<'a> {
 }
 
 impl Effect {
-    /// Its commands, in order.
+    /// Its commands, in order. A block that just sets a feed and moves, as most lines do, has no other step to begin.
     pub fn commands(&self) -> Commands<'_>
         ensures { result ≡ commands_by self.now }
     {
+        let plan = &self.plan;
+        if !plan.just_moves() {
+            return Commands {
+                rest: CommandsLeft::all(self),
+            };
+        }
+        let mut waiting = ArrayVec::new();
+        put_feed(plan.feed, &mut waiting);
         Commands {
             rest: CommandsLeft {
                 effect: self,
-                waiting: ArrayVec::new(),
+                waiting,
                 taken: 0,
-                moves: PathSegments::none(),
-                steps: &ORDER,
+                moves: PathSegments::of(&plan.path),
+                steps: &[],
             },
         }
     }
 }
 
 impl<'a> CommandsLeft<'a> {
+    /// All commands of an effect: no step has begun.
+    fn all(effect: &'a Effect) -> CommandsLeft<'a>
+        ensures { rest_commands result ≡ commands_by effect.now }
+    {
+        CommandsLeft {
+            effect,
+            waiting: ArrayVec::new(),
+            taken: 0,
+            moves: PathSegments::none(),
+            steps: &ORDER,
+        }
+    }
+
     /// The next command of the step that has begun.
     fn next_begun(&mut self) -> Option<CanonicalCommand>
         ensures effect { self.new.effect ≡ self.old.effect }

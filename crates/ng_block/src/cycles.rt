@@ -1,5 +1,5 @@
 //! G81 to G89: the canned cycle that a line asks for, and the words that it keeps (NISTIR 6556, 3.5.16).
-ghost use Rattle.std.specs.Prelude.{◌≡◌, ◌≤◌, IfOk};
+ghost use Rattle.std.specs.Prelude.{◌≡◌, ◌≤◌, IfOk, Ok, Err, MatchResult};
 ghost use Rattle.ng_offsets.specs.Named.{length_by};
 ghost use Rattle.ng_block.specs.Cycles.{kind_of, is_same, own_words, kept_for, kept_beside, kept_in, cycle_words, is_incremental, is_old_z, outputs_at_motion, context_of, cycle_path};
 
@@ -62,13 +62,13 @@ fn own_words(block: &Block, modes: &Modes) -> Result<KeptWords, Fault>
 {
     let values = &block.values;
     let unit = unit_after(block, modes);
-    let r = length_by(values.r, unit)?;
-    let z = length_by(values.z, unit)?;
-    let q = length_by(values.q, unit)?;
+    let r = length_by(values.r(), unit)?;
+    let z = length_by(values.z(), unit)?;
+    let q = length_by(values.q(), unit)?;
     Ok(KeptWords {
         r,
         z,
-        p: values.p,
+        p: values.p(),
         q,
     })
 }
@@ -87,22 +87,22 @@ fn kept_for(kind: CycleKind, modal: &ModalState) -> KeptWords
     }
 }
 
-/// The words kept after a line that has no cycle: another motion, G80 and the program's end drop those that were kept.
-#[inline]
-pub fn kept_beside(block: &Block, modal: &ModalState) -> KeptWords
-    ensures { result ≡ kept_beside block.now modal.now }
+/// Stores the words kept after a line that has no cycle: another motion, G80 and the program's end drop those that were
+/// kept.
+#[inline(always)]
+pub fn put_kept_beside(block: &Block, modal: &ModalState, place: &mut KeptWords)
+    ensures { place.new ≡ kept_beside block.now modal.now }
 {
     if block.g.motion.is_some() || ends(block.m.stop) {
-        KeptWords::none()
+        *place = KeptWords::none();
     } else {
-        modal.kept
+        *place = modal.kept;
     }
 }
 
 /// The words kept after a cycle's line: its own and, for those that the line doesn't have, the words that were kept for
 /// it. The program's end drops them. E3 if one of its own lengths is out of range.
-#[inline(never)]
-pub fn kept_in(kind: CycleKind, block: &Block, modal: &ModalState) -> Result<KeptWords, Fault>
+fn kept_in(kind: CycleKind, block: &Block, modal: &ModalState) -> Result<KeptWords, Fault>
     ensures { result ≡ kept_in kind block.now modal.now }
 {
     let own = own_words(block, &modal.modes)?;
@@ -110,6 +110,28 @@ pub fn kept_in(kind: CycleKind, block: &Block, modal: &ModalState) -> Result<Kep
         Ok(KeptWords::none())
     } else {
         Ok(own.over(&kept_for(kind, modal)))
+    }
+}
+
+/// Stores the words kept after a cycle's line, with the same fault. It isn't inlined, so that other lines don't pay for
+/// its local variables.
+#[inline(never)]
+pub fn put_kept_in(
+    kind: CycleKind,
+    block: &Block,
+    modal: &ModalState,
+    place: &mut KeptWords,
+) -> Result<(), Fault>
+    ensures { MatchResult result
+        (λ _. kept_in kind block.now modal.now ≡ Ok place.new)
+        (λ fault. kept_in kind block.now modal.now ≡ Err fault) }
+{
+    match kept_in(kind, block, modal) {
+        Ok(kept) => {
+            *place = kept;
+            Ok(())
+        }
+        Err(fault) => Err(fault),
     }
 }
 

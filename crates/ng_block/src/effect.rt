@@ -89,7 +89,7 @@ impl Effect {
             ≡ map numeric (command_for CanonicalCommand.FeedRate x.0 ++ pace_command x.1.now.pace x.1.now.end ∷ [])) }
     {
         let plan = &self.plan;
-        if plan.tasks.is_some() | plan.shown.is_some() | plan.remark.manner.is_some() {
+        if !plan.just_moves() {
             return None;
         }
         match &plan.path {

@@ -1,6 +1,6 @@
 //! The motion of a line: its feed, its pace and its path (NISTIR 6556, 3.5.1, 3.5.2, 3.5.12, 3.5.17, 3.5.19). E3 if a
 //! computed length is out of range.
-ghost use Rattle.std.specs.Prelude.{◌≡◌, ◌-ℤ◌, false};
+ghost use Rattle.std.specs.Prelude.{◌≡◌, ◌-ℤ◌, false, Ok, Err, MatchResult};
 ghost use Rattle.ng_params.specs.Changes.{with_changes};
 ghost use Rattle.ng_modal.specs.Causes.{is_machine};
 ghost use Rattle.ng_modal.specs.Lines.{is_straight, is_arc};
@@ -83,7 +83,7 @@ pub fn time_word(mode: FeedMode, motion: Option<Motion>, word: Option<Num>) -> O
 pub fn feed_of(block: &Block, modal: &ModalState) -> Result<Feed, Fault>
     ensures { result ≡ feed_of block.now modal.now }
 {
-    match feed_word(feed_mode_after(block, &modal.modes), block.values.f) {
+    match feed_word(feed_mode_after(block, &modal.modes), block.values.f()) {
         None => Ok(modal.feed_per_min),
         Some(feed) => Ok(Feed::of(nm_of(feed, modal.modes.unit)?)),
     }
@@ -169,9 +169,9 @@ pub fn end_of(block: &Block, modal: &ModalState, offsets: &Offsets) -> Result<Po
     };
     let values = &block.values;
     let point = &modal.point;
-    let x = coordinate(values.x, reading, offsets.x(), point.x)?;
-    let y = coordinate(values.y, reading, offsets.y(), point.y)?;
-    let z = coordinate(values.z, reading, offsets.z(), point.z)?;
+    let x = coordinate(values.x(), reading, offsets.x(), point.x)?;
+    let y = coordinate(values.y(), reading, offsets.y(), point.y)?;
+    let z = coordinate(values.z(), reading, offsets.z(), point.z)?;
     Ok(Point { x, y, z })
 }
 
@@ -237,15 +237,14 @@ fn straight_to(block: &Block, modal: &ModalState, feed_per_min: Feed, end: Point
     ensures { result ≡ straight_to block.now modal.now feed_per_min end }
 {
     let mode = feed_mode_after(block, &modal.modes);
-    let pace = pace_by(block.motion, mode, feed_per_min, block.values.f);
+    let pace = pace_by(block.motion, mode, feed_per_min, block.values.f());
     Path::moving_at(pace, modal.point, end)
 }
 
 /// The path of a line's motion that isn't straight: under offsets, with the feed after the line, in the table that its
 /// assignments leave. E3 if one of its coordinates is out of range; else C1 to C4 of an arc, Y1 to Y8, X1, X2 of a
 /// cycle.
-#[inline(never)]
-pub fn path_unless_straight<A: Allocator + Copy + Drop>(
+fn path_unless_straight<A: Allocator + Copy + Drop>(
     block: &Block,
     state: &State<A>,
     assignments: &[Change],
@@ -266,6 +265,32 @@ pub fn path_unless_straight<A: Allocator + Copy + Drop>(
     }
     let home = home_on(block.g.non_modal, &state.params, assignments);
     home_path(block, modal, offsets, home)
+}
+
+/// Stores the path of a motion that isn't straight, under the offsets before the line, with the same faults. It isn't
+/// inlined, so that straight moves don't pay for its local variables.
+#[inline(never)]
+pub fn put_path_unless_straight<A: Allocator + Copy + Drop>(
+    block: &Block,
+    state: &State<A>,
+    assignments: &[Change],
+    feed_per_min: Feed,
+    geometry: &Geometry,
+    place: &mut Path,
+) -> Result<(), Fault>
+    requires { is_straight block.now.motion ≡ false }
+    ensures { let table = with_changes state.now.params assignments.now in
+        let way = path_of block.now state.now.modal state.now.modal.offsets table feed_per_min geometry.now in
+        MatchResult result (λ _. way ≡ Ok place.new) (λ fault. way ≡ Err fault) }
+{
+    let offsets = &state.modal.offsets;
+    match path_unless_straight(block, state, assignments, offsets, feed_per_min, geometry) {
+        Ok(path) => {
+            *place = path;
+            Ok(())
+        }
+        Err(fault) => Err(fault),
+    }
 }
 
 /// The path of a line's motion: under offsets, with the feed after the line, in the table that its assignments leave.

@@ -27,6 +27,7 @@ mod homes;
 pub mod laws;
 mod path;
 mod percent;
+mod place;
 mod plan;
 mod remark;
 mod scratch;

@@ -19,3 +19,15 @@ pub struct Plan {
     /// The outputs before the block.
     pub before: Outputs,
 }
+
+impl Plan {
+    ghost use Rattle.std.specs.Prelude.{◌≡◌, ◌↔◌, None, IsTrue};
+
+    /// Whether the block does nothing but set a feed and move.
+    #[inline]
+    pub(crate) fn just_moves(&self) -> bool
+        ensures { IsTrue result ↔ ((self.now.tasks ≡ None) × (self.now.shown ≡ None) × (self.now.remark.manner ≡ None)) }
+    {
+        !(self.tasks.is_some() | self.shown.is_some() | self.remark.manner.is_some())
+    }
+}

@@ -4,6 +4,7 @@ ghost use Rattle.std.specs.Prelude.{◌≡◌};
 ghost use Rattle.ng_block.specs.Tasks.{feed_set, tasks_of, tasks_in, gives_nothing};
 
 use crate::goal::{feed_word, is_inverse, time_word};
+use crate::place::clear;
 use ng_canon::{Feed, Outputs, Plane, Spindle};
 use ng_modal::{Block, Coolant, NonModal, StopWord};
 use ng_num::{Num, Unit};
@@ -34,7 +35,7 @@ pub struct Tasks {
 pub fn feed_set(block: &Block, mode: FeedMode, feed_per_min: Feed) -> Option<Feed>
     ensures { result ≡ feed_set block.now mode feed_per_min }
 {
-    match feed_word(mode, block.values.f) {
+    match feed_word(mode, block.values.f()) {
         Some(_) => Some(feed_per_min),
         None => None,
     }
@@ -47,8 +48,8 @@ fn gives_nothing(block: &Block, mode: FeedMode) -> bool
 {
     let m = &block.m;
     !(is_inverse(mode)
-        | block.values.s.is_some()
-        | block.values.t.is_some()
+        | block.values.s().is_some()
+        | block.values.t().is_some()
         | m.tool_change
         | m.spindle.is_some()
         | m.coolant.is_some()
@@ -66,7 +67,7 @@ impl Tasks {
     {
         let selected_slot = block.selected_slot();
         Tasks {
-            speed: block.values.s,
+            speed: block.values.s(),
             selected_slot,
             changed_slot: if block.m.tool_change {
                 Some(selected_slot.unwrap_or(before.selected_slot))
@@ -76,12 +77,12 @@ impl Tasks {
             spindle: block.m.spindle,
             coolant: block.m.coolant,
             dwell: match block.g.non_modal {
-                Some(NonModal::Dwell) => block.values.p,
+                Some(NonModal::Dwell) => block.values.p(),
                 _ => None,
             },
             plane: block.g.plane,
             unit: block.g.unit,
-            time: time_word(mode, block.motion, block.values.f),
+            time: time_word(mode, block.motion, block.values.f()),
             stop: block.m.stop,
         }
     }
@@ -94,7 +95,7 @@ pub fn put_tasks(block: &Block, mode: FeedMode, before: &Outputs, place: &mut Op
     ensures { tasks_in place.new ≡ tasks_of block.now mode before.now }
 {
     if gives_nothing(block, mode) {
-        *place = None;
+        clear(place);
     } else {
         *place = Some(Tasks::of(block, mode, before));
     }
