@@ -42,7 +42,8 @@ const FULL: usize = 8192;
 /// text.
 pub const ROOM: usize = FULL + 512;
 
-/// Writes the text that waits.
+/// Writes the text that waits. It isn't inlined, since few lines come here.
+#[inline(never)]
 pub fn flush<W: Write, A: Allocator + Copy + Drop>(
     text: &mut Vec<u8, A>,
     writer: &mut W,
@@ -103,8 +104,9 @@ pub fn put_canon<W: Write, A: Allocator + Copy + Drop>(
     }
 }
 
-/// Prints a command whose arguments are numbers as `put_canon` does, without a copy of the command.
-#[inline]
+/// Prints a command whose arguments are numbers as `put_canon` does, without a copy of the command. Few lines print one
+/// besides their moves, so it isn't inlined.
+#[inline(never)]
 fn put_command<W: Write, A: Allocator + Copy + Drop>(
     text: &mut Vec<u8, A>,
     writer: &mut W,
@@ -196,7 +198,7 @@ fn put_straight<W: Write, A: Allocator + Copy + Drop>(
 }
 
 /// Prints the feed that a line sets, and its move, as `put_canon` does.
-#[inline]
+#[inline(always)]
 fn put_move<W: Write, A: Allocator + Copy + Drop>(
     text: &mut Vec<u8, A>,
     writer: &mut W,
@@ -221,7 +223,9 @@ fn put_move<W: Write, A: Allocator + Copy + Drop>(
     }
 }
 
-/// Prints all commands of a line, as `put_canon` does.
+/// Prints all commands of a line, as `put_canon` does. It isn't inlined, so that lines that just move don't pay for its
+/// local variables.
+#[inline(never)]
 fn put_all<W: Write, A: Allocator + Copy + Drop>(
     text: &mut Vec<u8, A>,
     writer: &mut W,
@@ -234,6 +238,7 @@ fn put_all<W: Write, A: Allocator + Copy + Drop>(
 }
 
 /// Prints what a line does, as `put_canon` does. For nearly every line this is one move.
+#[inline(always)]
 pub fn put_effect<W: Write, A: Allocator + Copy + Drop>(
     text: &mut Vec<u8, A>,
     writer: &mut W,
