@@ -286,8 +286,9 @@ fn two_syncs<R: Rig>(rig: &mut R) -> [(bool, u64); 2] {
     [(first, failures), (rig.sync().is_ok(), rig.failures())]
 }
 
-#[test]
-fn failures_of_all_devices_are_counted(rt: HostRuntime) {
+/// Two syncs of a worn device, of a fuse around one, and of a device around one that fails the first; and the failures
+/// of the last one's inner device.
+fn two_syncs_each() -> ([[(bool, u64); 2]; 3], u64) {
     let mut fuse = FuseRig::new(Worn::new(u64::MAX), 1);
     let mut once = FailRig::new(Worn::new(u64::MAX - 1), 0);
     let found = [
@@ -295,12 +296,17 @@ fn failures_of_all_devices_are_counted(rt: HostRuntime) {
         two_syncs(&mut fuse),
         two_syncs(&mut once),
     ];
+    (found, once.into_inner().failures())
+}
+
+#[test]
+fn failures_of_all_devices_are_counted(rt: HostRuntime) {
     let past_the_last = [(false, u64::MAX), (false, 0)];
+    let of_a_fuse = [(false, 0), (false, 1)];
     assert_eq!(rt;
-        found,
-        [past_the_last, [(false, 0), (false, 1)], past_the_last]
+        two_syncs_each(),
+        ([past_the_last, of_a_fuse, past_the_last], u64::MAX)
     );
-    assert_eq!(rt; once.into_inner().failures(), u64::MAX);
 }
 
 /// Writes each sector and syncs, three times.
@@ -313,13 +319,18 @@ fn fill_three_times<R: Rig>(rig: &mut R) -> bool {
         && rig.sync().is_ok()
 }
 
+/// How many sectors the device has that a stop after this many of its calls leaves.
+fn size_of_stop(rig: &MemoryRig<Global>, calls: usize) -> Result<usize, AllocError> {
+    Ok(rig.stopped(calls, &[1; 5_806])?.size())
+}
+
 #[test]
 fn a_device_of_the_size_of_a_full_journal(rt: HostRuntime) -> Result<(), Fail> {
     let mut rig = MemoryRig::new(rt.alloc(), 5_806)?;
     assert!(rt; fill_three_times(&mut rig));
     assert_eq!(rt; (rig.calls(), rig.size()), (17_421, 5_806));
     for n in [0, 9_000, 17_420, 17_421] {
-        assert_eq!(rt; rig.stopped(n, &[1; 5_806])?.size(), 5_806);
+        assert_eq!(rt; size_of_stop(&rig, n)?, 5_806);
     }
     Ok(())
 }

@@ -11,7 +11,7 @@ mod sizes;
 
 /// A device before one of its numbers is changed; its format is 2 unless stated. Its program has 131,072 bytes, and
 /// everything that isn't mentioned is as in a fresh state.
-#[derive(Clone, Copy, Debug, PartialEq, Eq)]
+#[derive(Clone, Copy)]
 enum Base {
     /// Epoch 1: the header in sector 1, its snapshot in sectors 88 to 173.
     Odd,
@@ -29,7 +29,7 @@ enum Base {
 }
 
 /// What power on does with an image in which a number was changed, and what it writes in place of that number.
-#[derive(Clone, Copy, Debug, PartialEq, Eq)]
+#[derive(Clone, Copy, PartialEq, Eq)]
 enum Answer {
     /// The image is accepted, and the same number is written again.
     Same,
@@ -427,12 +427,13 @@ fn state_of(base: Base) -> [u8; 512] {
 
 /// The header of a device of this kind, and the first sector of its snapshot.
 fn header_and_area(base: Base) -> ([u8; 512], usize) {
-    match base {
-        Base::Odd | Base::Full | Base::Lost => (header_of(2, 1, 0, LONGEST), 88),
-        Base::Even => (header_of(2, 2, 0, LONGEST), 2),
-        Base::OldOdd => (header_of(1, 1, 0, LONGEST), 88),
-        Base::OldEven => (header_of(1, 2, 0, LONGEST), 2),
-    }
+    let (format, epoch, area) = match base {
+        Base::Odd | Base::Full | Base::Lost => (2, 1, 88),
+        Base::Even => (2, 2, 2),
+        Base::OldOdd => (1, 1, 88),
+        Base::OldEven => (1, 2, 2),
+    };
+    (header_of(format, epoch, 0, LONGEST), area)
 }
 
 /// Writes the device of a row, with this number in the row's place.

@@ -212,7 +212,7 @@ fn the_header_of_the_greater_epoch_is_in_force(rt: HostRuntime) -> Result<(), Fa
 }
 
 /// An operation on a journal after it was recovered.
-#[derive(Clone, Copy, Debug, PartialEq, Eq)]
+#[derive(Clone, Copy, Debug)]
 enum Operation {
     Nothing,
     /// An entry that sets parameter 1 to 5.
@@ -348,7 +348,7 @@ const NOTHING_DONE: Standing = Ok((0, 0, 0, None, None));
 const COMMITTED: Standing = Ok((1, 5_000_000, 0, None, None));
 
 /// The length of slot 1. `None` if a table has no slots.
-fn first_tool(tools: &Tools) -> Option<i64> {
+pub fn first_tool(tools: &Tools) -> Option<i64> {
     if tools.slots() == 0 {
         None
     } else {
@@ -750,25 +750,37 @@ fn line_of<A: Allocator + Copy + Drop, R: Rig + Drop>(
 ) -> Read {
     match recover(alloc, rig, &Tools::new()) {
         Ok((mut journal, mut stored)) => {
-            stored.entries = 1;
-            stored.place = 0;
-            stored.length = text.len() as u64;
-            let mut line = journal.load_program(text, &stored).map(|()| None);
-            if line.is_ok() && place <= stored.length {
-                line = journal.program_line(place);
-            }
+            let line = line_after_load(&mut journal, &mut stored, text, place);
             drop(journal.into_rig());
-            line.map(|line| line.map(|line| (
-                line.text.len(),
-                last_of(line.text.as_slice()),
-                line.next,
-            )))
+            line
         }
         Err((fault, rig)) => {
             drop(rig);
             Err(fault)
         }
     }
+}
+
+/// Makes this the program, as entry 1, and reads its line at a place; none past its end.
+fn line_after_load<A: Allocator + Copy + Drop, R: Rig>(
+    journal: &mut Journal<R, A>,
+    stored: &mut Stored<A>,
+    text: &[u8],
+    place: u64,
+) -> Read
+    requires whole { journal.old.broken ≡ false }
+    requires storable { IsStorable stored.old }
+    requires same { stored.old ≡ journal.old.saved }
+{
+    stored.entries = 1;
+    stored.place = 0;
+    stored.length = text.len() as u64;
+    journal.load_program(text, stored)?;
+    if place > stored.length {
+        return Ok(None);
+    }
+    let line = journal.program_line(place)?;
+    Ok(line.map(|line| (line.text.len(), last_of(line.text.as_slice()), line.next)))
 }
 
 fn last_of(text: &[u8]) -> u8 {

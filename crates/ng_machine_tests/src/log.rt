@@ -2,6 +2,7 @@
 ghost use Rattle.std.specs.Prelude.{◌≡◌, false, length};
 ghost use Rattle.std.proofs.Props.{props};
 ghost use Rattle.ng_layout.specs.Storable.{IsStorable};
+ghost use Rattle.ng_offsets.specs.Tools.{IsOneSlotFrom};
 
 mod full;
 mod labels;
@@ -83,32 +84,38 @@ impl<R: Rig + Drop> Mill<R> {
     /// Stores one more entry, which sets the length of a slot.
     pub fn set_tool(self, slot: u8, nm: i64) -> Result<Mill<R>, Fault> {
         let Mill {
-            mut journal,
+            journal,
             mut stored,
         } = self;
         stored.entries = stored.entries.saturating_add(1);
         set_slot(&mut stored.tools, slot, nm);
-        match journal.commit(&stored) {
-            Ok(()) => Ok(Mill { journal, stored }),
-            Err(fault) => {
-                drop(journal.into_rig());
-                Err(fault)
-            }
-        }
+        committed(journal, stored)
     }
 
     /// Stores an entry with what is to be stored next.
     pub fn store(self) -> Result<Mill<R>, Fault> {
-        let Mill {
-            mut journal,
-            stored,
-        } = self;
-        match journal.commit(&stored) {
-            Ok(()) => Ok(Mill { journal, stored }),
-            Err(fault) => {
-                drop(journal.into_rig());
-                Err(fault)
-            }
+        let Mill { journal, stored } = self;
+        committed(journal, stored)
+    }
+}
+
+/// Stores an entry with this. The device is dropped if that fails.
+fn committed<R: Rig + Drop>(
+    journal: Journal<R, Global>,
+    stored: Stored<Global>,
+) -> Result<Mill<R>, Fault>
+    requires whole { journal.broken ≡ false }
+    requires storable { IsStorable stored }
+    requires program { stored.length ≡ journal.saved.length }
+    requires room { stored.room ≡ journal.saved.room }
+    requires tools { IsOneSlotFrom journal.saved.tools stored.tools }
+{
+    let mut journal = journal;
+    match journal.commit(&stored) {
+        Ok(()) => Ok(Mill { journal, stored }),
+        Err(fault) => {
+            drop(journal.into_rig());
+            Err(fault)
         }
     }
 }

@@ -2,7 +2,7 @@
 //! the settings.
 use crate::images::{FRESH, put, sector_of, sector_with, store};
 use crate::journal::counting::Counting;
-use crate::journal::{header, header_of, set_slot, write_state};
+use crate::journal::{first_tool, header, header_of, set_slot, write_state};
 use crate::log::reading::{state_part, write_to_the_end};
 use crate::parts::part_with;
 use ng_journal::recover;
@@ -136,11 +136,7 @@ fn stands<R: Rig + Drop>(
         Ok((journal, stored)) => {
             let index = Index::of(i64::from(number)).unwrap_or(Index::known(1));
             let value = stored.state.params.get(index).count();
-            let tool = if stored.tools.slots() == 0 {
-                None
-            } else {
-                Some(stored.tools.length(1).nm())
-            };
+            let tool = first_tool(&stored.tools);
             (Ok((stored.entries, value, tool)), journal.into_rig())
         }
         Err((fault, rig)) => (Err(fault), rig),

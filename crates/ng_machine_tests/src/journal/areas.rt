@@ -1,10 +1,14 @@
 //! Which program areas a device has depending on its size, how long a text may be there, and from where its lines are
 //! read.
+ghost use Rattle.std.specs.Prelude.{◌≡◌, false};
+ghost use Rattle.ng_layout.specs.Storable.{IsStorable};
+
 use crate::images::{FRESH, put, sector_of, sector_with, store};
 use crate::journal::counting::Counting;
 use crate::journal::{header, header_of, write_state};
 use crate::log::Mill;
-use ng_journal::{ProgramLine, recover};
+use ng_journal::{Journal, ProgramLine, recover};
+use ng_layout::Stored;
 use ng_num::Fault;
 use ng_offsets::Tools;
 use ng_rig::{MemoryRig, Rig};
@@ -197,6 +201,33 @@ const LOADS: &[Loaded] = &[
     (5_807, 3, 1_048_577, J5, [0, 0], 3),
 ];
 
+/// Makes this the program, as entry 1.
+fn make<R: Rig>(
+    journal: &mut Journal<R, Global>,
+    stored: &mut Stored<Global>,
+    text: &[u8],
+) -> Result<(), Fault>
+    requires whole { journal.old.broken ≡ false }
+    requires storable { IsStorable stored.old }
+    requires same { stored.old ≡ journal.old.saved }
+{
+    stored.entries = 1;
+    stored.place = 0;
+    stored.length = text.len() as u64;
+    journal.load_program(text, stored)
+}
+
+/// Powers on and loads this program. Returns the result, whether the journal is broken then, and the device.
+fn load_text<R: Rig>(alloc: Global, rig: R, text: &[u8]) -> (Result<(), Fault>, bool, R) {
+    match recover(alloc, rig, &Tools::new()) {
+        Ok((mut journal, mut stored)) => {
+            let done = make(&mut journal, &mut stored, text);
+            (done, journal.broken(), journal.into_rig())
+        }
+        Err((fault, rig)) => (Err(fault), false, rig),
+    }
+}
+
 /// Loads a program of this many bytes `x`, as entry 1. Returns the result, whether the journal is broken then, and the
 /// device.
 pub fn load<R: Rig + Drop>(
@@ -206,16 +237,7 @@ pub fn load<R: Rig + Drop>(
 ) -> Result<(Result<(), Fault>, bool, R), Fail> {
     let mut text = Vec::new(alloc);
     text.resize(length, b'x')?;
-    match recover(alloc, rig, &Tools::new()) {
-        Ok((mut journal, mut stored)) => {
-            stored.entries = 1;
-            stored.place = 0;
-            stored.length = text.len() as u64;
-            let done = journal.load_program(&text, &stored);
-            Ok((done, journal.broken(), journal.into_rig()))
-        }
-        Err((fault, rig)) => Ok((Err(fault), false, rig)),
-    }
+    Ok(load_text(alloc, rig, &text))
 }
 
 /// The first sector of a program area.
@@ -365,23 +387,11 @@ type Read = Result<Option<(Vec<u8>, u64)>, Fault>;
 
 /// The line that begins at a byte of the program of a device.
 fn read(alloc: Global, rig: MemoryRig<Global>, place: u64) -> Read {
-    match recover(alloc, rig, &Tools::new()) {
-        Ok((mut journal, stored)) => {
-            let line = if place <= stored.length {
-                journal.program_line(place)
-            } else {
-                Err(Fault::Broken)
-            };
-            drop(journal.into_rig());
-            match line? {
-                Some(line) => Ok(Some((Vec::from_slice(alloc, line.text.as_slice())?, line.next))),
-                None => Ok(None),
-            }
-        }
-        Err((fault, rig)) => {
-            drop(rig);
-            Err(fault)
-        }
+    let (mill, line) = Mill::on(alloc, rig)?.line(place)?;
+    drop(mill.off());
+    match line {
+        Some(line) => Ok(Some((Vec::from_slice(alloc, line.text.as_slice())?, line.next))),
+        None => Ok(None),
     }
 }
 

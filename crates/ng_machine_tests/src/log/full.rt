@@ -1,16 +1,21 @@
 //! If the log has no room for a record, the state before it is written first, under the next epoch.
+ghost use Rattle.std.specs.Prelude.{◌≡◌, false};
+ghost use Rattle.ng_layout.specs.Storable.{IsStorable};
+
 use crate::images::{sector_of, store};
 use crate::journal::counting::Counting;
 use crate::journal::{formatted, header, open_half, set_slot};
 use crate::log::{Mill, set_all};
 use ng_canon::Item;
+use ng_journal::Journal;
+use ng_layout::Stored;
 use ng_num::Fault;
 use ng_rig::{MemoryRig, Rig};
 use std::alloc::Global;
 use std::test::Fail;
 
 /// What is stored or handed out at the end.
-#[derive(Clone, Copy, Debug, PartialEq, Eq)]
+#[derive(Clone, Copy, Debug)]
 enum Last {
     Nothing,
     /// An entry that changes this many parameters.
@@ -45,27 +50,41 @@ fn filled(
     Ok(mill)
 }
 
+/// Does the last operation.
+fn make<R: Rig>(
+    journal: &mut Journal<R, Global>,
+    stored: &mut Stored<Global>,
+    last: Last,
+) -> Result<(), Fault>
+    requires whole { journal.old.broken ≡ false }
+    requires storable { IsStorable stored.old }
+    requires program { stored.old.length ≡ journal.old.saved.length }
+    requires tools { stored.old.tools ≡ journal.old.saved.tools }
+{
+    match last {
+        Last::Nothing => Ok(()),
+        Last::Entry(changes) => {
+            stored.entries = stored.entries.saturating_add(1);
+            set_all(&mut stored.state.params, 1, changes, 11);
+            journal.commit(stored)
+        }
+        Last::Tool => {
+            stored.entries = stored.entries.saturating_add(1);
+            set_slot(&mut stored.tools, 1, 5_000);
+            journal.commit(stored)
+        }
+        Last::Open => journal.open_segment(&open_half()),
+        Last::HandOut => journal.hand_out(Item::Dwell { us: 7 }),
+    }
+}
+
 /// Does the last operation. Returns the result, whether the journal is broken then, and the device.
 fn end<R: Rig + Drop>(mill: Mill<R>, last: Last) -> (Result<(), Fault>, bool, R) {
     let Mill {
         mut journal,
         mut stored,
     } = mill;
-    let done = match last {
-        Last::Nothing => Ok(()),
-        Last::Entry(changes) => {
-            stored.entries = stored.entries.saturating_add(1);
-            set_all(&mut stored.state.params, 1, changes, 11);
-            journal.commit(&stored)
-        }
-        Last::Tool => {
-            stored.entries = stored.entries.saturating_add(1);
-            set_slot(&mut stored.tools, 1, 5_000);
-            journal.commit(&stored)
-        }
-        Last::Open => journal.open_segment(&open_half()),
-        Last::HandOut => journal.hand_out(Item::Dwell { us: 7 }),
-    };
+    let done = make(&mut journal, &mut stored, last);
     (done, journal.broken(), journal.into_rig())
 }
 

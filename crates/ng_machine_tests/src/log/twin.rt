@@ -334,7 +334,10 @@ fn snapshotted(
 
 /// What a device stands for after power was lost with nothing unsynced, and the program's line at its place and at the
 /// beginning.
-type Found = (Stored<Global>, [Option<ProgramLine>; 2]);
+type Found = (Stored<Global>, Lines);
+
+/// The program's line at its place, and the first.
+type Lines = [Option<ProgramLine>; 2];
 
 /// What it stands for, given these tools in the settings.
 fn found(alloc: Global, rig: &MemoryRig<Global>, tools: &Tools) -> Result<Found, Fault> {
@@ -401,6 +404,50 @@ fn are_lines_alike(one: &Option<ProgramLine>, other: &Option<ProgramLine>) -> bo
     }
 }
 
+/// Whether the plain journal's device stands for what is stored, and the other device for the same, with the same lines
+/// of the program.
+fn find_the_same(
+    alloc: Global,
+    plain: &MemoryRig<Global>,
+    logged: &MemoryRig<Global>,
+    stored: &Stored<Global>,
+) -> Result<bool, Fail> {
+    match lines_of(alloc, plain, &Tools::new(), stored)? {
+        Some(wanted) => Ok(finds(alloc, logged, stored, &wanted)?),
+        None => Ok(false),
+    }
+}
+
+/// The lines that are found on a device, given these tools in the settings. `None` if it doesn't stand for this.
+fn lines_of(
+    alloc: Global,
+    rig: &MemoryRig<Global>,
+    tools: &Tools,
+    stored: &Stored<Global>,
+) -> Result<Option<Lines>, Fault> {
+    let (found, lines) = found(alloc, rig, tools)?;
+    Ok(if are_alike(&found, stored)? {
+        Some(lines)
+    } else {
+        None
+    })
+}
+
+/// Whether a device stands for this, with these lines.
+fn finds(
+    alloc: Global,
+    rig: &MemoryRig<Global>,
+    stored: &Stored<Global>,
+    wanted: &Lines,
+) -> Result<bool, Fault> {
+    Ok(match lines_of(alloc, rig, &Tools::new(), stored)? {
+        Some(lines) => {
+            are_lines_alike(&lines[0], &wanted[0]) && are_lines_alike(&lines[1], &wanted[1])
+        }
+        None => false,
+    })
+}
+
 /// Whether both journals stand for what is stored, and for the same lines of the program, after these operations on
 /// devices with this many sectors.
 fn stand_for_the_same(
@@ -408,16 +455,9 @@ fn stand_for_the_same(
     sectors: usize,
     operations: &[Operation],
 ) -> Result<bool, Fail> {
-    let (rig, stored) = snapshotted(alloc, sectors, Format::Two, operations)?;
-    let (wanted, wanted_lines) = found(alloc, &rig, &Tools::new())?;
+    let (plain, stored) = snapshotted(alloc, sectors, Format::Two, operations)?;
     let logged = logged(alloc, sectors, operations)?;
-    let (other, lines) = found(alloc, &logged, &Tools::new())?;
-    Ok(
-        are_alike(&wanted, &stored)?
-            && are_alike(&other, &stored)?
-            && are_lines_alike(&lines[0], &wanted_lines[0])
-            && are_lines_alike(&lines[1], &wanted_lines[1]),
-    )
+    find_the_same(alloc, &plain, &logged, &stored)
 }
 
 /// The first number of operations after which they don't.
@@ -439,16 +479,21 @@ fn a_journal_of_snapshots_stands_for_the_same(rt: HostRuntime) -> Result<(), Fai
     Ok(())
 }
 
-/// Whether a plain journal of format 1 stands for what is stored, with the settings' tools in place of its own, after
-/// these operations.
-fn takes_settings_tools(alloc: Global, operations: &[Operation]) -> Result<bool, Fail> {
+/// The tools in the settings: two slots.
+fn settings_tools() -> Tools {
     let mut tools = Tools::new();
     set_slot(&mut tools, 1, 50_000_000);
     set_slot(&mut tools, 2, 7);
+    tools
+}
+
+/// Whether a plain journal of format 1 stands for what is stored, with the settings' tools in place of its own, after
+/// these operations.
+fn takes_settings_tools(alloc: Global, operations: &[Operation]) -> Result<bool, Fail> {
     let (rig, mut stored) = snapshotted(alloc, 1_710, Format::One, operations)?;
+    let tools = settings_tools();
     stored.take_tools(&tools);
-    let (found, _) = found(alloc, &rig, &tools)?;
-    Ok(are_alike(&found, &stored)?)
+    Ok(lines_of(alloc, &rig, &tools, &stored)?.is_some())
 }
 
 #[test]
