@@ -1,0 +1,5 @@
+pub mod PlanLemmas
+pub mod RestLemmas
+pub mod RootLemmas
+pub mod FlowLemmas
+pub mod RunLemmas

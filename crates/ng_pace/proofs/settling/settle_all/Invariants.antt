@@ -1,0 +1,13 @@
+use Rattle.std.proofs.Common.{◌≡◌, length}
+use Rattle.std.specs.VecDeque.{deque_capacity}
+use Rattle.ng_pace.specs.Flow.{Keeps}
+use Rattle.ng_pace.proofs.settling.settle_all.Given as goal
+
+abbrev pub invariant-loop-limits : goal.invariant-loop-limits
+invariant-loop-limits g l = record {
+  keeps : Keeps l.initial.pacer l.pacer l.initial.waiting.items l.waiting.items;
+  capacity : deque_capacity l.waiting ≡ deque_capacity l.initial.waiting;
+}
+
+abbrev pub decreases-loop-limits : goal.decreases-loop-limits
+decreases-loop-limits g l = length l.waiting.items

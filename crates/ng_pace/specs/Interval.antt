@@ -1,0 +1,23 @@
+-- The time of a line.
+use Rattle.std.specs.Prelude.{ℕ, Bool, ◌+◌, ◌-◌, ◌*◌, ◌/◌, ◌<◌, ◌≤◌, ◌≡◌, ◌==◌, ◌&&◌, max, if◌then◌else◌}
+use Rattle.ng_pace.specs.declared.line.Line.{Line}
+use Rattle.ng_pace.specs.Due.{least_ns}
+
+-- the whole root of a number
+pub record IsRoot (n r : ℕ) : Type 0 where
+  pub reached : r * r ≤ n
+  pub next : n < (r + 1) * (r + 1)
+
+-- a pulse at the mean of two rates, which are in pulses a second times 2^8: its nanoseconds rounded up, and no less than the least;
+-- a second, at least, where both are 0
+abbrev pub time_at : ℕ → ℕ → ℕ
+time_at least both = if both == 0 then max least 1000000000 else max ((512000000000 + both - 1) / both) least
+
+-- a line is passed at the rate of its own time
+abbrev pub is_at_full_rate : Line → ℕ → ℕ → Bool
+is_at_full_rate line from to = (from == to) && (to == line.full)
+
+-- a line takes this time if its square goes from one to another: its own time at its own rate, otherwise that of the mean rate
+abbrev pub IsTimeOf : Line → ℕ → ℕ → ℕ → Type 0
+IsTimeOf line from to ns = (r s : ℕ) → IsRoot from r → IsRoot to s
+    → ns ≡ (if is_at_full_rate line from to then least_ns line.item else time_at (least_ns line.item) (r + s))

@@ -1,0 +1,23 @@
+-- A stream that is being carried out.
+use Rattle.std.specs.Prelude.{ℕ, ◌^◌, ◌<◌, ◌≤◌, List}
+use Rattle.ng_pace.specs.declared.line.Line.{Line}
+use Rattle.ng_pace.specs.declared.planning.Slot.{Slot}
+use Rattle.ng_pace.specs.Plan.{IsPlan, ahead}
+use Rattle.ng_pace.specs.Interval.{IsRoot}
+
+pub record Motion : Type 0 where
+  -- the lines that are known and not given out
+  pub known : List Line
+  -- the square at which the first of them will be passed; 0 at rest
+  pub square : ℕ
+  -- at which square motors start and stop at once, in parts of 256 of what a line allows
+  pub start : ℕ
+  -- most lines that may be known
+  pub room : ℕ
+
+-- the plan is one, the square is within it, and a root is known
+pub record IsSteady (slots : List Slot) (square last root : ℕ) : Type 0 where
+  pub plan : IsPlan slots
+  pub within : square ≤ ahead slots
+  pub root_of_last : IsRoot last root
+  pub size : root < 2 ^ 32

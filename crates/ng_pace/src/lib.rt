@@ -1,0 +1,29 @@
+//! Times for a stream of pulses that was planned without regard to acceleration.
+//!
+//! A `Pacer` takes lines in order and gives them out in the same order, each with the time until the next. It stretches
+//! time alone: no line is given a shorter time than its own. The square of the rate, in pulses a second, changes from one
+//! pulse to the next by no more than the line allows. At any moment the pulses can come to rest within the lines that are
+//! known, whatever comes.
+//!
+//! What the motors allow at each line is given with it. The crate depends on `ng_canon` alone; only `Pacer::new`
+//! allocates.
+#![tactic(auto)]
+
+mod chord;
+mod fault;
+mod laws;
+mod line;
+mod pacer;
+mod planning;
+mod root;
+mod settling;
+mod stepping;
+mod stream;
+
+pub use chord::Limits;
+pub use fault::PaceFault;
+pub use laws::timed_beginning;
+pub use line::Line;
+pub use pacer::Pacer;
+pub use stepping::Given;
+pub use stream::Stream;

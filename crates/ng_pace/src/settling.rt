@@ -1,0 +1,100 @@
+//! Items whose limits become final.
+ghost use Rattle.std.specs.Prelude.{◌≡◌, ◌≤◌, ◌+◌, [], length, IsTrue, IsFalse};
+ghost use Rattle.std.specs.VecDeque.{deque_capacity};
+ghost use Rattle.ng_pace.specs.Flow.{Keeps};
+
+use crate::chord::{Final, GREATEST, Waiting};
+use crate::line::Line;
+use crate::pacer::Pacer;
+use std::alloc::Allocator;
+use std::collections::VecDeque;
+
+/// What is known of what comes after the last item that waits.
+#[derive(Clone, Copy, Debug)]
+pub(crate) enum Ending {
+    GoesOn,
+    /// A line before which everything stands still; a motor may stop at this square at once, in parts of 256.
+    Stands(u64),
+    /// Nothing yet.
+    Ends(u64),
+}
+
+/// The line of an item.
+fn line_of(item: Waiting, limits: Final, ending: Ending) -> Line
+    ensures { result.item ≡ item.item }
+{
+    let ramp = limits.ramp.min(GREATEST);
+    let (ramp, last) = match ending {
+        Ending::GoesOn => (ramp, false),
+        Ending::Stands(start) => ((ramp / 256).saturating_mul(start).min(GREATEST), false),
+        Ending::Ends(start) => ((ramp / 256).saturating_mul(start).min(GREATEST), true),
+    };
+    Line {
+        item: item.item,
+        full: item.feed,
+        most: limits.most.min(item.feed),
+        ramp,
+        last,
+    }
+}
+
+/// Gives the first item that waits to the pacer. False if none waits.
+fn settle_one<A: Allocator>(
+    pacer: &mut Pacer<A>,
+    waiting: &mut VecDeque<Waiting, A>,
+    limits: Final,
+    ending: Ending,
+) -> bool
+    requires { length pacer.old.known + length waiting.old.items ≤ pacer.old.room }
+    ensures keeps { Keeps pacer.old pacer.new waiting.old.items waiting.new.items }
+    ensures capacity { deque_capacity waiting.new ≡ deque_capacity waiting.old }
+    ensures fewer { IsTrue result → length waiting.new.items + 1 ≡ length waiting.old.items }
+    ensures none { IsFalse result → waiting.new.items ≡ [] }
+{
+    match waiting.pop_front() {
+        Some(item) => {
+            let ending = if waiting.is_empty() {
+                ending
+            } else {
+                Ending::GoesOn
+            };
+            pacer.push(line_of(item, limits, ending));
+            true
+        }
+        None => false,
+    }
+}
+
+/// Gives so many items that wait to the pacer, or all.
+pub(crate) fn settle<A: Allocator>(
+    pacer: &mut Pacer<A>,
+    waiting: &mut VecDeque<Waiting, A>,
+    count: u64,
+    limits: Final,
+    ending: Ending,
+)
+    requires { length pacer.old.known + length waiting.old.items ≤ pacer.old.room }
+    ensures keeps { Keeps pacer.old pacer.new waiting.old.items waiting.new.items }
+    ensures capacity { deque_capacity waiting.new ≡ deque_capacity waiting.old }
+{
+    for _ in 0..count {
+        if !settle_one(pacer, waiting, limits, ending) {
+            break;
+        }
+    }
+}
+
+/// Gives all items that wait to the pacer.
+pub(crate) fn settle_all<A: Allocator>(
+    pacer: &mut Pacer<A>,
+    waiting: &mut VecDeque<Waiting, A>,
+    limits: Final,
+    ending: Ending,
+)
+    requires { length pacer.old.known + length waiting.old.items ≤ pacer.old.room }
+    ensures keeps { Keeps pacer.old pacer.new waiting.old.items waiting.new.items }
+    ensures capacity { deque_capacity waiting.new ≡ deque_capacity waiting.old }
+    ensures none { waiting.new.items ≡ [] }
+{
+    while settle_one(pacer, waiting, limits, ending) {}
+}

@@ -1,0 +1,104 @@
+//! One line: the square after it, and its time.
+ghost use Rattle.std.specs.Prelude.{◌≡◌, ◌≤◌, ◌<◌, ◌^◌, ◌-◌, max, min, IsTrue};
+ghost use Rattle.ng_pace.specs.Plan.{most_now};
+ghost use Rattle.ng_pace.specs.Due.{least_ns};
+ghost use Rattle.ng_pace.specs.Rest.{IsRamp};
+ghost use Rattle.ng_pace.specs.Interval.{IsRoot, time_at, is_at_full_rate, IsTimeOf};
+ghost use Rattle.ng_pace.specs.Paced.{start_square, rest_of, IsBeginning};
+
+use crate::line::{Line, least_ns};
+
+/// Twice a second, in nanoseconds, times 2^8.
+const TWO_SECONDS: u64 = 512_000_000_000;
+
+/// The time of a line at which everything stands still.
+const STANDING_NS: u64 = 1_000_000_000;
+
+/// A line that is given out: carry it out now, and the next one no sooner than after this time.
+#[derive(Clone, Copy, Debug, PartialEq, Eq)]
+pub struct Given {
+    pub line: Line,
+    pub ns: u64,
+    /// The square at this line, and that at the next.
+    pub from: u64,
+    pub to: u64,
+}
+
+/// The square at which motors can start and stop at once, by what the line allows; `start` is in parts of 256.
+pub(crate) fn start_square(line: &Line, start: u64) -> u64
+    ensures { result ≡ start_square line.now start }
+{
+    (line.ramp / 256).saturating_mul(start)
+}
+
+/// The square at the next line, from that at this one and what is planned for the next.
+pub(crate) fn square_after(line: &Line, from: u64, after: u64, wanted: u64) -> u64
+    requires { from ≤ most_now line.now after }
+    ensures ramp { IsRamp line.now.ramp from result }
+    ensures wanted { result ≤ max wanted (from - line.now.ramp) }
+    ensures planned { result ≤ after }
+    ensures last { IsTrue line.now.last → result ≡ 0 }
+{
+    let reached = if line.last { 0 } else { after };
+    let least = from.saturating_sub(line.ramp).min(reached);
+    from.saturating_add(line.ramp)
+        .min(reached)
+        .min(wanted)
+        .max(least)
+}
+
+/// The time of a line at these two rates, which are given by their roots.
+fn time_at(least_ns: u64, both: u64) -> u64
+    requires { both < 2 ^ 33 }
+    ensures { result ≡ time_at least_ns both }
+{
+    if both == 0 {
+        return least_ns.max(STANDING_NS);
+    }
+    ((TWO_SECONDS + both - 1) / both).max(least_ns)
+}
+
+/// Whether a line is passed at the rate of its own time.
+fn is_at_full_rate(line: &Line, from: u64, to: u64) -> bool
+    ensures { result ≡ is_at_full_rate line.now from to }
+{
+    from == to && to == line.full
+}
+
+/// The time of a line whose square goes from one to another, whose roots are given.
+pub(crate) fn time_of(line: &Line, from: u64, to: u64, root_from: u64, root_to: u64) -> u64
+    requires from { IsRoot from root_from }
+    requires to { IsRoot to root_to }
+    requires size { (root_from < 2 ^ 32) × (root_to < 2 ^ 32) }
+    ensures time { IsTimeOf line.now from to result }
+    ensures least { least_ns line.now.item ≤ result }
+{
+    if is_at_full_rate(line, from, to) {
+        return least_ns(&line.item);
+    }
+    time_at(least_ns(&line.item), root_from + root_to)
+}
+
+/// The square at a line: what it is, or from rest what motors can start at.
+pub(crate) fn square_at(line: &Line, plan: u64, square: u64, start: u64, wanted: u64) -> u64
+    requires { square ≤ plan }
+    ensures planned { result ≤ plan }
+    ensures begins { IsBeginning line.now square start wanted result }
+{
+    if square > 0 {
+        square
+    } else {
+        start_square(line, start).min(plan).min(wanted)
+    }
+}
+
+/// The square that is left after a line: 0 where a rest is wanted and motors can stop at once.
+pub(crate) fn rest_of(line: &Line, to: u64, start: u64, wanted: u64) -> u64
+    ensures { result ≡ rest_of line.now to start wanted }
+{
+    if wanted == 0 && to <= start_square(line, start) {
+        0
+    } else {
+        to
+    }
+}
