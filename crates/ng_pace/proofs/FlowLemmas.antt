@@ -1,79 +1,107 @@
 -- Limits that become final keep the items and the motion.
-use Rattle.std.proofs.Common.{arith, ◌+◌, ◌≡◌, ◌∙◌, refl, ap, sym, List, [], ◌∷◌, ◌++◌, length, append-nil, append_assoc}
+use Rattle.std.proofs.Common.{arith, ◌+◌, ◌≤◌, ◌≡◌, ◌∙◌, refl, ap, sym, false, List, [], ◌∷◌, ◌++◌, length, append-nil, append_assoc}
 use Rattle.ng_canon.specs.declared.item.Item.{Item}
 use Rattle.ng_pace.specs.declared.line.Line.{Line}
 use Rattle.ng_pace.specs.declared.chord.Waiting.{Waiting}
 use Rattle.ng_pace.specs.Motion.{Motion}
-use Rattle.ng_pace.specs.Flow.{items_of, items_waiting, Keeps, Adds}
+use Rattle.ng_pace.specs.Rest.{CanRest}
+use Rattle.ng_pace.specs.Flow.{Timed, timed_lines, timed_waiting, AreOwn, Settles, Keeps, Adds}
+use Rattle.ng_pace.proofs.RestLemmas.{rest_more}
 
-items_of-push : (xs : List Line) (line : Line) (ys : List Item) → items_of (xs ++ line ∷ []) ++ ys ≡ items_of xs ++ line.item ∷ ys
-items_of-push [] line ys = refl
-items_of-push (x ∷ xs) line ys = ap (λ t. x.item ∷ t) (items_of-push xs line ys)
+pub timed_lines-append : (xs ys : List Line) → timed_lines (xs ++ ys) ≡ timed_lines xs ++ timed_lines ys
+timed_lines-append [] ys = refl
+timed_lines-append (x ∷ xs) ys = ap (λ t. (record { item = x.item; full = x.full }) ∷ t) (timed_lines-append xs ys)
+
+own-append : (xs ys : List Line) → AreOwn xs → AreOwn ys → AreOwn (xs ++ ys)
+own-append [] ys a b = b
+own-append (x ∷ xs) ys a b = (a.0, own-append xs ys a.1 b)
+
+pub length-timed_waiting : (xs : List Waiting) → length (timed_waiting xs) ≡ length xs
+length-timed_waiting [] = refl
+length-timed_waiting (x ∷ xs) = omega (arith, length-timed_waiting xs)
+
+timed_waiting-push : (xs : List Waiting) (w : Waiting) → timed_waiting (xs ++ w ∷ []) ≡ timed_waiting xs ++ (record { item = w.item; full = w.feed }) ∷ []
+timed_waiting-push [] w = refl
+timed_waiting-push (x ∷ xs) w = ap (λ t. (record { item = x.item; full = x.feed }) ∷ t) (timed_waiting-push xs w)
+
+pub settles_none : (m : Motion) (w : List Timed) → Settles m m w w
+settles_none m w = record { settled = []; known = sym (append-nil m.known); order = refl; own = tt; square = refl; start = refl; room = refl }
+
+pub settles_on : {a b c : Motion} {u v w : List Timed} → Settles a b u v → Settles b c v w → Settles a c u w
+settles_on {a} {b} {c} {u} {v} {w} first later = record {
+  settled = first.settled ++ later.settled;
+  known = later.known ∙ ap (λ t. t ++ later.settled) first.known ∙ append_assoc a.known first.settled later.settled;
+  order = ap (λ t. t ++ w) (timed_lines-append first.settled later.settled) ∙ append_assoc (timed_lines first.settled) (timed_lines later.settled) w
+      ∙ ap (λ t. timed_lines first.settled ++ t) later.order ∙ first.order;
+  own = own-append first.settled later.settled first.own later.own;
+  square = later.square ∙ first.square;
+  start = later.start ∙ first.start;
+  room = later.room ∙ first.room;
+}
+
+-- one more behind those that wait
+pub settles_push : {a b : Motion} {u v : List Timed} → Settles a b u v → (w : List Timed) → Settles a b (u ++ w) (v ++ w)
+settles_push {a} {b} {u} {v} first w = record {
+  settled = first.settled;
+  known = first.known;
+  order = sym (append_assoc (timed_lines first.settled) v w) ∙ ap (λ t. t ++ w) first.order;
+  own = first.own;
+  square = first.square;
+  start = first.start;
+  room = first.room;
+}
+
+-- a rest can still be reached
+pub settles_rest : {a b : Motion} {u v : List Timed} → Settles a b u v → CanRest a.square a.known → CanRest b.square b.known
+settles_rest {a} {b} first rest = rw (first.known, first.square) (rest_more a.known first.settled a.square rest)
+
+pub kept : (m : Motion) (w : List Waiting) → Keeps m m w w
+kept m w = record { settles = settles_none m (timed_waiting w); count = refl }
+
+pub keeps_on : {a b c : Motion} {u v w : List Waiting} → Keeps a b u v → Keeps b c v w → Keeps a c u w
+keeps_on first later = record { settles = settles_on first.settles later.settles; count = later.count ∙ first.count }
 
 length-push : (xs : List Line) (line : Line) → length (xs ++ line ∷ []) ≡ length xs + 1
 length-push [] line = refl
 length-push (x ∷ xs) line = omega (arith, length-push xs line)
 
--- the first item that waits goes behind what is known
-pub moved : (old new : Motion) (item : Waiting) (waited rest : List Waiting) (line : Line) → new ≡ record old { known = old.known ++ line ∷ [] } → line.item ≡ item.item → waited ≡ item ∷ rest → Keeps old new waited rest
-moved old new item waited rest line is same first = rw (is, first) (record {
-  items = items_of-push old.known line (items_waiting rest) ∙ ap (λ t. items_of old.known ++ t ∷ items_waiting rest) same;
-  count = omega (arith, length-push old.known line);
-  square = refl;
-  start = refl;
-  room = refl;
-})
-
-pub kept : (m : Motion) (w : List Waiting) → Keeps m m w w
-kept m w = record { items = refl; count = refl; square = refl; start = refl; room = refl }
-
-pub keeps_on : (a b c : Motion) (u v w : List Waiting) → Keeps a b u v → Keeps b c v w → Keeps a c u w
-keeps_on a b c u v w first then = record {
-  items = then.items ∙ first.items;
-  count = then.count ∙ first.count;
-  square = then.square ∙ first.square;
-  start = then.start ∙ first.start;
-  room = then.room ∙ first.room;
-}
-
-pub length-items_waiting : (xs : List Waiting) → length (items_waiting xs) ≡ length xs
-length-items_waiting [] = refl
-length-items_waiting (x ∷ xs) = omega (arith, length-items_waiting xs)
-
-pub items_waiting-push : (xs : List Waiting) (w : Waiting) → items_waiting (xs ++ w ∷ []) ≡ items_waiting xs ++ w.item ∷ []
-items_waiting-push [] w = refl
-items_waiting-push (x ∷ xs) w = ap (λ t. x.item ∷ t) (items_waiting-push xs w)
-
 length-waiting-push : (xs : List Waiting) (w : Waiting) → length (xs ++ w ∷ []) ≡ length xs + 1
 length-waiting-push [] w = refl
 length-waiting-push (x ∷ xs) w = omega (arith, length-waiting-push xs w)
 
--- a line goes behind what is known, where nothing waits
-pub still_adds : (old mid new : Motion) (waited waits : List Waiting) (line : Line) (item : Item) → Keeps old mid waited waits → waits ≡ [] → new ≡ record mid { known = mid.known ++ line ∷ [] } → line.item ≡ item → Adds old new waited waits item
-still_adds old mid new waited waits line item keeps none is same =
-    let before : items_of mid.known ++ [] ≡ items_of old.known ++ items_waiting waited = rw none at keeps.items in
-    let count : length mid.known + length waits ≡ length old.known + length waited = keeps.count in
-    let bare : items_of mid.known ≡ items_of old.known ++ items_waiting waited = rw (append-nil (items_of mid.known)) at before in
-    rw (is) (record {
-      items = rw none (items_of-push mid.known line [] ∙ ap (λ t. items_of mid.known ++ t ∷ []) same ∙ ap (λ t. t ++ item ∷ []) bare);
-      count = omega (arith, length-push mid.known line, count);
-      square = keeps.square;
-      start = keeps.start;
-      room = keeps.room;
+-- a line goes behind those that are known
+pub pushed : (old : Motion) (line : Line) (waits : List Timed) → line.most ≤ line.full
+    → Settles old (record old { known = old.known ++ line ∷ [] }) ((record { item = line.item; full = line.full }) ∷ waits) waits
+pushed old line waits own = record { settled = line ∷ []; known = refl; order = refl; own = (own, tt); square = refl; start = refl; room = refl }
+
+-- the first item that waits goes behind what is known
+pub moved : (old new : Motion) (w : Waiting) (waited rest : List Waiting) (line : Line) → new ≡ record old { known = old.known ++ line ∷ [] } → line.item ≡ w.item → line.full ≡ w.feed → line.most ≤ w.feed → waited ≡ w ∷ rest → Keeps old new waited rest
+moved old new w waited rest line is item full most first = rw (is, first) (record {
+  settles = rw (← item, ← full) (pushed old line (timed_waiting rest) (omega arith));
+  count = omega (arith, length-push old.known line);
+})
+
+-- a line at which everything stands still goes behind what is known, where nothing waits
+pub still_adds : (item : Item) (old mid : Motion) (waited waits : List Waiting) → Keeps old mid waited waits → waits ≡ []
+    → Adds old (record mid { known = mid.known ++ (record { item = item; full = 0; most = 0; ramp = 0; last = false }) ∷ [] }) waited waits (record { item = item; full = 0 })
+still_adds item old mid waited waits keeps none =
+    let line : Line = record { item = item; full = 0; most = 0; ramp = 0; last = false } in
+    let timed : Timed = record { item = item; full = 0 } in
+    let before : Settles old mid (timed_waiting waited) [] = rw none at keeps.settles in
+    rw none (record {
+      settles = settles_on (settles_push before (timed ∷ [])) (pushed mid line [] (omega arith));
+      count = let count : length mid.known + length waits ≡ length old.known + length waited = keeps.count in
+          let nothing : length waits ≡ 0 = ap length none in omega (arith, length-push mid.known line);
     })
 
 -- an item begins to wait
-pub pulse_adds : (a b c : Motion) (u v pushed w : List Waiting) (waiting : Waiting) (item : Item) → Keeps a b u v → pushed ≡ v ++ waiting ∷ [] → waiting.item ≡ item → Keeps b c pushed w → Adds a c u w item
-pulse_adds a b c u v pushed w waiting item first is same then =
-    let later : items_of c.known ++ items_waiting w ≡ items_of b.known ++ items_waiting (v ++ waiting ∷ []) = rw is at then.items in
-    let count : length c.known + length w ≡ length b.known + length (v ++ waiting ∷ []) = rw is at then.count in
-    record {
-      items = later
-          ∙ ap (λ t. items_of b.known ++ t) (items_waiting-push v waiting ∙ ap (λ t. items_waiting v ++ t ∷ []) same)
-          ∙ sym (append_assoc (items_of b.known) (items_waiting v) (item ∷ []))
-          ∙ ap (λ t. t ++ item ∷ []) first.items;
-      count = omega (arith, count, first.count, length-waiting-push v waiting);
-      square = then.square ∙ first.square;
-      start = then.start ∙ first.start;
-      room = then.room ∙ first.room;
+pub pulse_adds : (a b c : Motion) (u v pushed w : List Waiting) (x : Waiting) → Keeps a b u v → pushed ≡ v ++ x ∷ [] → Keeps b c pushed w → Adds a c u w (record { item = x.item; full = x.feed })
+pulse_adds a b c u v pushed w x first is later =
+    let moved_on : Keeps b c (v ++ x ∷ []) w = rw is at later in record {
+      settles = settles_on (settles_push first.settles ((record { item = x.item; full = x.feed }) ∷ [])) (rw (timed_waiting-push v x) at moved_on.settles);
+      count = omega (arith, moved_on.count, first.count, length-waiting-push v x);
     }
+
+-- nothing waits any more
+pub settles_end : {old new : Motion} {waited waits : List Waiting} → Keeps old new waited waits → waits ≡ [] → Settles old new (timed_waiting waited) []
+settles_end keeps none = rw none at keeps.settles

@@ -1,5 +1,6 @@
 pub mod PlanLemmas
+pub mod TakeLemmas
 pub mod RestLemmas
-pub mod RootLemmas
+pub mod SquareLemmas
 pub mod FlowLemmas
 pub mod RunLemmas

@@ -1,58 +1,119 @@
--- Items that are known: those whose limits are final, and those that wait.
-use Rattle.std.specs.Prelude.{ℕ, ◌+◌, ◌≤◌, ◌≡◌, List, [], ◌∷◌, ◌++◌, length}
+-- A stream of items: those of whose lines the motion is planned, and those that wait since their limits aren't final.
+use Rattle.std.specs.Prelude.{ℕ, ◌+◌, ◌*◌, ◌/◌, ◌^◌, ◌<◌, ◌≤◌, ◌≡◌, ◌==◌, min, max, List, [], ◌∷◌, ◌++◌, length, if◌then◌else◌}
+use Rattle.std.specs.List.{Contains}
 use Rattle.ng_canon.specs.declared.item.Item.{Item}
+use Rattle.ng_canon.specs.declared.item.Item.TheVariants.{Pulse, Dwell, Switch}
 use Rattle.ng_pace.specs.declared.line.Line.{Line}
+use Rattle.ng_pace.specs.declared.chord.Limits.{Limits}
 use Rattle.ng_pace.specs.declared.chord.Waiting.{Waiting}
 use Rattle.ng_pace.specs.declared.stepping.Given.{Given}
 use Rattle.ng_pace.specs.Motion.{Motion}
+use Rattle.ng_pace.specs.Rest.{CanRest}
 use Rattle.ng_pace.specs.Paced.{IsGiven}
 
-abbrev pub items_of : List Line → List Item
-items_of [] = []
-items_of (line ∷ rest) = line.item ∷ items_of rest
+-- each axis can accelerate, corners are taken over some pulses, and motors may be off their pulses
+pub record IsAllowed (limits : Limits) : Type 0 where
+  pub accelerates : ¬ Contains limits.accel 0
+  pub half : 0 < limits.half
+  pub slack : 0 < limits.slack
 
-abbrev pub items_waiting : List Waiting → List Item
-items_waiting [] = []
-items_waiting (item ∷ rest) = item.item ∷ items_waiting rest
+-- the rate at which pulses of so many microseconds come, in pulses a second times 2^8: a pulse of none is as one of 1, and the rate is
+-- rounded down, but not to 0
+abbrev pub own_rate : ℕ → ℕ
+own_rate us = if us == 0 then 256000000 else max (256000000 / us) 1
 
--- limits became final, and nothing else: the same items are known in the same order, and the motion is the same
-pub record Keeps (old new : Motion) (waited waits : List Waiting) : Type 0 where
-  pub items : items_of new.known ++ items_waiting waits ≡ items_of old.known ++ items_waiting waited
-  pub count : length new.known + length waits ≡ length old.known + length waited
-  pub square : new.square ≡ old.square
-  pub start : new.start ≡ old.start
-  pub room : new.room ≡ old.room
+-- its square
+abbrev pub own_square : ℕ → ℕ
+own_square us = own_rate us * own_rate us
 
--- an item came, behind all that are known, and the motion is the same
-pub record Adds (old new : Motion) (waited waits : List Waiting) (item : Item) : Type 0 where
-  pub items : items_of new.known ++ items_waiting waits ≡ (items_of old.known ++ items_waiting waited) ++ item ∷ []
-  pub count : length new.known + length waits ≡ length old.known + length waited + 1
-  pub square : new.square ≡ old.square
-  pub start : new.start ≡ old.start
-  pub room : new.room ≡ old.room
+-- an item, and the square of the rate at which it comes in its own time
+pub record Timed : Type 0 where
+  pub item : Item
+  pub full : ℕ
 
--- items that are known and not given out: of the first the motion is planned, the others wait
+-- items that are known and not given out: the lines of the first are known, the others wait
 pub record Flow : Type 0 where
   pub motion : Motion
-  pub waiting : List Item
+  pub waiting : List Timed
+  -- the square of the pulse that was put in last; 2^58, above all of them, if none was since the last stop
+  pub before : ℕ
 
--- there is room for all that is known
-pub record IsHeld (motion : Motion) (waiting : List Waiting) (capacity : ℕ) : Type 0 where
-  pub fits : length motion.known + length waiting ≤ motion.room
-  pub capacity_is : capacity ≡ motion.room
+abbrev pub no_pulse : ℕ
+no_pulse = 2 ^ 58
 
--- all items that are known, in order
-abbrev pub all_items : Flow → List Item
-all_items flow = items_of flow.motion.known ++ flow.waiting
+-- between two pulses the rate is no more than either's own; at all else everything stands still
+abbrev pub full_of : ℕ → Item → ℕ
+full_of before (Pulse pulse) = min (own_square pulse.period_us) before
+full_of before (Dwell us) = 0
+full_of before (Switch outputs) = 0
 
--- new items are known behind the others, and the motion is the same
-pub record Grows (old new : Flow) (more : List Item) : Type 0 where
-  pub items : all_items new ≡ all_items old ++ more
-  pub square : new.motion.square ≡ old.motion.square
-  pub start : new.motion.start ≡ old.motion.start
-  pub room : new.motion.room ≡ old.motion.room
+abbrev pub square_behind : Item → ℕ
+square_behind (Pulse pulse) = own_square pulse.period_us
+square_behind (Dwell us) = no_pulse
+square_behind (Switch outputs) = no_pulse
 
--- a line is given out of what is planned
+abbrev pub timed_lines : List Line → List Timed
+timed_lines [] = []
+timed_lines (line ∷ rest) = (record { item = line.item; full = line.full }) ∷ timed_lines rest
+
+abbrev pub timed_waiting : List Waiting → List Timed
+timed_waiting [] = []
+timed_waiting (w ∷ rest) = (record { item = w.item; full = w.feed }) ∷ timed_waiting rest
+
+-- no line is passed faster than in its own time
+abbrev pub AreOwn : List Line → Type 0
+AreOwn [] = Unit {0}
+AreOwn (line ∷ rest) = (line.most ≤ line.full) × AreOwn rest
+
+-- of the items that waited the first are known as lines now, behind those that were known; the others wait; the motion is the same
+pub record Settles (old new : Motion) (waited waits : List Timed) : Type 0 where
+  pub settled : List Line
+  pub known : new.known ≡ old.known ++ settled
+  pub order : timed_lines settled ++ waits ≡ waited
+  pub own : AreOwn settled
+  pub square : new.square ≡ old.square
+  pub start : new.start ≡ old.start
+  pub room : new.room ≡ old.room
+
+-- at rest, with nothing known, and room for so many items
+pub record IsEmpty (flow : Flow) (room : ℕ) : Type 0 where
+  pub known : flow.motion.known ≡ []
+  pub waiting : flow.waiting ≡ []
+  pub rest : flow.motion.square ≡ 0
+  pub before : flow.before ≡ no_pulse
+  pub room_is : flow.motion.room ≡ room
+
+-- an item is put in, behind all that are known
+pub record IsPut (old new : Flow) (item : Item) : Type 0 where
+  pub settles : Settles old.motion new.motion (old.waiting ++ (record { item = item; full = full_of old.before item }) ∷ []) new.waiting
+  pub before : new.before ≡ square_behind item
+  pub rests : CanRest new.motion.square new.motion.known
+
+-- nothing more is known to come: no item waits
+pub record IsEnded (old new : Flow) : Type 0 where
+  pub settles : Settles old.motion new.motion old.waiting []
+  pub none : new.waiting ≡ []
+  pub before : new.before ≡ no_pulse
+  pub rests : CanRest new.motion.square new.motion.known
+
+-- a line is given out
 pub record IsFlowGiven (old new : Flow) (wanted : ℕ) (given : Given) : Type 0 where
   pub given_out : IsGiven old.motion new.motion wanted given
   pub waiting : new.waiting ≡ old.waiting
+  pub before : new.before ≡ old.before
+
+-- there is room for all that is known, and a rest can be reached
+pub record IsHeld (motion : Motion) (waiting : List Waiting) (capacity : ℕ) : Type 0 where
+  pub fits : length motion.known + length waiting ≤ motion.room
+  pub capacity_is : capacity ≡ motion.room
+  pub rests : CanRest motion.square motion.known
+
+-- limits of waiting items became final; so many items are known as before
+pub record Keeps (old new : Motion) (waited waits : List Waiting) : Type 0 where
+  pub settles : Settles old new (timed_waiting waited) (timed_waiting waits)
+  pub count : length new.known + length waits ≡ length old.known + length waited
+
+-- the same, where one more item came
+pub record Adds (old new : Motion) (waited waits : List Waiting) (timed : Timed) : Type 0 where
+  pub settles : Settles old new (timed_waiting waited ++ timed ∷ []) (timed_waiting waits)
+  pub count : length new.known + length waits ≡ length old.known + length waited + 1

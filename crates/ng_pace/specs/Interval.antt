@@ -8,8 +8,8 @@ pub record IsRoot (n r : ℕ) : Type 0 where
   pub reached : r * r ≤ n
   pub next : n < (r + 1) * (r + 1)
 
--- a pulse at the mean of two rates, which are in pulses a second times 2^8: its nanoseconds rounded up, and no less than the least;
--- a second, at least, where both are 0
+-- a pulse at the mean of two rates, given by their sum in pulses a second times 2^8: its nanoseconds rounded up, and no less than the
+-- least; a second, at least, where both are 0
 abbrev pub time_at : ℕ → ℕ → ℕ
 time_at least both = if both == 0 then max least 1000000000 else max ((512000000000 + both - 1) / both) least
 
@@ -17,7 +17,10 @@ time_at least both = if both == 0 then max least 1000000000 else max ((512000000
 abbrev pub is_at_full_rate : Line → ℕ → ℕ → Bool
 is_at_full_rate line from to = (from == to) && (to == line.full)
 
--- a line takes this time if its square goes from one to another: its own time at its own rate, otherwise that of the mean rate
-abbrev pub IsTimeOf : Line → ℕ → ℕ → ℕ → Type 0
-IsTimeOf line from to ns = (r s : ℕ) → IsRoot from r → IsRoot to s
-    → ns ≡ (if is_at_full_rate line from to then least_ns line.item else time_at (least_ns line.item) (r + s))
+-- the time of a line whose square goes from one to another: its own at its own rate, otherwise that of the mean rate
+pub record IsTimeOf (line : Line) (from to ns : ℕ) : Type 0 where
+  pub root_from : ℕ
+  pub root_to : ℕ
+  pub is_root_from : IsRoot from root_from
+  pub is_root_to : IsRoot to root_to
+  pub time : ns ≡ (if is_at_full_rate line from to then least_ns line.item else time_at (least_ns line.item) (root_from + root_to))

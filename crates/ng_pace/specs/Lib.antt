@@ -1,6 +1,7 @@
 pub mod Due
 pub mod Plan
 pub mod Rest
+pub mod Squares
 pub mod Interval
 pub mod Motion
 pub mod Paced

@@ -15,9 +15,9 @@ pub record Motion : Type 0 where
   -- most lines that may be known
   pub room : ℕ
 
--- the plan is one, the square is within it, and a root is known
-pub record IsSteady (slots : List Slot) (square last root : ℕ) : Type 0 where
-  pub plan : IsPlan slots
+-- so many lines are planned, the square is within the plan, and a root is known
+pub record IsSteady (slots : List Slot) (square planned last root : ℕ) : Type 0 where
+  pub plan : IsPlan planned slots
   pub within : square ≤ ahead slots
   pub root_of_last : IsRoot last root
   pub size : root < 2 ^ 32

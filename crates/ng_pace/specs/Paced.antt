@@ -1,20 +1,12 @@
 -- What the pacer promises of each line.
-use Rattle.std.specs.Prelude.{ℕ, ◌-◌, ◌*◌, ◌/◌, ◌^◌, ◌<◌, ◌≤◌, ◌≡◌, ◌==◌, ◌&&◌, ◌⊎◌, nat_le, min, max, [], ◌∷◌, IsTrue, if◌then◌else◌}
+use Rattle.std.specs.Prelude.{ℕ, ◌<◌, ◌≤◌, ◌≡◌, ◌==◌, ◌&&◌, ◌⊎◌, nat_le, [], ◌∷◌, if◌then◌else◌}
 use Rattle.ng_pace.specs.declared.line.Line.{Line}
 use Rattle.ng_pace.specs.declared.stepping.Given.{Given}
 use Rattle.ng_pace.specs.Due.{least_ns}
 use Rattle.ng_pace.specs.Motion.{Motion}
-use Rattle.ng_pace.specs.Rest.{IsRamp}
+use Rattle.ng_pace.specs.Rest.{CanRest}
+use Rattle.ng_pace.specs.Squares.{start_square, IsHasty}
 use Rattle.ng_pace.specs.Interval.{IsTimeOf}
-
--- the square at which motors can start and stop at once
-abbrev pub start_square : Line → ℕ → ℕ
-start_square line start = min (line.ramp / 256 * start) (2 ^ 64 - 1)
-
--- a line is passed at the square that was left, or from rest at one at which motors can start, and which is wanted
-pub record IsBeginning (line : Line) (square start wanted from : ℕ) : Type 0 where
-  pub goes_on : 0 < square → from ≡ square
-  pub starts : square ≡ 0 → from ≤ min (start_square line start) wanted
 
 -- what is left of a square after a line: nothing, where a rest is wanted and motors can stop at once
 abbrev pub rest_of : Line → ℕ → ℕ → ℕ → ℕ
@@ -24,17 +16,17 @@ rest_of line to start wanted = if (wanted == 0) && nat_le to (start_square line 
 pub record IsGiven (old new : Motion) (wanted : ℕ) (given : Given) : Type 0 where
   -- order: it is the first that was known, and the others are still known
   pub order : old.known ≡ given.line ∷ new.known
-  -- never sooner
+  -- never sooner than its own time, and at the time of its squares
   pub least : least_ns given.line.item ≤ given.ns
   pub time : IsTimeOf given.line given.from given.to given.ns
-  -- the square goes on from where it was, within what the line allows
-  pub begins : IsBeginning given.line old.square old.start wanted given.from
+  -- the square goes on from what was left of it, and is none that the line doesn't allow
+  pub goes_on : 0 < old.square → given.from ≡ old.square
   pub within : given.from ≤ given.line.most
-  pub ramp : IsRamp given.line.ramp given.from given.to
-  -- hold: above what is wanted the square falls by the whole ramp
-  pub falls : given.to ≤ max wanted (given.from - given.line.ramp)
-  pub last : IsTrue given.line.last → given.to ≡ 0
-  pub goes : new.square ≡ rest_of given.line given.to old.start wanted
+  -- the square after it is within the ramp, falls by all of it while less is wanted, and is as great as may be
+  pub hasty : IsHasty given.line old.square old.start wanted given.from given.to new.known
+  pub left : new.square ≡ rest_of given.line given.to old.start wanted
+  -- a rest can be reached, whatever comes
+  pub rests : CanRest new.square new.known
   pub start : new.start ≡ old.start
   pub room : new.room ≡ old.room
 

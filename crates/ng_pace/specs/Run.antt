@@ -1,45 +1,89 @@
--- Whole runs: what was given out is a beginning of what was put in.
-use Rattle.std.specs.Prelude.{ℕ, ◌+◌, ◌≤◌, ◌≡◌, List, [], ◌∷◌, ◌++◌}
+-- Whole streams: what was given out is a beginning of what was put in, and is paced line by line.
+use Rattle.std.specs.Prelude.{ℕ, ◌<◌, ◌≤◌, ◌≡◌, ◌⊎◌, List, [], ◌∷◌, ◌++◌, Option, Some, None}
+use Rattle.ng_canon.specs.declared.item.Item.{Item}
 use Rattle.ng_pace.specs.declared.line.Line.{Line}
 use Rattle.ng_pace.specs.declared.stepping.Given.{Given}
 use Rattle.ng_pace.specs.Due.{least_ns}
-use Rattle.ng_pace.specs.Motion.{Motion}
-use Rattle.ng_pace.specs.Paced.{IsGiven}
+use Rattle.ng_pace.specs.Rest.{IsRamp}
+use Rattle.ng_pace.specs.Squares.{start_square}
+use Rattle.ng_pace.specs.Interval.{IsTimeOf}
+use Rattle.ng_pace.specs.Paced.{Waits}
+use Rattle.ng_pace.specs.Flow.{Flow, Timed, IsPut, IsEnded, IsFlowGiven}
 
--- a line is put in, or one is given out while this square is wanted
+-- an item is put in; it is told that nothing more comes; or a line is asked for at no more than a square, and what is answered
 pub data Event : Type 0 where
-  put : Line → Event
-  gave : ℕ → Given → Event
+  put : Item → Event
+  end : Event
+  ask : ℕ → Option Given → Event
 
--- these events lead from one motion to another
-abbrev pub IsRun : Motion → List Event → Motion → Type 0
-IsRun old [] new = old ≡ new
-IsRun old (put line ∷ rest) new = IsRun (record old { known = old.known ++ line ∷ [] }) rest new
-IsRun old (gave wanted given ∷ rest) new = (mid : Motion) × (IsGiven old mid wanted given × IsRun mid rest new)
+-- these events, one after another, lead from one flow to another
+abbrev pub IsRun : Flow → List Event → Flow → Type 0
+IsRun old [] new = new ≡ old
+IsRun old (put item ∷ rest) new = (mid : Flow) × (IsPut old mid item × IsRun mid rest new)
+IsRun old (end ∷ rest) new = (mid : Flow) × (IsEnded old mid × IsRun mid rest new)
+IsRun old (ask wanted (Some given) ∷ rest) new = (mid : Flow) × (IsFlowGiven old mid wanted given × IsRun mid rest new)
+IsRun old (ask wanted None ∷ rest) new = Waits old.motion wanted × IsRun old rest new
 
 -- what was put in
-abbrev pub lines_put : List Event → List Line
-lines_put [] = []
-lines_put (put line ∷ rest) = line ∷ lines_put rest
-lines_put (gave wanted given ∷ rest) = lines_put rest
+abbrev pub items_put : List Event → List Item
+items_put [] = []
+items_put (put item ∷ rest) = item ∷ items_put rest
+items_put (end ∷ rest) = items_put rest
+items_put (ask wanted answer ∷ rest) = items_put rest
 
 -- what was given out
-abbrev pub lines_given : List Event → List Line
+abbrev pub lines_given : List Event → List Given
 lines_given [] = []
-lines_given (put line ∷ rest) = lines_given rest
-lines_given (gave wanted given ∷ rest) = given.line ∷ lines_given rest
+lines_given (put item ∷ rest) = lines_given rest
+lines_given (end ∷ rest) = lines_given rest
+lines_given (ask wanted (Some given) ∷ rest) = given ∷ lines_given rest
+lines_given (ask wanted None ∷ rest) = lines_given rest
 
--- how long that takes at least, and how long it took
-abbrev pub least_sum : List Line → ℕ
-least_sum [] = 0
-least_sum (line ∷ rest) = least_ns line.item + least_sum rest
+abbrev pub items_given : List Given → List Item
+items_given [] = []
+items_given (given ∷ rest) = given.line.item ∷ items_given rest
 
-abbrev pub time_sum : List Event → ℕ
-time_sum [] = 0
-time_sum (put line ∷ rest) = time_sum rest
-time_sum (gave wanted given ∷ rest) = given.ns + time_sum rest
+abbrev pub items_of_lines : List Line → List Item
+items_of_lines [] = []
+items_of_lines (line ∷ rest) = line.item ∷ items_of_lines rest
 
--- a run keeps the order, gives each line once, and is never sooner
-pub record IsTimedBeginning (old : Motion) (events : List Event) (new : Motion) : Type 0 where
-  pub order : old.known ++ lines_put events ≡ lines_given events ++ new.known
-  pub least : least_sum (lines_given events) ≤ time_sum events
+abbrev pub items_timed : List Timed → List Item
+items_timed [] = []
+items_timed (timed ∷ rest) = timed.item ∷ items_timed rest
+
+-- what is known and not given out, in order
+abbrev pub items_of : Flow → List Item
+items_of flow = items_of_lines flow.motion.known ++ items_timed flow.waiting
+
+-- a line is passed, and the square goes on from what was left of it to what is left then
+pub record IsPassed (start square : ℕ) (given : Given) (left : ℕ) : Type 0 where
+  -- never sooner than in its own time, and in the time of its squares
+  pub least : least_ns given.line.item ≤ given.ns
+  pub time : IsTimeOf given.line given.from given.to given.ns
+  pub goes_on : 0 < square → given.from ≡ square
+  pub starts : square ≡ 0 → given.from ≤ start_square given.line start
+  pub within : given.from ≤ given.line.most
+  pub ramp : IsRamp given.line.ramp given.from given.to
+  pub stops : (left ≡ given.to) ⊎ ((left ≡ 0) × (given.to ≤ start_square given.line start))
+
+-- one line after another is passed so, from a square to another
+abbrev pub ArePassed : ℕ → ℕ → List Given → ℕ → Type 0
+ArePassed start square [] left = left ≡ square
+ArePassed start square (given ∷ rest) left = (next : ℕ) × (IsPassed start square given next × ArePassed start next rest left)
+
+-- each line once, in order, and each is passed so, whatever was wanted and whenever lines came
+pub record IsPacedBeginning (old : Flow) (events : List Event) (new : Flow) : Type 0 where
+  pub order : items_of old ++ items_put events ≡ items_given (lines_given events) ++ items_of new
+  pub passed : ArePassed old.motion.start old.motion.square (lines_given events) new.motion.square
+
+-- lines are asked for, and nothing else happens; some motion is wanted each time
+abbrev pub AsksOnly : List Event → Type 0
+AsksOnly [] = Unit {0}
+AsksOnly (put item ∷ rest) = ⊥
+AsksOnly (end ∷ rest) = ⊥
+AsksOnly (ask wanted answer ∷ rest) = (0 < wanted) × AsksOnly rest
+
+-- all that was known is given out, and everything stands still
+pub record IsGivenOut (old : Flow) (events : List Event) (new : Flow) : Type 0 where
+  pub all : items_given (lines_given events) ≡ items_of old
+  pub rest : new.motion.square ≡ 0

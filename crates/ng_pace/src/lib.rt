@@ -22,7 +22,7 @@ mod stream;
 
 pub use chord::Limits;
 pub use fault::PaceFault;
-pub use laws::timed_beginning;
+pub use laws::{given_out, paced_beginning};
 pub use line::Line;
 pub use pacer::Pacer;
 pub use stepping::Given;

@@ -1,6 +1,5 @@
 //! The pacer.
-ghost use Rattle.std.specs.Prelude.{◌≡◌, ◌≤◌, ◌<◌, ◌++◌, ◌∷◌, ◌==◌, [], length, nat_le, IfOk, IfSome, IfNone};
-ghost use Rattle.ng_pace.specs.Rest.{CanRest};
+ghost use Rattle.std.specs.Prelude.{◌≡◌, ◌↔◌, ◌⊎◌, ◌≤◌, ◌<◌, ◌++◌, ◌∷◌, [], length, nat_le, Err, IfOk, IfErr, IfSome, IfNone};
 ghost use Rattle.ng_pace.specs.Paced.{IsGiven, Waits};
 
 use crate::fault::PaceFault;
@@ -32,7 +31,7 @@ impl<A: Allocator> Model for Pacer<A> {
 
     ghost view = { λ p. record { known = lines_of p.slots.items; square = p.square; start = p.start; room = deque_capacity p.slots } };
 
-    ghost invariant = { λ p. IsSteady p.slots.items p.square p.last p.root };
+    ghost invariant = { λ p. IsSteady p.slots.items p.square p.planned p.last p.root };
 }
 
 impl<A: Allocator> Pacer<A> {
@@ -40,8 +39,13 @@ impl<A: Allocator> Pacer<A> {
 
     /// At rest, with no line, and room for so many. `start` says at which square motors start and stop at once: so many
     /// parts of 256 of what a line allows; 128 if at none, since at rest a motor is half a step beyond its pulse.
+    ///
+    /// Refused: a start below 128, then no room.
     pub fn new(alloc: A, start: u64, room: usize) -> Result<Pacer<A>, PaceFault>
-        ensures { IfOk result (λ p. p ≡ record { known = []; square = 0; start = start; room = room }) }
+        ensures made { IfOk result (λ p. p ≡ record { known = []; square = 0; start = start; room = room }) }
+        ensures start_too_small { (result ≡ Err PaceFault.StartTooSmall) ↔ (start < 128) }
+        ensures no_room { (result ≡ Err PaceFault.NoRoom) ↔ ((128 ≤ start) × (room ≡ 0)) }
+        ensures no_other { IfErr result (λ fault. (fault ≡ PaceFault.StartTooSmall) ⊎ ((fault ≡ PaceFault.NoRoom) ⊎ (fault ≡ PaceFault.OutOfMemory))) }
     {
         if start < 128 {
             return Err(PaceFault::StartTooSmall);
@@ -83,18 +87,10 @@ impl<A: Allocator> Pacer<A> {
         self.slots.capacity()
     }
 
-    /// Called for its contract: it can come to rest within the lines that are known.
-    pub fn can_rest(&self)
-        ensures { CanRest self.now.square self.now.known }
-    {
-        let _square = self.square;
-    }
-
     /// Takes a line, after all that are known. It changes nothing of the motion.
     pub fn push(&mut self, line: Line)
         requires { length self.old.known < self.old.room }
-        ensures known { self.new ≡ record self.old { known = self.old.known ++ line ∷ [] } }
-        ensures rests { CanRest self.new.square self.new.known }
+        ensures { self.new ≡ record self.old { known = self.old.known ++ line ∷ [] } }
     {
         self.slots.push_back_reserved(Slot { line, plan: 0 });
     }
@@ -105,7 +101,6 @@ impl<A: Allocator> Pacer<A> {
         ensures given { IfSome result (λ given. IsGiven self.old self.new wanted given) }
         ensures waits { IfNone result (Waits self.old wanted) }
         ensures same { IfNone result (self.new ≡ self.old) }
-        ensures rests { CanRest self.new.square self.new.known }
     {
         if self.square == 0 && wanted == 0 {
             return None;

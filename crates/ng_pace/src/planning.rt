@@ -1,7 +1,7 @@
-//! The plan: squares from which a rest can be reached.
-ghost use Rattle.std.specs.Prelude.{◌≡◌, ◌≤◌, ◌∷◌, [], IfSome, IfNone};
-ghost use Rattle.std.specs.VecDeque.{deque_len, deque_capacity};
-ghost use Rattle.ng_pace.specs.Plan.{IsPlan, IsTaken, ahead, most_now, lines_of};
+//! The plan: at each line the greatest square from which a rest can be reached.
+ghost use Rattle.std.specs.Prelude.{◌≡◌, ◌<◌, ◌≤◌, ◌+◌, ◌/◌, ◌∷◌, [], IfSome, IfNone, IsTrue, IsFalse};
+ghost use Rattle.std.specs.VecDeque.{deque_capacity};
+ghost use Rattle.ng_pace.specs.Plan.{IsPlan, IsWhole, IsFresh, IsTaken, StandsFirst, ahead, most_now, lines_of};
 
 use crate::line::Line;
 use std::alloc::Allocator;
@@ -22,15 +22,14 @@ fn best_square(line: &Line, after: u64) -> u64
     reached.saturating_add(line.ramp).min(line.most)
 }
 
-/// Plans anew, from the last line that is known to the first; the first `planned` were planned before. No square of the
-/// plan becomes less.
+/// Plans anew, from the last line that is known to the first; the first `planned` were planned before. Where a square of
+/// these stays the same, so do all before it. No square becomes less.
 pub(crate) fn plan<A: Allocator>(slots: &mut VecDeque<Slot, A>, planned: usize)
-    requires { IsPlan slots.old.items }
-    ensures plan { IsPlan slots.new.items }
+    requires { IsPlan planned slots.old.items }
+    ensures plan { IsWhole slots.new.items }
     ensures lines { lines_of slots.new.items ≡ lines_of slots.old.items }
     ensures grows { ahead slots.old.items ≤ ahead slots.new.items }
     ensures room { deque_capacity slots.new ≡ deque_capacity slots.old }
-    ensures len { deque_len slots.new ≡ deque_len slots.old }
 {
     let mut after = 0;
     let mut k = slots.len();
@@ -59,31 +58,50 @@ pub(crate) fn ahead<A: Allocator>(slots: &VecDeque<Slot, A>) -> u64
     }
 }
 
-/// Whether the plan is to be made anew: its end is near, or an eighth of it is new.
-fn is_stale(known: usize, planned: usize) -> bool {
+/// Whether the plan is to be made anew: its end is near, or an eighth of it is new. Made at each line, it would be walked
+/// through over and over.
+fn is_stale(known: usize, planned: usize) -> bool
+    ensures { IsFalse result → (1 < planned) × (known ≤ planned + planned / 8 + 7) }
+{
     planned <= 1 || known.saturating_sub(planned) >= planned / 8 + 8
 }
 
-/// Whether the first line is one before which everything stands still: it needs no plan.
-fn stands_first<A: Allocator>(slots: &VecDeque<Slot, A>) -> bool {
+/// Whether everything stands still at the first line: it needs no plan.
+fn stands_first<A: Allocator>(slots: &VecDeque<Slot, A>) -> bool
+    ensures { IsTrue result → StandsFirst slots.now.items }
+{
     match slots.front() {
-        Some(slot) => slot.line.most == 0,
+        Some(slot) => slot.line.most == 0 && slot.line.ramp == 0,
         None => true,
+    }
+}
+
+/// Plans anew if that is due. How many lines are planned then.
+fn refresh<A: Allocator>(slots: &mut VecDeque<Slot, A>, planned: usize) -> usize
+    requires { IsPlan planned slots.old.items }
+    ensures plan { IsPlan result slots.new.items }
+    ensures fresh { IsFresh result slots.new.items }
+    ensures lines { lines_of slots.new.items ≡ lines_of slots.old.items }
+    ensures grows { ahead slots.old.items ≤ ahead slots.new.items }
+    ensures room { deque_capacity slots.new ≡ deque_capacity slots.old }
+{
+    if !stands_first(slots) && is_stale(slots.len(), planned) {
+        plan(slots, planned);
+        slots.len()
+    } else {
+        planned
     }
 }
 
 /// Takes the first line, planned with what is known.
 pub(crate) fn take<A: Allocator>(slots: &mut VecDeque<Slot, A>, planned: &mut usize) -> Option<Slot>
-    requires { IsPlan slots.old.items }
-    ensures taken { IfSome result (λ slot. IsTaken slots.old.items slots.new.items slot) }
+    requires { IsPlan planned.old slots.old.items }
+    ensures taken { IfSome result (λ slot. IsTaken slots.old.items slots.new.items planned.new slot) }
     ensures none { IfNone result (slots.old.items ≡ []) }
     ensures empty { IfNone result (slots.new.items ≡ []) }
+    ensures idle { IfNone result (planned.new ≡ 0) }
     ensures room { deque_capacity slots.new ≡ deque_capacity slots.old }
 {
-    if !stands_first(slots) && is_stale(slots.len(), *planned) {
-        plan(slots, *planned);
-        *planned = slots.len();
-    }
-    *planned = planned.saturating_sub(1);
+    *planned = refresh(slots, *planned).saturating_sub(1);
     slots.pop_front()
 }

@@ -1,5 +1,5 @@
 //! Items whose limits become final.
-ghost use Rattle.std.specs.Prelude.{◌≡◌, ◌≤◌, ◌+◌, [], length, IsTrue, IsFalse};
+ghost use Rattle.std.specs.Prelude.{◌≡◌, ◌≤◌, ◌+◌, [], length, min, IsTrue, IsFalse};
 ghost use Rattle.std.specs.VecDeque.{deque_capacity};
 ghost use Rattle.ng_pace.specs.Flow.{Keeps};
 
@@ -21,7 +21,9 @@ pub(crate) enum Ending {
 
 /// The line of an item.
 fn line_of(item: Waiting, limits: Final, ending: Ending) -> Line
-    ensures { result.item ≡ item.item }
+    ensures item { result.item ≡ item.item }
+    ensures full { result.full ≡ item.feed }
+    ensures most { result.most ≡ min limits.most item.feed }
 {
     let ramp = limits.ramp.min(GREATEST);
     let (ramp, last) = match ending {

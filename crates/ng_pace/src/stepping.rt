@@ -1,10 +1,10 @@
 //! One line: the square after it, and its time.
-ghost use Rattle.std.specs.Prelude.{◌≡◌, ◌≤◌, ◌<◌, ◌^◌, ◌-◌, max, min, IsTrue};
-ghost use Rattle.ng_pace.specs.Plan.{most_now};
+ghost use Rattle.std.specs.Prelude.{ℕ, ◌≡◌, ◌≤◌, ◌<◌, ◌^◌, min};
+ghost use Rattle.ng_pace.specs.Plan.{most_now, FollowsWithin};
 ghost use Rattle.ng_pace.specs.Due.{least_ns};
-ghost use Rattle.ng_pace.specs.Rest.{IsRamp};
+ghost use Rattle.ng_pace.specs.Squares.{start_square};
 ghost use Rattle.ng_pace.specs.Interval.{IsRoot, time_at, is_at_full_rate, IsTimeOf};
-ghost use Rattle.ng_pace.specs.Paced.{start_square, rest_of, IsBeginning};
+ghost use Rattle.ng_pace.specs.Paced.{rest_of};
 
 use crate::line::{Line, least_ns};
 
@@ -34,10 +34,8 @@ pub(crate) fn start_square(line: &Line, start: u64) -> u64
 /// The square at the next line, from that at this one and what is planned for the next.
 pub(crate) fn square_after(line: &Line, from: u64, after: u64, wanted: u64) -> u64
     requires { from ≤ most_now line.now after }
-    ensures ramp { IsRamp line.now.ramp from result }
-    ensures wanted { result ≤ max wanted (from - line.now.ramp) }
-    ensures planned { result ≤ after }
-    ensures last { IsTrue line.now.last → result ≡ 0 }
+    ensures follows { FollowsWithin line.now from wanted after result }
+    ensures greatest { (other : ℕ) → FollowsWithin line.now from wanted after other → other ≤ result }
 {
     let reached = if line.last { 0 } else { after };
     let least = from.saturating_sub(line.ramp).min(reached);
@@ -82,8 +80,9 @@ pub(crate) fn time_of(line: &Line, from: u64, to: u64, root_from: u64, root_to: 
 /// The square at a line: what it is, or from rest what motors can start at.
 pub(crate) fn square_at(line: &Line, plan: u64, square: u64, start: u64, wanted: u64) -> u64
     requires { square ≤ plan }
+    ensures goes_on { 0 < square → result ≡ square }
+    ensures starts { square ≡ 0 → result ≡ min (min (start_square line.now start) plan) wanted }
     ensures planned { result ≤ plan }
-    ensures begins { IsBeginning line.now square start wanted result }
 {
     if square > 0 {
         square

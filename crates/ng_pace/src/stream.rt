@@ -1,8 +1,8 @@
 //! A stream of items, whose limits are found from its pulses.
-ghost use Rattle.std.specs.Prelude.{◌≡◌, ◌≤◌, ◌<◌, ◌+◌, ◌++◌, ◌∷◌, [], length, nat_le, IfOk, IfSome, IfNone};
+ghost use Rattle.std.specs.Prelude.{◌≡◌, false, ◌↔◌, ◌≤◌, ◌<◌, ◌+◌, [], length, min, nat_le, Err, IfOk, IfSome, IfNone};
 ghost use Rattle.std.specs.VecDeque.{deque_capacity};
-ghost use Rattle.ng_pace.specs.Rest.{CanRest};
-ghost use Rattle.ng_pace.specs.Flow.{Keeps, Adds, IsFlowGiven, Grows};
+ghost use Rattle.std.specs.List.{Contains};
+ghost use Rattle.ng_pace.specs.Flow.{Keeps, Adds, IsPut, IsEnded, IsFlowGiven, IsAllowed, IsEmpty, own_square, full_of, square_behind, no_pulse};
 ghost use Rattle.ng_pace.specs.Paced.{Waits};
 
 use crate::chord::{Chord, Final, GREATEST, Limits, Waiting, steps_of};
@@ -37,25 +37,32 @@ pub struct Stream<A: Allocator> {
 }
 
 impl<A: Allocator> Model for Stream<A> {
-    ghost use Rattle.std.specs.Prelude.{◌≡◌, ◌≤◌, ◌+◌, length};
     ghost use Rattle.std.specs.VecDeque.{deque_capacity};
-    ghost use Rattle.ng_pace.specs.Flow.{Flow, IsHeld, items_waiting};
+    ghost use Rattle.ng_pace.specs.Flow.{Flow, IsHeld, timed_waiting};
 
     ghost Value = { Flow };
 
-    ghost view = { λ s. record { motion = s.pacer; waiting = items_waiting s.waiting.items } };
+    ghost view = { λ s. record { motion = s.pacer; waiting = timed_waiting s.waiting.items; before = s.shape.before } };
 
     ghost invariant = { λ s. IsHeld s.pacer s.waiting.items (deque_capacity s.waiting) };
 }
 
-/// The square that these microseconds allow.
-fn feed_of(us: u64) -> u64 {
-    let rate = 256_000_000u64.checked_div(us).unwrap_or(256_000_000).max(1);
-    rate.saturating_mul(rate).min(GREATEST)
+/// The square of the rate at which pulses of so many microseconds come.
+fn feed_of(us: u64) -> u64
+    ensures { result ≡ own_square us }
+{
+    let rate = if us == 0 {
+        256_000_000
+    } else {
+        (256_000_000 / us).max(1)
+    };
+    rate * rate
 }
 
 /// At which square motors start and stop at once, in parts of 256 of what a line allows.
-fn start_of(limits: &Limits) -> u64 {
+fn start_of(limits: &Limits) -> u64
+    ensures { 128 ≤ result }
+{
     let mut start = 0x100_0000_0000u64;
     for i in 0..3 {
         let square = limits.start[i]
@@ -128,6 +135,22 @@ fn extend<A: Allocator>(
     make_final(pacer, waiting, shape, rest, Ending::GoesOn);
 }
 
+/// Closes the chord that is open, if one is: it is whole.
+fn close_whole<A: Allocator>(
+    pacer: &mut Pacer<A>,
+    waiting: &mut VecDeque<Waiting, A>,
+    shape: &mut Shape,
+    ending: Ending,
+)
+    requires { length pacer.old.known + length waiting.old.items ≤ pacer.old.room }
+    ensures keeps { Keeps pacer.old pacer.new waiting.old.items waiting.new.items }
+    ensures capacity { deque_capacity waiting.new ≡ deque_capacity waiting.old }
+{
+    if shape.chord.is_open() {
+        close(pacer, waiting, shape, ending, true);
+    }
+}
+
 /// Makes all limits final: what waits comes to rest at its end.
 fn finish<A: Allocator>(
     pacer: &mut Pacer<A>,
@@ -139,10 +162,9 @@ fn finish<A: Allocator>(
     ensures keeps { Keeps pacer.old pacer.new waiting.old.items waiting.new.items }
     ensures capacity { deque_capacity waiting.new ≡ deque_capacity waiting.old }
     ensures none { waiting.new.items ≡ [] }
+    ensures before { shape.new.before ≡ no_pulse }
 {
-    if shape.chord.is_open() {
-        close(pacer, waiting, shape, ending, true);
-    }
+    close_whole(pacer, waiting, shape, ending);
     let rest = Final {
         below: shape.known,
         most: 0,
@@ -174,16 +196,6 @@ fn turn<A: Allocator>(
     }
 }
 
-/// What waits of a pulse.
-fn waiting_of(item: Item, shape: &Shape, feed: u64) -> Waiting
-    ensures { result.item ≡ item }
-{
-    Waiting {
-        item,
-        feed: feed.min(shape.before),
-    }
-}
-
 /// Takes a pulse.
 fn push_pulse<A: Allocator>(
     pacer: &mut Pacer<A>,
@@ -194,21 +206,23 @@ fn push_pulse<A: Allocator>(
 )
     requires room { length pacer.old.known + length waiting.old.items < pacer.old.room }
     requires capacity { deque_capacity waiting.old ≡ pacer.old.room }
-    ensures adds { Adds pacer.old pacer.new waiting.old.items waiting.new.items item }
+    ensures adds { Adds pacer.old pacer.new waiting.old.items waiting.new.items (record { item = item; full = min (own_square pulse.now.period_us) shape.old.before }) }
     ensures capacity { deque_capacity waiting.new ≡ deque_capacity waiting.old }
+    ensures before { shape.new.before ≡ own_square pulse.now.period_us }
 {
     let steps = steps_of(pulse);
-    let feed = feed_of(pulse.period_us);
+    let own = feed_of(pulse.period_us);
+    let feed = own.min(shape.before);
     turn(pacer, waiting, shape, &steps);
-    waiting.push_back_reserved(waiting_of(item, shape, feed));
-    shape.before = feed;
+    waiting.push_back_reserved(Waiting { item, feed });
     shape.known = shape.known.saturating_add(1);
     extend(pacer, waiting, shape, &steps);
+    shape.before = own;
 }
 
 /// The line of an item before which everything stands still.
 fn still(item: Item) -> Line
-    ensures { result.item ≡ item }
+    ensures { result ≡ record { item = item; full = 0; most = 0; ramp = 0; last = false } }
 {
     Line {
         item,
@@ -227,8 +241,9 @@ fn push_still<A: Allocator>(
     item: Item,
 )
     requires room { length pacer.old.known + length waiting.old.items < pacer.old.room }
-    ensures adds { Adds pacer.old pacer.new waiting.old.items waiting.new.items item }
+    ensures adds { Adds pacer.old pacer.new waiting.old.items waiting.new.items (record { item = item; full = 0 }) }
     ensures capacity { deque_capacity waiting.new ≡ deque_capacity waiting.old }
+    ensures before { shape.new.before ≡ no_pulse }
 {
     let start = shape.start;
     finish(pacer, waiting, shape, Ending::Stands(start));
@@ -246,8 +261,9 @@ fn push_item<A: Allocator>(
 )
     requires room { length pacer.old.known + length waiting.old.items < pacer.old.room }
     requires capacity { deque_capacity waiting.old ≡ pacer.old.room }
-    ensures adds { Adds pacer.old pacer.new waiting.old.items waiting.new.items item }
+    ensures adds { Adds pacer.old pacer.new waiting.old.items waiting.new.items (record { item = item; full = full_of shape.old.before item }) }
     ensures capacity { deque_capacity waiting.new ≡ deque_capacity waiting.old }
+    ensures before { shape.new.before ≡ square_behind item }
 {
     match item {
         Item::Pulse(pulse) => push_pulse(pacer, waiting, shape, item, &pulse),
@@ -261,12 +277,14 @@ impl<A: Allocator + Copy> Stream<A> {
     ///
     /// Refused: an axis without acceleration, corners of no pulse, no slack, no room.
     pub fn new(alloc: A, limits: Limits, room: usize) -> Result<Stream<A>, PaceFault>
-        ensures nothing { IfOk result (λ s. (s.motion.known ≡ []) × (s.waiting ≡ [])) }
-        ensures rest { IfOk result (λ s. s.motion.square ≡ 0) }
-        ensures room { IfOk result (λ s. s.motion.room ≡ room) }
-        ensures limits { IfOk result (λ _. (0 < limits.half) × (0 < limits.slack)) }
+        ensures made { IfOk result (λ s. IsEmpty s room) }
+        ensures no_acceleration { (result ≡ Err PaceFault.NoAcceleration) ↔ Contains limits.accel 0 }
+        ensures no_corner { (result ≡ Err PaceFault.NoCorner) ↔ ((¬ Contains limits.accel 0) × (limits.half ≡ 0)) }
+        ensures no_slack { (result ≡ Err PaceFault.NoSlack) ↔ ((¬ Contains limits.accel 0) × (0 < limits.half) × (limits.slack ≡ 0)) }
+        ensures no_room { (result ≡ Err PaceFault.NoRoom) ↔ (IsAllowed limits × (room ≡ 0)) }
+        ensures no_other { ¬ (result ≡ Err PaceFault.StartTooSmall) }
     {
-        if limits.accel[0] == 0 || limits.accel[1] == 0 || limits.accel[2] == 0 {
+        if limits.accel.contains(&0) {
             return Err(PaceFault::NoAcceleration);
         }
         if limits.half == 0 {
@@ -306,18 +324,14 @@ impl<A: Allocator> Stream<A> {
     /// Takes an item, after all that are known. It changes nothing of the motion.
     pub fn push(&mut self, item: Item)
         requires { length self.old.motion.known + length self.old.waiting < self.old.motion.room }
-        ensures grows { Grows self.old self.new (item ∷ []) }
-        ensures rests { CanRest self.new.motion.square self.new.motion.known }
+        ensures { IsPut self.old self.new item }
     {
         push_item(&mut self.pacer, &mut self.waiting, &mut self.shape, item);
-        self.pacer.can_rest();
     }
 
     /// Nothing more is known to come: all that is known comes to rest at its end, and may be given out.
     pub fn end(&mut self)
-        ensures grows { Grows self.old self.new [] }
-        ensures none { self.new.waiting ≡ [] }
-        ensures rests { CanRest self.new.motion.square self.new.motion.known }
+        ensures { IsEnded self.old self.new }
     {
         let start = self.shape.start;
         finish(
@@ -326,7 +340,6 @@ impl<A: Allocator> Stream<A> {
             &mut self.shape,
             Ending::Ends(start),
         );
-        self.pacer.can_rest();
     }
 
     /// The next line and its time, at no more than the square that is wanted. None if it waits: the limits of no item are
@@ -335,7 +348,6 @@ impl<A: Allocator> Stream<A> {
         ensures given { IfSome result (λ given. IsFlowGiven self.old self.new wanted given) }
         ensures waits { IfNone result (Waits self.old.motion wanted) }
         ensures same { IfNone result (self.new ≡ self.old) }
-        ensures rests { CanRest self.new.motion.square self.new.motion.known }
     {
         self.pacer.next(wanted)
     }

@@ -1,17 +1,38 @@
-use Rattle.std.proofs.Common.{arith, rules, ◌∙◌, ◌-◌, slice_set}
-use Rattle.ng_pace.proofs.PlanLemmas.{IsRaised, step}
+use Rattle.std.proofs.Common.{arith, rules, refl, sym, ◌∙◌, ◌≡◌, length}
+use Rattle.ng_pace.proofs.PlanLemmas.{untouched, same_lines, grows, ahead-end, step, next, all_at, kept_at}
 use Rattle.ng_pace.proofs.planning.plan.Goals as goal
 
-pub loop-k-preserved : goal.loop-k-preserved
-loop-k-preserved g c =
-    let at_k : IsRaised c.loop-k.slots.items (slice_set c.loop-k.slots.items (c.loop-k.k - 1) (record { line = c.index.result.now.line; plan = c.best_square-square.result })) (c.loop-k.k - 1) c.best_square-square.result
-    = step _ c.loop-k.k c.loop-k.after c.best_square-square.result c.index.result.now (omega arith) c.loop-k.invariant.within c.loop-k.invariant.plan (search rules) c.loop-k.invariant.next c.best_square-square.ensures in
-    record {
-      plan = at_k.plan;
-      lines = at_k.lines ∙ c.loop-k.invariant.lines;
-      grows = omega (arith, at_k.grows, c.loop-k.invariant.grows);
-      next = at_k.next;
-      within = omega (arith, at_k.len, c.loop-k.invariant.within);
-      room = search rules;
-      len = search rules;
+pub loop-k-init : goal.loop-k-init
+loop-k-init g c =
+    let all : c.len-k.result ≡ length c.args.slots.now.items = search rules in record {
+      anew = untouched c.args.slots.now.items c.len-k.result (omega arith);
+      next = rw (all) (sym (ahead-end c.args.slots.now.items));
+      within = omega arith;
+      room = refl;
     }
+
+pub loop-k-preserved : goal.loop-k-preserved
+loop-k-preserved g c = record {
+  anew = step c.loop-k.k c.args.planned c.args.slots.now.items c.loop-k.slots.items c.index.result.now c.loop-k.after c.best_square-square.result (omega arith) c.loop-k.invariant.within c.requires c.loop-k.invariant.anew (search rules) c.loop-k.invariant.next c.best_square-square.ensures;
+  next = next c.loop-k.k c.loop-k.slots.items c.index.result.now c.best_square-square.result (omega arith) c.loop-k.invariant.within;
+  within = search rules;
+  room = search rules;
+}
+
+pub returns-after-loop-k-clause-plan : goal.returns-after-loop-k-clause-plan
+returns-after-loop-k-clause-plan g c = all_at c.loop-k.k c.args.slots.now.items c.loop-k.slots.items (omega arith) c.loop-k.invariant.anew
+
+pub returns-after-loop-k-clause-lines : goal.returns-after-loop-k-clause-lines
+returns-after-loop-k-clause-lines g c = same_lines c.loop-k.k c.args.slots.now.items c.loop-k.slots.items c.loop-k.invariant.anew
+
+pub returns-after-loop-k-clause-grows : goal.returns-after-loop-k-clause-grows
+returns-after-loop-k-clause-grows g c = grows c.loop-k.k c.args.slots.now.items c.loop-k.slots.items c.loop-k.invariant.anew
+
+pub returns-then-square-slot-clause-plan : goal.returns-then-square-slot-clause-plan
+returns-then-square-slot-clause-plan g c = kept_at c.loop-k.k c.args.planned c.args.slots.now.items c.loop-k.slots.items c.index.result.now c.loop-k.after c.requires (omega arith) (omega arith) c.loop-k.invariant.within c.loop-k.invariant.anew (search rules) c.loop-k.invariant.next (sym c.if-square-slot.true ∙ c.best_square-square.ensures)
+
+pub returns-then-square-slot-clause-lines : goal.returns-then-square-slot-clause-lines
+returns-then-square-slot-clause-lines g c = same_lines c.loop-k.k c.args.slots.now.items c.loop-k.slots.items c.loop-k.invariant.anew
+
+pub returns-then-square-slot-clause-grows : goal.returns-then-square-slot-clause-grows
+returns-then-square-slot-clause-grows g c = grows c.loop-k.k c.args.slots.now.items c.loop-k.slots.items c.loop-k.invariant.anew

@@ -1,12 +1,30 @@
-use Rattle.std.proofs.Common.{arith}
+use Rattle.std.proofs.Common.{arith, rules, refl}
 use Rattle.ng_pace.specs.Plan.{ahead}
-use Rattle.ng_pace.proofs.RestLemmas.{rest_within, rest_less}
+use Rattle.ng_pace.proofs.RestLemmas.{rest_all, rest_less}
+use Rattle.ng_pace.proofs.SquareLemmas.{IsPassed, hasty}
 use Rattle.ng_pace.proofs.pacer.Pacer.next.Goals as goal
 
-pub returns-then-wanted-eq0-clause-rests : goal.returns-then-wanted-eq0-clause-rests
-returns-then-wanted-eq0-clause-rests g c = rw (← c.self.view_is) (rest_within c.self.inside.square c.self.inside.slots.items c.self.invariant.plan c.self.invariant.within)
-
-pub returns-in-Some-clause-rests : goal.returns-in-Some-clause-rests
-returns-in-Some-clause-rests g c =
-    rw c.rest_of-self-inside.ensures (rest_within _ c.take.new.slots.items c.in-Some.ensures.taken.plan
-    (rest_less c.in-Some.slot.line c.square_after-to.result c.self.inside.start c.args.wanted (ahead c.take.new.slots.items) (omega (arith, c.square_after-to.ensures.planned, c.ahead.ensures))))
+pub returns-in-Some-clause-given : goal.returns-in-Some-clause-given
+returns-in-Some-clause-given g c =
+    let line = c.in-Some.slot.line in
+    let slots = c.take.new.slots.items in
+    let passed : IsPassed line c.self.inside.square c.self.inside.start c.args.wanted c.square_at-from.result c.square_after-to.result c.in-Some.slot.plan (ahead slots) = record {
+      starts = c.square_at-from.ensures.starts;
+      within = c.square_at-from.ensures.planned;
+      planned = c.in-Some.ensures.taken.within;
+      follows = rw c.ahead.ensures at c.square_after-to.ensures.follows;
+      greatest = rw c.ahead.ensures at c.square_after-to.ensures.greatest;
+      size = omega arith;
+    } in
+    rw (← c.self.view_is) (record {
+      order = c.in-Some.ensures.taken.first;
+      least = c.time_of-ns.ensures.least;
+      time = c.time_of-ns.ensures.time;
+      goes_on = c.square_at-from.ensures.goes_on;
+      within = omega (arith, passed.within, passed.planned);
+      hasty = hasty line c.self.inside.square c.self.inside.start c.args.wanted c.square_at-from.result c.square_after-to.result c.in-Some.slot.plan c.take.new.planned slots passed c.in-Some.ensures.taken.plan c.in-Some.ensures.taken.greatest;
+      left = c.rest_of-self-inside.ensures;
+      rests = rest_all c.take.new.planned slots c.in-Some.ensures.taken.plan c.rest_of-self-inside.result (rw c.rest_of-self-inside.ensures (rest_less line c.square_after-to.result c.self.inside.start c.args.wanted (ahead slots) passed.follows.within));
+      start = refl;
+      room = search rules;
+    })

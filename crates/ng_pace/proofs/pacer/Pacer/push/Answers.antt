@@ -1,5 +1,5 @@
 use Rattle.std.proofs.Common.{arith, refl}
-use Rattle.ng_pace.proofs.RestLemmas.{length-lines_of, lines_of-push, ahead-push, plan-push, rest_within}
+use Rattle.ng_pace.proofs.RestLemmas.{length-lines_of, lines_of-push, ahead-push, plan-push}
 use Rattle.ng_pace.proofs.pacer.Pacer.push.Goals as goal
 
 pub push_back_reserved-requires : goal.push_back_reserved-requires
@@ -8,15 +8,11 @@ push_back_reserved-requires g c =
 
 pub invariant_of-self : goal.invariant_of-self
 invariant_of-self g c = rw c.push_back_reserved.ensures.items (record {
-  plan = plan-push c.self.inside.slots.items c.args.line c.self.invariant.plan;
+  plan = plan-push c.self.inside.planned c.self.inside.slots.items c.args.line c.self.invariant.plan;
   within = omega (arith, c.self.invariant.within, ahead-push c.self.inside.slots.items c.args.line);
   root_of_last = c.self.invariant.root_of_last;
   size = c.self.invariant.size;
 })
 
-pub returns-clause-known : goal.returns-clause-known
-returns-clause-known g c = rw (← c.self.view_is, c.push_back_reserved.ensures.items, lines_of-push c.self.inside.slots.items c.args.line, c.push_back_reserved.ensures.capacity) refl
-
-pub returns-clause-rests : goal.returns-clause-rests
-returns-clause-rests g c = rw c.push_back_reserved.ensures.items
-    (rest_within c.self.inside.square _ (plan-push c.self.inside.slots.items c.args.line c.self.invariant.plan) (omega (arith, c.self.invariant.within, ahead-push c.self.inside.slots.items c.args.line)))
+pub returns : goal.returns
+returns g c = rw (← c.self.view_is, c.push_back_reserved.ensures.items, lines_of-push c.self.inside.slots.items c.args.line, c.push_back_reserved.ensures.capacity) refl

@@ -1,0 +1,5 @@
+use Rattle.ng_pace.proofs.RunLemmas.{paced}
+use Rattle.ng_pace.proofs.laws.paced_beginning.Goals as goal
+
+pub returns : goal.returns
+returns c = paced
