@@ -105,3 +105,6 @@ pulse_adds a b c u v pushed w x first is later =
 -- nothing waits any more
 pub settles_end : {old new : Motion} {waited waits : List Waiting} → Keeps old new waited waits → waits ≡ [] → Settles old new (timed_waiting waited) []
 settles_end keeps none = rw none at keeps.settles
+
+pub adds_rest : {old new : Motion} {waited waits : List Waiting} {timed : Timed} → Adds old new waited waits timed → CanRest old.square old.known → CanRest new.square new.known
+adds_rest adds rest = settles_rest adds.settles rest

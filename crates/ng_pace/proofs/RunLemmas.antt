@@ -1,5 +1,5 @@
 -- What the calls of a stream, one after another, say together.
-use Rattle.std.proofs.Common.{arith, ℕ, ◌<◌, ◌≤◌, ◌≡◌, ◌∙◌, ◌⊎◌, inl, inr, refl, sym, ap, Bool, true, false, List, [], ◌∷◌, ◌++◌, length, append-nil, append_assoc}
+use Rattle.std.proofs.Common.{arith, ℕ, ◌-◌, max, ◌<◌, ◌≤◌, ◌≡◌, ◌∙◌, ◌⊎◌, inl, inr, refl, sym, ap, Bool, true, false, List, [], ◌∷◌, ◌++◌, length, append-nil, append_assoc}
 use Rattle.std.specs.Prelude.{Some, None, nat_le, ◌==◌, ◌&&◌, if◌then◌else◌}
 use Rattle.std.proofs.lemmas.Bool.Decides.{nat_tests}
 use Rattle.ng_canon.specs.declared.item.Item.{Item}
@@ -10,7 +10,7 @@ use Rattle.ng_pace.specs.Rest.{CanRest}
 use Rattle.ng_pace.specs.Squares.{start_square}
 use Rattle.ng_pace.specs.Paced.{IsGiven, Waits, rest_of}
 use Rattle.ng_pace.specs.Flow.{Flow, Timed, Settles, IsPut, IsEnded, IsFlowGiven, timed_lines, full_of}
-use Rattle.ng_pace.specs.Run.{Event, put, end, ask, IsRun, items_put, items_of_lines, items_timed, items_of, IsPassed, IsPacedBeginning, AsksOnly, IsGivenOut}
+use Rattle.ng_pace.specs.Run.{Event, put, end, ask, IsRun, items_put, items_of_lines, items_timed, items_of, IsPassed, IsPacedBeginning, AsksOnly, IsGivenOut, lines_given, HoldsOnly, AreFalling, IsStopped}
 
 items_timed-append : (xs ys : List Timed) → items_timed (xs ++ ys) ≡ items_timed xs ++ items_timed ys
 items_timed-append [] ys = refl
@@ -117,3 +117,44 @@ all_given old (ask wanted (Some given) ∷ events) new run asks none rests enoug
 all_given old (ask wanted None ∷ events) new run asks none rests enough =
     let known : old.motion.known ≡ [] = none_known old.motion wanted asks.0 run.0 in
     nothing_left old (ask wanted None ∷ events) new run asks none known (rw known at rests)
+
+-- in a hold each line falls by the whole ramp
+falls : (old : Flow) (events : List Event) (new : Flow) → IsRun old events new → HoldsOnly events → AreFalling (lines_given events)
+falls old [] new run holds = tt
+falls old (put item ∷ events) new run holds = absurd holds
+falls old (end ∷ events) new run holds = absurd holds
+falls old (ask wanted (Some given) ∷ events) new run holds =
+    let most : given.to ≤ max wanted (given.from - given.line.ramp) = run.1.0.given_out.hasty.follows.holds.is_wanted in
+    (omega (arith, most, holds.0), falls run.0 events new run.1.1 holds.1)
+falls old (ask wanted None ∷ events) new run holds = falls old events new run.1 holds.1
+
+-- in a hold what stands still goes on standing still
+stays : (old : Flow) (events : List Event) (new : Flow) → IsRun old events new → HoldsOnly events → old.motion.square ≡ 0 → new.motion.square ≡ 0
+stays old [] new run holds rest = ap (λ t. t.motion.square) run ∙ rest
+stays old (put item ∷ events) new run holds rest = absurd holds
+stays old (end ∷ events) new run holds rest = absurd holds
+stays old (ask wanted (Some given) ∷ events) new run holds rest = absurd (neither run.1.0.given_out.moves) where
+  neither : (0 < old.motion.square) ⊎ (0 < wanted) → ⊥
+  neither (inl moves) = omega (arith, moves, rest)
+  neither (inr some) = omega (arith, some, holds.0)
+stays old (ask wanted None ∷ events) new run holds rest = stays old events new run.1 holds.1 rest
+
+no_line : (square : ℕ) (known : List Line) → length known ≡ 0 → CanRest square known → square ≡ 0
+no_line square [] none rests = rests
+no_line square (line ∷ rest) none rests = absurd (omega arith)
+
+waits_still : (old : Motion) (wanted : ℕ) → CanRest old.square old.known → Waits old wanted → old.square ≡ 0
+waits_still old wanted rests (inl none) = rw none at rests
+waits_still old wanted rests (inr still) = still.0
+
+stops : (old : Flow) (events : List Event) (new : Flow) → IsRun old events new → HoldsOnly events → CanRest old.motion.square old.motion.known → length old.motion.known ≤ length events → new.motion.square ≡ 0
+stops old [] new run holds rests enough = ap (λ t. t.motion.square) run ∙ no_line old.motion.square old.motion.known (omega arith) rests
+stops old (put item ∷ events) new run holds rests enough = absurd holds
+stops old (end ∷ events) new run holds rests enough = absurd holds
+stops old (ask wanted (Some given) ∷ events) new run holds rests enough =
+    let count : length old.motion.known ≡ length (given.line ∷ run.0.motion.known) = ap length run.1.0.given_out.order in
+    stops run.0 events new run.1.1 holds.1 run.1.0.given_out.rests (omega (arith, count, enough))
+stops old (ask wanted None ∷ events) new run holds rests enough = stays old events new run.1 holds.1 (waits_still old.motion wanted rests run.0)
+
+pub stopped : (old : Flow) (events : List Event) (new : Flow) → IsRun old events new → HoldsOnly events → CanRest old.motion.square old.motion.known → length old.motion.known ≤ length events → IsStopped events new
+stopped old events new run holds rests enough = record { falls = falls old events new run holds; rest = stops old events new run holds rests enough }

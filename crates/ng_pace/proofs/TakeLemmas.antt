@@ -30,17 +30,17 @@ rest_of_plan : (n : ℕ) (x : Slot) (xs : List Slot) → IsPlan n (x ∷ xs) →
 rest_of_plan zero x xs plan = plan.1
 rest_of_plan (suc n) x xs plan = let e : suc n - 1 ≡ n = omega arith in rw e plan.1
 
-pub taken : (old slots new : List Slot) (n : ℕ) (result : Option Slot) → IsPlan n slots → IsFresh n slots → lines_of slots ≡ lines_of old → ahead old ≤ ahead slots → slots ≡ option_to_list result ++ new
-    → IfSome result (λ slot. IsTaken old new (n - 1) slot)
-taken old slots new n None plan fresh lines grows first = tt
-taken old slots new n (Some x) plan fresh lines grows first =
+pub taken : (old slots new : List Slot) (n m : ℕ) (result : Option Slot) → m ≡ n - 1 → IsPlan n slots → IsFresh n slots → lines_of slots ≡ lines_of old → ahead old ≤ ahead slots → slots ≡ option_to_list result ++ new
+    → IfSome result (λ slot. IsTaken old new m slot)
+taken old slots new n m None less plan fresh lines grows first = tt
+taken old slots new n m (Some x) less plan fresh lines grows first =
     let plan_x : IsPlan n (x ∷ new) = rw first at plan in
     let fresh_x : IsFresh n (x ∷ new) = rw first at fresh in record {
       first = sym lines ∙ ap lines_of first;
-      plan = rest_of_plan n x new plan_x;
+      plan = rw less (rest_of_plan n x new plan_x);
       grows = let square : ahead slots ≡ x.plan = ap ahead first in omega arith;
       within = within n x new plan_x;
-      greatest = greatest n x new plan_x fresh_x;
+      greatest = rw less (greatest n x new plan_x fresh_x);
     }
 
 -- of nothing, nothing is planned

@@ -1,6 +1,5 @@
 -- A stream of items: those of whose lines the motion is planned, and those that wait since their limits aren't final.
-use Rattle.std.specs.Prelude.{ℕ, ◌+◌, ◌*◌, ◌/◌, ◌^◌, ◌<◌, ◌≤◌, ◌≡◌, ◌==◌, min, max, List, [], ◌∷◌, ◌++◌, length, if◌then◌else◌}
-use Rattle.std.specs.List.{Contains}
+use Rattle.std.specs.Prelude.{ℕ, ◌+◌, ◌^◌, ◌≤◌, ◌≡◌, min, List, [], ◌∷◌, ◌++◌, length}
 use Rattle.ng_canon.specs.declared.item.Item.{Item}
 use Rattle.ng_canon.specs.declared.item.Item.TheVariants.{Pulse, Dwell, Switch}
 use Rattle.ng_pace.specs.declared.line.Line.{Line}
@@ -8,23 +7,10 @@ use Rattle.ng_pace.specs.declared.chord.Limits.{Limits}
 use Rattle.ng_pace.specs.declared.chord.Waiting.{Waiting}
 use Rattle.ng_pace.specs.declared.stepping.Given.{Given}
 use Rattle.ng_pace.specs.Motion.{Motion}
+use Rattle.ng_pace.specs.Due.{own_square}
+use Rattle.ng_pace.specs.Start.{start_of}
 use Rattle.ng_pace.specs.Rest.{CanRest}
 use Rattle.ng_pace.specs.Paced.{IsGiven}
-
--- each axis can accelerate, corners are taken over some pulses, and motors may be off their pulses
-pub record IsAllowed (limits : Limits) : Type 0 where
-  pub accelerates : ¬ Contains limits.accel 0
-  pub half : 0 < limits.half
-  pub slack : 0 < limits.slack
-
--- the rate at which pulses of so many microseconds come, in pulses a second times 2^8: a pulse of none is as one of 1, and the rate is
--- rounded down, but not to 0
-abbrev pub own_rate : ℕ → ℕ
-own_rate us = if us == 0 then 256000000 else max (256000000 / us) 1
-
--- its square
-abbrev pub own_square : ℕ → ℕ
-own_square us = own_rate us * own_rate us
 
 -- an item, and the square of the rate at which it comes in its own time
 pub record Timed : Type 0 where
@@ -76,11 +62,12 @@ pub record Settles (old new : Motion) (waited waits : List Timed) : Type 0 where
   pub room : new.room ≡ old.room
 
 -- at rest, with nothing known, and room for so many items
-pub record IsEmpty (flow : Flow) (room : ℕ) : Type 0 where
+pub record IsEmpty (flow : Flow) (limits : Limits) (room : ℕ) : Type 0 where
   pub known : flow.motion.known ≡ []
   pub waiting : flow.waiting ≡ []
   pub rest : flow.motion.square ≡ 0
   pub before : flow.before ≡ no_pulse
+  pub start : flow.motion.start ≡ start_of limits
   pub room_is : flow.motion.room ≡ room
 
 -- an item is put in, behind all that are known

@@ -1,4 +1,6 @@
 pub mod Due
+pub mod Start
+pub mod Refused
 pub mod Plan
 pub mod Rest
 pub mod Squares

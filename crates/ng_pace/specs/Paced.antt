@@ -16,6 +16,8 @@ rest_of line to start wanted = if (wanted == 0) && nat_le to (start_square line 
 pub record IsGiven (old new : Motion) (wanted : ℕ) (given : Given) : Type 0 where
   -- order: it is the first that was known, and the others are still known
   pub order : old.known ≡ given.line ∷ new.known
+  -- from rest a line is given out only if some motion is wanted
+  pub moves : (0 < old.square) ⊎ (0 < wanted)
   -- never sooner than its own time, and at the time of its squares
   pub least : least_ns given.line.item ≤ given.ns
   pub time : IsTimeOf given.line given.from given.to given.ns

@@ -1,5 +1,5 @@
 -- Whole streams: what was given out is a beginning of what was put in, and is paced line by line.
-use Rattle.std.specs.Prelude.{ℕ, ◌<◌, ◌≤◌, ◌≡◌, ◌⊎◌, List, [], ◌∷◌, ◌++◌, Option, Some, None}
+use Rattle.std.specs.Prelude.{ℕ, ◌-◌, ◌<◌, ◌≤◌, ◌≡◌, ◌⊎◌, List, [], ◌∷◌, ◌++◌, Option, Some, None}
 use Rattle.ng_canon.specs.declared.item.Item.{Item}
 use Rattle.ng_pace.specs.declared.line.Line.{Line}
 use Rattle.ng_pace.specs.declared.stepping.Given.{Given}
@@ -86,4 +86,21 @@ AsksOnly (ask wanted answer ∷ rest) = (0 < wanted) × AsksOnly rest
 -- all that was known is given out, and everything stands still
 pub record IsGivenOut (old : Flow) (events : List Event) (new : Flow) : Type 0 where
   pub all : items_given (lines_given events) ≡ items_of old
+  pub rest : new.motion.square ≡ 0
+
+-- lines are asked for, and nothing else happens; a hold goes on
+abbrev pub HoldsOnly : List Event → Type 0
+HoldsOnly [] = Unit {0}
+HoldsOnly (put item ∷ rest) = ⊥
+HoldsOnly (end ∷ rest) = ⊥
+HoldsOnly (ask wanted answer ∷ rest) = (wanted ≡ 0) × HoldsOnly rest
+
+-- at each line the square falls by the whole ramp
+abbrev pub AreFalling : List Given → Type 0
+AreFalling [] = Unit {0}
+AreFalling (given ∷ rest) = (given.to ≤ given.from - given.line.ramp) × AreFalling rest
+
+-- everything has come to rest as fast as may be
+pub record IsStopped (events : List Event) (new : Flow) : Type 0 where
+  pub falls : AreFalling (lines_given events)
   pub rest : new.motion.square ≡ 0

@@ -1,7 +1,7 @@
-/// Why a pacer isn't made (own).
+/// Why a pacer or a stream isn't made (own).
 #[derive(Clone, Copy, Debug, PartialEq, Eq)]
 pub enum PaceFault {
-    /// The motors couldn't start: less than half of what a line allows.
+    /// Motors couldn't start: the distance over which they start at once is below half a step.
     StartTooSmall,
     /// An axis has no acceleration.
     NoAcceleration,

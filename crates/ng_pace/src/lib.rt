@@ -1,12 +1,15 @@
 //! Times for a stream of pulses that was planned without regard to acceleration.
 //!
-//! A `Pacer` takes lines in order and gives them out in the same order, each with the time until the next. It stretches
-//! time alone: no line is given a shorter time than its own. The square of the rate, in pulses a second, changes from one
-//! pulse to the next by no more than the line allows. At any moment the pulses can come to rest within the lines that are
-//! known, whatever comes.
+//! A `Stream` takes items in order and gives them out in the same order, each once, with the time until the next. It
+//! stretches time alone: no item is given a shorter time than its own. The square of the rate changes from one pulse to
+//! the next by no more than the motors allow. Whatever comes or doesn't come, the pulses can come to rest within what is
+//! known, before each dwell and switch too. And no pulse is slower than it has to be: of the squares that may be, the
+//! greatest is taken.
 //!
-//! What the motors allow at each line is given with it. The crate depends on `ng_canon` alone; only `Pacer::new`
-//! allocates.
+//! What motors allow is found from the pulses themselves. A `Pacer` has the promises on time alone, for lines that come
+//! with what is allowed at them. Rates are in pulses a second times 2^8, and a square is that of such a rate.
+//!
+//! The crate depends on `ng_canon` alone. Only `Stream::new` and `Pacer::new` allocate.
 #![tactic(auto)]
 
 mod chord;
@@ -17,12 +20,13 @@ mod pacer;
 mod planning;
 mod root;
 mod settling;
+mod start;
 mod stepping;
 mod stream;
 
 pub use chord::Limits;
 pub use fault::PaceFault;
-pub use laws::{given_out, paced_beginning};
+pub use laws::{given_out, held, paced_beginning};
 pub use line::Line;
 pub use pacer::Pacer;
 pub use stepping::Given;

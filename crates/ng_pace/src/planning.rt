@@ -94,6 +94,7 @@ fn refresh<A: Allocator>(slots: &mut VecDeque<Slot, A>, planned: usize) -> usize
 }
 
 /// Takes the first line, planned with what is known.
+#[tactic(auto, using(crate::proofs::TakeLemmas::taken, crate::proofs::TakeLemmas::idle))]
 pub(crate) fn take<A: Allocator>(slots: &mut VecDeque<Slot, A>, planned: &mut usize) -> Option<Slot>
     requires { IsPlan planned.old slots.old.items }
     ensures taken { IfSome result (λ slot. IsTaken slots.old.items slots.new.items planned.new slot) }

@@ -41,6 +41,7 @@ fn line_of(item: Waiting, limits: Final, ending: Ending) -> Line
 }
 
 /// Gives the first item that waits to the pacer. False if none waits.
+#[tactic(auto, using(crate::proofs::FlowLemmas::moved))]
 fn settle_one<A: Allocator>(
     pacer: &mut Pacer<A>,
     waiting: &mut VecDeque<Waiting, A>,
@@ -68,6 +69,7 @@ fn settle_one<A: Allocator>(
 }
 
 /// Gives so many items that wait to the pacer, or all.
+#[tactic(auto, using(crate::proofs::FlowLemmas::keeps_on))]
 pub(crate) fn settle<A: Allocator>(
     pacer: &mut Pacer<A>,
     waiting: &mut VecDeque<Waiting, A>,
@@ -87,6 +89,7 @@ pub(crate) fn settle<A: Allocator>(
 }
 
 /// Gives all items that wait to the pacer.
+#[tactic(auto, using(crate::proofs::FlowLemmas::keeps_on))]
 pub(crate) fn settle_all<A: Allocator>(
     pacer: &mut Pacer<A>,
     waiting: &mut VecDeque<Waiting, A>,

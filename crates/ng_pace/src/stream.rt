@@ -2,14 +2,17 @@
 ghost use Rattle.std.specs.Prelude.{◌≡◌, false, ◌↔◌, ◌≤◌, ◌<◌, ◌+◌, [], length, min, nat_le, Err, IfOk, IfSome, IfNone};
 ghost use Rattle.std.specs.VecDeque.{deque_capacity};
 ghost use Rattle.std.specs.List.{Contains};
-ghost use Rattle.ng_pace.specs.Flow.{Keeps, Adds, IsPut, IsEnded, IsFlowGiven, IsAllowed, IsEmpty, own_square, full_of, square_behind, no_pulse};
+ghost use Rattle.ng_pace.specs.Due.{own_square};
+ghost use Rattle.ng_pace.specs.Refused.{IsAllowed};
+ghost use Rattle.ng_pace.specs.Flow.{Keeps, Adds, IsPut, IsEnded, IsFlowGiven, IsEmpty, full_of, square_behind, no_pulse};
 ghost use Rattle.ng_pace.specs.Paced.{Waits};
 
 use crate::chord::{Chord, Final, GREATEST, Limits, Waiting, steps_of};
 use crate::fault::PaceFault;
-use crate::line::Line;
+use crate::line::{Line, own_square};
 use crate::pacer::Pacer;
 use crate::settling::{Ending, settle, settle_all};
+use crate::start::start_of;
 use crate::stepping::Given;
 use ng_canon::{Item, Pulse};
 use std::alloc::Allocator;
@@ -45,36 +48,6 @@ impl<A: Allocator> Model for Stream<A> {
     ghost view = { λ s. record { motion = s.pacer; waiting = timed_waiting s.waiting.items; before = s.shape.before } };
 
     ghost invariant = { λ s. IsHeld s.pacer s.waiting.items (deque_capacity s.waiting) };
-}
-
-/// The square of the rate at which pulses of so many microseconds come.
-fn feed_of(us: u64) -> u64
-    ensures { result ≡ own_square us }
-{
-    let rate = if us == 0 {
-        256_000_000
-    } else {
-        (256_000_000 / us).max(1)
-    };
-    rate * rate
-}
-
-/// At which square motors start and stop at once, in parts of 256 of what a line allows.
-fn start_of(limits: &Limits) -> u64
-    ensures { 128 ≤ result }
-{
-    let mut start = 0x100_0000_0000u64;
-    for i in 0..3 {
-        let square = limits.start[i]
-            .saturating_mul(limits.start[i])
-            .saturating_mul(256);
-        start = start.min(
-            square
-                .checked_div(limits.accel[i].saturating_mul(2))
-                .unwrap_or(0),
-        );
-    }
-    start.max(128)
 }
 
 /// Makes limits final.
@@ -152,6 +125,7 @@ fn close_whole<A: Allocator>(
 }
 
 /// Makes all limits final: what waits comes to rest at its end.
+#[tactic(auto, using(crate::proofs::FlowLemmas::keeps_on))]
 fn finish<A: Allocator>(
     pacer: &mut Pacer<A>,
     waiting: &mut VecDeque<Waiting, A>,
@@ -211,7 +185,7 @@ fn push_pulse<A: Allocator>(
     ensures before { shape.new.before ≡ own_square pulse.now.period_us }
 {
     let steps = steps_of(pulse);
-    let own = feed_of(pulse.period_us);
+    let own = own_square(pulse.period_us);
     let feed = own.min(shape.before);
     turn(pacer, waiting, shape, &steps);
     waiting.push_back_reserved(Waiting { item, feed });
@@ -273,11 +247,12 @@ fn push_item<A: Allocator>(
 }
 
 impl<A: Allocator + Copy> Stream<A> {
-    /// At rest, with no item, and room for so many.
+    /// At rest, with no item, and room for so many. Nothing is allocated later. Source: own.
     ///
-    /// Refused: an axis without acceleration, corners of no pulse, no slack, no room.
+    /// Refused, in this order: an axis without acceleration, corners of no pulse, no slack, no room; and what memory
+    /// refuses.
     pub fn new(alloc: A, limits: Limits, room: usize) -> Result<Stream<A>, PaceFault>
-        ensures made { IfOk result (λ s. IsEmpty s room) }
+        ensures made { IfOk result (λ s. IsEmpty s limits room) }
         ensures no_acceleration { (result ≡ Err PaceFault.NoAcceleration) ↔ Contains limits.accel 0 }
         ensures no_corner { (result ≡ Err PaceFault.NoCorner) ↔ ((¬ Contains limits.accel 0) × (limits.half ≡ 0)) }
         ensures no_slack { (result ≡ Err PaceFault.NoSlack) ↔ ((¬ Contains limits.accel 0) × (0 < limits.half) × (limits.slack ≡ 0)) }
@@ -314,14 +289,14 @@ impl<A: Allocator + Copy> Stream<A> {
 }
 
 impl<A: Allocator> Stream<A> {
-    /// Whether there is no room for an item.
+    /// Whether there is no room for an item: the one that is asked before `push`.
     pub fn is_full(&self) -> bool
         ensures { result ≡ nat_le self.now.motion.room (length self.now.motion.known + length self.now.waiting) }
     {
         self.pacer.room() <= self.pacer.len() + self.waiting.len()
     }
 
-    /// Takes an item, after all that are known. It changes nothing of the motion.
+    /// Takes an item, after all that are known. The motion stays as it is. Source: own.
     pub fn push(&mut self, item: Item)
         requires { length self.old.motion.known + length self.old.waiting < self.old.motion.room }
         ensures { IsPut self.old self.new item }
@@ -329,7 +304,8 @@ impl<A: Allocator> Stream<A> {
         push_item(&mut self.pacer, &mut self.waiting, &mut self.shape, item);
     }
 
-    /// Nothing more is known to come: all that is known comes to rest at its end, and may be given out.
+    /// Nothing more is known to come: all that is known may be given out, and comes to rest at its end. What is put in
+    /// later begins from rest. Source: own.
     pub fn end(&mut self)
         ensures { IsEnded self.old self.new }
     {
@@ -342,8 +318,9 @@ impl<A: Allocator> Stream<A> {
         );
     }
 
-    /// The next line and its time, at no more than the square that is wanted. None if it waits: the limits of no item are
-    /// final, or it is at rest and is to be.
+    /// The next line and its time. `wanted` is the greatest square that the operator wants, in pulses a second times 2^8,
+    /// squared; 0 is a hold: the rate falls as fast as may be, and then everything stands still. None, with nothing
+    /// changed, if the limits of no item are final, or at rest in a hold. Source: own.
     pub fn next(&mut self, wanted: u64) -> Option<Given>
         ensures given { IfSome result (λ given. IsFlowGiven self.old self.new wanted given) }
         ensures waits { IfNone result (Waits self.old.motion wanted) }

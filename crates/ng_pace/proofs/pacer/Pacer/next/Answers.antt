@@ -1,7 +1,8 @@
-use Rattle.std.proofs.Common.{arith, rules, refl}
+use Rattle.std.proofs.Common.{arith, rules, inl, inr, refl}
 use Rattle.ng_pace.specs.Plan.{ahead}
 use Rattle.ng_pace.proofs.RestLemmas.{rest_all, rest_less}
 use Rattle.ng_pace.proofs.SquareLemmas.{IsPassed, hasty}
+use Rattle.ng_pace.proofs.pacer.Pacer.next.Goals.{else-self-eq0-via-then-self-eq0+else-wanted-eq0, else-self-eq0-via-else-self-eq0}
 use Rattle.ng_pace.proofs.pacer.Pacer.next.Goals as goal
 
 pub returns-in-Some-clause-given : goal.returns-in-Some-clause-given
@@ -17,6 +18,7 @@ returns-in-Some-clause-given g c =
       size = omega arith;
     } in
     rw (← c.self.view_is) (record {
+      moves = elim c.else-self-eq0.branch [ else-self-eq0-via-then-self-eq0+else-wanted-eq0 w ↦ inr (omega (arith, w.if-wanted-eq0.false)) | else-self-eq0-via-else-self-eq0 w ↦ inl (omega (arith, w.if-self-eq0.false)) ];
       order = c.in-Some.ensures.taken.first;
       least = c.time_of-ns.ensures.least;
       time = c.time_of-ns.ensures.time;

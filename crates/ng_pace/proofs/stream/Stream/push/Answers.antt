@@ -1,6 +1,6 @@
 use Rattle.std.proofs.Common.{arith, ◌<◌, ◌+◌, length}
 use Rattle.ng_pace.specs.Flow.{timed_waiting}
-use Rattle.ng_pace.proofs.FlowLemmas.{length-timed_waiting, settles_rest}
+use Rattle.ng_pace.proofs.FlowLemmas.{length-timed_waiting, adds_rest}
 use Rattle.ng_pace.proofs.stream.Stream.push.Goals as goal
 
 pub push_item-requires-clause-room : goal.push_item-requires-clause-room
@@ -14,12 +14,12 @@ invariant_of-self g c =
     record {
       fits = omega (arith, room, length-timed_waiting c.self.inside.waiting.items, c.push_item.ensures.adds.count, c.push_item.ensures.adds.settles.room);
       capacity_is = omega (arith, c.push_item.ensures.capacity, c.self.invariant.capacity_is, c.push_item.ensures.adds.settles.room);
-      rests = settles_rest c.push_item.ensures.adds.settles c.self.invariant.rests;
+      rests = adds_rest c.push_item.ensures.adds c.self.invariant.rests;
     }
 
 pub returns : goal.returns
 returns g c = rw (← c.self.view_is) (record {
   settles = c.push_item.ensures.adds.settles;
   before = c.push_item.ensures.before;
-  rests = settles_rest c.push_item.ensures.adds.settles c.self.invariant.rests;
+  rests = adds_rest c.push_item.ensures.adds c.self.invariant.rests;
 })

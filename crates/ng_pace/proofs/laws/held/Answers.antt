@@ -1,0 +1,5 @@
+use Rattle.ng_pace.proofs.RunLemmas.{stopped}
+use Rattle.ng_pace.proofs.laws.held.Goals as goal
+
+pub returns : goal.returns
+returns c = stopped
