@@ -1,11 +1,11 @@
 -- Limits that become final keep the items and the motion.
-use Rattle.std.proofs.Common.{arith, ◌+◌, ◌≤◌, ◌≡◌, ◌∙◌, refl, ap, sym, false, List, [], ◌∷◌, ◌++◌, length, append-nil, append_assoc}
+use Rattle.std.proofs.Common.{arith, ◌+◌, ◌≤◌, ◌≡◌, ◌∙◌, refl, ap, sym, List, [], ◌∷◌, ◌++◌, length, append-nil, append_assoc}
 use Rattle.ng_canon.specs.declared.item.Item.{Item}
 use Rattle.ng_pace.specs.declared.line.Line.{Line}
 use Rattle.ng_pace.specs.declared.chord.Waiting.{Waiting}
 use Rattle.ng_pace.specs.Motion.{Motion}
 use Rattle.ng_pace.specs.Rest.{CanRest}
-use Rattle.ng_pace.specs.Flow.{Timed, timed_lines, timed_waiting, AreOwn, Settles, Keeps, Adds}
+use Rattle.ng_pace.specs.Flow.{Timed, timed_lines, timed_waiting, AreOwn, Settles, Keeps, Adds, still_line, StandsLast}
 use Rattle.ng_pace.proofs.RestLemmas.{rest_more}
 
 pub timed_lines-append : (xs ys : List Line) → timed_lines (xs ++ ys) ≡ timed_lines xs ++ timed_lines ys
@@ -83,9 +83,9 @@ moved old new w waited rest line is item full most first = rw (is, first) (recor
 
 -- a line at which everything stands still goes behind what is known, where nothing waits
 pub still_adds : (item : Item) (old mid : Motion) (waited waits : List Waiting) → Keeps old mid waited waits → waits ≡ []
-    → Adds old (record mid { known = mid.known ++ (record { item = item; full = 0; most = 0; ramp = 0; last = false }) ∷ [] }) waited waits (record { item = item; full = 0 })
+    → Adds old (record mid { known = mid.known ++ still_line item ∷ [] }) waited waits (record { item = item; full = 0 })
 still_adds item old mid waited waits keeps none =
-    let line : Line = record { item = item; full = 0; most = 0; ramp = 0; last = false } in
+    let line : Line = still_line item in
     let timed : Timed = record { item = item; full = 0 } in
     let before : Settles old mid (timed_waiting waited) [] = rw none at keeps.settles in
     rw none (record {
@@ -108,3 +108,6 @@ settles_end keeps none = rw none at keeps.settles
 
 pub adds_rest : {old new : Motion} {waited waits : List Waiting} {timed : Timed} → Adds old new waited waits timed → CanRest old.square old.known → CanRest new.square new.known
 adds_rest adds rest = settles_rest adds.settles rest
+
+pub still_last : (mid new : Motion) (waits : List Waiting) (line : Line) (item : Item) → new ≡ record mid { known = mid.known ++ line ∷ [] } → line ≡ still_line item → waits ≡ [] → StandsLast new.known (timed_waiting waits) item
+still_last mid new waits line item is same none = record { lines = mid.known; last = ap (λ t. t.known) is ∙ ap (λ t. mid.known ++ t ∷ []) same; none = ap timed_waiting none }

@@ -1,5 +1,5 @@
 -- A stream of items: those of whose lines the motion is planned, and those that wait since their limits aren't final.
-use Rattle.std.specs.Prelude.{ℕ, ◌+◌, ◌^◌, ◌≤◌, ◌≡◌, min, List, [], ◌∷◌, ◌++◌, length}
+use Rattle.std.specs.Prelude.{ℕ, ◌+◌, ◌^◌, ◌≤◌, ◌≡◌, min, List, [], ◌∷◌, ◌++◌, length, false}
 use Rattle.ng_canon.specs.declared.item.Item.{Item}
 use Rattle.ng_canon.specs.declared.item.Item.TheVariants.{Pulse, Dwell, Switch}
 use Rattle.ng_pace.specs.declared.line.Line.{Line}
@@ -70,9 +70,26 @@ pub record IsEmpty (flow : Flow) (limits : Limits) (room : ℕ) : Type 0 where
   pub start : flow.motion.start ≡ start_of limits
   pub room_is : flow.motion.room ≡ room
 
+-- the line of an item at which everything stands still
+abbrev pub still_line : Item → Line
+still_line item = record { item = item; full = 0; most = 0; ramp = 0; last = false }
+
+-- such an item is known at once as a line, and nothing waits
+pub record StandsLast (known : List Line) (waits : List Timed) (item : Item) : Type 0 where
+  pub lines : List Line
+  pub last : known ≡ lines ++ still_line item ∷ []
+  pub none : waits ≡ []
+
+-- everything stands still at a dwell and at a switch
+abbrev pub StandsAt : List Line → List Timed → Item → Type 0
+StandsAt known waits (Pulse pulse) = Unit {0}
+StandsAt known waits (Dwell us) = StandsLast known waits (Dwell us)
+StandsAt known waits (Switch outputs) = StandsLast known waits (Switch outputs)
+
 -- an item is put in, behind all that are known
 pub record IsPut (old new : Flow) (item : Item) : Type 0 where
   pub settles : Settles old.motion new.motion (old.waiting ++ (record { item = item; full = full_of old.before item }) ∷ []) new.waiting
+  pub stands : StandsAt new.motion.known new.waiting item
   pub before : new.before ≡ square_behind item
   pub rests : CanRest new.motion.square new.motion.known
 

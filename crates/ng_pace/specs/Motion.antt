@@ -1,4 +1,4 @@
--- A stream that is being carried out.
+-- Lines that are being carried out.
 use Rattle.std.specs.Prelude.{ℕ, ◌^◌, ◌<◌, ◌≤◌, List}
 use Rattle.ng_pace.specs.declared.line.Line.{Line}
 use Rattle.ng_pace.specs.declared.planning.Slot.{Slot}
@@ -10,14 +10,14 @@ pub record Motion : Type 0 where
   pub known : List Line
   -- the square at which the first of them will be passed; 0 at rest
   pub square : ℕ
-  -- at which square motors start and stop at once, in parts of 256 of what a line allows
+  -- the distance over which motors start and stop at once, in parts of 256 of a step
   pub start : ℕ
   -- most lines that may be known
   pub room : ℕ
 
--- so many lines are planned, the square is within the plan, and a root is known
-pub record IsSteady (slots : List Slot) (square planned last root : ℕ) : Type 0 where
+-- so many lines are planned, the square is within the plan, and the root of the square that was reached is known
+pub record IsSteady (slots : List Slot) (square planned reached root : ℕ) : Type 0 where
   pub plan : IsPlan planned slots
   pub within : square ≤ ahead slots
-  pub root_of_last : IsRoot last root
+  pub is_root : IsRoot reached root
   pub size : root < 2 ^ 32

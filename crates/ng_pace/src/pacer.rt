@@ -1,4 +1,4 @@
-//! The pacer.
+//! The pacer: lines in, and out again with their times.
 ghost use Rattle.std.specs.Prelude.{◌≡◌, ◌↔◌, ◌⊎◌, ◌≤◌, ◌<◌, ◌++◌, ◌∷◌, [], length, nat_le, Err, IfOk, IfErr, IfSome, IfNone};
 ghost use Rattle.ng_pace.specs.Paced.{IsGiven, Waits};
 
@@ -11,14 +11,16 @@ use std::alloc::Allocator;
 use std::collections::VecDeque;
 use std::marker::Model;
 
-/// Lines that are known, and the rate at which the first will be passed.
+/// Lines that are known, and the square at which the first of them will be passed (own).
 #[derive(Drop)]
 pub struct Pacer<A: Allocator> {
     slots: VecDeque<Slot, A>,
     square: u64,
     start: u64,
+    /// How many of the lines are planned.
     planned: usize,
-    last: u64,
+    /// The square to which the last line went, and its root. The next line begins at it, as a rule.
+    reached: u64,
     root: u64,
 }
 
@@ -31,16 +33,16 @@ impl<A: Allocator> Model for Pacer<A> {
 
     ghost view = { λ p. record { known = lines_of p.slots.items; square = p.square; start = p.start; room = deque_capacity p.slots } };
 
-    ghost invariant = { λ p. IsSteady p.slots.items p.square p.planned p.last p.root };
+    ghost invariant = { λ p. IsSteady p.slots.items p.square p.planned p.reached p.root };
 }
 
 impl<A: Allocator> Pacer<A> {
     ghost use Rattle.ng_pace.specs.Motion.{Motion};
 
-    /// At rest, with no line, and room for so many. `start` says at which square motors start and stop at once: so many
-    /// parts of 256 of what a line allows; 128 if at none, since at rest a motor is half a step beyond its pulse.
+    /// At rest, with no line, and room for so many. Nothing is allocated later. Source: own.
     ///
-    /// Refused: a start below 128, then no room.
+    /// `start` is the distance over which motors start and stop at once, in parts of 256 of a step: at least 128, since
+    /// a motor at rest is half a step beyond its pulse. Refused: a lesser start, then no room, and what memory refuses.
     pub fn new(alloc: A, start: u64, room: usize) -> Result<Pacer<A>, PaceFault>
         ensures made { IfOk result (λ p. p ≡ record { known = []; square = 0; start = start; room = room }) }
         ensures start_too_small { (result ≡ Err PaceFault.StartTooSmall) ↔ (start < 128) }
@@ -59,14 +61,14 @@ impl<A: Allocator> Pacer<A> {
                 square: 0,
                 start,
                 planned: 0,
-                last: 0,
+                reached: 0,
                 root: 0,
             }),
             Err(_) => Err(PaceFault::OutOfMemory),
         }
     }
 
-    /// Whether there is no room for a line.
+    /// Whether there is no room for a line. Source: own.
     pub fn is_full(&self) -> bool
         ensures { result ≡ nat_le self.now.room (length self.now.known) }
     {
@@ -74,20 +76,20 @@ impl<A: Allocator> Pacer<A> {
     }
 
     /// How many lines are known.
-    pub fn len(&self) -> usize
+    pub(crate) fn len(&self) -> usize
         ensures { result ≡ length self.now.known }
     {
         self.slots.len()
     }
 
     /// For how many lines there is room.
-    pub fn room(&self) -> usize
+    pub(crate) fn room(&self) -> usize
         ensures { result ≡ self.now.room }
     {
         self.slots.capacity()
     }
 
-    /// Takes a line, after all that are known. It changes nothing of the motion.
+    /// Takes a line, behind all that are known. The motion stays as it is. Source: own.
     pub fn push(&mut self, line: Line)
         requires { length self.old.known < self.old.room }
         ensures { self.new ≡ record self.old { known = self.old.known ++ line ∷ [] } }
@@ -95,8 +97,9 @@ impl<A: Allocator> Pacer<A> {
         self.slots.push_back_reserved(Slot { line, plan: 0 });
     }
 
-    /// The next line and its time, at no more than the square that is wanted. None if it waits: no line is known, or it is
-    /// at rest and is to be.
+    /// The next line and its time. `wanted` is the greatest square that the operator wants; 0 is a hold. Above it the
+    /// square falls by the whole ramp from line to line. None, with nothing changed, if no line is known, or at rest in a
+    /// hold. Source: own.
     pub fn next(&mut self, wanted: u64) -> Option<Given>
         ensures given { IfSome result (λ given. IsGiven self.old self.new wanted given) }
         ensures waits { IfNone result (Waits self.old wanted) }
@@ -110,11 +113,11 @@ impl<A: Allocator> Pacer<A> {
             Some(slot) => {
                 let from = square_at(&slot.line, slot.plan, self.square, self.start, wanted);
                 let to = square_after(&slot.line, from, ahead(&self.slots), wanted);
-                let root_from = root_of(from, self.last, self.root);
+                let root_from = root_of(from, self.reached, self.root);
                 let root_to = root_of(to, from, root_from);
                 let ns = time_of(&slot.line, from, to, root_from, root_to);
                 self.square = rest_of(&slot.line, to, self.start, wanted);
-                self.last = to;
+                self.reached = to;
                 self.root = root_to;
                 Some(Given {
                     line: slot.line,

@@ -8,30 +8,33 @@ ghost use Rattle.ng_pace.specs.Paced.{rest_of};
 
 use crate::line::{Line, least_ns};
 
-/// Twice a second, in nanoseconds, times 2^8.
+/// Two seconds in nanoseconds, times 2^8. Over the sum of the rates at its two ends it is the time of a line.
 const TWO_SECONDS: u64 = 512_000_000_000;
 
-/// The time of a line at which everything stands still.
+/// The least time of a line before and after which everything stands still.
 const STANDING_NS: u64 = 1_000_000_000;
 
-/// A line that is given out: carry it out now, and the next one no sooner than after this time.
+/// A line that is given out: it is carried out now, and the next one no sooner than after its time (own).
 #[derive(Clone, Copy, Debug, PartialEq, Eq)]
 pub struct Given {
     pub line: Line,
+    /// The time until the next line, in nanoseconds.
     pub ns: u64,
-    /// The square at this line, and that at the next.
+    /// The square at this line.
     pub from: u64,
+    /// The square at the next line.
     pub to: u64,
 }
 
-/// The square at which motors can start and stop at once, by what the line allows; `start` is in parts of 256.
+/// The square at which motors can start and stop at once at a line; `start` is in parts of 256 of a step.
 pub(crate) fn start_square(line: &Line, start: u64) -> u64
     ensures { result ≡ start_square line.now start }
 {
     (line.ramp / 256).saturating_mul(start)
 }
 
-/// The square at the next line, from that at this one and what is planned for the next.
+/// The square at the next line, from that at this one and what is planned for the next. Where the plan or the operator
+/// wants less, it falls by no more than the ramp.
 pub(crate) fn square_after(line: &Line, from: u64, after: u64, wanted: u64) -> u64
     requires { from ≤ most_now line.now after }
     ensures follows { FollowsWithin line.now from wanted after result }
@@ -45,7 +48,7 @@ pub(crate) fn square_after(line: &Line, from: u64, after: u64, wanted: u64) -> u
         .max(least)
 }
 
-/// The time of a line at these two rates, which are given by their roots.
+/// The time of a line, from the sum of the rates at its two ends.
 fn time_at(least_ns: u64, both: u64) -> u64
     requires { both < 2 ^ 33 }
     ensures { result ≡ time_at least_ns both }
@@ -63,7 +66,7 @@ fn is_at_full_rate(line: &Line, from: u64, to: u64) -> bool
     from == to && to == line.full
 }
 
-/// The time of a line whose square goes from one to another, whose roots are given.
+/// The time of a line whose square goes from one to another. Their roots are given.
 pub(crate) fn time_of(line: &Line, from: u64, to: u64, root_from: u64, root_to: u64) -> u64
     requires from { IsRoot from root_from }
     requires to { IsRoot to root_to }
@@ -91,7 +94,7 @@ pub(crate) fn square_at(line: &Line, plan: u64, square: u64, start: u64, wanted:
     }
 }
 
-/// The square that is left after a line: 0 where a rest is wanted and motors can stop at once.
+/// The square that is left after a line: 0 in a hold, if motors can stop at once.
 pub(crate) fn rest_of(line: &Line, to: u64, start: u64, wanted: u64) -> u64
     ensures { result ≡ rest_of line.now to start wanted }
 {

@@ -1,10 +1,10 @@
 //! A stream of items, whose limits are found from its pulses.
-ghost use Rattle.std.specs.Prelude.{◌≡◌, false, ◌↔◌, ◌≤◌, ◌<◌, ◌+◌, [], length, min, nat_le, Err, IfOk, IfSome, IfNone};
+ghost use Rattle.std.specs.Prelude.{◌≡◌, ◌↔◌, ◌≤◌, ◌<◌, ◌+◌, [], length, min, nat_le, Err, IfOk, IfSome, IfNone};
 ghost use Rattle.std.specs.VecDeque.{deque_capacity};
 ghost use Rattle.std.specs.List.{Contains};
 ghost use Rattle.ng_pace.specs.Due.{own_square};
 ghost use Rattle.ng_pace.specs.Refused.{IsAllowed};
-ghost use Rattle.ng_pace.specs.Flow.{Keeps, Adds, IsPut, IsEnded, IsFlowGiven, IsEmpty, full_of, square_behind, no_pulse};
+ghost use Rattle.ng_pace.specs.Flow.{Keeps, Adds, IsPut, IsEnded, IsFlowGiven, IsEmpty, StandsAt, StandsLast, full_of, square_behind, no_pulse, still_line, timed_waiting};
 ghost use Rattle.ng_pace.specs.Paced.{Waits};
 
 use crate::chord::{Chord, Final, GREATEST, Limits, Waiting, steps_of};
@@ -196,7 +196,7 @@ fn push_pulse<A: Allocator>(
 
 /// The line of an item before which everything stands still.
 fn still(item: Item) -> Line
-    ensures { result ≡ record { item = item; full = 0; most = 0; ramp = 0; last = false } }
+    ensures { result ≡ still_line item }
 {
     Line {
         item,
@@ -217,6 +217,7 @@ fn push_still<A: Allocator>(
     requires room { length pacer.old.known + length waiting.old.items < pacer.old.room }
     ensures adds { Adds pacer.old pacer.new waiting.old.items waiting.new.items (record { item = item; full = 0 }) }
     ensures capacity { deque_capacity waiting.new ≡ deque_capacity waiting.old }
+    ensures stands { StandsLast pacer.new.known (timed_waiting waiting.new.items) item }
     ensures before { shape.new.before ≡ no_pulse }
 {
     let start = shape.start;
@@ -237,6 +238,7 @@ fn push_item<A: Allocator>(
     requires capacity { deque_capacity waiting.old ≡ pacer.old.room }
     ensures adds { Adds pacer.old pacer.new waiting.old.items waiting.new.items (record { item = item; full = full_of shape.old.before item }) }
     ensures capacity { deque_capacity waiting.new ≡ deque_capacity waiting.old }
+    ensures stands { StandsAt pacer.new.known (timed_waiting waiting.new.items) item }
     ensures before { shape.new.before ≡ square_behind item }
 {
     match item {

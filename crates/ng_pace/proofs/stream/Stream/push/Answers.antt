@@ -20,6 +20,7 @@ invariant_of-self g c =
 pub returns : goal.returns
 returns g c = rw (← c.self.view_is) (record {
   settles = c.push_item.ensures.adds.settles;
+  stands = c.push_item.ensures.stands;
   before = c.push_item.ensures.before;
   rests = adds_rest c.push_item.ensures.adds c.self.invariant.rests;
 })
