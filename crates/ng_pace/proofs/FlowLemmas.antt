@@ -5,7 +5,8 @@ use Rattle.ng_pace.specs.declared.line.Line.{Line}
 use Rattle.ng_pace.specs.declared.chord.Waiting.{Waiting}
 use Rattle.ng_pace.specs.Motion.{Motion}
 use Rattle.ng_pace.specs.Rest.{CanRest}
-use Rattle.ng_pace.specs.Flow.{Timed, timed_lines, timed_waiting, AreOwn, Settles, Keeps, Adds, still_line, StandsLast}
+use Rattle.ng_pace.specs.declared.stepping.Given.{Given}
+use Rattle.ng_pace.specs.Flow.{Flow, items_of, items_waiting, all_items, full_of, Timed, timed_lines, timed_waiting, AreOwn, Settles, Keeps, Adds, still_line, StandsLast}
 use Rattle.ng_pace.proofs.RestLemmas.{rest_more}
 
 pub timed_lines-append : (xs ys : List Line) → timed_lines (xs ++ ys) ≡ timed_lines xs ++ timed_lines ys
@@ -111,3 +112,35 @@ adds_rest adds rest = settles_rest adds.settles rest
 
 pub still_last : (mid new : Motion) (waits : List Waiting) (line : Line) (item : Item) → new ≡ record mid { known = mid.known ++ line ∷ [] } → line ≡ still_line item → waits ≡ [] → StandsLast new.known (timed_waiting waits) item
 still_last mid new waits line item is same none = record { lines = mid.known; last = ap (λ t. t.known) is ∙ ap (λ t. mid.known ++ t ∷ []) same; none = ap timed_waiting none }
+
+items_waiting-append : (xs ys : List Timed) → items_waiting (xs ++ ys) ≡ items_waiting xs ++ items_waiting ys
+items_waiting-append [] ys = refl
+items_waiting-append (x ∷ xs) ys = ap (λ t. x.item ∷ t) (items_waiting-append xs ys)
+
+items_of-append : (xs ys : List Line) → items_of (xs ++ ys) ≡ items_of xs ++ items_of ys
+items_of-append [] ys = refl
+items_of-append (x ∷ xs) ys = ap (λ t. x.item ∷ t) (items_of-append xs ys)
+
+items_waiting-lines : (xs : List Line) → items_waiting (timed_lines xs) ≡ items_of xs
+items_waiting-lines [] = refl
+items_waiting-lines (x ∷ xs) = ap (λ t. x.item ∷ t) (items_waiting-lines xs)
+
+-- limits that become final leave the items
+settled_items : {old new : Motion} {waited waits : List Timed} → Settles old new waited waits → items_of new.known ++ items_waiting waits ≡ items_of old.known ++ items_waiting waited
+settled_items {old} {new} {waited} {waits} s =
+    let settled : items_of s.settled ++ items_waiting waits ≡ items_waiting waited
+    = ap (λ t. t ++ items_waiting waits) (sym (items_waiting-lines s.settled)) ∙ sym (items_waiting-append (timed_lines s.settled) waits) ∙ ap items_waiting s.order in
+    ap (λ t. items_of t ++ items_waiting waits) s.known ∙ ap (λ t. t ++ items_waiting waits) (items_of-append old.known s.settled)
+    ∙ append_assoc (items_of old.known) (items_of s.settled) (items_waiting waits) ∙ ap (λ t. items_of old.known ++ t) settled
+
+pub put_items : (old mid : Flow) (item : Item) → Settles old.motion mid.motion (old.waiting ++ (record { item = item; full = full_of old.before item }) ∷ []) mid.waiting → all_items mid ≡ all_items old ++ item ∷ []
+put_items old mid item p =
+    settled_items p ∙ ap (λ t. items_of old.motion.known ++ t) (items_waiting-append old.waiting ((record { item = item; full = full_of old.before item }) ∷ []))
+    ∙ sym (append_assoc (items_of old.motion.known) (items_waiting old.waiting) (item ∷ []))
+
+pub end_items : (old mid : Flow) → Settles old.motion mid.motion old.waiting [] → mid.waiting ≡ [] → all_items mid ≡ all_items old
+end_items old mid s none = ap (λ t. items_of mid.motion.known ++ items_waiting t) none ∙ settled_items s
+
+pub given_items : (old mid : Flow) (given : Given) → old.motion.known ≡ given.line ∷ mid.motion.known → mid.waiting ≡ old.waiting → all_items old ≡ given.line.item ∷ all_items mid
+given_items old mid given order waiting =
+    ap (λ t. items_of t ++ items_waiting old.waiting) order ∙ sym (ap (λ t. given.line.item ∷ (items_of mid.motion.known ++ items_waiting t)) waiting)

@@ -2,47 +2,14 @@
 use Rattle.std.proofs.Common.{arith, ℕ, ◌-◌, max, ◌<◌, ◌≤◌, ◌≡◌, ◌∙◌, ◌⊎◌, inl, inr, refl, sym, ap, Bool, true, false, List, [], ◌∷◌, ◌++◌, length, append-nil, append_assoc}
 use Rattle.std.specs.Prelude.{Some, None, nat_le, ◌==◌, ◌&&◌, if◌then◌else◌}
 use Rattle.std.proofs.lemmas.Bool.Decides.{nat_tests}
-use Rattle.ng_canon.specs.declared.item.Item.{Item}
 use Rattle.ng_pace.specs.declared.line.Line.{Line}
 use Rattle.ng_pace.specs.declared.stepping.Given.{Given}
 use Rattle.ng_pace.specs.Motion.{Motion}
 use Rattle.ng_pace.specs.Rest.{CanRest}
 use Rattle.ng_pace.specs.Squares.{start_square}
 use Rattle.ng_pace.specs.Paced.{IsGiven, Waits, rest_of}
-use Rattle.ng_pace.specs.Flow.{Flow, Timed, Settles, IsPut, IsEnded, IsFlowGiven, timed_lines, full_of}
-use Rattle.ng_pace.specs.Run.{Event, put, end, ask, IsRun, items_put, items_of_lines, items_timed, items_of, IsPassed, IsPacedBeginning, AsksOnly, IsGivenOut, lines_given, HoldsOnly, AreFalling, IsStopped}
-
-items_timed-append : (xs ys : List Timed) → items_timed (xs ++ ys) ≡ items_timed xs ++ items_timed ys
-items_timed-append [] ys = refl
-items_timed-append (x ∷ xs) ys = ap (λ t. x.item ∷ t) (items_timed-append xs ys)
-
-items_of_lines-append : (xs ys : List Line) → items_of_lines (xs ++ ys) ≡ items_of_lines xs ++ items_of_lines ys
-items_of_lines-append [] ys = refl
-items_of_lines-append (x ∷ xs) ys = ap (λ t. x.item ∷ t) (items_of_lines-append xs ys)
-
-items_timed-lines : (xs : List Line) → items_timed (timed_lines xs) ≡ items_of_lines xs
-items_timed-lines [] = refl
-items_timed-lines (x ∷ xs) = ap (λ t. x.item ∷ t) (items_timed-lines xs)
-
--- limits that become final leave the items
-settled_items : {old new : Motion} {waited waits : List Timed} → Settles old new waited waits → items_of_lines new.known ++ items_timed waits ≡ items_of_lines old.known ++ items_timed waited
-settled_items {old} {new} {waited} {waits} s =
-    let settled : items_of_lines s.settled ++ items_timed waits ≡ items_timed waited
-    = ap (λ t. t ++ items_timed waits) (sym (items_timed-lines s.settled)) ∙ sym (items_timed-append (timed_lines s.settled) waits) ∙ ap items_timed s.order in
-    ap (λ t. items_of_lines t ++ items_timed waits) s.known ∙ ap (λ t. t ++ items_timed waits) (items_of_lines-append old.known s.settled)
-    ∙ append_assoc (items_of_lines old.known) (items_of_lines s.settled) (items_timed waits) ∙ ap (λ t. items_of_lines old.known ++ t) settled
-
-put_items : (old mid : Flow) (item : Item) → IsPut old mid item → items_of mid ≡ items_of old ++ item ∷ []
-put_items old mid item p =
-    settled_items p.settles ∙ ap (λ t. items_of_lines old.motion.known ++ t) (items_timed-append old.waiting ((record { item = item; full = full_of old.before item }) ∷ []))
-    ∙ sym (append_assoc (items_of_lines old.motion.known) (items_timed old.waiting) (item ∷ []))
-
-end_items : (old mid : Flow) → IsEnded old mid → items_of mid ≡ items_of old
-end_items old mid e = ap (λ t. items_of_lines mid.motion.known ++ items_timed t) e.none ∙ settled_items e.settles
-
-given_items : (old mid : Flow) (wanted : ℕ) (given : Given) → IsFlowGiven old mid wanted given → items_of old ≡ given.line.item ∷ items_of mid
-given_items old mid wanted given f =
-    ap (λ t. items_of_lines t ++ items_timed old.waiting) f.given_out.order ∙ sym (ap (λ t. given.line.item ∷ (items_of_lines mid.motion.known ++ items_timed t)) f.waiting)
+use Rattle.ng_pace.specs.Flow.{Flow, items_of, items_waiting, all_items}
+use Rattle.ng_pace.specs.Run.{Event, put, end, ask, IsRun, items_put, IsPassed, IsPacedBeginning, AsksOnly, IsGivenOut, lines_given, HoldsOnly, AreFalling, IsStopped}
 
 -- what is left of a square after a line
 left_of : (line : Line) (to start wanted : ℕ) → (rest_of line to start wanted ≡ to) ⊎ ((rest_of line to start wanted ≡ 0) × (to ≤ start_square line start))
@@ -63,20 +30,20 @@ passed_of old new wanted given g = record {
 }
 
 pub paced : (old : Flow) (events : List Event) (new : Flow) → IsRun old events new → IsPacedBeginning old events new
-paced old [] new run = record { order = append-nil (items_of old) ∙ sym (ap items_of run); passed = ap (λ t. t.motion.square) run }
+paced old [] new run = record { order = append-nil (all_items old) ∙ sym (ap all_items run); passed = ap (λ t. t.motion.square) run }
 paced old (put item ∷ rest) new run =
     let later : IsPacedBeginning run.0 rest new = paced run.0 rest new run.1.1 in record {
-      order = sym (append_assoc (items_of old) (item ∷ []) (items_put rest)) ∙ sym (ap (λ t. t ++ items_put rest) (put_items old run.0 item run.1.0)) ∙ later.order;
+      order = sym (append_assoc (all_items old) (item ∷ []) (items_put rest)) ∙ sym (ap (λ t. t ++ items_put rest) run.1.0.items) ∙ later.order;
       passed = rw (run.1.0.settles.start, run.1.0.settles.square) at later.passed;
     }
 paced old (end ∷ rest) new run =
     let later : IsPacedBeginning run.0 rest new = paced run.0 rest new run.1.1 in record {
-      order = sym (ap (λ t. t ++ items_put rest) (end_items old run.0 run.1.0)) ∙ later.order;
+      order = sym (ap (λ t. t ++ items_put rest) run.1.0.items) ∙ later.order;
       passed = rw (run.1.0.settles.start, run.1.0.settles.square) at later.passed;
     }
 paced old (ask wanted (Some given) ∷ rest) new run =
     let later : IsPacedBeginning run.0 rest new = paced run.0 rest new run.1.1 in record {
-      order = ap (λ t. t ++ items_put rest) (given_items old run.0 wanted given run.1.0) ∙ ap (λ t. given.line.item ∷ t) later.order;
+      order = ap (λ t. t ++ items_put rest) run.1.0.items ∙ ap (λ t. given.line.item ∷ t) later.order;
       passed = (run.0.motion.square, (passed_of old.motion run.0.motion wanted given run.1.0.given_out, rw run.1.0.given_out.start at later.passed));
     }
 paced old (ask wanted None ∷ rest) new run =
@@ -87,31 +54,31 @@ none_known : (old : Motion) (wanted : ℕ) → 0 < wanted → Waits old wanted �
 none_known old wanted some (inl none) = none
 none_known old wanted some (inr rest) = absurd (omega (arith, rest.1))
 
-no_lines : (xs : List Line) → length (items_of_lines xs) ≡ 0 → xs ≡ []
+no_lines : (xs : List Line) → length (items_of xs) ≡ 0 → xs ≡ []
 no_lines [] h = refl
 no_lines (x ∷ xs) h = absurd (omega arith)
 
 -- nothing is known: nothing is given out, and everything stands still
 pub nothing_left : (old : Flow) (events : List Event) (new : Flow) → IsRun old events new → AsksOnly events → old.waiting ≡ [] → old.motion.known ≡ [] → old.motion.square ≡ 0 → IsGivenOut old events new
-nothing_left old [] new run asks none known rest = record { all = sym (ap (λ t. items_of_lines t ++ items_timed old.waiting) known ∙ ap items_timed none); rest = ap (λ t. t.motion.square) run ∙ rest }
+nothing_left old [] new run asks none known rest = record { all = sym (ap (λ t. items_of t ++ items_waiting old.waiting) known ∙ ap items_waiting none); rest = ap (λ t. t.motion.square) run ∙ rest }
 nothing_left old (put item ∷ events) new run asks none known rest = absurd asks
 nothing_left old (end ∷ events) new run asks none known rest = absurd asks
 nothing_left old (ask wanted (Some given) ∷ events) new run asks none known rest = let more = sym known ∙ run.1.0.given_out.order in cc
 nothing_left old (ask wanted None ∷ events) new run asks none known rest = let later : IsGivenOut old events new = nothing_left old events new run.1 asks.1 none known rest in record { all = later.all; rest = later.rest }
 
 pub all_given : (old : Flow) (events : List Event) (new : Flow) → IsRun old events new → AsksOnly events → old.waiting ≡ [] → CanRest old.motion.square old.motion.known
-    → length (items_of old) ≤ length events → IsGivenOut old events new
+    → length (all_items old) ≤ length events → IsGivenOut old events new
 all_given old [] new run asks none rests enough =
-    let nothing : items_of old ≡ items_of_lines old.motion.known ++ [] = ap (λ t. items_of_lines old.motion.known ++ items_timed t) none in
-    let bare : items_of old ≡ items_of_lines old.motion.known = nothing ∙ append-nil (items_of_lines old.motion.known) in
-    let count : length (items_of old) ≡ length (items_of_lines old.motion.known) = ap length bare in
+    let nothing : all_items old ≡ items_of old.motion.known ++ [] = ap (λ t. items_of old.motion.known ++ items_waiting t) none in
+    let bare : all_items old ≡ items_of old.motion.known = nothing ∙ append-nil (items_of old.motion.known) in
+    let count : length (all_items old) ≡ length (items_of old.motion.known) = ap length bare in
     let known : old.motion.known ≡ [] = no_lines old.motion.known (omega (arith, count, enough)) in
     nothing_left old [] new run asks none known (rw known at rests)
 all_given old (put item ∷ events) new run asks none rests enough = absurd asks
 all_given old (end ∷ events) new run asks none rests enough = absurd asks
 all_given old (ask wanted (Some given) ∷ events) new run asks none rests enough =
-    let items : items_of old ≡ given.line.item ∷ items_of run.0 = given_items old run.0 wanted given run.1.0 in
-    let count : length (items_of old) ≡ length (given.line.item ∷ items_of run.0) = ap length items in
+    let items : all_items old ≡ given.line.item ∷ all_items run.0 = run.1.0.items in
+    let count : length (all_items old) ≡ length (given.line.item ∷ all_items run.0) = ap length items in
     let later : IsGivenOut run.0 events new = all_given run.0 events new run.1.1 asks.1 (run.1.0.waiting ∙ none) run.1.0.given_out.rests (omega (arith, count)) in
     record { all = ap (λ t. given.line.item ∷ t) later.all ∙ sym items; rest = later.rest }
 all_given old (ask wanted None ∷ events) new run asks none rests enough =

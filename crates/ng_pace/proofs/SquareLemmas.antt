@@ -7,8 +7,8 @@ use Rattle.ng_pace.specs.Squares.{IsHasty, start_square}
 use Rattle.ng_pace.proofs.PlanLemmas.{planned_within}
 use Rattle.ng_pace.proofs.RestLemmas.{length-lines_of, rest_at, rest_within, most_at, most_within, rest_still}
 
--- what a line is passed by: the square before it, that at it, that after it, and what is planned
-pub record IsPassed (line : Line) (square start wanted from to plan after : ℕ) : Type 0 where
+-- how the squares of a line are chosen: from what was left before it, and what is planned for it and after it
+pub record IsChosen (line : Line) (square start wanted from to plan after : ℕ) : Type 0 where
   pub starts : square ≡ 0 → from ≡ min (min (start_square line start) plan) wanted
   pub within : from ≤ plan
   pub planned : plan ≤ most_now line after
@@ -16,7 +16,7 @@ pub record IsPassed (line : Line) (square start wanted from to plan after : ℕ)
   pub greatest : (other : ℕ) → FollowsWithin line from wanted after other → other ≤ to
   pub size : wanted < 2 ^ 64
 
-hasty_standing : (line : Line) (square start wanted from to plan after : ℕ) (lines : List Line) → IsPassed line square start wanted from to plan after → Stands line
+hasty_standing : (line : Line) (square start wanted from to plan after : ℕ) (lines : List Line) → IsChosen line square start wanted from to plan after → Stands line
     → IsHasty line square start wanted from to lines
 hasty_standing line square start wanted from to plan after lines passed stands =
     let at : from ≡ 0 = omega (arith, passed.within, passed.planned, stands.0) in
@@ -42,7 +42,7 @@ some_of n [] none looks = refl
 some_of zero (x ∷ xs) none looks = ap lines_of (looks.some refl)
 some_of (suc n) (x ∷ xs) none looks = cc
 
-hasty_planned : (line : Line) (square start wanted from to plan n : ℕ) (slots : List Slot) → IsPassed line square start wanted from to plan (ahead slots) → IsPlan n slots
+hasty_planned : (line : Line) (square start wanted from to plan n : ℕ) (slots : List Slot) → IsChosen line square start wanted from to plan (ahead slots) → IsPlan n slots
     → plan ≡ most_now line (ahead slots) → LooksAhead n slots → IsHasty line square start wanted from to (lines_of slots)
 hasty_planned line square start wanted from to plan n slots passed planned best looks =
     let many : n ≤ length slots = planned_within n slots planned in
@@ -76,7 +76,7 @@ hasty_planned line square start wanted from to plan n slots passed planned best 
       };
     }
 
-pub hasty : (line : Line) (square start wanted from to plan n : ℕ) (slots : List Slot) → IsPassed line square start wanted from to plan (ahead slots) → IsPlan n slots
+pub hasty : (line : Line) (square start wanted from to plan n : ℕ) (slots : List Slot) → IsChosen line square start wanted from to plan (ahead slots) → IsPlan n slots
     → Stands line ⊎ ((plan ≡ most_now line (ahead slots)) × LooksAhead n slots) → IsHasty line square start wanted from to (lines_of slots)
 hasty line square start wanted from to plan n slots passed planned (inl stands) = hasty_standing line square start wanted from to plan (ahead slots) (lines_of slots) passed stands
 hasty line square start wanted from to plan n slots passed planned (inr looks) = hasty_planned line square start wanted from to plan n slots passed planned looks.0 looks.1

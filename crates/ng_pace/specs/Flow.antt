@@ -24,6 +24,18 @@ pub record Flow : Type 0 where
   -- the square of the pulse that was put in last; 2^58, above all of them, if none was since the last stop
   pub before : ℕ
 
+abbrev pub items_of : List Line → List Item
+items_of [] = []
+items_of (line ∷ rest) = line.item ∷ items_of rest
+
+abbrev pub items_waiting : List Timed → List Item
+items_waiting [] = []
+items_waiting (timed ∷ rest) = timed.item ∷ items_waiting rest
+
+-- all items that are known and not given out, in order
+abbrev pub all_items : Flow → List Item
+all_items flow = items_of flow.motion.known ++ items_waiting flow.waiting
+
 abbrev pub no_pulse : ℕ
 no_pulse = 2 ^ 58
 
@@ -88,6 +100,7 @@ StandsAt known waits (Switch outputs) = StandsLast known waits (Switch outputs)
 
 -- an item is put in, behind all that are known
 pub record IsPut (old new : Flow) (item : Item) : Type 0 where
+  pub items : all_items new ≡ all_items old ++ item ∷ []
   pub settles : Settles old.motion new.motion (old.waiting ++ (record { item = item; full = full_of old.before item }) ∷ []) new.waiting
   pub stands : StandsAt new.motion.known new.waiting item
   pub before : new.before ≡ square_behind item
@@ -95,6 +108,7 @@ pub record IsPut (old new : Flow) (item : Item) : Type 0 where
 
 -- nothing more is known to come: no item waits
 pub record IsEnded (old new : Flow) : Type 0 where
+  pub items : all_items new ≡ all_items old
   pub settles : Settles old.motion new.motion old.waiting []
   pub none : new.waiting ≡ []
   pub before : new.before ≡ no_pulse
@@ -102,6 +116,7 @@ pub record IsEnded (old new : Flow) : Type 0 where
 
 -- a line is given out
 pub record IsFlowGiven (old new : Flow) (wanted : ℕ) (given : Given) : Type 0 where
+  pub items : all_items old ≡ given.line.item ∷ all_items new
   pub given_out : IsGiven old.motion new.motion wanted given
   pub waiting : new.waiting ≡ old.waiting
   pub before : new.before ≡ old.before

@@ -1,14 +1,13 @@
 -- Whole streams: what was given out is a beginning of what was put in, and is paced line by line.
 use Rattle.std.specs.Prelude.{ℕ, ◌-◌, ◌<◌, ◌≤◌, ◌≡◌, ◌⊎◌, List, [], ◌∷◌, ◌++◌, Option, Some, None}
 use Rattle.ng_canon.specs.declared.item.Item.{Item}
-use Rattle.ng_pace.specs.declared.line.Line.{Line}
 use Rattle.ng_pace.specs.declared.stepping.Given.{Given}
 use Rattle.ng_pace.specs.Due.{least_ns}
 use Rattle.ng_pace.specs.Rest.{IsRamp}
 use Rattle.ng_pace.specs.Squares.{start_square}
 use Rattle.ng_pace.specs.Interval.{IsTimeOf}
 use Rattle.ng_pace.specs.Paced.{Waits}
-use Rattle.ng_pace.specs.Flow.{Flow, Timed, IsPut, IsEnded, IsFlowGiven}
+use Rattle.ng_pace.specs.Flow.{Flow, all_items, IsPut, IsEnded, IsFlowGiven}
 
 -- an item is put in; it is told that nothing more comes; or a line is asked for at no more than a square, and what is answered
 pub data Event : Type 0 where
@@ -43,18 +42,6 @@ abbrev pub items_given : List Given → List Item
 items_given [] = []
 items_given (given ∷ rest) = given.line.item ∷ items_given rest
 
-abbrev pub items_of_lines : List Line → List Item
-items_of_lines [] = []
-items_of_lines (line ∷ rest) = line.item ∷ items_of_lines rest
-
-abbrev pub items_timed : List Timed → List Item
-items_timed [] = []
-items_timed (timed ∷ rest) = timed.item ∷ items_timed rest
-
--- what is known and not given out, in order
-abbrev pub items_of : Flow → List Item
-items_of flow = items_of_lines flow.motion.known ++ items_timed flow.waiting
-
 -- a line is passed, and the square goes on from what was left of it to what is left then
 pub record IsPassed (start square : ℕ) (given : Given) (left : ℕ) : Type 0 where
   -- never sooner than in its own time, and in the time of its squares
@@ -73,7 +60,7 @@ ArePassed start square (given ∷ rest) left = (next : ℕ) × (IsPassed start s
 
 -- each line once, in order, and each is passed so, whatever was wanted and whenever lines came
 pub record IsPacedBeginning (old : Flow) (events : List Event) (new : Flow) : Type 0 where
-  pub order : items_of old ++ items_put events ≡ items_given (lines_given events) ++ items_of new
+  pub order : all_items old ++ items_put events ≡ items_given (lines_given events) ++ all_items new
   pub passed : ArePassed old.motion.start old.motion.square (lines_given events) new.motion.square
 
 -- lines are asked for, and nothing else happens; some motion is wanted each time
@@ -85,7 +72,7 @@ AsksOnly (ask wanted answer ∷ rest) = (0 < wanted) × AsksOnly rest
 
 -- all that was known is given out, and everything stands still
 pub record IsGivenOut (old : Flow) (events : List Event) (new : Flow) : Type 0 where
-  pub all : items_given (lines_given events) ≡ items_of old
+  pub all : items_given (lines_given events) ≡ all_items old
   pub rest : new.motion.square ≡ 0
 
 -- lines are asked for, and nothing else happens; a hold goes on

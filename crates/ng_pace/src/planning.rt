@@ -58,8 +58,8 @@ pub(crate) fn ahead<A: Allocator>(slots: &VecDeque<Slot, A>) -> u64
     }
 }
 
-/// Whether the plan is to be made anew: its end is near, or an eighth of it is new. Made at each line, it would be walked
-/// through over and over.
+/// Whether the plan is to be made anew: its end is near, or so many lines are new as an eighth of it and eight. At each
+/// line that would be too slow.
 fn is_stale(known: usize, planned: usize) -> bool
     ensures { IsFalse result → (1 < planned) × (known ≤ planned + planned / 8 + 7) }
 {
@@ -76,7 +76,7 @@ fn stands_first<A: Allocator>(slots: &VecDeque<Slot, A>) -> bool
     }
 }
 
-/// Plans anew if that is due. How many lines are planned then.
+/// Plans anew if that is due, and says how many lines are planned then.
 fn refresh<A: Allocator>(slots: &mut VecDeque<Slot, A>, planned: usize) -> usize
     requires { IsPlan planned slots.old.items }
     ensures plan { IsPlan result slots.new.items }
@@ -93,7 +93,7 @@ fn refresh<A: Allocator>(slots: &mut VecDeque<Slot, A>, planned: usize) -> usize
     }
 }
 
-/// Takes the first line, planned with what is known.
+/// Takes the first line. It is planned with regard to what is known.
 #[tactic(auto, using(crate::proofs::TakeLemmas::taken, crate::proofs::TakeLemmas::idle))]
 pub(crate) fn take<A: Allocator>(slots: &mut VecDeque<Slot, A>, planned: &mut usize) -> Option<Slot>
     requires { IsPlan planned.old slots.old.items }

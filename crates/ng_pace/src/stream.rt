@@ -323,6 +323,7 @@ impl<A: Allocator> Stream<A> {
     /// The next line and its time. `wanted` is the greatest square that the operator wants, in pulses a second times 2^8,
     /// squared; 0 is a hold: the rate falls as fast as may be, and then everything stands still. None, with nothing
     /// changed, if the limits of no item are final, or at rest in a hold. Source: own.
+    #[tactic(auto, using(crate::proofs::FlowLemmas::given_items))]
     pub fn next(&mut self, wanted: u64) -> Option<Given>
         ensures given { IfSome result (λ given. IsFlowGiven self.old self.new wanted given) }
         ensures waits { IfNone result (Waits self.old.motion wanted) }

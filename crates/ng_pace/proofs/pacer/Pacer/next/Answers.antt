@@ -1,7 +1,7 @@
 use Rattle.std.proofs.Common.{arith, rules, inl, inr, refl}
 use Rattle.ng_pace.specs.Plan.{ahead}
 use Rattle.ng_pace.proofs.RestLemmas.{rest_all, rest_less}
-use Rattle.ng_pace.proofs.SquareLemmas.{IsPassed, hasty}
+use Rattle.ng_pace.proofs.SquareLemmas.{IsChosen, hasty}
 use Rattle.ng_pace.proofs.pacer.Pacer.next.Goals.{else-self-eq0-via-then-self-eq0+else-wanted-eq0, else-self-eq0-via-else-self-eq0}
 use Rattle.ng_pace.proofs.pacer.Pacer.next.Goals as goal
 
@@ -9,7 +9,7 @@ pub returns-in-Some-clause-given : goal.returns-in-Some-clause-given
 returns-in-Some-clause-given g c =
     let line = c.in-Some.slot.line in
     let slots = c.take.new.slots.items in
-    let passed : IsPassed line c.self.inside.square c.self.inside.start c.args.wanted c.square_at-from.result c.square_after-to.result c.in-Some.slot.plan (ahead slots) = record {
+    let passed : IsChosen line c.self.inside.square c.self.inside.start c.args.wanted c.square_at-from.result c.square_after-to.result c.in-Some.slot.plan (ahead slots) = record {
       starts = c.square_at-from.ensures.starts;
       within = c.square_at-from.ensures.planned;
       planned = c.in-Some.ensures.taken.within;

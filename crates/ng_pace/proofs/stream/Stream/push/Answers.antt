@@ -1,6 +1,6 @@
 use Rattle.std.proofs.Common.{arith, ◌<◌, ◌+◌, length}
 use Rattle.ng_pace.specs.Flow.{timed_waiting}
-use Rattle.ng_pace.proofs.FlowLemmas.{length-timed_waiting, adds_rest}
+use Rattle.ng_pace.proofs.FlowLemmas.{length-timed_waiting, adds_rest, put_items}
 use Rattle.ng_pace.proofs.stream.Stream.push.Goals as goal
 
 pub push_item-requires-clause-room : goal.push_item-requires-clause-room
@@ -19,6 +19,7 @@ invariant_of-self g c =
 
 pub returns : goal.returns
 returns g c = rw (← c.self.view_is) (record {
+  items = put_items (record { motion = c.self.inside.pacer; waiting = timed_waiting c.self.inside.waiting.items; before = c.self.inside.shape.before }) (record { motion = c.push_item.new.pacer; waiting = timed_waiting c.push_item.new.waiting.items; before = c.push_item.new.shape.before }) c.args.item c.push_item.ensures.adds.settles;
   settles = c.push_item.ensures.adds.settles;
   stands = c.push_item.ensures.stands;
   before = c.push_item.ensures.before;
