@@ -1,3 +1,4 @@
+pub mod CapsLemmas
 pub mod PlanLemmas
 pub mod RestLemmas
 pub mod RootLemmas

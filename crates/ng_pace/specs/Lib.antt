@@ -1,3 +1,4 @@
+pub mod Axes
 pub mod Due
 pub mod Plan
 pub mod Rest

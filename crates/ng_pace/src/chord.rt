@@ -1,30 +1,11 @@
 //! Chords: how fast the axes may go along the pulses, and how fast a corner between two chords may be passed.
 ghost use Rattle.std.specs.Prelude.{◌<◌};
 
+pub(crate) use crate::limits::GREATEST;
+use crate::limits::{Limits, STEP};
 use ng_canon::{AxisStep, Item, Pulse};
 use std::alloc::Allocator;
 use std::collections::VecDeque;
-
-/// One step, in slopes: 2^20.
-const STEP: u64 = 0x10_0000;
-
-/// The greatest square.
-pub(crate) const GREATEST: u64 = 0x400_0000_0000_0000;
-
-/// What the motors allow, by axes.
-#[derive(Clone, Copy, Debug, PartialEq, Eq)]
-pub struct Limits {
-    /// In steps a second, each second.
-    pub accel: [u64; 3],
-    /// In steps a second; 0 for as many as are asked for.
-    pub rate: [u64; 3],
-    /// In steps a second: a rate at which a motor can start and stop at once.
-    pub start: [u64; 3],
-    /// Most pulses on each side of a corner in which it is taken.
-    pub half: u64,
-    /// How many steps a motor may be off its pulses.
-    pub slack: u64,
-}
 
 /// An item whose limits aren't final.
 #[derive(Clone, Copy, Debug)]

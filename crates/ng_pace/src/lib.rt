@@ -9,9 +9,12 @@
 //! allocates.
 #![tactic(auto)]
 
+mod caps;
 mod chord;
+mod corner;
 mod fault;
 mod laws;
+mod limits;
 mod line;
 mod pacer;
 mod planning;
@@ -20,9 +23,9 @@ mod settling;
 mod stepping;
 mod stream;
 
-pub use chord::Limits;
 pub use fault::PaceFault;
 pub use laws::timed_beginning;
+pub use limits::Limits;
 pub use line::Line;
 pub use pacer::Pacer;
 pub use stepping::Given;

@@ -5,8 +5,9 @@ ghost use Rattle.ng_pace.specs.Rest.{CanRest};
 ghost use Rattle.ng_pace.specs.Flow.{Keeps, Adds, IsFlowGiven, Grows};
 ghost use Rattle.ng_pace.specs.Paced.{Waits};
 
-use crate::chord::{Chord, Final, GREATEST, Limits, Waiting, steps_of};
+use crate::chord::{Chord, Final, Waiting, steps_of};
 use crate::fault::PaceFault;
+use crate::limits::{GREATEST, Limits};
 use crate::line::Line;
 use crate::pacer::Pacer;
 use crate::settling::{Ending, settle, settle_all};

@@ -1,0 +1,32 @@
+//! What the motors allow.
+
+/// One step a pulse, in slopes: 2^20.
+pub(crate) const STEP: u64 = 0x10_0000;
+
+/// One pulse a second, squared: 2^16.
+pub(crate) const PULSE: u64 = 0x1_0000;
+
+/// The greatest square.
+pub(crate) const GREATEST: u64 = 0x400_0000_0000_0000;
+
+/// What the motors allow, by axes.
+#[derive(Clone, Copy, Debug, PartialEq, Eq)]
+pub struct Limits {
+    /// In steps a second, each second: at least 3.
+    pub accel: [u64; 3],
+    /// In steps a second; 0 for as many as are asked for.
+    pub rate: [u64; 3],
+    /// In steps a second: a rate at which a motor can start and stop at once.
+    pub start: [u64; 3],
+    /// Most pulses on each side of a corner in which it is taken: at least 1.
+    pub half: u64,
+    /// How many steps a motor may be off its pulses: 1 to 1,000.
+    pub slack: u64,
+}
+
+/// What lines may have: the greatest square, and by how much it may change up to the next line.
+#[derive(Clone, Copy, Debug)]
+pub(crate) struct Caps {
+    pub(crate) most: u64,
+    pub(crate) ramp: u64,
+}
