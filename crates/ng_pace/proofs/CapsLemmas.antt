@@ -4,7 +4,7 @@ use Rattle.std.proofs.Math.Nat.{mul-div-le, mul-le-mul_left, mul-le-mul_right}
 use Rattle.std.proofs.lemmas.Nat.{mul-le}
 use Rattle.std.proofs.lemmas.Bool.{cases_lt}
 use Rattle.ng_pace.specs.declared.limits.Limits.{Limits}
-use Rattle.ng_pace.specs.Axes.{IsAlong, IsCorner}
+use Rattle.ng_pace.specs.Axes.{IsAlong, IsCorner, IsNearCorner}
 
 -- a cap that is a quotient by the slope
 pub by_quotient : (slope number total q cap : ℕ) → slope * q ≤ number → number ≤ total → cap ≤ q * 65536 → slope * cap ≤ total * 65536
@@ -97,3 +97,20 @@ corner_of limits axis slope turn pulses most ramp ramp' cap kept slower fast sma
   accel = let scaled : slope * ramp' * pulses ≤ slope * ramp * pulses = mul-le-mul_right pulses (mul-le-mul_left slope slower) in omega (arith, kept);
   rate = λ some. rate_of slope (slice_index limits.rate axis) cap most (fast some) small flat some;
 }
+
+-- the pulses of a corner, by the slack or by the rate at which a motor stops at once
+pub near_of : (limits : Limits) (axis turn by_slack by_start quotient : ℕ) → turn * by_slack ≤ 8 * limits.slack * 1048576 → turn * by_start ≤ quotient * 1048576
+    → quotient * slice_index limits.accel axis ≤ slice_index limits.start axis * slice_index limits.start axis → IsNearCorner limits axis turn 1048576 (max by_slack by_start)
+near_of limits axis turn by_slack by_start quotient near far start = by_case (cases_lt by_slack by_start) where
+  by_case : (by_slack < by_start) ⊎ (by_start ≤ by_slack) → IsNearCorner limits axis turn 1048576 (max by_slack by_start)
+  by_case (inl more) =
+      let scaled : turn * by_start * slice_index limits.accel axis ≤ quotient * 1048576 * slice_index limits.accel axis = mul-le-mul_right (slice_index limits.accel axis) far in
+      let is : max by_slack by_start ≡ by_start = omega arith in
+      inr (rw is (omega arith))
+  by_case (inr less) = let is : max by_slack by_start ≡ by_slack = omega arith in inl (rw is near)
+
+-- over fewer pulses an axis is nearer
+pub near_less : (limits : Limits) (axis turn over pulses pulses' : ℕ) → pulses' ≤ pulses → IsNearCorner limits axis turn over pulses → IsNearCorner limits axis turn over pulses'
+near_less limits axis turn over pulses pulses' less (inl near) = inl (let scaled : turn * pulses' ≤ turn * pulses = mul-le-mul_left turn less in omega arith)
+near_less limits axis turn over pulses pulses' less (inr near) =
+    inr (let scaled : turn * pulses' * slice_index limits.accel axis ≤ turn * pulses * slice_index limits.accel axis = mul-le-mul_right (slice_index limits.accel axis) (mul-le-mul_left turn less) in omega arith)

@@ -9,6 +9,13 @@ pub record EachAxis (P : ℕ → Type 0) : Type 0 where
   pub y : P 1
   pub z : P 2
 
+-- limits that can be kept: with less acceleration an axis couldn't turn at a pulse a second
+pub record AreLimits (limits : Limits) : Type 0 where
+  pub accel : EachAxis (λ i. 3 ≤ slice_index limits.accel i)
+  pub half : 0 < limits.half
+  pub slack : 0 < limits.slack
+  pub slack_at_most : limits.slack ≤ 1000
+
 -- along a slope the rate of an axis is the slope times that of the pulses: its acceleration is the slope times half the ramp
 pub record IsAlong (limits : Limits) (axis slope over most ramp : ℕ) : Type 0 where
   -- no axis is asked for more than its acceleration

@@ -1,4 +1,6 @@
 pub mod Axes
+pub mod Chords
+pub mod Cones
 pub mod Due
 pub mod Plan
 pub mod Rest

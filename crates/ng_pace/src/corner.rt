@@ -1,6 +1,6 @@
 //! Corners between two chords.
 ghost use Rattle.std.specs.Prelude.{◌≤◌, ◌<◌, ◌+◌, ◌*◌, max, slice_index};
-ghost use Rattle.ng_pace.specs.Axes.{EachAxis, IsAlong, IsCorner, IsNearCorner};
+ghost use Rattle.ng_pace.specs.Axes.{AreLimits, EachAxis, IsCorner, IsNearCorner};
 
 use crate::caps::along;
 use crate::limits::{Caps, GREATEST, Limits, PULSE, STEP};
@@ -16,6 +16,7 @@ pub(crate) struct Turn {
 fn axis_pulses(limits: &Limits, axis: usize, turn: u64) -> u64
     requires axis { axis < 3 }
     requires turn { turn ≤ 2 * STEP }
+    requires accel { 3 ≤ slice_index limits.now.accel axis }
     requires slack { 0 < limits.now.slack }
     ensures near { IsNearCorner limits.now axis turn STEP result }
     ensures some { 0 < result }
@@ -25,14 +26,15 @@ fn axis_pulses(limits: &Limits, axis: usize, turn: u64) -> u64
     }
     let start = limits.start[axis];
     let by_slack = limits.slack.saturating_mul(8 * STEP) / turn;
-    let by_start = (start.saturating_mul(start).checked_div(limits.accel[axis]).unwrap_or(0)).saturating_mul(STEP) / turn;
+    let double = start.saturating_mul(start) / limits.accel[axis];
+    let by_start = double.saturating_mul(STEP) / turn;
     by_slack.max(by_start)
 }
 
 /// Over how many pulses a corner is taken, between so many and so many.
 pub(crate) fn corner_pulses(limits: &Limits, turn: &[u64; 3], before: u64, after: u64) -> u64
     requires turn { EachAxis (λ i. slice_index turn.now i ≤ 2 * STEP) }
-    requires slack { 0 < limits.now.slack }
+    requires limits { AreLimits limits.now }
     ensures near { EachAxis (λ i. IsNearCorner limits.now i (slice_index turn.now i) STEP result) }
     ensures some { 0 < result }
     ensures before { result ≤ max 1 before }
@@ -85,7 +87,7 @@ pub(crate) fn corner_caps(limits: &Limits, turn: &Turn, pulses: u64, feed: u64) 
     requires slope { EachAxis (λ i. slice_index turn.now.slope i ≤ STEP) }
     requires turn { EachAxis (λ i. slice_index turn.now.turn i ≤ 2 * STEP) }
     requires pulses { 0 < pulses }
-    requires accel { EachAxis (λ i. 3 ≤ slice_index limits.now.accel i) }
+    requires limits { AreLimits limits.now }
     ensures { EachAxis (λ i. IsCorner limits.now i (slice_index turn.now.slope i) (slice_index turn.now.turn i) STEP pulses result.most result.ramp) }
 {
     let most = along(limits, &turn.slope)

@@ -11,6 +11,7 @@
 
 mod caps;
 mod chord;
+mod cone;
 mod corner;
 mod fault;
 mod laws;
@@ -20,6 +21,7 @@ mod pacer;
 mod planning;
 mod root;
 mod settling;
+mod slopes;
 mod stepping;
 mod stream;
 

@@ -3,13 +3,13 @@ use Rattle.ng_pace.proofs.CapsLemmas.{quarter_of, corner_of}
 use Rattle.ng_pace.proofs.corner.corner_caps.Goals as goal
 
 pub axis_ramp-x-requires-clause-quarter : goal.axis_ramp-x-requires-clause-quarter
-axis_ramp-x-requires-clause-quarter c = quarter_of _ c.axis_most.result _ _ _ c.axis_most.ensures (omega arith) c.requires.turn.x c.requires.accel.x c.requires.pulses
+axis_ramp-x-requires-clause-quarter c = quarter_of _ c.axis_most.result _ _ _ c.axis_most.ensures (omega arith) c.requires.turn.x c.requires.limits.accel.x c.requires.pulses
 
 pub axis_ramp-y-requires-clause-quarter : goal.axis_ramp-y-requires-clause-quarter
-axis_ramp-y-requires-clause-quarter c = quarter_of _ c.axis_most-2.result _ _ _ c.axis_most-2.ensures (omega arith) c.requires.turn.y c.requires.accel.y c.requires.pulses
+axis_ramp-y-requires-clause-quarter c = quarter_of _ c.axis_most-2.result _ _ _ c.axis_most-2.ensures (omega arith) c.requires.turn.y c.requires.limits.accel.y c.requires.pulses
 
 pub axis_ramp-z-requires-clause-quarter : goal.axis_ramp-z-requires-clause-quarter
-axis_ramp-z-requires-clause-quarter c = quarter_of _ c.axis_most-3.result _ _ _ c.axis_most-3.ensures (omega arith) c.requires.turn.z c.requires.accel.z c.requires.pulses
+axis_ramp-z-requires-clause-quarter c = quarter_of _ c.axis_most-3.result _ _ _ c.axis_most-3.ensures (omega arith) c.requires.turn.z c.requires.limits.accel.z c.requires.pulses
 
 pub returns : goal.returns
 returns c = record {
