@@ -19,6 +19,11 @@ pub record IsBetween (slopes : Slopes) (slope : Slope) : Type 0 where
   pub from : slopes.least * slope.over + slope.down * 2 ^ 20 ≤ (slope.up + slope.over) * 2 ^ 20
   pub up_to : (slope.up + slope.over) * 2 ^ 20 ≤ slopes.greatest * slope.over + slope.down * 2 ^ 20
 
+-- the slope from the first to the last of some pulses
+pub record IsRiseOf (rise : Rise) (steps : List AxisStep) : Type 0 where
+  pub steps_are : rise.steps + backward steps ≡ forward steps + length steps
+  pub pulses_are : rise.pulses ≡ length steps
+
 -- the slopes of a cone are those that keep an axis near its pulses
 pub record IsCone (slack : ℕ) (cone : Cone) (steps : List AxisStep) : Type 0 where
   pub at : cone.at + backward steps ≡ forward steps + length steps

@@ -1,8 +1,8 @@
 //! The slopes that keep an axis near its pulses.
-ghost use Rattle.std.specs.Prelude.{ℕ, ◌≡◌, ◌≤◌, ◌<◌, ◌+◌, ◌∷◌, ◌++◌, [], List, length, IsTrue, IsFalse, ◌↔◌};
+ghost use Rattle.std.specs.Prelude.{ℕ, ◌≡◌, ◌<◌, ◌+◌, ◌*◌, ◌^◌, ◌∷◌, ◌++◌, [], List, length, IsTrue, IsFalse};
 ghost use Rattle.ng_canon.specs.declared.item.AxisStep.{AxisStep};
-ghost use Rattle.ng_pace.specs.Chords.{slope_of, IsNear, IsStraight};
-ghost use Rattle.ng_pace.specs.Cones.{IsCone};
+ghost use Rattle.ng_pace.specs.Chords.{Slope, IsSlope, IsNear, IsStraight, forward, backward};
+ghost use Rattle.ng_pace.specs.Cones.{IsBetween, IsCone, IsRiseOf};
 
 use crate::slopes::{Rise, Slopes};
 use ng_canon::AxisStep;
@@ -17,7 +17,7 @@ pub(crate) struct Cone {
 
 /// How far a pulse goes, counted from a step back.
 fn rise_of(step: AxisStep) -> u32
-    ensures { result ≤ 2 }
+    ensures { result + backward (step ∷ []) ≡ forward (step ∷ []) + 1 }
 {
     match step {
         AxisStep::Backward => 0,
@@ -39,21 +39,32 @@ impl Cone {
     }
 
     /// The slope to where the axis is after one more pulse.
-    fn rise_to(&self, step: AxisStep, pulses: u32) -> Rise {
+    fn rise_to(&self, step: AxisStep, pulses: u32) -> Rise
+        ensures { (slack : ℕ) (steps : List AxisStep) → IsCone slack self.now steps → length steps + 1 ≡ pulses → 2 * pulses < 2 ^ 32
+            → IsRiseOf result (steps ++ step ∷ []) }
+    {
         Rise {
             steps: self.at.saturating_add(rise_of(step)),
             pulses,
         }
     }
 
-    /// Whether the slope to where the axis is after one more pulse is none of these.
-    pub(crate) fn is_left(&self, step: AxisStep, pulses: u32) -> bool {
+    /// Whether the axis doesn't go straight with one more pulse.
+    pub(crate) fn is_left(&self, step: AxisStep, pulses: u32) -> bool
+        ensures stays { (slack : ℕ) (steps : List AxisStep) → IsCone slack self.now steps → length steps + 1 ≡ pulses → 2 * pulses < 2 ^ 32
+            → IsFalse result → IsStraight slack (steps ++ step ∷ []) }
+        ensures leaves { (slack : ℕ) (steps : List AxisStep) → IsCone slack self.now steps → length steps + 1 ≡ pulses → 2 * pulses < 2 ^ 32
+            → IsTrue result → ¬ IsStraight slack (steps ++ step ∷ []) }
+    {
         let rise = self.rise_to(step, pulses);
         rise.is_below(self.low) || self.high.is_below(rise)
     }
 
     /// The cone of one more pulse.
-    pub(crate) fn after(self, step: AxisStep, pulses: u32, slack: u32) -> Cone {
+    pub(crate) fn after(self, step: AxisStep, pulses: u32, slack: u32) -> Cone
+        ensures { (steps : List AxisStep) → IsCone slack self steps → length steps + 1 ≡ pulses → 2 * pulses + slack < 2 ^ 32
+            → IsCone slack result (steps ++ step ∷ []) }
+    {
         let rise = self.rise_to(step, pulses);
         let low = Rise {
             steps: rise.steps.saturating_sub(slack),
@@ -71,7 +82,9 @@ impl Cone {
     }
 
     /// The slope to where the axis is.
-    pub(crate) fn rise(&self, pulses: u32) -> Rise {
+    pub(crate) fn rise(&self, pulses: u32) -> Rise
+        ensures { (slack : ℕ) (steps : List AxisStep) → IsCone slack self.now steps → length steps ≡ pulses → IsRiseOf result steps }
+    {
         Rise {
             steps: self.at,
             pulses,
@@ -79,7 +92,10 @@ impl Cone {
     }
 
     /// All of its slopes.
-    pub(crate) fn slopes(&self) -> Slopes {
+    pub(crate) fn slopes(&self) -> Slopes
+        ensures { (slack : ℕ) (steps : List AxisStep) → IsCone slack self.now steps → (slope : Slope) → IsSlope slope → IsNear slack slope steps
+            → IsBetween result slope }
+    {
         Slopes::between(self.low, self.high)
     }
 }

@@ -1,5 +1,5 @@
 //! Slopes of an axis: steps over pulses, counted from a step back at each pulse, so that none is below 0.
-ghost use Rattle.std.specs.Prelude.{◌≡◌, ◌≤◌, ◌<◌, ◌+◌, ◌*◌, nat_lt, if◌then◌else◌};
+ghost use Rattle.std.specs.Prelude.{◌≡◌, ◌≤◌, ◌<◌, ◌+◌, ◌*◌, ◌⊎◌, IsTrue, IsFalse};
 ghost use Rattle.std.specs.Int.{abs_diff};
 ghost use Rattle.ng_pace.specs.Chords.{Slope, IsSlope};
 ghost use Rattle.ng_pace.specs.Cones.{IsFrom, IsUpTo, IsBetween};
@@ -23,21 +23,26 @@ pub(crate) struct Slopes {
 impl Rise {
     /// Whether it is less than another.
     pub(crate) fn is_below(self, other: Rise) -> bool
-        ensures { result ≡ nat_lt (self.steps * other.pulses) (other.steps * self.pulses) }
+        ensures below { IsTrue result → self.steps * other.pulses < other.steps * self.pulses }
+        ensures above { IsFalse result → other.steps * self.pulses ≤ self.steps * other.pulses }
     {
         self.steps as u64 * (other.pulses as u64) < other.steps as u64 * (self.pulses as u64)
     }
 
     /// The greater one.
     pub(crate) fn greater(self, other: Rise) -> Rise
-        ensures { result ≡ (if nat_lt (self.steps * other.pulses) (other.steps * self.pulses) then other else self) }
+        ensures either { (result ≡ self) ⊎ (result ≡ other) }
+        ensures from_self { self.steps * result.pulses ≤ result.steps * self.pulses }
+        ensures from_other { other.steps * result.pulses ≤ result.steps * other.pulses }
     {
         if self.is_below(other) { other } else { self }
     }
 
     /// The smaller one.
     pub(crate) fn smaller(self, other: Rise) -> Rise
-        ensures { result ≡ (if nat_lt (other.steps * self.pulses) (self.steps * other.pulses) then other else self) }
+        ensures either { (result ≡ self) ⊎ (result ≡ other) }
+        ensures up_to_self { result.steps * self.pulses ≤ self.steps * result.pulses }
+        ensures up_to_other { result.steps * other.pulses ≤ other.steps * result.pulses }
     {
         if other.is_below(self) { other } else { self }
     }
