@@ -104,11 +104,11 @@ cone-push slack cone new low high steps step is at low-is low-long high-is high-
   high = high_some;
   inside = λ slope ok from up_to. near-push slack slope steps step
       (is.inside slope ok
-        (from_greater cone.low.steps cone.low.pulses new.low.steps new.low.pulses slope.over slope.down (slope.up + slope.over) low_some low-old from)
-        (up_to_smaller cone.high.steps cone.high.pulses new.high.steps new.high.pulses slope.over slope.down (slope.up + slope.over) high_some high-old up_to))
+      (from_greater cone.low.steps cone.low.pulses new.low.steps new.low.pulses slope.over slope.down (slope.up + slope.over) low_some low-old from)
+      (up_to_smaller cone.high.steps cone.high.pulses new.high.steps new.high.pulses slope.over slope.down (slope.up + slope.over) high_some high-old up_to))
       (last slope
-        (from_greater low.steps low.pulses new.low.steps new.low.pulses slope.over slope.down (slope.up + slope.over) low_some low-new from)
-        (up_to_smaller high.steps high.pulses new.high.steps new.high.pulses slope.over slope.down (slope.up + slope.over) high_some high-new up_to));
+      (from_greater low.steps low.pulses new.low.steps new.low.pulses slope.over slope.down (slope.up + slope.over) low_some low-new from)
+      (up_to_smaller high.steps high.pulses new.high.steps new.high.pulses slope.over slope.down (slope.up + slope.over) high_some high-new up_to));
   near = λ slope ok near.
       let old = is.near slope ok (near-pop slack slope steps step near) in
       let end = off-from slack new.at (length (steps ++ step ∷ [])) (forward (steps ++ step ∷ [])) (backward (steps ++ step ∷ [])) slope ok at (near-last slack slope (steps ++ step ∷ []) near) in
@@ -118,10 +118,13 @@ cone-push slack cone new low high steps step is at low-is low-long high-is high-
 } where
   long : 0 < length (steps ++ step ∷ [])
   long = omega (arith, length-push steps step)
+
   low_some : 0 < new.low.pulses
   low_some = IsFrom-greater cone.low low new.low low-of is.low (rw low-long long)
+
   high_some : 0 < new.high.pulses
   high_some = IsFrom-greater cone.high high new.high high-of is.high (rw high-long long)
+
   last : (slope : Slope) → IsFrom low slope → IsUpTo high slope → off slope (steps ++ step ∷ []) (length steps + 1) ≤ slack * slope.over
   last slope from up_to =
       let from' : IsFrom (record { steps = new.at - slack; pulses = length (steps ++ step ∷ []) }) slope = rw (low-is, low-long) at from in
@@ -146,18 +149,23 @@ pub straight-push : (slack : ℕ) (cone : Cone) (rise : Rise) (steps : List Axis
 straight-push slack cone rise steps step is at low high = near-push slack (slope_of (steps ++ step ∷ [])) steps step (is.inside (slope_of (steps ++ step ∷ [])) ok from up_to) last where
   ok : IsSlope (slope_of (steps ++ step ∷ []))
   ok = slope_of-some (steps ++ step ∷ []) (omega (arith, length-push steps step))
+
   low' : cone.low.steps * length (steps ++ step ∷ []) ≤ rise.steps * cone.low.pulses
   low' = rw (← at.pulses_are) low
+
   high' : rise.steps * cone.high.pulses ≤ cone.high.steps * length (steps ++ step ∷ [])
   high' = rw (← at.pulses_are) high
+
   from : IsFrom cone.low (slope_of (steps ++ step ∷ []))
   from =
       let moved : (rise.steps + backward (steps ++ step ∷ [])) * cone.low.pulses ≡ (forward (steps ++ step ∷ []) + length (steps ++ step ∷ [])) * cone.low.pulses = ap (λ t. t * cone.low.pulses) at.steps_are in
       omega (arith, low', moved)
+
   up_to : IsUpTo cone.high (slope_of (steps ++ step ∷ []))
   up_to =
       let moved : (rise.steps + backward (steps ++ step ∷ [])) * cone.high.pulses ≡ (forward (steps ++ step ∷ []) + length (steps ++ step ∷ [])) * cone.high.pulses = ap (λ t. t * cone.high.pulses) at.steps_are in
       omega (arith, high', moved)
+
   last : off (slope_of (steps ++ step ∷ [])) (steps ++ step ∷ []) (length steps + 1) ≤ slack * length (steps ++ step ∷ [])
   last = rw (← length-push steps step) (omega arith)
 
@@ -166,10 +174,12 @@ pub straight-within : (slack : ℕ) (cone : Cone) (rise : Rise) (steps : List Ax
 straight-within slack cone rise steps step is at straight = rw at.pulses_are (low, high) where
   both : IsFrom cone.low (slope_of (steps ++ step ∷ [])) × IsUpTo cone.high (slope_of (steps ++ step ∷ []))
   both = is.near (slope_of (steps ++ step ∷ [])) (slope_of-some (steps ++ step ∷ []) (omega (arith, length-push steps step))) (near-pop slack (slope_of (steps ++ step ∷ [])) steps step straight)
+
   low : cone.low.steps * length (steps ++ step ∷ []) ≤ rise.steps * cone.low.pulses
   low =
       let moved : (rise.steps + backward (steps ++ step ∷ [])) * cone.low.pulses ≡ (forward (steps ++ step ∷ []) + length (steps ++ step ∷ [])) * cone.low.pulses = ap (λ t. t * cone.low.pulses) at.steps_are in
       omega (arith, both.0, moved)
+
   high : rise.steps * cone.high.pulses ≤ cone.high.steps * length (steps ++ step ∷ [])
   high =
       let moved : (rise.steps + backward (steps ++ step ∷ [])) * cone.high.pulses ≡ (forward (steps ++ step ∷ []) + length (steps ++ step ∷ [])) * cone.high.pulses = ap (λ t. t * cone.high.pulses) at.steps_are in
@@ -178,3 +188,9 @@ straight-within slack cone rise steps step is at straight = rw at.pulses_are (lo
 -- an axis is no farther than two steps a pulse
 pub at-few : (at : ℕ) (steps : List AxisStep) → at + backward steps ≡ forward steps + length steps → at ≤ 2 * length steps
 at-few at steps is = omega (arith, steps_few steps, is)
+
+-- the slope from the first to the last pulse is from itself up to itself
+pub rise-between : (rise : Rise) (steps : List AxisStep) → IsRiseOf rise steps → IsFrom rise (slope_of steps) × IsUpTo rise (slope_of steps)
+rise-between rise steps is =
+    let moved : (rise.steps + backward steps) * length steps ≡ (forward steps + length steps) * length steps = ap (λ t. t * length steps) is.steps_are in
+    rw is.pulses_are (omega (arith, moved), omega (arith, moved))

@@ -42,11 +42,13 @@ size_of least greatest up down over size from up_to flat steep is = by_case (cas
         let apart : greatest * over ≤ (greatest - 1048576 + 1048576) * over = mul-le-mul_right over (omega arith) in
         omega arith
     chosen (inr great) = let more : 1048576 * over ≤ size * over = mul-le-mul_right over (omega arith) in omega arith
+
   fall : up < down → abs_diff up down * 1048576 ≤ size * over
   fall h =
       let more : (1048576 - least) * over ≤ size * over = mul-le-mul_right over (omega arith) in
       let apart : 1048576 * over ≤ (1048576 - least + least) * over = mul-le-mul_right over (omega arith) in
       omega arith
+
   by_case : (up < down) ⊎ (down ≤ up) → abs_diff up down * 1048576 ≤ size * over
   by_case (inl h) = fall h
   by_case (inr h) = rise h

@@ -4,6 +4,8 @@ use Rattle.ng_canon.specs.declared.item.Item.{Item}
 use Rattle.ng_pace.specs.declared.line.Line.{Line}
 use Rattle.ng_pace.specs.declared.chord.Waiting.{Waiting}
 use Rattle.ng_pace.specs.declared.stepping.Given.{Given}
+use Rattle.ng_pace.specs.declared.limits.Limits.{Limits}
+use Rattle.ng_pace.specs.Axes.{AreLimits}
 use Rattle.ng_pace.specs.Motion.{Motion}
 use Rattle.ng_pace.specs.Paced.{IsGiven}
 
@@ -36,10 +38,11 @@ pub record Flow : Type 0 where
   pub motion : Motion
   pub waiting : List Item
 
--- there is room for all that is known
-pub record IsHeld (motion : Motion) (waiting : List Waiting) (capacity : ℕ) : Type 0 where
+-- there is room for all that is known, and its limits can be kept
+pub record IsHeld (motion : Motion) (waiting : List Waiting) (capacity : ℕ) (limits : Limits) : Type 0 where
   pub fits : length motion.known + length waiting ≤ motion.room
   pub capacity_is : capacity ≡ motion.room
+  pub limits_are : AreLimits limits
 
 -- all items that are known, in order
 abbrev pub all_items : Flow → List Item

@@ -1,7 +1,7 @@
 //! The slopes that keep an axis near its pulses.
 ghost use Rattle.std.specs.Prelude.{ℕ, ◌≡◌, ◌<◌, ◌+◌, ◌*◌, ◌^◌, ◌∷◌, ◌++◌, [], List, length, IsTrue, IsFalse};
 ghost use Rattle.ng_canon.specs.declared.item.AxisStep.{AxisStep};
-ghost use Rattle.ng_pace.specs.Chords.{Slope, IsSlope, IsNear, IsStraight, forward, backward};
+ghost use Rattle.ng_pace.specs.Chords.{Slope, IsSlope, slope_of, IsNear, IsStraight, forward, backward};
 ghost use Rattle.ng_pace.specs.Cones.{IsBetween, IsCone, IsRiseOf};
 
 use crate::slopes::{Rise, Slopes};
@@ -33,8 +33,14 @@ impl Cone {
     {
         Cone {
             at: 0,
-            low: Rise { steps: 0, pulses: 1 },
-            high: Rise { steps: 2, pulses: 1 },
+            low: Rise {
+                steps: 0,
+                pulses: 1,
+            },
+            high: Rise {
+                steps: 2,
+                pulses: 1,
+            },
         }
     }
 
@@ -82,7 +88,7 @@ impl Cone {
     }
 
     /// The slope to where the axis is.
-    pub(crate) fn rise(&self, pulses: u32) -> Rise
+    fn rise(&self, pulses: u32) -> Rise
         ensures { (slack : ℕ) (steps : List AxisStep) → IsCone slack self.now steps → length steps ≡ pulses → IsRiseOf result steps }
     {
         Rise {
@@ -97,5 +103,14 @@ impl Cone {
             → IsBetween result slope }
     {
         Slopes::between(self.low, self.high)
+    }
+
+    /// The slope to where the axis is, rounded both ways.
+    pub(crate) fn slopes_at(&self, pulses: u32) -> Slopes
+        ensures { (slack : ℕ) (steps : List AxisStep) → IsCone slack self.now steps → length steps ≡ pulses → 0 < pulses
+            → IsBetween result (slope_of steps) }
+    {
+        let rise = self.rise(pulses);
+        Slopes::between(rise, rise)
     }
 }

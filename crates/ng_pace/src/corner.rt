@@ -1,15 +1,49 @@
 //! Corners between two chords.
 ghost use Rattle.std.specs.Prelude.{◌≤◌, ◌<◌, ◌+◌, ◌*◌, max, slice_index};
+ghost use Rattle.ng_pace.specs.Chords.{Slope, IsSlope};
+ghost use Rattle.ng_pace.specs.Cones.{AreBetween, IsBetween, IsTurn};
 ghost use Rattle.ng_pace.specs.Axes.{AreLimits, EachAxis, IsCorner, IsNearCorner};
 
 use crate::caps::along;
 use crate::limits::{Caps, GREATEST, Limits, PULSE, STEP};
+use crate::slopes::Slopes;
 
 /// A corner: of each axis the greatest slope on either side, and the greatest change of slope, in parts of 2^20.
 #[derive(Clone, Copy, Debug)]
 pub(crate) struct Turn {
     pub(crate) slope: [u64; 3],
     pub(crate) turn: [u64; 3],
+}
+
+/// The greatest slope of an axis on either side of a corner, and the greatest change of slope.
+fn axis_turn(before: &Slopes, after: &Slopes) -> (u64, u64)
+    ensures size { result.0 ≤ STEP }
+    ensures turn { result.1 ≤ 2 * STEP }
+    ensures most { (slope : Slope) (next : Slope) → IsSlope slope → IsSlope next → IsBetween before.now slope → IsBetween after.now next
+        → IsTurn result.0 result.1 slope next }
+{
+    (
+        before.size().max(after.size()),
+        before.turn_to(after),
+    )
+}
+
+impl Turn {
+    /// Between two chords.
+    pub(crate) fn between(before: &[Slopes; 3], after: &[Slopes; 3]) -> Turn
+        ensures size { EachAxis (λ i. slice_index result.slope i ≤ STEP) }
+        ensures turn { EachAxis (λ i. slice_index result.turn i ≤ 2 * STEP) }
+        ensures most { EachAxis (λ i. (slope : Slope) (next : Slope) → IsSlope slope → IsSlope next → AreBetween before.now i slope
+            → AreBetween after.now i next → IsTurn (slice_index result.slope i) (slice_index result.turn i) slope next) }
+    {
+        let x = axis_turn(&before[0], &after[0]);
+        let y = axis_turn(&before[1], &after[1]);
+        let z = axis_turn(&before[2], &after[2]);
+        Turn {
+            slope: [x.0, y.0, z.0],
+            turn: [x.1, y.1, z.1],
+        }
+    }
 }
 
 /// Over how many pulses an axis may take a change of slope: 1 at least.
@@ -60,7 +94,10 @@ fn axis_most(limits: &Limits, axis: usize, turn: u64, pulses: u64) -> u64
     if turn == 0 {
         return GREATEST;
     }
-    let square = limits.accel[axis].saturating_mul(pulses).saturating_mul(STEP) / turn;
+    let square = limits.accel[axis]
+        .saturating_mul(pulses)
+        .saturating_mul(STEP)
+        / turn;
     (square / 4).saturating_mul(3).saturating_mul(PULSE)
 }
 
@@ -100,5 +137,8 @@ pub(crate) fn corner_caps(limits: &Limits, turn: &Turn, pulses: u64, feed: u64) 
     let x = axis_ramp(limits, 0, turn.slope[0], turn.turn[0], pulses, most);
     let y = axis_ramp(limits, 1, turn.slope[1], turn.turn[1], pulses, most);
     let z = axis_ramp(limits, 2, turn.slope[2], turn.turn[2], pulses, most);
-    Caps { most, ramp: x.min(y).min(z) }
+    Caps {
+        most,
+        ramp: x.min(y).min(z),
+    }
 }

@@ -3,12 +3,14 @@
 pub enum PaceFault {
     /// The motors couldn't start: less than half of what a line allows.
     StartTooSmall,
-    /// An axis has no acceleration.
+    /// An axis has less acceleration than 3: it couldn't turn at a pulse a second.
     NoAcceleration,
     /// A corner would be taken over no pulse.
     NoCorner,
     /// A motor may be off its pulses by nothing.
     NoSlack,
+    /// A motor may be off its pulses by more than 1,000 steps.
+    SlackTooGreat,
     /// There is no room for a line.
     NoRoom,
     OutOfMemory,

@@ -1,10 +1,16 @@
 //! What the motors allow.
+ghost use Rattle.std.specs.Prelude.{OnOk};
+
+use crate::fault::PaceFault;
 
 /// One step a pulse, in slopes: 2^20.
 pub(crate) const STEP: u64 = 0x10_0000;
 
 /// One pulse a second, squared: 2^16.
 pub(crate) const PULSE: u64 = 0x1_0000;
+
+/// Most pulses of a chord.
+pub(crate) const LONGEST: u32 = 0x10_0000;
 
 /// The greatest square.
 pub(crate) const GREATEST: u64 = 0x400_0000_0000_0000;
@@ -29,4 +35,27 @@ pub struct Limits {
 pub(crate) struct Caps {
     pub(crate) most: u64,
     pub(crate) ramp: u64,
+}
+
+impl Limits {
+    ghost use Rattle.ng_pace.specs.Axes.{AreLimits};
+
+    /// Whether all can be kept.
+    pub(crate) fn check(&self) -> Result<(), PaceFault>
+        ensures { OnOk result (AreLimits self.now) }
+    {
+        if self.accel[0] < 3 || self.accel[1] < 3 || self.accel[2] < 3 {
+            return Err(PaceFault::NoAcceleration);
+        }
+        if self.half == 0 {
+            return Err(PaceFault::NoCorner);
+        }
+        if self.slack == 0 {
+            return Err(PaceFault::NoSlack);
+        }
+        if self.slack > 1_000 {
+            return Err(PaceFault::SlackTooGreat);
+        }
+        Ok(())
+    }
 }

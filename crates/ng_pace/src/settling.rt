@@ -3,7 +3,8 @@ ghost use Rattle.std.specs.Prelude.{◌≡◌, ◌≤◌, ◌+◌, [], length, I
 ghost use Rattle.std.specs.VecDeque.{deque_capacity};
 ghost use Rattle.ng_pace.specs.Flow.{Keeps};
 
-use crate::chord::{Final, GREATEST, Waiting};
+use crate::chord::Waiting;
+use crate::limits::{Caps, GREATEST};
 use crate::line::Line;
 use crate::pacer::Pacer;
 use std::alloc::Allocator;
@@ -20,7 +21,7 @@ pub(crate) enum Ending {
 }
 
 /// The line of an item.
-fn line_of(item: Waiting, limits: Final, ending: Ending) -> Line
+fn line_of(item: Waiting, limits: Caps, ending: Ending) -> Line
     ensures { result.item ≡ item.item }
 {
     let ramp = limits.ramp.min(GREATEST);
@@ -42,7 +43,7 @@ fn line_of(item: Waiting, limits: Final, ending: Ending) -> Line
 fn settle_one<A: Allocator>(
     pacer: &mut Pacer<A>,
     waiting: &mut VecDeque<Waiting, A>,
-    limits: Final,
+    limits: Caps,
     ending: Ending,
 ) -> bool
     requires { length pacer.old.known + length waiting.old.items ≤ pacer.old.room }
@@ -70,7 +71,7 @@ pub(crate) fn settle<A: Allocator>(
     pacer: &mut Pacer<A>,
     waiting: &mut VecDeque<Waiting, A>,
     count: u64,
-    limits: Final,
+    limits: Caps,
     ending: Ending,
 )
     requires { length pacer.old.known + length waiting.old.items ≤ pacer.old.room }
@@ -88,7 +89,7 @@ pub(crate) fn settle<A: Allocator>(
 pub(crate) fn settle_all<A: Allocator>(
     pacer: &mut Pacer<A>,
     waiting: &mut VecDeque<Waiting, A>,
-    limits: Final,
+    limits: Caps,
     ending: Ending,
 )
     requires { length pacer.old.known + length waiting.old.items ≤ pacer.old.room }

@@ -49,6 +49,12 @@ impl Rise {
 }
 
 impl Slopes {
+    /// Of an axis that stands still.
+    pub(crate) const STILL: Slopes = Slopes {
+        least: STEP,
+        greatest: STEP,
+    };
+
     /// All from one to another, rounded outward.
     pub(crate) fn between(low: Rise, high: Rise) -> Slopes
         ensures { 0 < low.pulses → 0 < high.pulses → (slope : Slope) → IsSlope slope → IsFrom low slope → IsUpTo high slope → IsBetween result slope }
@@ -83,4 +89,9 @@ impl Slopes {
             .saturating_sub(self.least)
             .max(self.greatest.min(greatest).saturating_sub(other.least))
     }
+}
+
+/// The greatest slope of each axis, without its sign.
+pub(crate) fn sizes(slopes: &[Slopes; 3]) -> [u64; 3] {
+    [slopes[0].size(), slopes[1].size(), slopes[2].size()]
 }

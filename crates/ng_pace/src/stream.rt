@@ -1,18 +1,22 @@
 //! A stream of items, whose limits are found from its pulses.
-ghost use Rattle.std.specs.Prelude.{◌≡◌, ◌≤◌, ◌<◌, ◌+◌, ◌++◌, ◌∷◌, [], length, nat_le, IfOk, IfSome, IfNone};
+ghost use Rattle.std.specs.Prelude.{◌≡◌, ◌≤◌, ◌<◌, ◌+◌, ◌++◌, ◌∷◌, [], length, nat_le, OnOk, IfOk, IfSome, IfNone};
 ghost use Rattle.std.specs.VecDeque.{deque_capacity};
+ghost use Rattle.ng_pace.specs.Axes.{AreLimits};
 ghost use Rattle.ng_pace.specs.Rest.{CanRest};
 ghost use Rattle.ng_pace.specs.Flow.{Keeps, Adds, IsFlowGiven, Grows};
 ghost use Rattle.ng_pace.specs.Paced.{Waits};
 
-use crate::chord::{Chord, Final, Waiting, steps_of};
+use crate::caps::along;
+use crate::chord::{Chord, Waiting, steps_of};
+use crate::corner::{Turn, corner_caps, corner_pulses};
 use crate::fault::PaceFault;
-use crate::limits::{GREATEST, Limits};
+use crate::limits::{Caps, GREATEST, Limits};
 use crate::line::Line;
 use crate::pacer::Pacer;
 use crate::settling::{Ending, settle, settle_all};
+use crate::slopes::{Slopes, sizes};
 use crate::stepping::Given;
-use ng_canon::{Item, Pulse};
+use ng_canon::{AxisStep, Item, Pulse};
 use std::alloc::Allocator;
 use std::collections::VecDeque;
 use std::marker::Model;
@@ -20,11 +24,8 @@ use std::marker::Model;
 /// What is known of the chords of a stream.
 #[derive(Clone, Copy)]
 struct Shape {
-    limits: Limits,
     chord: Chord,
     start: u64,
-    known: u64,
-    fin: u64,
     /// The feed of the pulse before; the greatest if there is none.
     before: u64,
 }
@@ -34,6 +35,7 @@ struct Shape {
 pub struct Stream<A: Allocator> {
     pacer: Pacer<A>,
     waiting: VecDeque<Waiting, A>,
+    limits: Limits,
     shape: Shape,
 }
 
@@ -46,13 +48,24 @@ impl<A: Allocator> Model for Stream<A> {
 
     ghost view = { λ s. record { motion = s.pacer; waiting = items_waiting s.waiting.items } };
 
-    ghost invariant = { λ s. IsHeld s.pacer s.waiting.items (deque_capacity s.waiting) };
+    ghost invariant = { λ s. IsHeld s.pacer s.waiting.items (deque_capacity s.waiting) s.limits };
 }
 
 /// The square that these microseconds allow.
 fn feed_of(us: u64) -> u64 {
     let rate = 256_000_000u64.checked_div(us).unwrap_or(256_000_000).max(1);
     rate.saturating_mul(rate).min(GREATEST)
+}
+
+/// The greatest feed of some of the items that wait.
+fn greatest_feed<A: Allocator>(waiting: &VecDeque<Waiting, A>, from: u64, to: u64) -> u64 {
+    let mut greatest = 0;
+    for k in from..to {
+        if k < waiting.len() as u64 {
+            greatest = greatest.max(waiting[k as usize].feed);
+        }
+    }
+    greatest
 }
 
 /// At which square motors start and stop at once, in parts of 256 of what a line allows.
@@ -71,86 +84,131 @@ fn start_of(limits: &Limits) -> u64 {
     start.max(128)
 }
 
-/// Makes limits final.
-fn make_final<A: Allocator>(
+/// Makes lines along slopes of all items that wait but so many.
+fn pass_along<A: Allocator>(
     pacer: &mut Pacer<A>,
     waiting: &mut VecDeque<Waiting, A>,
-    shape: &mut Shape,
-    limits: Final,
+    limits: &Limits,
+    slopes: &[Slopes; 3],
+    kept: u64,
     ending: Ending,
 )
     requires { length pacer.old.known + length waiting.old.items ≤ pacer.old.room }
     ensures keeps { Keeps pacer.old pacer.new waiting.old.items waiting.new.items }
     ensures capacity { deque_capacity waiting.new ≡ deque_capacity waiting.old }
 {
-    let count = limits.below.saturating_sub(shape.fin);
-    settle(pacer, waiting, count, limits, ending);
-    shape.fin = shape.fin.max(limits.below);
+    let count = (waiting.len() as u64).saturating_sub(kept);
+    let caps = along(limits, &sizes(slopes));
+    settle(pacer, waiting, count, caps, ending);
 }
 
-/// Closes the open chord.
+/// Makes the lines up to the end of the corner at which the open chord begins.
+fn pass_corner<A: Allocator>(
+    pacer: &mut Pacer<A>,
+    waiting: &mut VecDeque<Waiting, A>,
+    chord: &mut Chord,
+    limits: &Limits,
+    after: &[Slopes; 3],
+    ending: Ending,
+)
+    requires room { length pacer.old.known + length waiting.old.items ≤ pacer.old.room }
+    requires limits { AreLimits limits.now }
+    ensures keeps { Keeps pacer.old pacer.new waiting.old.items waiting.new.items }
+    ensures capacity { deque_capacity waiting.new ≡ deque_capacity waiting.old }
+{
+    let slopes = chord.before;
+    let before = along(limits, &sizes(&slopes));
+    let turn = Turn::between(&slopes, after);
+    let chord_pulses = chord.pulses as u64;
+    let pulses = corner_pulses(limits, &turn.turn, chord.before_pulses as u64, chord_pulses);
+    let count = (waiting.len() as u64)
+        .saturating_sub(chord_pulses)
+        .saturating_sub(pulses / 2);
+    let feed = greatest_feed(waiting, count, count.saturating_add(pulses));
+    let caps = corner_caps(limits, &turn, pulses, feed);
+    settle(pacer, waiting, count, before, ending);
+    settle(pacer, waiting, pulses, caps, ending);
+    chord.has_corner = false;
+}
+
+/// How many of the last pulses of a chord may belong to the corner that it ends at.
+fn kept_of(limits: &Limits, pulses: u32) -> u64 {
+    (pulses as u64).min(limits.half.saturating_mul(2)) / 2
+}
+
+/// Closes the open chord, behind which nothing comes if it is whole.
 fn close<A: Allocator>(
     pacer: &mut Pacer<A>,
     waiting: &mut VecDeque<Waiting, A>,
-    shape: &mut Shape,
+    chord: &mut Chord,
+    limits: &Limits,
     ending: Ending,
     is_whole: bool,
 )
-    requires { length pacer.old.known + length waiting.old.items ≤ pacer.old.room }
+    requires room { length pacer.old.known + length waiting.old.items ≤ pacer.old.room }
+    requires limits { AreLimits limits.now }
     ensures keeps { Keeps pacer.old pacer.new waiting.old.items waiting.new.items }
     ensures capacity { deque_capacity waiting.new ≡ deque_capacity waiting.old }
 {
-    let limits = shape.limits;
-    let (before, corner, rest) = shape
-        .chord
-        .close(&limits, shape.known, shape.fin, waiting, is_whole);
-    make_final(pacer, waiting, shape, before, ending);
-    make_final(pacer, waiting, shape, corner, ending);
-    make_final(pacer, waiting, shape, rest, ending);
+    let slopes = chord.slopes();
+    if chord.has_corner {
+        pass_corner(pacer, waiting, chord, limits, &slopes, ending);
+    }
+    let kept = if is_whole {
+        0
+    } else {
+        kept_of(limits, chord.pulses)
+    };
+    pass_along(pacer, waiting, limits, &slopes, kept, ending);
+    chord.close();
 }
 
 /// Takes the last item that waits into the open chord.
 fn extend<A: Allocator>(
     pacer: &mut Pacer<A>,
     waiting: &mut VecDeque<Waiting, A>,
-    shape: &mut Shape,
-    steps: &[i64; 3],
+    chord: &mut Chord,
+    limits: &Limits,
+    steps: &[AxisStep; 3],
 )
-    requires { length pacer.old.known + length waiting.old.items ≤ pacer.old.room }
+    requires room { length pacer.old.known + length waiting.old.items ≤ pacer.old.room }
+    requires limits { AreLimits limits.now }
     ensures keeps { Keeps pacer.old pacer.new waiting.old.items waiting.new.items }
     ensures capacity { deque_capacity waiting.new ≡ deque_capacity waiting.old }
 {
-    let limits = shape.limits;
-    let (before, corner, rest) = shape
-        .chord
-        .take(&limits, steps, shape.known, shape.fin, waiting);
-    make_final(pacer, waiting, shape, before, Ending::GoesOn);
-    make_final(pacer, waiting, shape, corner, Ending::GoesOn);
-    make_final(pacer, waiting, shape, rest, Ending::GoesOn);
+    chord.take(limits, steps);
+    let pulses = chord.pulses as u64;
+    if pulses % 16 != 0 {
+        return;
+    }
+    let slopes = chord.slopes_ahead();
+    if chord.has_corner && pulses >= limits.half.saturating_mul(4) {
+        pass_corner(pacer, waiting, chord, limits, &slopes, Ending::GoesOn);
+    }
+    if !chord.has_corner {
+        let kept = limits.half.min(pulses - pulses / 2);
+        pass_along(pacer, waiting, limits, &slopes, kept, Ending::GoesOn);
+    }
 }
 
-/// Makes all limits final: what waits comes to rest at its end.
+/// Makes lines of all that waits: it comes to rest at its end.
 fn finish<A: Allocator>(
     pacer: &mut Pacer<A>,
     waiting: &mut VecDeque<Waiting, A>,
     shape: &mut Shape,
+    limits: &Limits,
     ending: Ending,
 )
-    requires { length pacer.old.known + length waiting.old.items ≤ pacer.old.room }
+    requires room { length pacer.old.known + length waiting.old.items ≤ pacer.old.room }
+    requires limits { AreLimits limits.now }
     ensures keeps { Keeps pacer.old pacer.new waiting.old.items waiting.new.items }
     ensures capacity { deque_capacity waiting.new ≡ deque_capacity waiting.old }
     ensures none { waiting.new.items ≡ [] }
 {
-    if shape.chord.is_open() {
-        close(pacer, waiting, shape, ending, true);
+    if shape.chord.is_open {
+        close(pacer, waiting, &mut shape.chord, limits, ending, true);
     }
-    let rest = Final {
-        below: shape.known,
-        most: 0,
-        ramp: 0,
-    };
-    settle_all(pacer, waiting, rest, ending);
-    shape.fin = shape.known;
+    settle_all(pacer, waiting, Caps { most: 0, ramp: 0 }, ending);
     shape.before = GREATEST;
 }
 
@@ -158,20 +216,20 @@ fn finish<A: Allocator>(
 fn turn<A: Allocator>(
     pacer: &mut Pacer<A>,
     waiting: &mut VecDeque<Waiting, A>,
-    shape: &mut Shape,
-    steps: &[i64; 3],
+    chord: &mut Chord,
+    limits: &Limits,
+    steps: &[AxisStep; 3],
 )
-    requires { length pacer.old.known + length waiting.old.items ≤ pacer.old.room }
+    requires room { length pacer.old.known + length waiting.old.items ≤ pacer.old.room }
+    requires limits { AreLimits limits.now }
     ensures keeps { Keeps pacer.old pacer.new waiting.old.items waiting.new.items }
     ensures capacity { deque_capacity waiting.new ≡ deque_capacity waiting.old }
 {
-    let limits = shape.limits;
-    let known = shape.known;
-    if !shape.chord.is_open() {
-        shape.chord.open(&limits, known, false);
-    } else if shape.chord.is_left(steps, known) {
-        close(pacer, waiting, shape, Ending::GoesOn, false);
-        shape.chord.open(&limits, known, true);
+    if !chord.is_open {
+        chord.open(false);
+    } else if chord.is_left(steps) {
+        close(pacer, waiting, chord, limits, Ending::GoesOn, false);
+        chord.open(true);
     }
 }
 
@@ -190,21 +248,22 @@ fn push_pulse<A: Allocator>(
     pacer: &mut Pacer<A>,
     waiting: &mut VecDeque<Waiting, A>,
     shape: &mut Shape,
+    limits: &Limits,
     item: Item,
     pulse: &Pulse,
 )
     requires room { length pacer.old.known + length waiting.old.items < pacer.old.room }
+    requires limits { AreLimits limits.now }
     requires capacity { deque_capacity waiting.old ≡ pacer.old.room }
     ensures adds { Adds pacer.old pacer.new waiting.old.items waiting.new.items item }
     ensures capacity { deque_capacity waiting.new ≡ deque_capacity waiting.old }
 {
     let steps = steps_of(pulse);
     let feed = feed_of(pulse.period_us);
-    turn(pacer, waiting, shape, &steps);
+    turn(pacer, waiting, &mut shape.chord, limits, &steps);
     waiting.push_back_reserved(waiting_of(item, shape, feed));
     shape.before = feed;
-    shape.known = shape.known.saturating_add(1);
-    extend(pacer, waiting, shape, &steps);
+    extend(pacer, waiting, &mut shape.chord, limits, &steps);
 }
 
 /// The line of an item before which everything stands still.
@@ -225,17 +284,17 @@ fn push_still<A: Allocator>(
     pacer: &mut Pacer<A>,
     waiting: &mut VecDeque<Waiting, A>,
     shape: &mut Shape,
+    limits: &Limits,
     item: Item,
 )
     requires room { length pacer.old.known + length waiting.old.items < pacer.old.room }
+    requires limits { AreLimits limits.now }
     ensures adds { Adds pacer.old pacer.new waiting.old.items waiting.new.items item }
     ensures capacity { deque_capacity waiting.new ≡ deque_capacity waiting.old }
 {
     let start = shape.start;
-    finish(pacer, waiting, shape, Ending::Stands(start));
+    finish(pacer, waiting, shape, limits, Ending::Stands(start));
     pacer.push(still(item));
-    shape.known = shape.known.saturating_add(1);
-    shape.fin = shape.known;
 }
 
 /// Takes an item.
@@ -243,51 +302,43 @@ fn push_item<A: Allocator>(
     pacer: &mut Pacer<A>,
     waiting: &mut VecDeque<Waiting, A>,
     shape: &mut Shape,
+    limits: &Limits,
     item: Item,
 )
     requires room { length pacer.old.known + length waiting.old.items < pacer.old.room }
+    requires limits { AreLimits limits.now }
     requires capacity { deque_capacity waiting.old ≡ pacer.old.room }
     ensures adds { Adds pacer.old pacer.new waiting.old.items waiting.new.items item }
     ensures capacity { deque_capacity waiting.new ≡ deque_capacity waiting.old }
 {
     match item {
-        Item::Pulse(pulse) => push_pulse(pacer, waiting, shape, item, &pulse),
-        Item::Dwell { us: _ } => push_still(pacer, waiting, shape, item),
-        Item::Switch(_) => push_still(pacer, waiting, shape, item),
+        Item::Pulse(pulse) => push_pulse(pacer, waiting, shape, limits, item, &pulse),
+        Item::Dwell { us: _ } => push_still(pacer, waiting, shape, limits, item),
+        Item::Switch(_) => push_still(pacer, waiting, shape, limits, item),
     }
 }
 
 impl<A: Allocator + Copy> Stream<A> {
     /// At rest, with no item, and room for so many.
     ///
-    /// Refused: an axis without acceleration, corners of no pulse, no slack, no room.
+    /// Refused: less acceleration than 3, corners of no pulse, a slack that isn't 1 to 1,000, no room.
     pub fn new(alloc: A, limits: Limits, room: usize) -> Result<Stream<A>, PaceFault>
         ensures nothing { IfOk result (λ s. (s.motion.known ≡ []) × (s.waiting ≡ [])) }
         ensures rest { IfOk result (λ s. s.motion.square ≡ 0) }
         ensures room { IfOk result (λ s. s.motion.room ≡ room) }
-        ensures limits { IfOk result (λ _. (0 < limits.half) × (0 < limits.slack)) }
+        ensures limits { OnOk result (AreLimits limits) }
     {
-        if limits.accel[0] == 0 || limits.accel[1] == 0 || limits.accel[2] == 0 {
-            return Err(PaceFault::NoAcceleration);
-        }
-        if limits.half == 0 {
-            return Err(PaceFault::NoCorner);
-        }
-        if limits.slack == 0 {
-            return Err(PaceFault::NoSlack);
-        }
+        limits.check()?;
         let start = start_of(&limits);
         let pacer = Pacer::new(alloc, start, room)?;
         match VecDeque::with_capacity(alloc, room) {
             Ok(waiting) => Ok(Stream {
                 pacer,
                 waiting,
+                limits,
                 shape: Shape {
-                    limits,
                     chord: Chord::new(),
                     start,
-                    known: 0,
-                    fin: 0,
                     before: GREATEST,
                 },
             }),
@@ -310,7 +361,13 @@ impl<A: Allocator> Stream<A> {
         ensures grows { Grows self.old self.new (item ∷ []) }
         ensures rests { CanRest self.new.motion.square self.new.motion.known }
     {
-        push_item(&mut self.pacer, &mut self.waiting, &mut self.shape, item);
+        push_item(
+            &mut self.pacer,
+            &mut self.waiting,
+            &mut self.shape,
+            &self.limits,
+            item,
+        );
         self.pacer.can_rest();
     }
 
@@ -325,6 +382,7 @@ impl<A: Allocator> Stream<A> {
             &mut self.pacer,
             &mut self.waiting,
             &mut self.shape,
+            &self.limits,
             Ending::Ends(start),
         );
         self.pacer.can_rest();

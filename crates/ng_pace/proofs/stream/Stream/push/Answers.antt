@@ -14,4 +14,5 @@ invariant_of-self g c =
     record {
       fits = omega (arith, room, length-items_waiting c.self.inside.waiting.items, c.push_item.ensures.adds.count, c.push_item.ensures.adds.room);
       capacity_is = omega (arith, c.push_item.ensures.capacity, c.self.invariant.capacity_is, c.push_item.ensures.adds.room);
+      limits_are = c.self.invariant.limits_are;
     }
