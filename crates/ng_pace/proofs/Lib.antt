@@ -1,8 +1,10 @@
 pub mod CapsLemmas
+pub mod MakingLemmas
 pub mod PlanLemmas
 pub mod RestLemmas
 pub mod RootLemmas
 pub mod ConeLemmas
+pub mod ExactLemmas
 pub mod FlowLemmas
 pub mod RunLemmas
 pub mod SlopeLemmas

@@ -9,3 +9,5 @@ pub mod Motion
 pub mod Paced
 pub mod Flow
 pub mod Run
+pub mod Legs
+pub mod Making

@@ -2,6 +2,7 @@
 ghost use Rattle.std.specs.Prelude.{◌≡◌, ◌≤◌, ◌+◌, [], length, IsTrue, IsFalse};
 ghost use Rattle.std.specs.VecDeque.{deque_capacity};
 ghost use Rattle.ng_pace.specs.Flow.{Keeps};
+ghost use Rattle.ng_pace.specs.Making.{IsWithin, Makes, stop_of};
 
 use crate::chord::Waiting;
 use crate::limits::{Caps, GREATEST};
@@ -22,7 +23,8 @@ pub(crate) enum Ending {
 
 /// The line of an item.
 fn line_of(item: Waiting, limits: Caps, ending: Ending) -> Line
-    ensures { result.item ≡ item.item }
+    ensures item { result.item ≡ item.item }
+    ensures within { IsWithin limits.most limits.ramp (stop_of ending) result }
 {
     let ramp = limits.ramp.min(GREATEST);
     let (ramp, last) = match ending {
@@ -51,6 +53,8 @@ fn settle_one<A: Allocator>(
     ensures capacity { deque_capacity waiting.new ≡ deque_capacity waiting.old }
     ensures fewer { IsTrue result → length waiting.new.items + 1 ≡ length waiting.old.items }
     ensures none { IsFalse result → waiting.new.items ≡ [] }
+    ensures makes { IsTrue result → Makes pacer.old pacer.new waiting.old.items waiting.new.items limits.most limits.ramp (stop_of ending) 1 }
+    ensures stays { IsFalse result → (pacer.new.known ≡ pacer.old.known) × (waiting.old.items ≡ []) }
 {
     match waiting.pop_front() {
         Some(item) => {
@@ -77,8 +81,9 @@ pub(crate) fn settle<A: Allocator>(
     requires { length pacer.old.known + length waiting.old.items ≤ pacer.old.room }
     ensures keeps { Keeps pacer.old pacer.new waiting.old.items waiting.new.items }
     ensures capacity { deque_capacity waiting.new ≡ deque_capacity waiting.old }
+    ensures makes { Makes pacer.old pacer.new waiting.old.items waiting.new.items limits.most limits.ramp (stop_of ending) count }
 {
-    for _ in 0..count {
+    for k in 0..count {
         if !settle_one(pacer, waiting, limits, ending) {
             break;
         }
