@@ -1,12 +1,14 @@
 -- What is allowed along slopes in parts of 2^20 is allowed along the slopes themselves, which are no greater.
-use Rattle.std.proofs.Common.{arith, ℕ, ◌+◌, ◌*◌, ◌<◌, ◌≤◌, ◌≡◌, ◌⊎◌, inl, inr, slice_index}
+use Rattle.std.proofs.Common.{arith, ℕ, ◌+◌, ◌*◌, ◌<◌, ◌≤◌, ◌≡◌, ◌⊎◌, inl, inr, List, slice_index}
 use Rattle.std.proofs.Math.Nat.{mul-le-mul_left, mul-le-mul_right, le_of_mul-le-mul_right}
 use Rattle.std.proofs.lemmas.Nat.{mul-le}
 use Rattle.std.specs.Int.{abs_diff}
 use Rattle.ng_pace.specs.declared.limits.Limits.{Limits}
-use Rattle.ng_pace.specs.Axes.{IsAlong, IsCorner, IsNearCorner}
-use Rattle.ng_pace.specs.Chords.{Slope}
-use Rattle.ng_pace.specs.Cones.{IsTurn}
+use Rattle.ng_pace.specs.declared.slopes.Slopes.{Slopes}
+use Rattle.ng_pace.specs.Passing.{AllowAlong, TakesCorner}
+use Rattle.ng_pace.specs.Axes.{EachAxis, IsAlong, IsCorner, IsNearCorner}
+use Rattle.ng_pace.specs.Chords.{Slope, IsSlope}
+use Rattle.ng_pace.specs.Cones.{AreBetween, IsTurn}
 use Rattle.ng_pace.specs.Legs.{IsTurning, turn_between}
 
 rate-exact : (size slope over most rate : ℕ) → slope * 1048576 ≤ size * over → size * size * most ≤ rate * rate * 1048576 * 1048576 * 65536 → slope * slope * most ≤ rate * rate * over * over * 65536
@@ -76,3 +78,31 @@ along-corner limits axis slope turn over over' pulses most ramp some long kept =
   scaled = omega (arith, kept.accel)
   scaled_rate : 0 < slice_index limits.rate axis → slope * slope * most * (over' * over') ≤ slice_index limits.rate axis * slice_index limits.rate axis * over * over * 65536 * (over' * over')
   scaled_rate fast = omega (arith, kept.rate fast)
+
+-- what is allowed along sizes of slopes is allowed along the slopes
+pub allow-along : (limits : Limits) (slopes : List Slopes) (sizes : List ℕ) (most ramp : ℕ)
+    → EachAxis (λ axis. (slope : Slope) → IsSlope slope → AreBetween slopes axis slope → abs_diff slope.up slope.down * 1048576 ≤ slice_index sizes axis * slope.over)
+    → EachAxis (λ axis. IsAlong limits axis (slice_index sizes axis) 1048576 most ramp) → AllowAlong limits slopes most ramp
+allow-along limits slopes sizes most ramp small allowed = record {
+  x = λ slope is between. along-exact limits 0 (slice_index sizes 0) (abs_diff slope.up slope.down) slope.over most ramp (small.x slope is between) allowed.x;
+  y = λ slope is between. along-exact limits 1 (slice_index sizes 1) (abs_diff slope.up slope.down) slope.over most ramp (small.y slope is between) allowed.y;
+  z = λ slope is between. along-exact limits 2 (slice_index sizes 2) (abs_diff slope.up slope.down) slope.over most ramp (small.z slope is between) allowed.z;
+}
+
+-- and so at a corner
+pub takes-corner : (limits : Limits) (before after : List Slopes) (sizes turns : List ℕ) (pulses most ramp : ℕ)
+    → EachAxis (λ axis. (slope : Slope) (next : Slope) → IsSlope slope → IsSlope next → AreBetween before axis slope → AreBetween after axis next → IsTurn (slice_index sizes axis) (slice_index turns axis) slope next)
+    → EachAxis (λ axis. IsNearCorner limits axis (slice_index turns axis) 1048576 pulses) → EachAxis (λ axis. IsCorner limits axis (slice_index sizes axis) (slice_index turns axis) 1048576 pulses most ramp)
+    → TakesCorner limits before after pulses most ramp
+takes-corner limits before after sizes turns pulses most ramp is near kept = record {
+  near = record {
+    x = λ slope next a b c d. near-exact limits 0 (slice_index turns 0) (turn_between slope next) (slope.over * next.over) pulses (is.x slope next a b c d).change near.x;
+    y = λ slope next a b c d. near-exact limits 1 (slice_index turns 1) (turn_between slope next) (slope.over * next.over) pulses (is.y slope next a b c d).change near.y;
+    z = λ slope next a b c d. near-exact limits 2 (slice_index turns 2) (turn_between slope next) (slope.over * next.over) pulses (is.z slope next a b c d).change near.z;
+  };
+  turning = record {
+    x = λ slope next a b c d. turning-exact limits 0 (slice_index sizes 0) (slice_index turns 0) slope next pulses most ramp (is.x slope next a b c d) kept.x;
+    y = λ slope next a b c d. turning-exact limits 1 (slice_index sizes 1) (slice_index turns 1) slope next pulses most ramp (is.y slope next a b c d) kept.y;
+    z = λ slope next a b c d. turning-exact limits 2 (slice_index sizes 2) (slice_index turns 2) slope next pulses most ramp (is.z slope next a b c d) kept.z;
+  };
+}

@@ -11,3 +11,4 @@ pub mod Flow
 pub mod Run
 pub mod Legs
 pub mod Making
+pub mod Passing

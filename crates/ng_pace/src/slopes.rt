@@ -1,8 +1,9 @@
 //! Slopes of an axis: steps over pulses, counted from a step back at each pulse, so that none is below 0.
-ghost use Rattle.std.specs.Prelude.{◌≡◌, ◌≤◌, ◌<◌, ◌+◌, ◌*◌, ◌⊎◌, IsTrue, IsFalse};
+ghost use Rattle.std.specs.Prelude.{◌≡◌, ◌≤◌, ◌<◌, ◌+◌, ◌*◌, ◌⊎◌, IsTrue, IsFalse, slice_index};
 ghost use Rattle.std.specs.Int.{abs_diff};
 ghost use Rattle.ng_pace.specs.Chords.{Slope, IsSlope};
-ghost use Rattle.ng_pace.specs.Cones.{IsFrom, IsUpTo, IsBetween};
+ghost use Rattle.ng_pace.specs.Cones.{AreBetween, IsFrom, IsUpTo, IsBetween};
+ghost use Rattle.ng_pace.specs.Axes.{EachAxis};
 
 use crate::limits::STEP;
 
@@ -92,6 +93,9 @@ impl Slopes {
 }
 
 /// The greatest slope of each axis, without its sign.
-pub(crate) fn sizes(slopes: &[Slopes; 3]) -> [u64; 3] {
+pub(crate) fn sizes(slopes: &[Slopes; 3]) -> [u64; 3]
+    ensures { EachAxis (λ i. (slope : Slope) → IsSlope slope → AreBetween slopes.now i slope
+        → abs_diff slope.up slope.down * STEP ≤ slice_index result i * slope.over) }
+{
     [slopes[0].size(), slopes[1].size(), slopes[2].size()]
 }

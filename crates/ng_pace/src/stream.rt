@@ -1,10 +1,12 @@
 //! A stream of items, whose limits are found from its pulses.
-ghost use Rattle.std.specs.Prelude.{◌≡◌, ◌≤◌, ◌<◌, ◌+◌, ◌++◌, ◌∷◌, [], length, nat_le, OnOk, IfOk, IfSome, IfNone};
+ghost use Rattle.std.specs.Prelude.{◌≡◌, ◌≤◌, ◌<◌, ◌+◌, ◌++◌, ◌∷◌, [], false, length, nat_le, OnOk, IfOk, IfSome, IfNone};
 ghost use Rattle.std.specs.VecDeque.{deque_capacity};
 ghost use Rattle.ng_pace.specs.Axes.{AreLimits};
 ghost use Rattle.ng_pace.specs.Rest.{CanRest};
 ghost use Rattle.ng_pace.specs.Flow.{Keeps, Adds, IsFlowGiven, Grows};
 ghost use Rattle.ng_pace.specs.Paced.{Waits};
+ghost use Rattle.ng_pace.specs.Making.{stop_of};
+ghost use Rattle.ng_pace.specs.Passing.{PassesAlong, PassesCorner};
 
 use crate::caps::along;
 use crate::chord::{Chord, Waiting, steps_of};
@@ -96,6 +98,7 @@ fn pass_along<A: Allocator>(
     requires { length pacer.old.known + length waiting.old.items ≤ pacer.old.room }
     ensures keeps { Keeps pacer.old pacer.new waiting.old.items waiting.new.items }
     ensures capacity { deque_capacity waiting.new ≡ deque_capacity waiting.old }
+    ensures passes { PassesAlong limits.now slopes.now (stop_of ending) kept pacer.old pacer.new waiting.old.items waiting.new.items }
 {
     let count = (waiting.len() as u64).saturating_sub(kept);
     let caps = along(limits, &sizes(slopes));
@@ -115,6 +118,9 @@ fn pass_corner<A: Allocator>(
     requires limits { AreLimits limits.now }
     ensures keeps { Keeps pacer.old pacer.new waiting.old.items waiting.new.items }
     ensures capacity { deque_capacity waiting.new ≡ deque_capacity waiting.old }
+    ensures passes { PassesCorner limits.now chord.old.before after.now chord.old.before_pulses chord.old.pulses (stop_of ending)
+        pacer.old pacer.new waiting.old.items waiting.new.items }
+    ensures chord { chord.new ≡ record chord.old { has_corner = false } }
 {
     let slopes = chord.before;
     let before = along(limits, &sizes(&slopes));
