@@ -1,5 +1,6 @@
 pub mod CapsLemmas
 pub mod MakingLemmas
+pub mod PathLemmas
 pub mod PlanLemmas
 pub mod RestLemmas
 pub mod RootLemmas

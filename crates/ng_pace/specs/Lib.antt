@@ -12,3 +12,4 @@ pub mod Run
 pub mod Legs
 pub mod Making
 pub mod Passing
+pub mod Underway

@@ -1,8 +1,11 @@
 //! Chords: pulses that go straight ahead.
+ghost use Rattle.std.specs.Prelude.{ℕ, ◌≡◌, ◌<◌, ◌+◌, ◌++◌, ◌∷◌, [], true, false, List, length, IsTrue, IsFalse};
+ghost use Rattle.ng_canon.specs.declared.item.Pulse.{Pulse};
+
 use crate::cone::Cone;
 use crate::limits::{LONGEST, Limits};
 use crate::slopes::Slopes;
-use ng_canon::{AxisStep, Item, Pulse};
+use ng_canon::{Item, Pulse};
 
 /// An item whose limits aren't final.
 #[derive(Clone, Copy, Debug)]
@@ -23,12 +26,13 @@ pub(crate) struct Chord {
     pub(crate) before: [Slopes; 3],
 }
 
-/// How a pulse moves the axes.
-pub(crate) fn steps_of(pulse: &Pulse) -> [AxisStep; 3] {
-    [pulse.x, pulse.y, pulse.z]
-}
-
 impl Chord {
+    ghost use Rattle.ng_pace.specs.Axes.{AreLimits, EachAxis};
+    ghost use Rattle.ng_pace.specs.Chords.{Slope, IsSlope, IsNear};
+    ghost use Rattle.ng_pace.specs.Cones.{AreBetween};
+    ghost use Rattle.ng_pace.specs.Legs.{IsChord, steps_along};
+    ghost use Rattle.ng_pace.specs.Underway.{AreCones, AreSlopes};
+
     /// None.
     pub(crate) fn new() -> Chord {
         Chord {
@@ -42,18 +46,26 @@ impl Chord {
     }
 
     /// Whether it doesn't go straight with one more pulse, or is as long as a chord may be.
-    pub(crate) fn is_left(&self, steps: &[AxisStep; 3]) -> bool {
+    pub(crate) fn is_left(&self, pulse: &Pulse) -> bool
+        ensures stays { (slack : ℕ) (pulses : List Pulse) → AreCones slack self.now.cones pulses → self.now.pulses ≡ length pulses
+            → IsFalse result → IsChord slack (pulses ++ pulse.now ∷ []) × (length pulses < LONGEST) }
+        ensures leaves { (slack : ℕ) (pulses : List Pulse) → AreCones slack self.now.cones pulses → self.now.pulses ≡ length pulses
+            → IsTrue result → ¬ (IsChord slack (pulses ++ pulse.now ∷ []) × (length pulses < LONGEST)) }
+    {
         if self.pulses >= LONGEST {
             return true;
         }
         let pulses = self.pulses + 1;
-        self.cones[0].is_left(steps[0], pulses)
-            || self.cones[1].is_left(steps[1], pulses)
-            || self.cones[2].is_left(steps[2], pulses)
+        self.cones[0].is_left(pulse.x, pulses)
+            || self.cones[1].is_left(pulse.y, pulses)
+            || self.cones[2].is_left(pulse.z, pulses)
     }
 
     /// Begins anew, behind a corner or from rest.
-    pub(crate) fn open(&mut self, has_corner: bool) {
+    pub(crate) fn open(&mut self, has_corner: bool)
+        ensures same { self.new ≡ record self.old { pulses = 0; cones = self.new.cones; is_open = true; has_corner = has_corner } }
+        ensures cones { (slack : ℕ) → AreCones slack self.new.cones [] }
+    {
         self.pulses = 0;
         self.cones = [Cone::new(), Cone::new(), Cone::new()];
         self.is_open = true;
@@ -61,19 +73,27 @@ impl Chord {
     }
 
     /// Takes a pulse.
-    pub(crate) fn take(&mut self, limits: &Limits, steps: &[AxisStep; 3]) {
+    pub(crate) fn take(&mut self, limits: &Limits, pulse: &Pulse)
+        requires { AreLimits limits.now }
+        ensures same { self.new ≡ record self.old { pulses = self.new.pulses; cones = self.new.cones } }
+        ensures takes { (pulses : List Pulse) → AreCones limits.now.slack self.old.cones pulses → self.old.pulses ≡ length pulses → length pulses < LONGEST
+            → AreCones limits.now.slack self.new.cones (pulses ++ pulse.now ∷ []) × (self.new.pulses ≡ length pulses + 1) }
+    {
         let pulses = self.pulses.saturating_add(1);
-        let slack = limits.slack.min(1_000) as u32;
+        let slack = limits.slack as u32;
         self.cones = [
-            self.cones[0].after(steps[0], pulses, slack),
-            self.cones[1].after(steps[1], pulses, slack),
-            self.cones[2].after(steps[2], pulses, slack),
+            self.cones[0].after(pulse.x, pulses, slack),
+            self.cones[1].after(pulse.y, pulses, slack),
+            self.cones[2].after(pulse.z, pulses, slack),
         ];
         self.pulses = pulses;
     }
 
     /// Its slopes, as it is.
-    pub(crate) fn slopes(&self) -> [Slopes; 3] {
+    pub(crate) fn slopes(&self) -> [Slopes; 3]
+        ensures { (slack : ℕ) (pulses : List Pulse) → AreCones slack self.now.cones pulses → self.now.pulses ≡ length pulses → 0 < length pulses
+            → AreSlopes result pulses }
+    {
         [
             self.cones[0].slopes_at(self.pulses),
             self.cones[1].slopes_at(self.pulses),
@@ -82,7 +102,10 @@ impl Chord {
     }
 
     /// The slopes that it may get, whatever pulses it still takes.
-    pub(crate) fn slopes_ahead(&self) -> [Slopes; 3] {
+    pub(crate) fn slopes_ahead(&self) -> [Slopes; 3]
+        ensures { (slack : ℕ) (pulses : List Pulse) → AreCones slack self.now.cones pulses
+            → EachAxis (λ i. (slope : Slope) → IsSlope slope → IsNear slack slope (steps_along i pulses) → AreBetween result i slope) }
+    {
         [
             self.cones[0].slopes(),
             self.cones[1].slopes(),
@@ -91,7 +114,11 @@ impl Chord {
     }
 
     /// Takes no more pulses.
-    pub(crate) fn close(&mut self) {
+    pub(crate) fn close(&mut self)
+        ensures same { self.new ≡ record self.old { before = self.new.before; before_pulses = self.old.pulses; is_open = false; has_corner = false } }
+        ensures slopes { (slack : ℕ) (pulses : List Pulse) → AreCones slack self.old.cones pulses → self.old.pulses ≡ length pulses → 0 < length pulses
+            → AreSlopes self.new.before pulses }
+    {
         self.before = self.slopes();
         self.before_pulses = self.pulses;
         self.is_open = false;

@@ -9,7 +9,7 @@ ghost use Rattle.ng_pace.specs.Making.{stop_of};
 ghost use Rattle.ng_pace.specs.Passing.{PassesAlong, PassesCorner};
 
 use crate::caps::along;
-use crate::chord::{Chord, Waiting, steps_of};
+use crate::chord::{Chord, Waiting};
 use crate::corner::{Turn, corner_caps, corner_pulses};
 use crate::fault::PaceFault;
 use crate::limits::{Caps, GREATEST, Limits};
@@ -18,7 +18,7 @@ use crate::pacer::Pacer;
 use crate::settling::{Ending, settle, settle_all};
 use crate::slopes::{Slopes, sizes};
 use crate::stepping::Given;
-use ng_canon::{AxisStep, Item, Pulse};
+use ng_canon::{Item, Pulse};
 use std::alloc::Allocator;
 use std::collections::VecDeque;
 use std::marker::Model;
@@ -175,14 +175,14 @@ fn extend<A: Allocator>(
     waiting: &mut VecDeque<Waiting, A>,
     chord: &mut Chord,
     limits: &Limits,
-    steps: &[AxisStep; 3],
+    pulse: &Pulse,
 )
     requires room { length pacer.old.known + length waiting.old.items ≤ pacer.old.room }
     requires limits { AreLimits limits.now }
     ensures keeps { Keeps pacer.old pacer.new waiting.old.items waiting.new.items }
     ensures capacity { deque_capacity waiting.new ≡ deque_capacity waiting.old }
 {
-    chord.take(limits, steps);
+    chord.take(limits, pulse);
     let pulses = chord.pulses as u64;
     if pulses % 16 != 0 {
         return;
@@ -224,7 +224,7 @@ fn turn<A: Allocator>(
     waiting: &mut VecDeque<Waiting, A>,
     chord: &mut Chord,
     limits: &Limits,
-    steps: &[AxisStep; 3],
+    pulse: &Pulse,
 )
     requires room { length pacer.old.known + length waiting.old.items ≤ pacer.old.room }
     requires limits { AreLimits limits.now }
@@ -233,7 +233,7 @@ fn turn<A: Allocator>(
 {
     if !chord.is_open {
         chord.open(false);
-    } else if chord.is_left(steps) {
+    } else if chord.is_left(pulse) {
         close(pacer, waiting, chord, limits, Ending::GoesOn, false);
         chord.open(true);
     }
@@ -264,12 +264,11 @@ fn push_pulse<A: Allocator>(
     ensures adds { Adds pacer.old pacer.new waiting.old.items waiting.new.items item }
     ensures capacity { deque_capacity waiting.new ≡ deque_capacity waiting.old }
 {
-    let steps = steps_of(pulse);
     let feed = feed_of(pulse.period_us);
-    turn(pacer, waiting, &mut shape.chord, limits, &steps);
+    turn(pacer, waiting, &mut shape.chord, limits, pulse);
     waiting.push_back_reserved(waiting_of(item, shape, feed));
     shape.before = feed;
-    extend(pacer, waiting, &mut shape.chord, limits, &steps);
+    extend(pacer, waiting, &mut shape.chord, limits, pulse);
 }
 
 /// The line of an item before which everything stands still.

@@ -1,0 +1,53 @@
+-- How far the code has come with a path: its last chord is open.
+use Rattle.std.specs.Prelude.{ℕ, ◌+◌, ◌*◌, ◌/◌, ◌^◌, ◌<◌, ◌≤◌, ◌≡◌, min, ◌⊎◌, List, [], ◌∷◌, ◌++◌, length, slice_index_or, IsTrue, IsFalse}
+use Rattle.ng_canon.specs.declared.item.Pulse.{Pulse}
+use Rattle.ng_pace.specs.declared.limits.Limits.{Limits}
+use Rattle.ng_pace.specs.declared.slopes.Slopes.{Slopes}
+use Rattle.ng_pace.specs.declared.cone.Cone.{Cone}
+use Rattle.ng_pace.specs.declared.chord.Chord.{Chord}
+use Rattle.ng_pace.specs.Axes.{EachAxis}
+use Rattle.ng_pace.specs.Cones.{IsCone, AreBetween}
+use Rattle.ng_pace.specs.Legs.{Leg, IsChord, IsPaced, steps_along, slope_along}
+
+-- the cones of some pulses, by axes
+abbrev pub AreCones : ℕ → List Cone → List Pulse → Type 0
+AreCones slack cones pulses = EachAxis (λ axis. (d : Cone) → IsCone slack (slice_index_or cones axis d) (steps_along axis pulses))
+
+-- the slopes of some pulses, by axes
+abbrev pub AreSlopes : List Slopes → List Pulse → Type 0
+AreSlopes slopes pulses = EachAxis (λ axis. AreBetween slopes axis (slope_along axis pulses))
+
+-- the chord is open, and these are its pulses
+pub record IsOpen (limits : Limits) (chord : Chord) (pulses : List Pulse) : Type 0 where
+  pub is_open : IsTrue chord.is_open
+  pub cones : AreCones limits.slack chord.cones pulses
+  pub count : chord.pulses ≡ length pulses
+  pub few : length pulses ≤ 2 ^ 20
+
+-- how many of the last pulses of a chord may belong to the corner that it ends at
+abbrev pub kept_of : ℕ → ℕ → ℕ
+kept_of half pulses = min pulses (2 * half) / 2
+
+-- a chord with more pulses
+abbrev pub longer : Leg → List Pulse → Leg
+longer leg more = record { pulses = leg.pulses ++ more; lines = leg.lines }
+
+-- the corner at which the chord begins, if it has one, is decided: whatever pulses the chord still takes, its lines keep to it
+pub record IsGoing (limits : Limits) (stop : ℕ) (chord : Chord) (waits : ℕ) (leg : Leg) (rest : List Leg) : Type 0 where
+  pub opened : IsOpen limits chord leg.pulses
+  pub decided : IsFalse chord.has_corner
+  pub paced : (more : List Pulse) → IsChord limits.slack (leg.pulses ++ more) → IsPaced limits stop (longer leg more ∷ rest)
+  pub waits_are : waits + length leg.lines ≡ length leg.pulses
+  pub kept : length leg.lines + kept_of limits.half (length leg.pulses) ≤ length leg.pulses
+
+-- the corner isn't decided: the last pulses of the chord before it wait, too
+pub record IsPending (limits : Limits) (stop : ℕ) (chord : Chord) (waits : ℕ) (leg before : Leg) (rest : List Leg) : Type 0 where
+  pub opened : IsOpen limits chord leg.pulses
+  pub pending : IsTrue chord.has_corner
+  pub none : leg.lines ≡ []
+  pub paced : IsPaced limits stop (before ∷ rest)
+  pub some : 0 < length before.pulses
+  pub before_is : AreSlopes chord.before before.pulses
+  pub before_count : chord.before_pulses ≡ length before.pulses
+  pub waits_are : waits + length before.lines ≡ length leg.pulses + length before.pulses
+  pub kept : length before.lines + kept_of limits.half (length before.pulses) ≡ length before.pulses
