@@ -9,3 +9,4 @@ pub mod ExactLemmas
 pub mod FlowLemmas
 pub mod RunLemmas
 pub mod SlopeLemmas
+pub mod StepLemmas

@@ -1,6 +1,6 @@
 -- What lines that are made do to the chords of a path.
 use Rattle.std.proofs.Common.{arith, ℕ, ◌+◌, ◌-◌, ◌*◌, ◌/◌, ◌<◌, ◌≤◌, ◌≡◌, ◌∙◌, ◌⊎◌, inl, inr, min, max, refl, ap, sym, subst, List, [], ◌∷◌, ◌++◌, length, take, drop, map, All, append-nil, append_assoc}
-use Rattle.std.proofs.lemmas.List.{take-append-le, length-append, length-map, map-append, take-append-drop, length-take-le, length-drop}
+use Rattle.std.proofs.lemmas.List.{take-append-le, drop_at, length-append, length-map, map-append, take-append-drop, length-take-le, length-drop}
 use Rattle.std.proofs.lemmas.List.Elements.{All-append, All-weaker, All-take, All-drop, All-nil}
 use Rattle.std.proofs.Math.Nat.{mul-le-mul_left, mul-le-mul_right}
 use Rattle.std.specs.Int.{abs_diff}
@@ -118,3 +118,51 @@ pub paced-more : (limits : Limits) (stop : ℕ) (leg : Leg) (made : List Line) (
 paced-more limits stop leg made rest paced on few =
     (record { chord = paced.0.chord; lines = All-append (IsOnChord limits stop leg.pulses) leg.lines made paced.0.lines on; few = omega (arith, length-append leg.lines made, few) },
     (behind-more limits stop leg made rest paced.1.0, paced.1.1))
+
+-- the lines up to the end of a corner: some along the chord before it, and then those at the corner, of which the first half belong to that chord
+pub corner-paced : (limits : Limits) (stop : ℕ) (slopes next : List Slopes) (chord : List Pulse) (before : Leg) (rest : List Leg) (first second : List Line) (pulses most ramp most' ramp' : ℕ)
+    → IsPaced limits stop (before ∷ rest) → IsChord limits.slack chord → 0 < length before.pulses → 0 < length chord → AreSlopes slopes before.pulses → AreSlopes next chord
+    → 0 < pulses → TakesCorner limits slopes next pulses most' ramp' → AllowAlong limits slopes most ramp → All (IsWithin most ramp stop) first → All (IsWithin most' ramp' stop) second
+    → length before.lines + length first + pulses / 2 ≡ length before.pulses → length second ≡ pulses → (pulses + 1) / 2 ≤ length chord
+    → IsPaced limits stop (record { pulses = chord; lines = drop (pulses / 2) second } ∷ (record { pulses = before.pulses; lines = (before.lines ++ first) ++ take (pulses / 2) second } ∷ rest))
+corner-paced limits stop slopes next chord before rest first second pulses most ramp most' ramp' paced straight some some' are are' long_enough takes allowed each each' len len' few =
+    (leg, (cornered, before_paced))
+  where
+    on : All (IsOnCorner limits stop before.pulses chord pulses) second
+    on = All-weaker (IsWithin most' ramp' stop) (IsOnCorner limits stop before.pulses chord pulses) (on-corner limits stop slopes next before.pulses chord pulses most' ramp' some some' takes are are') second each'
+    front : length (take (pulses / 2) second) ≡ pulses / 2
+    front = length-take-le (pulses / 2) second (omega (arith, len'))
+    back : length (drop (pulses / 2) second) + pulses / 2 ≡ pulses
+    back = omega (arith, ap length (take-append-drop (pulses / 2) second), length-append (take (pulses / 2) second) (drop (pulses / 2) second), front, len')
+    known : length (before.lines ++ first) ≡ length before.pulses - pulses / 2
+    known = omega (arith, length-append before.lines first, len)
+    before_paced : IsPaced limits stop (record { pulses = before.pulses; lines = (before.lines ++ first) ++ take (pulses / 2) second } ∷ rest)
+    before_paced = paced-more limits stop (record { pulses = before.pulses; lines = before.lines ++ first }) (take (pulses / 2) second) rest
+        (paced-more limits stop before first rest paced
+          (All-weaker (IsWithin most ramp stop) (IsOnChord limits stop before.pulses) (on-chord limits stop slopes before.pulses most ramp some allowed are) first each) (omega (arith, len)))
+        (All-take (IsOnChord limits stop before.pulses) (pulses / 2) second
+          (All-weaker (IsOnCorner limits stop before.pulses chord pulses) (IsOnChord limits stop before.pulses) (leaves-chord limits stop before.pulses chord pulses long_enough some') second on))
+        (omega (arith, length-append before.lines first, front, len))
+    leg : IsLeg limits stop (record { pulses = chord; lines = drop (pulses / 2) second })
+    leg = record {
+      chord = straight;
+      lines = All-drop (IsOnChord limits stop chord) (pulses / 2) second
+          (All-weaker (IsOnCorner limits stop before.pulses chord pulses) (IsOnChord limits stop chord) (enters-chord limits stop before.pulses chord pulses long_enough some) second on);
+      few = omega (arith, back, few);
+    }
+    cornered : IsCornered limits stop (record { pulses = before.pulses; lines = (before.lines ++ first) ++ take (pulses / 2) second }) (record { pulses = chord; lines = drop (pulses / 2) second })
+    cornered = record {
+      pulses = pulses;
+      some = long_enough;
+      near = record {
+        x = takes.near.x (slope_along 0 before.pulses) (slope_along 0 chord) (slope-some 0 before.pulses some) (slope-some 0 chord some') are.x are'.x;
+        y = takes.near.y (slope_along 1 before.pulses) (slope_along 1 chord) (slope-some 1 before.pulses some) (slope-some 1 chord some') are.y are'.y;
+        z = takes.near.z (slope_along 2 before.pulses) (slope_along 2 chord) (slope-some 2 before.pulses some) (slope-some 2 chord some') are.z are'.z;
+      };
+      whole = omega (arith, length-append (before.lines ++ first) (take (pulses / 2) second), length-append before.lines first, front, len);
+      begun = omega (arith, back);
+      leaves =
+          let cut : drop (length before.pulses - pulses / 2) ((before.lines ++ first) ++ take (pulses / 2) second) ≡ take (pulses / 2) second = drop_at (before.lines ++ first) (take (pulses / 2) second) (length before.pulses - pulses / 2) known in
+          rw cut (All-take (IsOnCorner limits stop before.pulses chord pulses) (pulses / 2) second on);
+      enters = All-take (IsOnCorner limits stop before.pulses chord pulses) ((pulses + 1) / 2) (drop (pulses / 2) second) (All-drop (IsOnCorner limits stop before.pulses chord pulses) (pulses / 2) second on);
+    }

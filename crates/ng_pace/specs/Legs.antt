@@ -1,5 +1,5 @@
 -- Chords that follow one another without a rest, and the lines that are made of their pulses (own).
-use Rattle.std.specs.Prelude.{ℕ, zero, suc, ◌+◌, ◌-◌, ◌*◌, ◌/◌, ◌<◌, ◌≤◌, ◌≡◌, max, List, [], ◌∷◌, map, length, take, drop, All}
+use Rattle.std.specs.Prelude.{ℕ, zero, suc, ◌+◌, ◌-◌, ◌*◌, ◌/◌, ◌<◌, ◌≤◌, ◌≡◌, max, List, [], ◌∷◌, ◌++◌, map, length, take, drop, All}
 use Rattle.std.specs.Int.{abs_diff}
 use Rattle.ng_canon.specs.declared.item.AxisStep.{AxisStep}
 use Rattle.ng_canon.specs.declared.item.Pulse.{Pulse}
@@ -77,3 +77,12 @@ IsBehind limits stop leg (before ∷ rest) = IsCornered limits stop before leg
 abbrev pub IsPaced : Limits → ℕ → List Leg → Type 0
 IsPaced limits stop [] = Unit {0}
 IsPaced limits stop (leg ∷ rest) = IsLeg limits stop leg × (IsBehind limits stop leg rest × IsPaced limits stop rest)
+
+-- the pulses of a path, and the lines that were made of them, in order
+abbrev pub pulses_of : List Leg → List Pulse
+pulses_of [] = []
+pulses_of (leg ∷ rest) = pulses_of rest ++ leg.pulses
+
+abbrev pub lines_of : List Leg → List Line
+lines_of [] = []
+lines_of (leg ∷ rest) = lines_of rest ++ leg.lines

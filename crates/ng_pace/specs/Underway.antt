@@ -5,9 +5,11 @@ use Rattle.ng_pace.specs.declared.limits.Limits.{Limits}
 use Rattle.ng_pace.specs.declared.slopes.Slopes.{Slopes}
 use Rattle.ng_pace.specs.declared.cone.Cone.{Cone}
 use Rattle.ng_pace.specs.declared.chord.Chord.{Chord}
+use Rattle.ng_pace.specs.declared.line.Line.{Line}
+use Rattle.ng_pace.specs.Motion.{Motion}
 use Rattle.ng_pace.specs.Axes.{EachAxis}
 use Rattle.ng_pace.specs.Cones.{IsCone, AreBetween}
-use Rattle.ng_pace.specs.Legs.{Leg, IsChord, IsPaced, steps_along, slope_along}
+use Rattle.ng_pace.specs.Legs.{Leg, IsChord, IsPaced, pulses_of, lines_of, steps_along, slope_along}
 
 -- the cones of some pulses, by axes
 abbrev pub AreCones : ℕ → List Cone → List Pulse → Type 0
@@ -23,6 +25,7 @@ pub record IsOpen (limits : Limits) (chord : Chord) (pulses : List Pulse) : Type
   pub cones : AreCones limits.slack chord.cones pulses
   pub count : chord.pulses ≡ length pulses
   pub few : length pulses ≤ 2 ^ 20
+  pub straight : IsChord limits.slack pulses
 
 -- how many of the last pulses of a chord may belong to the corner that it ends at
 abbrev pub kept_of : ℕ → ℕ → ℕ
@@ -51,3 +54,33 @@ pub record IsPending (limits : Limits) (stop : ℕ) (chord : Chord) (waits : ℕ
   pub before_count : chord.before_pulses ≡ length before.pulses
   pub waits_are : waits + length before.lines ≡ length leg.pulses + length before.pulses
   pub kept : length before.lines + kept_of limits.half (length before.pulses) ≡ length before.pulses
+
+abbrev pub IsJoined : Limits → ℕ → Chord → ℕ → Leg → List Leg → Type 0
+IsJoined limits stop chord waits leg [] = ⊥
+IsJoined limits stop chord waits leg (before ∷ rest) = IsPending limits stop chord waits leg before rest
+
+-- so many pulses of a path wait, and of the others lines were made
+abbrev pub IsPath : Limits → ℕ → Chord → ℕ → List Leg → Type 0
+IsPath limits stop chord waits [] = IsFalse chord.is_open × (waits ≡ 0)
+IsPath limits stop chord waits (leg ∷ rest) = IsGoing limits stop chord waits leg rest ⊎ IsJoined limits stop chord waits leg rest
+
+-- lines were made, and the path has these pulses now; its last chord is open
+pub record Advances (limits : Limits) (stop : ℕ) (old new : Motion) (chord : Chord) (waits : ℕ) (pulses : List Pulse) (lines : List Line) : Type 0 where
+  pub made : List Line
+  pub known : new.known ≡ old.known ++ made
+  pub leg : Leg
+  pub rest : List Leg
+  pub pulses_are : pulses_of (leg ∷ rest) ≡ pulses
+  pub lines_are : lines_of (leg ∷ rest) ≡ lines ++ made
+  pub path : IsPath limits stop chord waits (leg ∷ rest)
+
+-- lines were made, and the path ends with its last chord; so many of its pulses wait
+pub record Reaches (limits : Limits) (stop : ℕ) (old new : Motion) (waits : ℕ) (chord pulses : List Pulse) (lines : List Line) : Type 0 where
+  pub made : List Line
+  pub known : new.known ≡ old.known ++ made
+  pub last : List Line
+  pub rest : List Leg
+  pub pulses_are : pulses_of rest ++ chord ≡ pulses
+  pub lines_are : lines_of rest ++ last ≡ lines ++ made
+  pub paced : IsPaced limits stop (record { pulses = chord; lines = last } ∷ rest)
+  pub waits_are : waits + length last ≡ length chord

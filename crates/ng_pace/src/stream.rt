@@ -1,5 +1,5 @@
 //! A stream of items, whose limits are found from its pulses.
-ghost use Rattle.std.specs.Prelude.{◌≡◌, ◌≤◌, ◌<◌, ◌+◌, ◌++◌, ◌∷◌, [], false, length, nat_le, OnOk, IfOk, IfSome, IfNone};
+ghost use Rattle.std.specs.Prelude.{◌≡◌, ◌≤◌, ◌<◌, ◌+◌, ◌++◌, ◌∷◌, [], false, List, length, nat_le, OnOk, IfOk, IfSome, IfNone};
 ghost use Rattle.std.specs.VecDeque.{deque_capacity};
 ghost use Rattle.ng_pace.specs.Axes.{AreLimits};
 ghost use Rattle.ng_pace.specs.Rest.{CanRest};
@@ -7,6 +7,8 @@ ghost use Rattle.ng_pace.specs.Flow.{Keeps, Adds, IsFlowGiven, Grows};
 ghost use Rattle.ng_pace.specs.Paced.{Waits};
 ghost use Rattle.ng_pace.specs.Making.{stop_of};
 ghost use Rattle.ng_pace.specs.Passing.{PassesAlong, PassesCorner};
+ghost use Rattle.ng_pace.specs.Legs.{Leg, lines_of, pulses_of};
+ghost use Rattle.ng_pace.specs.Underway.{Advances, AreSlopes, IsPath, Reaches, kept_of};
 
 use crate::caps::along;
 use crate::chord::{Chord, Waiting};
@@ -142,6 +144,30 @@ fn kept_of(limits: &Limits, pulses: u32) -> u64 {
     (pulses as u64).min(limits.half.saturating_mul(2)) / 2
 }
 
+/// Makes the lines of a corner that isn't decided, where the open chord ends.
+fn decide_at_end<A: Allocator>(
+    pacer: &mut Pacer<A>,
+    waiting: &mut VecDeque<Waiting, A>,
+    chord: &mut Chord,
+    limits: &Limits,
+    slopes: &[Slopes; 3],
+    ending: Ending,
+)
+    requires room { length pacer.old.known + length waiting.old.items ≤ pacer.old.room }
+    requires limits { AreLimits limits.now }
+    ensures keeps { Keeps pacer.old pacer.new waiting.old.items waiting.new.items }
+    ensures capacity { deque_capacity waiting.new ≡ deque_capacity waiting.old }
+    ensures reaches { (leg : Leg) (rest : List Leg) → IsPath limits.now (stop_of ending) chord.old (length waiting.old.items) (leg ∷ rest)
+        → 0 < length leg.pulses → AreSlopes slopes.now leg.pulses
+        → Reaches limits.now (stop_of ending) pacer.old pacer.new (length waiting.new.items) leg.pulses (pulses_of (leg ∷ rest)) (lines_of (leg ∷ rest))
+            × (kept_of limits.now.half (length leg.pulses) ≤ length waiting.new.items) }
+    ensures chord { chord.new ≡ record chord.old { has_corner = chord.new.has_corner } }
+{
+    if chord.has_corner {
+        pass_corner(pacer, waiting, chord, limits, slopes, ending);
+    }
+}
+
 /// Closes the open chord, behind which nothing comes if it is whole.
 fn close<A: Allocator>(
     pacer: &mut Pacer<A>,
@@ -157,9 +183,7 @@ fn close<A: Allocator>(
     ensures capacity { deque_capacity waiting.new ≡ deque_capacity waiting.old }
 {
     let slopes = chord.slopes();
-    if chord.has_corner {
-        pass_corner(pacer, waiting, chord, limits, &slopes, ending);
-    }
+    decide_at_end(pacer, waiting, chord, limits, &slopes, ending);
     let kept = if is_whole {
         0
     } else {
@@ -167,6 +191,48 @@ fn close<A: Allocator>(
     };
     pass_along(pacer, waiting, limits, &slopes, kept, ending);
     chord.close();
+}
+
+/// Makes the lines of a corner that isn't decided, if the open chord is long enough: by the slopes that it may get.
+fn decide<A: Allocator>(
+    pacer: &mut Pacer<A>,
+    waiting: &mut VecDeque<Waiting, A>,
+    chord: &mut Chord,
+    limits: &Limits,
+)
+    requires room { length pacer.old.known + length waiting.old.items ≤ pacer.old.room }
+    requires limits { AreLimits limits.now }
+    ensures keeps { Keeps pacer.old pacer.new waiting.old.items waiting.new.items }
+    ensures capacity { deque_capacity waiting.new ≡ deque_capacity waiting.old }
+    ensures advances { (leg : Leg) (rest : List Leg) → IsPath limits.now 0 chord.old (length waiting.old.items) (leg ∷ rest) → 0 < length leg.pulses
+        → Advances limits.now 0 pacer.old pacer.new chord.new (length waiting.new.items) (pulses_of (leg ∷ rest)) (lines_of (leg ∷ rest)) }
+{
+    if chord.has_corner && chord.pulses as u64 >= limits.half.saturating_mul(4) {
+        let slopes = chord.slopes_ahead();
+        pass_corner(pacer, waiting, chord, limits, &slopes, Ending::GoesOn);
+    }
+}
+
+/// Makes lines along the open chord, but of the last ones, if its corner is decided: by the slopes that it may get.
+fn go_along<A: Allocator>(
+    pacer: &mut Pacer<A>,
+    waiting: &mut VecDeque<Waiting, A>,
+    chord: &Chord,
+    limits: &Limits,
+)
+    requires room { length pacer.old.known + length waiting.old.items ≤ pacer.old.room }
+    requires limits { AreLimits limits.now }
+    ensures keeps { Keeps pacer.old pacer.new waiting.old.items waiting.new.items }
+    ensures capacity { deque_capacity waiting.new ≡ deque_capacity waiting.old }
+    ensures advances { (leg : Leg) (rest : List Leg) → IsPath limits.now 0 chord.now (length waiting.old.items) (leg ∷ rest) → 0 < length leg.pulses
+        → Advances limits.now 0 pacer.old pacer.new chord.now (length waiting.new.items) (pulses_of (leg ∷ rest)) (lines_of (leg ∷ rest)) }
+{
+    if !chord.has_corner {
+        let slopes = chord.slopes_ahead();
+        let pulses = chord.pulses as u64;
+        let kept = limits.half.min(pulses - pulses / 2);
+        pass_along(pacer, waiting, limits, &slopes, kept, Ending::GoesOn);
+    }
 }
 
 /// Takes the last item that waits into the open chord.
@@ -183,17 +249,9 @@ fn extend<A: Allocator>(
     ensures capacity { deque_capacity waiting.new ≡ deque_capacity waiting.old }
 {
     chord.take(limits, pulse);
-    let pulses = chord.pulses as u64;
-    if pulses % 16 != 0 {
-        return;
-    }
-    let slopes = chord.slopes_ahead();
-    if chord.has_corner && pulses >= limits.half.saturating_mul(4) {
-        pass_corner(pacer, waiting, chord, limits, &slopes, Ending::GoesOn);
-    }
-    if !chord.has_corner {
-        let kept = limits.half.min(pulses - pulses / 2);
-        pass_along(pacer, waiting, limits, &slopes, kept, Ending::GoesOn);
+    if chord.pulses % 16 == 0 {
+        decide(pacer, waiting, chord, limits);
+        go_along(pacer, waiting, chord, limits);
     }
 }
 

@@ -1,0 +1,207 @@
+-- How far a path comes with each step of the code.
+use Rattle.std.proofs.Common.{arith, ℕ, ◌+◌, ◌-◌, ◌*◌, ◌/◌, ◌<◌, ◌≤◌, ◌≡◌, ◌∙◌, ◌⊎◌, inl, inr, min, max, refl, ap, sym, subst, List, [], ◌∷◌, ◌++◌, length, take, drop, All, append-nil, append_assoc, Bool, true, false, IsTrue, IsFalse}
+use Rattle.std.proofs.lemmas.List.{length-append, take-append-drop, length-take-le}
+use Rattle.std.proofs.lemmas.List.Elements.{All-weaker}
+use Rattle.ng_canon.specs.declared.item.Pulse.{Pulse}
+use Rattle.ng_pace.specs.declared.limits.Limits.{Limits}
+use Rattle.ng_pace.specs.declared.line.Line.{Line}
+use Rattle.ng_pace.specs.declared.slopes.Slopes.{Slopes}
+use Rattle.ng_pace.specs.declared.chord.Chord.{Chord}
+use Rattle.ng_pace.specs.declared.chord.Waiting.{Waiting}
+use Rattle.ng_pace.specs.Motion.{Motion}
+use Rattle.ng_pace.specs.Axes.{EachAxis}
+use Rattle.ng_pace.specs.Chords.{Slope, IsSlope, IsNear}
+use Rattle.ng_pace.specs.Cones.{AreBetween}
+use Rattle.ng_pace.specs.Legs.{Leg, IsChord, IsPaced, IsOnChord, steps_along, slope_along, pulses_of, lines_of}
+use Rattle.ng_pace.specs.Making.{IsWithin}
+use Rattle.ng_pace.specs.Passing.{PassesAlong, PassesCorner}
+use Rattle.ng_pace.specs.Underway.{AreSlopes, IsOpen, IsGoing, IsPending, IsJoined, IsPath, Advances, Reaches, longer, kept_of}
+use Rattle.ng_pace.proofs.PathLemmas.{slope-some, chord-front, on-chord, paced-more, corner-paced}
+
+-- what slopes a chord may get, whatever pulses it still takes
+abbrev pub AreAhead : ℕ → List Slopes → List Pulse → Type 0
+AreAhead slack slopes pulses = EachAxis (λ axis. (slope : Slope) → IsSlope slope → IsNear slack slope (steps_along axis pulses) → AreBetween slopes axis slope)
+
+pub slopes-ahead : (slack : ℕ) (slopes : List Slopes) (pulses more : List Pulse) → 0 < length pulses → AreAhead slack slopes pulses → IsChord slack (pulses ++ more) → AreSlopes slopes (pulses ++ more)
+slopes-ahead slack slopes pulses more some ahead chord = record {
+  x = ahead.x (slope_along 0 (pulses ++ more)) (slope-some 0 (pulses ++ more) long) (chord-front slack 0 pulses more chord.x);
+  y = ahead.y (slope_along 1 (pulses ++ more)) (slope-some 1 (pulses ++ more) long) (chord-front slack 1 pulses more chord.y);
+  z = ahead.z (slope_along 2 (pulses ++ more)) (slope-some 2 (pulses ++ more) long) (chord-front slack 2 pulses more chord.z);
+} where
+  long : 0 < length (pulses ++ more)
+  long = omega (arith, length-append pulses more, some)
+
+-- along the open chord
+pub along-path : (limits : Limits) (stop : ℕ) (chord : Chord) (old new : Motion) (waited waits : List Waiting) (leg : Leg) (rest : List Leg) (slopes : List Slopes) (kept : ℕ)
+    → IsGoing limits stop chord (length waited) leg rest → 0 < length leg.pulses → AreAhead limits.slack slopes leg.pulses → kept_of limits.half (length leg.pulses) ≤ kept
+    → PassesAlong limits slopes stop kept old new waited waits → Advances limits stop old new chord (length waits) (pulses_of (leg ∷ rest)) (lines_of (leg ∷ rest))
+along-path limits stop chord old new waited waits leg rest slopes kept going some ahead enough passes = record {
+  made = passes.makes.made;
+  known = passes.makes.known;
+  leg = record { pulses = leg.pulses; lines = leg.lines ++ passes.makes.made };
+  rest = rest;
+  pulses_are = refl;
+  lines_are = sym (append_assoc (lines_of rest) leg.lines passes.makes.made);
+  path = inl (record {
+    opened = going.opened;
+    decided = going.decided;
+    paced = λ more straight. paced-more limits stop (longer leg more) passes.makes.made rest (going.paced more straight) (on more straight) (few more);
+    waits_are = omega (arith, length-append leg.lines passes.makes.made, passes.makes.rest, going.waits_are);
+    kept = omega (arith, length-append leg.lines passes.makes.made, passes.makes.rest, passes.makes.count_is, going.waits_are, going.kept, enough);
+  });
+} where
+  few : (more : List Pulse) → length leg.lines + length passes.makes.made ≤ length (leg.pulses ++ more)
+  few more = omega (arith, length-append leg.pulses more, passes.makes.rest, going.waits_are)
+  on : (more : List Pulse) → IsChord limits.slack (leg.pulses ++ more) → All (IsOnChord limits stop (leg.pulses ++ more)) passes.makes.made
+  on more straight = All-weaker (IsWithin passes.most passes.ramp stop) (IsOnChord limits stop (leg.pulses ++ more))
+      (on-chord limits stop slopes (leg.pulses ++ more) passes.most passes.ramp (omega (arith, length-append leg.pulses more, some)) passes.allowed (slopes-ahead limits.slack slopes leg.pulses more some ahead straight))
+      passes.makes.made passes.makes.each
+
+-- how many lines a corner takes
+record AreCounts (before first second waits n n' half pulses : ℕ) : Type 0 where
+  meets : before + first + pulses / 2 ≡ n'
+  all : second ≡ pulses
+  few : (pulses + 1) / 2 ≤ n
+  left : waits + (pulses - pulses / 2) ≡ n
+  kept : pulses - pulses / 2 + min n (2 * half) / 2 ≤ n
+
+counts : (wait before first left second waits n n' half pulses : ℕ) → wait + before ≡ n + n' → before + min n' (2 * half) / 2 ≡ n' → 0 < n → 0 < n' → 0 < half → 0 < pulses → pulses ≤ max 1 n' → pulses ≤ max 1 n → pulses ≤ max 1 (2 * half)
+    → first ≡ min (wait - n - pulses / 2) wait → left + first ≡ wait → second ≡ min pulses left → waits + second ≡ left → AreCounts before first second waits n n' half pulses
+counts wait before first left second waits n n' half pulses a b c d e f g h i j k l m = record {
+  meets = omega arith;
+  all = omega arith;
+  few = omega arith;
+  left = omega arith;
+  kept = omega arith;
+}
+
+lines-split : (a b f t d s : List Line) → t ++ d ≡ s → (a ++ ((b ++ f) ++ t)) ++ d ≡ ((a ++ b) ++ []) ++ (f ++ s)
+lines-split a b f t d s e = rw (← e) (simp (append_assoc, append-nil))
+
+-- a chord behind a corner that isn't decided
+pub joined-corner : (limits : Limits) (stop : ℕ) (chord : Chord) (waits : ℕ) (leg : Leg) (rest : List Leg) → IsJoined limits stop chord waits leg rest → IsTrue chord.has_corner
+joined-corner limits stop chord waits leg [] joined = absurd joined
+joined-corner limits stop chord waits leg (before ∷ rest) joined = joined.pending
+
+-- the lines up to the end of a corner, for one way that the chord goes on
+corner-lines : (limits : Limits) (stop : ℕ) (chord : Chord) (old new : Motion) (waited waits : List Waiting) (leg before : Leg) (rest : List Leg) (next : List Slopes) (pulses : List Pulse)
+    → IsPending limits stop chord (length waited) leg before rest → IsChord limits.slack pulses → length leg.pulses ≤ length pulses → 0 < length leg.pulses → AreSlopes next pulses
+    → (p : PassesCorner limits chord.before next chord.before_pulses chord.pulses stop old new waited waits)
+    → AreCounts (length before.lines) (length p.first.made) (length p.then.made) (length waits) (length leg.pulses) (length before.pulses) limits.half p.pulses
+    → IsPaced limits stop (record { pulses = pulses; lines = drop (p.pulses / 2) p.then.made } ∷ (record { pulses = before.pulses; lines = (before.lines ++ p.first.made) ++ take (p.pulses / 2) p.then.made } ∷ rest))
+corner-lines limits stop chord old new waited waits leg before rest next pulses pending straight longer_is some are p count =
+    corner-paced limits stop chord.before next pulses before rest p.first.made p.then.made p.pulses p.before_most p.before_ramp p.most p.ramp pending.paced straight pending.some (omega (arith, some, longer_is))
+    pending.before_is are p.some p.takes p.before_allowed p.first.each p.then.each count.meets count.all (omega (arith, count.few, longer_is))
+
+corner-counts : (limits : Limits) (stop : ℕ) (chord : Chord) (old new : Motion) (waited waits : List Waiting) (leg before : Leg) (rest : List Leg) (next : List Slopes)
+    → IsPending limits stop chord (length waited) leg before rest → 0 < length leg.pulses → 0 < limits.half → (p : PassesCorner limits chord.before next chord.before_pulses chord.pulses stop old new waited waits)
+    → AreCounts (length before.lines) (length p.first.made) (length p.then.made) (length waits) (length leg.pulses) (length before.pulses) limits.half p.pulses
+corner-counts limits stop chord old new waited waits leg before rest next pending some half p =
+    counts (length waited) (length before.lines) (length p.first.made) (length p.left) (length p.then.made) (length waits) (length leg.pulses) (length before.pulses) limits.half p.pulses
+    pending.waits_are pending.kept some pending.some half p.some (omega (arith, p.before_few, pending.before_count)) (omega (arith, p.after_few, pending.opened.count)) p.half
+    first_is p.first.rest p.then.count_is p.then.rest
+  where
+    first_is : length p.first.made ≡ min (length waited - length leg.pulses - p.pulses / 2) (length waited)
+    first_is = rw (← pending.opened.count) p.first.count_is
+
+known-both : (a b c : Motion) (first second : List Line) → b.known ≡ a.known ++ first → c.known ≡ b.known ++ second → c.known ≡ a.known ++ (first ++ second)
+known-both a b c first second e e' = e' ∙ ap (λ t. t ++ second) e ∙ append_assoc a.known first second
+
+corner-split : (leg before : Leg) (rest : List Leg) (f s : List Line) (k : ℕ) → leg.lines ≡ [] → (lines_of rest ++ ((before.lines ++ f) ++ take k s)) ++ drop k s ≡ ((lines_of rest ++ before.lines) ++ leg.lines) ++ (f ++ s)
+corner-split leg before rest f s k none = rw none (lines-split (lines_of rest) before.lines f (take k s) (drop k s) s (take-append-drop k s))
+
+opened-decided : (limits : Limits) (chord chord' : Chord) (pulses : List Pulse) → chord' ≡ record chord { has_corner = false } → IsOpen limits chord pulses → IsOpen limits chord' pulses
+opened-decided limits chord chord' pulses e is = rw e (record { is_open = is.is_open; cones = is.cones; count = is.count; few = is.few; straight = is.straight })
+
+back-length : (k : ℕ) (s : List Line) → k ≤ length s → length (drop k s) + k ≡ length s
+back-length k s few = omega (arith, ap length (take-append-drop k s), length-append (take k s) (drop k s), length-take-le k s few)
+
+-- a corner is decided while the chord is open
+pub corner-path : (limits : Limits) (stop : ℕ) (chord chord' : Chord) (old new : Motion) (waited waits : List Waiting) (leg before : Leg) (rest : List Leg) (next : List Slopes)
+    → IsPending limits stop chord (length waited) leg before rest → 0 < length leg.pulses → 0 < limits.half → AreAhead limits.slack next leg.pulses
+    → PassesCorner limits chord.before next chord.before_pulses chord.pulses stop old new waited waits → chord' ≡ record chord { has_corner = false }
+    → Advances limits stop old new chord' (length waits) (pulses_of (leg ∷ (before ∷ rest))) (lines_of (leg ∷ (before ∷ rest)))
+corner-path limits stop chord chord' old new waited waits leg before rest next pending some half ahead p e =
+    let count : AreCounts (length before.lines) (length p.first.made) (length p.then.made) (length waits) (length leg.pulses) (length before.pulses) limits.half p.pulses
+    = corner-counts limits stop chord old new waited waits leg before rest next pending some half p in
+    let back : length (drop (p.pulses / 2) p.then.made) + p.pulses / 2 ≡ length p.then.made = back-length (p.pulses / 2) p.then.made (omega (arith, count.all)) in
+    record {
+      made = p.first.made ++ p.then.made;
+      known = known-both old p.mid new p.first.made p.then.made p.first.known p.then.known;
+      leg = record { pulses = leg.pulses; lines = drop (p.pulses / 2) p.then.made };
+      rest = record { pulses = before.pulses; lines = (before.lines ++ p.first.made) ++ take (p.pulses / 2) p.then.made } ∷ rest;
+      pulses_are = refl;
+      lines_are = corner-split leg before rest p.first.made p.then.made (p.pulses / 2) pending.none;
+      path = inl (record {
+        opened = opened-decided limits chord chord' leg.pulses e pending.opened;
+        decided = ap (λ t. t.has_corner) e;
+        paced = λ more straight. corner-lines limits stop chord old new waited waits leg before rest next (leg.pulses ++ more) pending straight (omega (arith, length-append leg.pulses more)) some
+            (slopes-ahead limits.slack next leg.pulses more some ahead straight) p count;
+        waits_are = omega (arith, back, count.all, count.left);
+        kept = omega (arith, back, count.all, count.kept);
+      });
+    }
+
+-- or where it ends
+pub corner-reach : (limits : Limits) (stop : ℕ) (chord : Chord) (old new : Motion) (waited waits : List Waiting) (leg before : Leg) (rest : List Leg) (next : List Slopes)
+    → IsPending limits stop chord (length waited) leg before rest → 0 < length leg.pulses → 0 < limits.half → AreSlopes next leg.pulses
+    → PassesCorner limits chord.before next chord.before_pulses chord.pulses stop old new waited waits
+    → Reaches limits stop old new (length waits) leg.pulses (pulses_of (leg ∷ (before ∷ rest))) (lines_of (leg ∷ (before ∷ rest))) × (kept_of limits.half (length leg.pulses) ≤ length waits)
+corner-reach limits stop chord old new waited waits leg before rest next pending some half are p =
+    let count : AreCounts (length before.lines) (length p.first.made) (length p.then.made) (length waits) (length leg.pulses) (length before.pulses) limits.half p.pulses
+    = corner-counts limits stop chord old new waited waits leg before rest next pending some half p in
+    let back : length (drop (p.pulses / 2) p.then.made) + p.pulses / 2 ≡ length p.then.made = back-length (p.pulses / 2) p.then.made (omega (arith, count.all)) in
+    (record {
+      made = p.first.made ++ p.then.made;
+      known = known-both old p.mid new p.first.made p.then.made p.first.known p.then.known;
+      last = drop (p.pulses / 2) p.then.made;
+      rest = record { pulses = before.pulses; lines = (before.lines ++ p.first.made) ++ take (p.pulses / 2) p.then.made } ∷ rest;
+      pulses_are = refl;
+      lines_are = corner-split leg before rest p.first.made p.then.made (p.pulses / 2) pending.none;
+      paced = corner-lines limits stop chord old new waited waits leg before rest next leg.pulses pending pending.opened.straight (omega arith) some are p count;
+      waits_are = omega (arith, back, count.all, count.left);
+    }, omega (arith, count.left, count.kept))
+
+-- where it was decided before, nothing is made
+pub going-reach : (limits : Limits) (stop : ℕ) (chord : Chord) (m : Motion) (waited : List Waiting) (leg : Leg) (rest : List Leg) → IsGoing limits stop chord (length waited) leg rest
+    → Reaches limits stop m m (length waited) leg.pulses (pulses_of (leg ∷ rest)) (lines_of (leg ∷ rest)) × (kept_of limits.half (length leg.pulses) ≤ length waited)
+going-reach limits stop chord m waited leg rest going =
+    (record {
+      made = [];
+      known = sym (append-nil m.known);
+      last = leg.lines;
+      rest = rest;
+      pulses_are = refl;
+      lines_are = sym (append-nil (lines_of (leg ∷ rest)));
+      paced = let P : List Pulse → Type 0 = λ t. IsPaced limits stop (record { pulses = t; lines = leg.lines } ∷ rest) in subst P (append-nil leg.pulses) (going.paced [] (rw (append-nil leg.pulses) going.opened.straight));
+      waits_are = going.waits_are;
+    }, omega (arith, going.waits_are, going.kept))
+
+-- nothing is made of a path
+pub path-stays : (limits : Limits) (stop : ℕ) (chord : Chord) (m : Motion) (waits : ℕ) (leg : Leg) (rest : List Leg) → IsPath limits stop chord waits (leg ∷ rest)
+    → Advances limits stop m m chord waits (pulses_of (leg ∷ rest)) (lines_of (leg ∷ rest))
+path-stays limits stop chord m waits leg rest path = record { made = []; known = sym (append-nil m.known); leg = leg; rest = rest; pulses_are = refl; lines_are = sym (append-nil (lines_of (leg ∷ rest))); path = path }
+
+-- the same of a path, by what is known of its corner
+pub decide-path : (limits : Limits) (stop : ℕ) (chord chord' : Chord) (old new : Motion) (waited waits : List Waiting) (leg : Leg) (rest : List Leg) (next : List Slopes)
+    → IsPath limits stop chord (length waited) (leg ∷ rest) → IsTrue chord.has_corner → 0 < length leg.pulses → 0 < limits.half → (IsOpen limits chord leg.pulses → AreAhead limits.slack next leg.pulses)
+    → PassesCorner limits chord.before next chord.before_pulses chord.pulses stop old new waited waits → chord' ≡ record chord { has_corner = false }
+    → Advances limits stop old new chord' (length waits) (pulses_of (leg ∷ rest)) (lines_of (leg ∷ rest))
+decide-path limits stop chord chord' old new waited waits leg rest next (inl going) has some half ahead p e = absurd (cc (going.decided, has))
+decide-path limits stop chord chord' old new waited waits leg [] next (inr joined) has some half ahead p e = absurd joined
+decide-path limits stop chord chord' old new waited waits leg (before ∷ rest) next (inr pending) has some half ahead p e =
+    corner-path limits stop chord chord' old new waited waits leg before rest next pending some half (ahead pending.opened) p e
+
+pub reach-path : (limits : Limits) (stop : ℕ) (chord : Chord) (old new : Motion) (waited waits : List Waiting) (leg : Leg) (rest : List Leg) (next : List Slopes)
+    → IsPath limits stop chord (length waited) (leg ∷ rest) → IsTrue chord.has_corner → 0 < length leg.pulses → 0 < limits.half → AreSlopes next leg.pulses
+    → PassesCorner limits chord.before next chord.before_pulses chord.pulses stop old new waited waits
+    → Reaches limits stop old new (length waits) leg.pulses (pulses_of (leg ∷ rest)) (lines_of (leg ∷ rest)) × (kept_of limits.half (length leg.pulses) ≤ length waits)
+reach-path limits stop chord old new waited waits leg rest next (inl going) has some half are p = absurd (cc (going.decided, has))
+reach-path limits stop chord old new waited waits leg [] next (inr joined) has some half are p = absurd joined
+reach-path limits stop chord old new waited waits leg (before ∷ rest) next (inr pending) has some half are p = corner-reach limits stop chord old new waited waits leg before rest next pending some half are p
+
+pub reached-path : (limits : Limits) (stop : ℕ) (chord : Chord) (m : Motion) (waited : List Waiting) (leg : Leg) (rest : List Leg) → IsPath limits stop chord (length waited) (leg ∷ rest) → IsFalse chord.has_corner
+    → Reaches limits stop m m (length waited) leg.pulses (pulses_of (leg ∷ rest)) (lines_of (leg ∷ rest)) × (kept_of limits.half (length leg.pulses) ≤ length waited)
+reached-path limits stop chord m waited leg rest (inl going) has = going-reach limits stop chord m waited leg rest going
+reached-path limits stop chord m waited leg [] (inr joined) has = absurd joined
+reached-path limits stop chord m waited leg (before ∷ rest) (inr pending) has = absurd (cc (pending.pending, has))
