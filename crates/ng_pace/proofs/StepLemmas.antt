@@ -15,7 +15,7 @@ use Rattle.ng_pace.specs.Cones.{AreBetween}
 use Rattle.ng_pace.specs.Legs.{Leg, IsChord, IsPaced, IsOnChord, steps_along, slope_along, pulses_of, lines_of}
 use Rattle.ng_pace.specs.Making.{IsWithin}
 use Rattle.ng_pace.specs.Passing.{PassesAlong, PassesCorner}
-use Rattle.ng_pace.specs.Underway.{AreSlopes, IsOpen, IsGoing, IsPending, IsJoined, IsPath, Advances, Reaches, longer, kept_of}
+use Rattle.ng_pace.specs.Underway.{AreCones, AreSlopes, IsOpen, IsGoing, IsPending, IsJoined, IsPath, Advances, Reaches, longer, kept_of}
 use Rattle.ng_pace.proofs.PathLemmas.{slope-some, chord-front, on-chord, paced-more, corner-paced}
 
 -- what slopes a chord may get, whatever pulses it still takes
@@ -49,6 +49,7 @@ along-path limits stop chord old new waited waits leg rest slopes kept going som
     waits_are = omega (arith, length-append leg.lines passes.makes.made, passes.makes.rest, going.waits_are);
     kept = omega (arith, length-append leg.lines passes.makes.made, passes.makes.rest, passes.makes.count_is, going.waits_are, going.kept, enough);
   });
+  some = some;
 } where
   few : (more : List Pulse) → length leg.lines + length passes.makes.made ≤ length (leg.pulses ++ more)
   few more = omega (arith, length-append leg.pulses more, passes.makes.rest, going.waits_are)
@@ -140,6 +141,7 @@ corner-path limits stop chord chord' old new waited waits leg before rest next p
         waits_are = omega (arith, back, count.all, count.left);
         kept = omega (arith, back, count.all, count.kept);
       });
+      some = some;
     }
 
 -- or where it ends
@@ -178,9 +180,9 @@ going-reach limits stop chord m waited leg rest going =
     }, omega (arith, going.waits_are, going.kept))
 
 -- nothing is made of a path
-pub path-stays : (limits : Limits) (stop : ℕ) (chord : Chord) (m : Motion) (waits : ℕ) (leg : Leg) (rest : List Leg) → IsPath limits stop chord waits (leg ∷ rest)
+pub path-stays : (limits : Limits) (stop : ℕ) (chord : Chord) (m : Motion) (waits : ℕ) (leg : Leg) (rest : List Leg) → IsPath limits stop chord waits (leg ∷ rest) → 0 < length leg.pulses
     → Advances limits stop m m chord waits (pulses_of (leg ∷ rest)) (lines_of (leg ∷ rest))
-path-stays limits stop chord m waits leg rest path = record { made = []; known = sym (append-nil m.known); leg = leg; rest = rest; pulses_are = refl; lines_are = sym (append-nil (lines_of (leg ∷ rest))); path = path }
+path-stays limits stop chord m waits leg rest path some = record { made = []; known = sym (append-nil m.known); leg = leg; rest = rest; pulses_are = refl; lines_are = sym (append-nil (lines_of (leg ∷ rest))); path = path; some = some }
 
 -- the same of a path, by what is known of its corner
 pub decide-path : (limits : Limits) (stop : ℕ) (chord chord' : Chord) (old new : Motion) (waited waits : List Waiting) (leg : Leg) (rest : List Leg) (next : List Slopes)
@@ -205,3 +207,89 @@ pub reached-path : (limits : Limits) (stop : ℕ) (chord : Chord) (m : Motion) (
 reached-path limits stop chord m waited leg rest (inl going) has = going-reach limits stop chord m waited leg rest going
 reached-path limits stop chord m waited leg [] (inr joined) has = absurd joined
 reached-path limits stop chord m waited leg (before ∷ rest) (inr pending) has = absurd (cc (pending.pending, has))
+
+-- a path comes farther in two steps
+pub advances-on : (limits : Limits) (stop : ℕ) (a b c : Motion) (chord chord' : Chord) (waits waits' : ℕ) (pulses : List Pulse) (lines : List Line) → (first : Advances limits stop a b chord waits pulses lines)
+    → Advances limits stop b c chord' waits' (pulses_of (first.leg ∷ first.rest)) (lines_of (first.leg ∷ first.rest)) → Advances limits stop a c chord' waits' pulses lines
+advances-on limits stop a b c chord chord' waits waits' pulses lines first then = record {
+  made = first.made ++ then.made;
+  known = known-both a b c first.made then.made first.known then.known;
+  leg = then.leg;
+  rest = then.rest;
+  pulses_are = then.pulses_are ∙ first.pulses_are;
+  lines_are = then.lines_are ∙ ap (λ t. t ++ then.made) first.lines_are ∙ append_assoc lines first.made then.made;
+  path = then.path;
+  some = then.some;
+}
+
+pub path-opened : (limits : Limits) (stop : ℕ) (chord : Chord) (waits : ℕ) (leg : Leg) (rest : List Leg) → IsPath limits stop chord waits (leg ∷ rest) → IsOpen limits chord leg.pulses
+path-opened limits stop chord waits leg rest (inl going) = going.opened
+path-opened limits stop chord waits leg [] (inr joined) = absurd joined
+path-opened limits stop chord waits leg (before ∷ rest) (inr pending) = pending.opened
+
+-- along the last chord, where the path ends
+pub along-reach : (limits : Limits) (stop : ℕ) (old mid new : Motion) (waited waits : List Waiting) (chord pulses : List Pulse) (lines : List Line) (slopes : List Slopes) (kept : ℕ)
+    → Reaches limits stop old mid (length waited) chord pulses lines → AreSlopes slopes chord → 0 < length chord → PassesAlong limits slopes stop kept mid new waited waits → kept ≤ length waited
+    → Reaches limits stop old new (length waits) chord pulses lines × (length waits ≡ kept)
+along-reach limits stop old mid new waited waits chord pulses lines slopes kept reached are some passes enough =
+    (record {
+      made = reached.made ++ passes.makes.made;
+      known = known-both old mid new reached.made passes.makes.made reached.known passes.makes.known;
+      last = reached.last ++ passes.makes.made;
+      rest = reached.rest;
+      pulses_are = reached.pulses_are;
+      lines_are = sym (append_assoc (lines_of reached.rest) reached.last passes.makes.made) ∙ ap (λ t. t ++ passes.makes.made) reached.lines_are ∙ append_assoc lines reached.made passes.makes.made;
+      paced = paced-more limits stop (record { pulses = chord; lines = reached.last }) passes.makes.made reached.rest reached.paced
+          (All-weaker (IsWithin passes.most passes.ramp stop) (IsOnChord limits stop chord) (on-chord limits stop slopes chord passes.most passes.ramp some passes.allowed are) passes.makes.made passes.makes.each)
+          (omega (arith, reached.waits_are, passes.makes.rest));
+      waits_are = omega (arith, length-append reached.last passes.makes.made, reached.waits_are, passes.makes.rest);
+    }, omega (arith, passes.makes.count_is, passes.makes.rest, enough))
+
+-- a pulse is taken into the last chord
+pub take-path : (limits : Limits) (stop : ℕ) (chord chord' : Chord) (waits : ℕ) (leg : Leg) (rest : List Leg) (pulse : Pulse) → IsPath limits stop chord waits (leg ∷ rest)
+    → chord' ≡ record chord { pulses = chord'.pulses; cones = chord'.cones } → AreCones limits.slack chord'.cones (leg.pulses ++ pulse ∷ []) → chord'.pulses ≡ length leg.pulses + 1
+    → IsChord limits.slack (leg.pulses ++ pulse ∷ []) → length leg.pulses < 1048576
+    → IsPath limits stop chord' (waits + 1) (record { pulses = leg.pulses ++ pulse ∷ []; lines = leg.lines } ∷ rest)
+take-path limits stop chord chord' waits leg rest pulse path same cones count straight few = by_path rest path where
+  opened : IsOpen limits chord leg.pulses → IsOpen limits chord' (leg.pulses ++ pulse ∷ [])
+  opened is = record {
+    is_open = ap (λ t. t.is_open) same ∙ is.is_open;
+    cones = cones;
+    count = omega (arith, length-append leg.pulses (pulse ∷ []), count);
+    few = omega (arith, length-append leg.pulses (pulse ∷ []), few);
+    straight = straight;
+  }
+  by_path : (rest : List Leg) → IsPath limits stop chord waits (leg ∷ rest) → IsPath limits stop chord' (waits + 1) (record { pulses = leg.pulses ++ pulse ∷ []; lines = leg.lines } ∷ rest)
+  by_path rest (inl going) = inl (record {
+    opened = opened going.opened;
+    decided = ap (λ t. t.has_corner) same ∙ going.decided;
+    paced = λ more chord_is. let P : List Pulse → Type 0 = λ t. IsPaced limits stop (record { pulses = t; lines = leg.lines } ∷ rest) in
+        subst P (sym (append_assoc leg.pulses (pulse ∷ []) more)) (going.paced (pulse ∷ more) (rw (append_assoc leg.pulses (pulse ∷ []) more) at chord_is));
+    waits_are = omega (arith, length-append leg.pulses (pulse ∷ []), going.waits_are);
+    kept = omega (arith, length-append leg.pulses (pulse ∷ []), going.kept);
+  })
+  by_path [] (inr joined) = absurd joined
+  by_path (before ∷ older) (inr pending) = inr (record {
+    opened = opened pending.opened;
+    pending = ap (λ t. t.has_corner) same ∙ pending.pending;
+    none = pending.none;
+    paced = pending.paced;
+    some = pending.some;
+    before_is = rw (ap (λ t. t.before) same) pending.before_is;
+    before_count = ap (λ t. t.before_pulses) same ∙ pending.before_count;
+    waits_are = omega (arith, length-append leg.pulses (pulse ∷ []), pending.waits_are);
+    kept = pending.kept;
+  })
+
+pub advances-pulses : (limits : Limits) (stop : ℕ) (old new : Motion) (chord : Chord) (waits : ℕ) (leg : Leg) (rest : List Leg) (pulse : Pulse) (lines : List Line)
+    → Advances limits stop old new chord waits (pulses_of (record { pulses = leg.pulses ++ pulse ∷ []; lines = leg.lines } ∷ rest)) lines → Advances limits stop old new chord waits (pulses_of (leg ∷ rest) ++ pulse ∷ []) lines
+advances-pulses limits stop old new chord waits leg rest pulse lines a = record {
+  made = a.made;
+  known = a.known;
+  leg = a.leg;
+  rest = a.rest;
+  pulses_are = a.pulses_are ∙ sym (append_assoc (pulses_of rest) leg.pulses (pulse ∷ []));
+  lines_are = a.lines_are;
+  path = a.path;
+  some = a.some;
+}

@@ -73,6 +73,7 @@ pub record Advances (limits : Limits) (stop : ℕ) (old new : Motion) (chord : C
   pub pulses_are : pulses_of (leg ∷ rest) ≡ pulses
   pub lines_are : lines_of (leg ∷ rest) ≡ lines ++ made
   pub path : IsPath limits stop chord waits (leg ∷ rest)
+  pub some : 0 < length leg.pulses
 
 -- lines were made, and the path ends with its last chord; so many of its pulses wait
 pub record Reaches (limits : Limits) (stop : ℕ) (old new : Motion) (waits : ℕ) (chord pulses : List Pulse) (lines : List Line) : Type 0 where
@@ -84,3 +85,36 @@ pub record Reaches (limits : Limits) (stop : ℕ) (old new : Motion) (waits : �
   pub lines_are : lines_of rest ++ last ≡ lines ++ made
   pub paced : IsPaced limits stop (record { pulses = chord; lines = last } ∷ rest)
   pub waits_are : waits + length last ≡ length chord
+
+-- the last chord of a path has a pulse
+abbrev pub IsBegun : List Leg → Type 0
+IsBegun [] = Unit {0}
+IsBegun (leg ∷ rest) = 0 < length leg.pulses
+
+-- a chord was closed: what is kept of it, and how many of its pulses wait
+pub record IsClosed (chord : Chord) (pulses : List Pulse) (waits kept : ℕ) : Type 0 where
+  pub waits_are : waits ≡ kept
+  pub before_is : AreSlopes chord.before pulses
+  pub before_count : chord.before_pulses ≡ length pulses
+
+-- lines were made, and the last chord of the path goes straight with one more pulse
+pub record Turns (limits : Limits) (old new : Motion) (chord : Chord) (waits : ℕ) (pulse : Pulse) (pulses : List Pulse) (lines : List Line) : Type 0 where
+  pub made : List Line
+  pub known : new.known ≡ old.known ++ made
+  pub leg : Leg
+  pub rest : List Leg
+  pub pulses_are : pulses_of (leg ∷ rest) ≡ pulses
+  pub lines_are : lines_of (leg ∷ rest) ≡ lines ++ made
+  pub path : IsPath limits 0 chord waits (leg ∷ rest)
+  pub straight : IsChord limits.slack (leg.pulses ++ pulse ∷ [])
+  pub few : length leg.pulses < 2 ^ 20
+
+-- lines were made of all pulses of a path, and they keep to its chords and corners
+pub record Finishes (limits : Limits) (stop : ℕ) (old new : Motion) (pulses : List Pulse) (lines : List Line) : Type 0 where
+  pub made : List Line
+  pub known : new.known ≡ old.known ++ made
+  pub legs : List Leg
+  pub pulses_are : pulses_of legs ≡ pulses
+  pub lines_are : lines_of legs ≡ lines ++ made
+  pub paced : IsPaced limits stop legs
+  pub whole : length (lines_of legs) ≡ length (pulses_of legs)

@@ -1,5 +1,5 @@
 //! A stream of items, whose limits are found from its pulses.
-ghost use Rattle.std.specs.Prelude.{◌≡◌, ◌≤◌, ◌<◌, ◌+◌, ◌++◌, ◌∷◌, [], false, List, length, nat_le, OnOk, IfOk, IfSome, IfNone};
+ghost use Rattle.std.specs.Prelude.{◌≡◌, ◌≤◌, ◌<◌, ◌+◌, ◌++◌, ◌∷◌, [], ℕ, ◌^◌, false, List, length, nat_le, IsFalse, OnOk, IfOk, IfSome, IfNone};
 ghost use Rattle.std.specs.VecDeque.{deque_capacity};
 ghost use Rattle.ng_pace.specs.Axes.{AreLimits};
 ghost use Rattle.ng_pace.specs.Rest.{CanRest};
@@ -7,8 +7,8 @@ ghost use Rattle.ng_pace.specs.Flow.{Keeps, Adds, IsFlowGiven, Grows};
 ghost use Rattle.ng_pace.specs.Paced.{Waits};
 ghost use Rattle.ng_pace.specs.Making.{stop_of};
 ghost use Rattle.ng_pace.specs.Passing.{PassesAlong, PassesCorner};
-ghost use Rattle.ng_pace.specs.Legs.{Leg, lines_of, pulses_of};
-ghost use Rattle.ng_pace.specs.Underway.{Advances, AreSlopes, IsPath, Reaches, kept_of};
+ghost use Rattle.ng_pace.specs.Legs.{IsChord, Leg, lines_of, pulses_of};
+ghost use Rattle.ng_pace.specs.Underway.{Advances, AreSlopes, IsBegun, IsClosed, IsPath, Reaches, kept_of};
 
 use crate::caps::along;
 use crate::chord::{Chord, Waiting};
@@ -140,7 +140,9 @@ fn pass_corner<A: Allocator>(
 }
 
 /// How many of the last pulses of a chord may belong to the corner that it ends at.
-fn kept_of(limits: &Limits, pulses: u32) -> u64 {
+fn kept_of(limits: &Limits, pulses: u32) -> u64
+    ensures { result ≡ kept_of limits.now.half pulses }
+{
     (pulses as u64).min(limits.half.saturating_mul(2)) / 2
 }
 
@@ -168,27 +170,27 @@ fn decide_at_end<A: Allocator>(
     }
 }
 
-/// Closes the open chord, behind which nothing comes if it is whole.
+/// Closes the open chord. So many of its last pulses wait for the corner that it ends at.
 fn close<A: Allocator>(
     pacer: &mut Pacer<A>,
     waiting: &mut VecDeque<Waiting, A>,
     chord: &mut Chord,
     limits: &Limits,
     ending: Ending,
-    is_whole: bool,
+    kept: u64,
 )
     requires room { length pacer.old.known + length waiting.old.items ≤ pacer.old.room }
     requires limits { AreLimits limits.now }
     ensures keeps { Keeps pacer.old pacer.new waiting.old.items waiting.new.items }
     ensures capacity { deque_capacity waiting.new ≡ deque_capacity waiting.old }
+    ensures closes { (leg : Leg) (rest : List Leg) → IsPath limits.now (stop_of ending) chord.old (length waiting.old.items) (leg ∷ rest) → 0 < length leg.pulses
+        → kept ≤ kept_of limits.now.half (length leg.pulses)
+        → Reaches limits.now (stop_of ending) pacer.old pacer.new (length waiting.new.items) leg.pulses (pulses_of (leg ∷ rest)) (lines_of (leg ∷ rest))
+            × IsClosed chord.new leg.pulses (length waiting.new.items) kept }
+    ensures closed { IsFalse chord.new.is_open }
 {
     let slopes = chord.slopes();
     decide_at_end(pacer, waiting, chord, limits, &slopes, ending);
-    let kept = if is_whole {
-        0
-    } else {
-        kept_of(limits, chord.pulses)
-    };
     pass_along(pacer, waiting, limits, &slopes, kept, ending);
     chord.close();
 }
@@ -247,6 +249,9 @@ fn extend<A: Allocator>(
     requires limits { AreLimits limits.now }
     ensures keeps { Keeps pacer.old pacer.new waiting.old.items waiting.new.items }
     ensures capacity { deque_capacity waiting.new ≡ deque_capacity waiting.old }
+    ensures advances { (waits : ℕ) (leg : Leg) (rest : List Leg) → IsPath limits.now 0 chord.old waits (leg ∷ rest) → length waiting.old.items ≡ waits + 1
+        → IsChord limits.now.slack (leg.pulses ++ pulse.now ∷ []) → length leg.pulses < 2 ^ 20
+        → Advances limits.now 0 pacer.old pacer.new chord.new (length waiting.new.items) (pulses_of (leg ∷ rest) ++ pulse.now ∷ []) (lines_of (leg ∷ rest)) }
 {
     chord.take(limits, pulse);
     if chord.pulses % 16 == 0 {
@@ -270,7 +275,7 @@ fn finish<A: Allocator>(
     ensures none { waiting.new.items ≡ [] }
 {
     if shape.chord.is_open {
-        close(pacer, waiting, &mut shape.chord, limits, ending, true);
+        close(pacer, waiting, &mut shape.chord, limits, ending, 0);
     }
     settle_all(pacer, waiting, Caps { most: 0, ramp: 0 }, ending);
     shape.before = GREATEST;
@@ -292,7 +297,8 @@ fn turn<A: Allocator>(
     if !chord.is_open {
         chord.open(false);
     } else if chord.is_left(pulse) {
-        close(pacer, waiting, chord, limits, Ending::GoesOn, false);
+        let kept = kept_of(limits, chord.pulses);
+        close(pacer, waiting, chord, limits, Ending::GoesOn, kept);
         chord.open(true);
     }
 }

@@ -7,4 +7,4 @@ returns-then-chord-saturating_mul-clause-advances g c = λ leg rest path some.
     path c.if-chord.true some c.requires.limits.half (λ opened. c.slopes_ahead-slopes.ensures c.args.limits.now.slack leg.pulses opened.cones) c.pass_corner.ensures.passes c.pass_corner.ensures.chord
 
 pub returns-else-chord-clause-advances : goal.returns-else-chord-clause-advances
-returns-else-chord-clause-advances g c = λ leg rest path some. path-stays c.args.limits.now 0 c.args.chord.now c.args.pacer.now _ leg rest path
+returns-else-chord-clause-advances g c = λ leg rest path some. path-stays c.args.limits.now 0 c.args.chord.now c.args.pacer.now _ leg rest path some
