@@ -1,7 +1,8 @@
 -- How far a path comes with each step of the code.
 use Rattle.std.proofs.Common.{arith, ℕ, ◌+◌, ◌-◌, ◌*◌, ◌/◌, ◌<◌, ◌≤◌, ◌≡◌, ◌∙◌, ◌⊎◌, inl, inr, min, max, refl, ap, sym, subst, List, [], ◌∷◌, ◌++◌, length, take, drop, All, append-nil, append_assoc, Bool, true, false, IsTrue, IsFalse}
 use Rattle.std.proofs.lemmas.List.{length-append, take-append-drop, length-take-le}
-use Rattle.std.proofs.lemmas.List.Elements.{All-weaker}
+use Rattle.std.proofs.lemmas.List.Elements.{All-weaker, All-nil}
+use Rattle.ng_canon.specs.declared.item.AxisStep.{AxisStep}
 use Rattle.ng_canon.specs.declared.item.Pulse.{Pulse}
 use Rattle.ng_pace.specs.declared.limits.Limits.{Limits}
 use Rattle.ng_pace.specs.declared.line.Line.{Line}
@@ -10,12 +11,13 @@ use Rattle.ng_pace.specs.declared.chord.Chord.{Chord}
 use Rattle.ng_pace.specs.declared.chord.Waiting.{Waiting}
 use Rattle.ng_pace.specs.Motion.{Motion}
 use Rattle.ng_pace.specs.Axes.{EachAxis}
-use Rattle.ng_pace.specs.Chords.{Slope, IsSlope, IsNear}
+use Rattle.ng_pace.specs.Chords.{Slope, IsSlope, IsNear, IsStraight, slope_of}
 use Rattle.ng_pace.specs.Cones.{AreBetween}
-use Rattle.ng_pace.specs.Legs.{Leg, IsChord, IsPaced, IsOnChord, steps_along, slope_along, pulses_of, lines_of}
+use Rattle.ng_pace.specs.Legs.{Leg, IsChord, IsPaced, IsBehind, IsAllowed, IsOnChord, IsOnCorner, steps_along, slope_along, pulses_of, lines_of}
 use Rattle.ng_pace.specs.Making.{IsWithin}
 use Rattle.ng_pace.specs.Passing.{PassesAlong, PassesCorner}
-use Rattle.ng_pace.specs.Underway.{AreCones, AreSlopes, IsOpen, IsGoing, IsPending, IsJoined, IsPath, Advances, Reaches, longer, kept_of}
+use Rattle.ng_pace.specs.Underway.{AreCones, AreSlopes, IsOpen, IsGoing, IsPending, IsJoined, IsPath, IsClosed, Advances, Reaches, Turns, Finishes, IsBegun, longer, kept_of}
+use Rattle.ng_pace.proofs.ConeLemmas.{near-push}
 use Rattle.ng_pace.proofs.PathLemmas.{slope-some, chord-front, on-chord, paced-more, corner-paced}
 
 -- what slopes a chord may get, whatever pulses it still takes
@@ -293,3 +295,201 @@ advances-pulses limits stop old new chord waits leg rest pulse lines a = record 
   path = a.path;
   some = a.some;
 }
+
+-- what is allowed where motors go on is allowed where they come to rest
+allowed-stop : (P : ℕ → ℕ → Type 0) (stop : ℕ) (line : Line) → IsAllowed P 0 line → IsAllowed P stop line
+allowed-stop P stop line is = record { ramp = is.ramp; allowed = is.allowed; within = omega (arith, is.within) }
+
+behind-stop : (limits : Limits) (stop : ℕ) (leg : Leg) (rest : List Leg) → IsBehind limits 0 leg rest → IsBehind limits stop leg rest
+behind-stop limits stop leg [] behind = tt
+behind-stop limits stop leg (before ∷ rest) behind = record {
+  pulses = behind.pulses;
+  some = behind.some;
+  near = behind.near;
+  whole = behind.whole;
+  begun = behind.begun;
+  leaves = All-weaker (IsOnCorner limits 0 before.pulses leg.pulses behind.pulses) (IsOnCorner limits stop before.pulses leg.pulses behind.pulses) (λ line on. allowed-stop _ stop line on) _ behind.leaves;
+  enters = All-weaker (IsOnCorner limits 0 before.pulses leg.pulses behind.pulses) (IsOnCorner limits stop before.pulses leg.pulses behind.pulses) (λ line on. allowed-stop _ stop line on) _ behind.enters;
+}
+
+pub paced-stop : (limits : Limits) (stop : ℕ) (legs : List Leg) → IsPaced limits 0 legs → IsPaced limits stop legs
+paced-stop limits stop [] paced = tt
+paced-stop limits stop (leg ∷ rest) paced =
+    (record {
+      chord = paced.0.chord;
+      lines = All-weaker (IsOnChord limits 0 leg.pulses) (IsOnChord limits stop leg.pulses) (λ line on. allowed-stop _ stop line on) leg.lines paced.0.lines;
+      few = paced.0.few;
+    }, (behind-stop limits stop leg rest paced.1.0, paced-stop limits stop rest paced.1.1))
+
+pub path-stop : (limits : Limits) (stop : ℕ) (chord : Chord) (waits : ℕ) (legs : List Leg) → IsPath limits 0 chord waits legs → IsPath limits stop chord waits legs
+path-stop limits stop chord waits [] path = path
+path-stop limits stop chord waits (leg ∷ rest) (inl going) = inl (record {
+  opened = going.opened;
+  decided = going.decided;
+  paced = λ more straight. paced-stop limits stop (longer leg more ∷ rest) (going.paced more straight);
+  waits_are = going.waits_are;
+  kept = going.kept;
+})
+path-stop limits stop chord waits (leg ∷ []) (inr joined) = absurd joined
+path-stop limits stop chord waits (leg ∷ (before ∷ rest)) (inr pending) = inr (record {
+  opened = pending.opened;
+  pending = pending.pending;
+  none = pending.none;
+  paced = paced-stop limits stop (before ∷ rest) pending.paced;
+  some = pending.some;
+  before_is = pending.before_is;
+  before_count = pending.before_count;
+  waits_are = pending.waits_are;
+  kept = pending.kept;
+})
+
+-- of all pulses of a path lines were made, if they were of those of its last chord
+whole-paced : (limits : Limits) (stop : ℕ) (leg : Leg) (rest : List Leg) → IsPaced limits stop (leg ∷ rest) → length leg.lines ≡ length leg.pulses → length (lines_of (leg ∷ rest)) ≡ length (pulses_of (leg ∷ rest))
+whole-paced limits stop leg [] paced whole = whole
+whole-paced limits stop leg (before ∷ rest) paced whole =
+    omega (arith, length-append (lines_of (before ∷ rest)) leg.lines, length-append (pulses_of (before ∷ rest)) leg.pulses, whole, whole-paced limits stop before rest paced.1.1 paced.1.0.whole)
+
+pub finish-reach : (limits : Limits) (stop : ℕ) (old new : Motion) (waits : ℕ) (chord pulses : List Pulse) (lines : List Line) → Reaches limits stop old new waits chord pulses lines → waits ≡ 0 → Finishes limits stop old new pulses lines
+finish-reach limits stop old new waits chord pulses lines reached none = record {
+  made = reached.made;
+  known = reached.known;
+  legs = record { pulses = chord; lines = reached.last } ∷ reached.rest;
+  pulses_are = reached.pulses_are;
+  lines_are = reached.lines_are;
+  paced = reached.paced;
+  whole = whole-paced limits stop (record { pulses = chord; lines = reached.last }) reached.rest reached.paced (omega (arith, reached.waits_are, none));
+}
+
+pub finish-none : (limits : Limits) (stop : ℕ) (m : Motion) → Finishes limits stop m m [] []
+finish-none limits stop m = record { made = []; known = sym (append-nil m.known); legs = []; pulses_are = refl; lines_are = refl; paced = tt; whole = refl }
+
+pub finish-same : (limits : Limits) (stop : ℕ) (old mid new : Motion) (pulses : List Pulse) (lines : List Line) → Finishes limits stop old mid pulses lines → new.known ≡ mid.known → Finishes limits stop old new pulses lines
+finish-same limits stop old mid new pulses lines f same = record { made = f.made; known = same ∙ f.known; legs = f.legs; pulses_are = f.pulses_are; lines_are = f.lines_are; paced = f.paced; whole = f.whole }
+
+-- a chord of one pulse goes straight, and one of none
+near-none : (slack : ℕ) (slope : Slope) → IsNear slack slope []
+near-none slack slope = λ k none. let is : k ≡ 0 = omega (arith, none) in rw is (omega arith)
+
+pub straight-one : (slack : ℕ) (step : AxisStep) → IsStraight slack (step ∷ [])
+straight-one slack step = near-push slack (slope_of (step ∷ [])) [] step (near-none slack (slope_of (step ∷ []))) (omega arith)
+
+pub chord-one : (slack : ℕ) (pulse : Pulse) → IsChord slack (pulse ∷ [])
+chord-one slack pulse = record { x = straight-one slack pulse.x; y = straight-one slack pulse.y; z = straight-one slack pulse.z }
+
+pub chord-none : (slack : ℕ) → IsChord slack []
+chord-none slack = record { x = near-none slack (slope_of []); y = near-none slack (slope_of []); z = near-none slack (slope_of []) }
+
+-- a chord begins from rest
+pub turns-fresh : (limits : Limits) (chord chord' : Chord) (m : Motion) (waits : ℕ) (pulse : Pulse) → chord' ≡ record chord { pulses = 0; cones = chord'.cones; is_open = true; has_corner = false } → AreCones limits.slack chord'.cones [] → waits ≡ 0
+    → Turns limits m m chord' waits pulse [] []
+turns-fresh limits chord chord' m waits pulse same cones none = record {
+  made = [];
+  known = sym (append-nil m.known);
+  leg = record { pulses = []; lines = [] };
+  rest = [];
+  pulses_are = refl;
+  lines_are = refl;
+  path = inl (record {
+    opened = record { is_open = ap (λ t. t.is_open) same; cones = cones; count = ap (λ t. t.pulses) same; few = omega arith; straight = chord-none limits.slack };
+    decided = ap (λ t. t.has_corner) same;
+    paced = λ more straight. (record { chord = straight; lines = All-nil (IsOnChord limits 0 more); few = omega arith }, (tt, tt));
+    waits_are = omega (arith, none);
+    kept = omega arith;
+  });
+  straight = chord-one limits.slack pulse;
+  few = omega arith;
+}
+
+-- or behind a corner
+pub turns-corner : (limits : Limits) (chord chord' : Chord) (old new : Motion) (waits kept : ℕ) (pulse : Pulse) (last pulses : List Pulse) (lines : List Line) → Reaches limits 0 old new waits last pulses lines → IsClosed chord last waits kept
+    → kept ≡ kept_of limits.half (length last) → 0 < length last
+    → chord' ≡ record chord { pulses = 0; cones = chord'.cones; is_open = true; has_corner = true } → AreCones limits.slack chord'.cones [] → Turns limits old new chord' waits pulse pulses lines
+turns-corner limits chord chord' old new waits kept pulse last pulses lines reached closed kept_is some same cones = record {
+  made = reached.made;
+  known = reached.known;
+  leg = record { pulses = []; lines = [] };
+  rest = record { pulses = last; lines = reached.last } ∷ reached.rest;
+  pulses_are = append-nil (pulses_of reached.rest ++ last) ∙ reached.pulses_are;
+  lines_are = append-nil (lines_of reached.rest ++ reached.last) ∙ reached.lines_are;
+  path = inr (record {
+    opened = record { is_open = ap (λ t. t.is_open) same; cones = cones; count = ap (λ t. t.pulses) same; few = omega arith; straight = chord-none limits.slack };
+    pending = ap (λ t. t.has_corner) same;
+    none = refl;
+    paced = reached.paced;
+    some = some;
+    before_is = rw (ap (λ t. t.before) same) closed.before_is;
+    before_count = ap (λ t. t.before_pulses) same ∙ closed.before_count;
+    waits_are = omega (arith, reached.waits_are);
+    kept = omega (arith, reached.waits_are, closed.waits_are, kept_is);
+  });
+  straight = chord-one limits.slack pulse;
+  few = omega arith;
+}
+
+-- or it goes on
+pub turns-none : (limits : Limits) (chord : Chord) (m : Motion) (waits : ℕ) (pulse : Pulse) (leg : Leg) (rest : List Leg) → IsPath limits 0 chord waits (leg ∷ rest) → IsChord limits.slack (leg.pulses ++ pulse ∷ []) → length leg.pulses < 1048576
+    → Turns limits m m chord waits pulse (pulses_of (leg ∷ rest)) (lines_of (leg ∷ rest))
+turns-none limits chord m waits pulse leg rest path straight few = record {
+  made = [];
+  known = sym (append-nil m.known);
+  leg = leg;
+  rest = rest;
+  pulses_are = refl;
+  lines_are = sym (append-nil (lines_of (leg ∷ rest)));
+  path = path;
+  straight = straight;
+  few = few;
+}
+
+-- then the pulse is taken
+pub turns-on : (limits : Limits) (old mid new : Motion) (chord chord' : Chord) (waits waits' : ℕ) (pulse : Pulse) (pulses : List Pulse) (lines : List Line) → (turned : Turns limits old mid chord waits pulse pulses lines)
+    → Advances limits 0 mid new chord' waits' (pulses_of (turned.leg ∷ turned.rest) ++ pulse ∷ []) (lines_of (turned.leg ∷ turned.rest)) → Advances limits 0 old new chord' waits' (pulses ++ pulse ∷ []) lines
+turns-on limits old mid new chord chord' waits waits' pulse pulses lines turned a = record {
+  made = turned.made ++ a.made;
+  known = known-both old mid new turned.made a.made turned.known a.known;
+  leg = a.leg;
+  rest = a.rest;
+  pulses_are = a.pulses_are ∙ ap (λ t. t ++ pulse ∷ []) turned.pulses_are;
+  lines_are = a.lines_are ∙ ap (λ t. t ++ a.made) turned.lines_are ∙ append_assoc lines turned.made a.made;
+  path = a.path;
+  some = a.some;
+}
+
+-- a path whose chord is open has one, and a path whose chord isn't has none
+pub closes-path : (limits : Limits) (stop : ℕ) (chord chord' : Chord) (old new : Motion) (waits waits' : ℕ) (legs : List Leg) → IsPath limits 0 chord waits legs → IsBegun legs → IsTrue chord.is_open
+    → ((leg : Leg) (rest : List Leg) → IsPath limits stop chord waits (leg ∷ rest) → 0 < length leg.pulses → 0 ≤ kept_of limits.half (length leg.pulses)
+      → Reaches limits stop old new waits' leg.pulses (pulses_of (leg ∷ rest)) (lines_of (leg ∷ rest)) × IsClosed chord' leg.pulses waits' 0)
+    → Finishes limits stop old new (pulses_of legs) (lines_of legs) × (waits' ≡ 0)
+closes-path limits stop chord chord' old new waits waits' [] path begun is closes = absurd (cc (path.0, is))
+closes-path limits stop chord chord' old new waits waits' (leg ∷ rest) path begun is closes =
+    let both : Reaches limits stop old new waits' leg.pulses (pulses_of (leg ∷ rest)) (lines_of (leg ∷ rest)) × IsClosed chord' leg.pulses waits' 0 = closes leg rest (path-stop limits stop chord waits (leg ∷ rest) path) begun (omega arith) in
+    (finish-reach limits stop old new waits' leg.pulses (pulses_of (leg ∷ rest)) (lines_of (leg ∷ rest)) both.0 both.1.waits_are, both.1.waits_are)
+
+pub closed-path : (limits : Limits) (stop : ℕ) (chord : Chord) (m : Motion) (waits : ℕ) (legs : List Leg) → IsPath limits 0 chord waits legs → IsFalse chord.is_open → Finishes limits stop m m (pulses_of legs) (lines_of legs) × (waits ≡ 0)
+closed-path limits stop chord m waits [] path is = (finish-none limits stop m, path.1)
+closed-path limits stop chord m waits (leg ∷ rest) path is = let opened : IsOpen limits chord leg.pulses = path-opened limits 0 chord waits leg rest path in absurd (cc (opened.is_open, is))
+
+pub fresh-path : (limits : Limits) (chord chord' : Chord) (m : Motion) (waits : ℕ) (pulse : Pulse) (legs : List Leg) → IsPath limits 0 chord waits legs → IsFalse chord.is_open
+    → chord' ≡ record chord { pulses = 0; cones = chord'.cones; is_open = true; has_corner = false } → AreCones limits.slack chord'.cones [] → Turns limits m m chord' waits pulse (pulses_of legs) (lines_of legs)
+fresh-path limits chord chord' m waits pulse [] path is same cones = turns-fresh limits chord chord' m waits pulse same cones path.1
+fresh-path limits chord chord' m waits pulse (leg ∷ rest) path is same cones = let opened : IsOpen limits chord leg.pulses = path-opened limits 0 chord waits leg rest path in absurd (cc (opened.is_open, is))
+
+pub turned-path : (limits : Limits) (chord chord' chord'' : Chord) (old new : Motion) (waits waits' kept : ℕ) (pulse : Pulse) (legs : List Leg) → IsPath limits 0 chord waits legs → IsBegun legs → IsTrue chord.is_open → kept ≡ kept_of limits.half chord.pulses
+    → ((leg : Leg) (rest : List Leg) → IsPath limits 0 chord waits (leg ∷ rest) → 0 < length leg.pulses → kept ≤ kept_of limits.half (length leg.pulses)
+      → Reaches limits 0 old new waits' leg.pulses (pulses_of (leg ∷ rest)) (lines_of (leg ∷ rest)) × IsClosed chord' leg.pulses waits' kept)
+    → chord'' ≡ record chord' { pulses = 0; cones = chord''.cones; is_open = true; has_corner = true } → AreCones limits.slack chord''.cones [] → Turns limits old new chord'' waits' pulse (pulses_of legs) (lines_of legs)
+turned-path limits chord chord' chord'' old new waits waits' kept pulse [] path begun is kept_is closes same cones = absurd (cc (path.0, is))
+turned-path limits chord chord' chord'' old new waits waits' kept pulse (leg ∷ rest) path begun is kept_is closes same cones =
+    let opened : IsOpen limits chord leg.pulses = path-opened limits 0 chord waits leg rest path in
+    let kept_of_leg : kept ≡ kept_of limits.half (length leg.pulses) = kept_is ∙ ap (λ t. kept_of limits.half t) opened.count in
+    let both : Reaches limits 0 old new waits' leg.pulses (pulses_of (leg ∷ rest)) (lines_of (leg ∷ rest)) × IsClosed chord' leg.pulses waits' kept = closes leg rest path begun (omega (arith, kept_of_leg)) in
+    turns-corner limits chord' chord'' old new waits' kept pulse leg.pulses (pulses_of (leg ∷ rest)) (lines_of (leg ∷ rest)) both.0 both.1 kept_of_leg begun same cones
+
+pub going-path : (limits : Limits) (chord : Chord) (m : Motion) (waits : ℕ) (pulse : Pulse) (legs : List Leg) → IsPath limits 0 chord waits legs → IsTrue chord.is_open
+    → ((pulses : List Pulse) → AreCones limits.slack chord.cones pulses → chord.pulses ≡ length pulses → IsChord limits.slack (pulses ++ pulse ∷ []) × (length pulses < 1048576))
+    → Turns limits m m chord waits pulse (pulses_of legs) (lines_of legs)
+going-path limits chord m waits pulse [] path is stays = absurd (cc (path.0, is))
+going-path limits chord m waits pulse (leg ∷ rest) path is stays =
+    let opened : IsOpen limits chord leg.pulses = path-opened limits 0 chord waits leg rest path in
+    let goes : IsChord limits.slack (leg.pulses ++ pulse ∷ []) × (length leg.pulses < 1048576) = stays leg.pulses opened.cones opened.count in
+    turns-none limits chord m waits pulse leg rest path goes.0 goes.1

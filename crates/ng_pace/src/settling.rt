@@ -101,6 +101,7 @@ pub(crate) fn settle_all<A: Allocator>(
     ensures keeps { Keeps pacer.old pacer.new waiting.old.items waiting.new.items }
     ensures capacity { deque_capacity waiting.new ≡ deque_capacity waiting.old }
     ensures none { waiting.new.items ≡ [] }
+    ensures stays { waiting.old.items ≡ [] → pacer.new.known ≡ pacer.old.known }
 {
     while settle_one(pacer, waiting, limits, ending) {}
 }

@@ -8,7 +8,7 @@ ghost use Rattle.ng_pace.specs.Paced.{Waits};
 ghost use Rattle.ng_pace.specs.Making.{stop_of};
 ghost use Rattle.ng_pace.specs.Passing.{PassesAlong, PassesCorner};
 ghost use Rattle.ng_pace.specs.Legs.{IsChord, Leg, lines_of, pulses_of};
-ghost use Rattle.ng_pace.specs.Underway.{Advances, AreSlopes, IsBegun, IsClosed, IsPath, Reaches, kept_of};
+ghost use Rattle.ng_pace.specs.Underway.{Advances, AreSlopes, IsBegun, IsClosed, Finishes, IsPath, Reaches, Turns, kept_of};
 
 use crate::caps::along;
 use crate::chord::{Chord, Waiting};
@@ -260,6 +260,27 @@ fn extend<A: Allocator>(
     }
 }
 
+/// Closes the chord that is open, if one is. Nothing of it waits.
+fn close_last<A: Allocator>(
+    pacer: &mut Pacer<A>,
+    waiting: &mut VecDeque<Waiting, A>,
+    chord: &mut Chord,
+    limits: &Limits,
+    ending: Ending,
+)
+    requires room { length pacer.old.known + length waiting.old.items ≤ pacer.old.room }
+    requires limits { AreLimits limits.now }
+    ensures keeps { Keeps pacer.old pacer.new waiting.old.items waiting.new.items }
+    ensures capacity { deque_capacity waiting.new ≡ deque_capacity waiting.old }
+    ensures finishes { (legs : List Leg) → IsPath limits.now 0 chord.old (length waiting.old.items) legs → IsBegun legs
+        → Finishes limits.now (stop_of ending) pacer.old pacer.new (pulses_of legs) (lines_of legs) × (length waiting.new.items ≡ 0) }
+    ensures closed { IsFalse chord.new.is_open }
+{
+    if chord.is_open {
+        close(pacer, waiting, chord, limits, ending, 0);
+    }
+}
+
 /// Makes lines of all that waits: it comes to rest at its end.
 fn finish<A: Allocator>(
     pacer: &mut Pacer<A>,
@@ -273,10 +294,12 @@ fn finish<A: Allocator>(
     ensures keeps { Keeps pacer.old pacer.new waiting.old.items waiting.new.items }
     ensures capacity { deque_capacity waiting.new ≡ deque_capacity waiting.old }
     ensures none { waiting.new.items ≡ [] }
+    ensures finishes { (legs : List Leg) → IsPath limits.now 0 shape.old.chord (length waiting.old.items) legs → IsBegun legs
+        → Finishes limits.now (stop_of ending) pacer.old pacer.new (pulses_of legs) (lines_of legs) }
+    ensures closed { IsFalse shape.new.chord.is_open }
+    ensures start { shape.new.start ≡ shape.old.start }
 {
-    if shape.chord.is_open {
-        close(pacer, waiting, &mut shape.chord, limits, ending, 0);
-    }
+    close_last(pacer, waiting, &mut shape.chord, limits, ending);
     settle_all(pacer, waiting, Caps { most: 0, ramp: 0 }, ending);
     shape.before = GREATEST;
 }
@@ -293,6 +316,8 @@ fn turn<A: Allocator>(
     requires limits { AreLimits limits.now }
     ensures keeps { Keeps pacer.old pacer.new waiting.old.items waiting.new.items }
     ensures capacity { deque_capacity waiting.new ≡ deque_capacity waiting.old }
+    ensures turns { (legs : List Leg) → IsPath limits.now 0 chord.old (length waiting.old.items) legs → IsBegun legs
+        → Turns limits.now pacer.old pacer.new chord.new (length waiting.new.items) pulse.now (pulses_of legs) (lines_of legs) }
 {
     if !chord.is_open {
         chord.open(false);
@@ -327,6 +352,9 @@ fn push_pulse<A: Allocator>(
     requires capacity { deque_capacity waiting.old ≡ pacer.old.room }
     ensures adds { Adds pacer.old pacer.new waiting.old.items waiting.new.items item }
     ensures capacity { deque_capacity waiting.new ≡ deque_capacity waiting.old }
+    ensures advances { (legs : List Leg) → IsPath limits.now 0 shape.old.chord (length waiting.old.items) legs → IsBegun legs
+        → Advances limits.now 0 pacer.old pacer.new shape.new.chord (length waiting.new.items) (pulses_of legs ++ pulse.now ∷ []) (lines_of legs) }
+    ensures start { shape.new.start ≡ shape.old.start }
 {
     let feed = feed_of(pulse.period_us);
     turn(pacer, waiting, &mut shape.chord, limits, pulse);
