@@ -5,6 +5,7 @@ use Rattle.ng_pace.specs.declared.line.Line.{Line}
 use Rattle.ng_pace.specs.declared.chord.Waiting.{Waiting}
 use Rattle.ng_pace.specs.declared.stepping.Given.{Given}
 use Rattle.ng_pace.specs.declared.limits.Limits.{Limits}
+use Rattle.ng_pace.specs.declared.chord.Chord.{Chord}
 use Rattle.ng_pace.specs.Axes.{AreLimits}
 use Rattle.ng_pace.specs.Motion.{Motion}
 use Rattle.ng_pace.specs.Paced.{IsGiven}
@@ -37,11 +38,15 @@ pub record Adds (old new : Motion) (waited waits : List Waiting) (item : Item) :
 pub record Flow : Type 0 where
   pub motion : Motion
   pub waiting : List Item
+  -- what the motors allow, and the chord that is open
+  pub limits : Limits
+  pub chord : Chord
 
 -- there is room for all that is known, and its limits can be kept
-pub record IsHeld (motion : Motion) (waiting : List Waiting) (capacity : ℕ) (limits : Limits) : Type 0 where
+pub record IsHeld (motion : Motion) (waiting : List Waiting) (capacity start : ℕ) (limits : Limits) : Type 0 where
   pub fits : length motion.known + length waiting ≤ motion.room
   pub capacity_is : capacity ≡ motion.room
+  pub start_is : start ≡ motion.start
   pub limits_are : AreLimits limits
 
 -- all items that are known, in order
@@ -54,8 +59,11 @@ pub record Grows (old new : Flow) (more : List Item) : Type 0 where
   pub square : new.motion.square ≡ old.motion.square
   pub start : new.motion.start ≡ old.motion.start
   pub room : new.motion.room ≡ old.motion.room
+  pub limits : new.limits ≡ old.limits
 
 -- a line is given out of what is planned
 pub record IsFlowGiven (old new : Flow) (wanted : ℕ) (given : Given) : Type 0 where
   pub given_out : IsGiven old.motion new.motion wanted given
   pub waiting : new.waiting ≡ old.waiting
+  pub limits : new.limits ≡ old.limits
+  pub chord : new.chord ≡ old.chord

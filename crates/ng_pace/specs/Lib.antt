@@ -13,3 +13,4 @@ pub mod Legs
 pub mod Making
 pub mod Passing
 pub mod Underway
+pub mod Putting

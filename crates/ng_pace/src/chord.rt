@@ -34,7 +34,9 @@ impl Chord {
     ghost use Rattle.ng_pace.specs.Underway.{AreCones, AreSlopes};
 
     /// None.
-    pub(crate) fn new() -> Chord {
+    pub(crate) fn new() -> Chord
+        ensures { IsFalse result.is_open }
+    {
         Chord {
             pulses: 0,
             cones: [Cone::new(), Cone::new(), Cone::new()],

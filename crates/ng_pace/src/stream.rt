@@ -8,6 +8,7 @@ ghost use Rattle.ng_pace.specs.Paced.{Waits};
 ghost use Rattle.ng_pace.specs.Making.{stop_of};
 ghost use Rattle.ng_pace.specs.Passing.{PassesAlong, PassesCorner};
 ghost use Rattle.ng_pace.specs.Legs.{IsChord, Leg, lines_of, pulses_of};
+ghost use Rattle.ng_pace.specs.Putting.{IsPut, IsUnderway, Rests};
 ghost use Rattle.ng_pace.specs.Underway.{Advances, AreSlopes, IsBegun, IsClosed, Finishes, IsPath, Reaches, Turns, kept_of};
 
 use crate::caps::along;
@@ -50,9 +51,9 @@ impl<A: Allocator> Model for Stream<A> {
 
     ghost Value = { Flow };
 
-    ghost view = { λ s. record { motion = s.pacer; waiting = items_waiting s.waiting.items } };
+    ghost view = { λ s. record { motion = s.pacer; waiting = items_waiting s.waiting.items; limits = s.limits; chord = s.shape.chord } };
 
-    ghost invariant = { λ s. IsHeld s.pacer s.waiting.items (deque_capacity s.waiting) s.limits };
+    ghost invariant = { λ s. IsHeld s.pacer s.waiting.items (deque_capacity s.waiting) s.shape.start s.limits };
 }
 
 /// The square that these microseconds allow.
@@ -388,6 +389,9 @@ fn push_still<A: Allocator>(
     requires limits { AreLimits limits.now }
     ensures adds { Adds pacer.old pacer.new waiting.old.items waiting.new.items item }
     ensures capacity { deque_capacity waiting.new ≡ deque_capacity waiting.old }
+    ensures rests { (legs : List Leg) → IsPath limits.now 0 shape.old.chord (length waiting.old.items) legs → IsBegun legs
+        → Rests limits.now shape.old.start pacer.old pacer.new shape.new.chord (length waiting.new.items) legs (item ∷ []) }
+    ensures start { shape.new.start ≡ shape.old.start }
 {
     let start = shape.start;
     finish(pacer, waiting, shape, limits, Ending::Stands(start));
@@ -407,6 +411,9 @@ fn push_item<A: Allocator>(
     requires capacity { deque_capacity waiting.old ≡ pacer.old.room }
     ensures adds { Adds pacer.old pacer.new waiting.old.items waiting.new.items item }
     ensures capacity { deque_capacity waiting.new ≡ deque_capacity waiting.old }
+    ensures put { (legs : List Leg) → IsPath limits.now 0 shape.old.chord (length waiting.old.items) legs → IsBegun legs
+        → IsPut limits.now shape.old.start pacer.old pacer.new shape.new.chord (length waiting.new.items) legs item }
+    ensures start { shape.new.start ≡ shape.old.start }
 {
     match item {
         Item::Pulse(pulse) => push_pulse(pacer, waiting, shape, limits, item, &pulse),
@@ -424,6 +431,7 @@ impl<A: Allocator + Copy> Stream<A> {
         ensures rest { IfOk result (λ s. s.motion.square ≡ 0) }
         ensures room { IfOk result (λ s. s.motion.room ≡ room) }
         ensures limits { OnOk result (AreLimits limits) }
+        ensures underway { IfOk result (λ s. (s.limits ≡ limits) × IsUnderway s []) }
     {
         limits.check()?;
         let start = start_of(&limits);
@@ -457,6 +465,8 @@ impl<A: Allocator> Stream<A> {
         requires { length self.old.motion.known + length self.old.waiting < self.old.motion.room }
         ensures grows { Grows self.old self.new (item ∷ []) }
         ensures rests { CanRest self.new.motion.square self.new.motion.known }
+        ensures put { (legs : List Leg) → IsUnderway self.old legs → IsPut self.old.limits self.old.motion.start self.old.motion self.new.motion
+            self.new.chord (length self.new.waiting) legs item }
     {
         push_item(
             &mut self.pacer,
@@ -473,6 +483,8 @@ impl<A: Allocator> Stream<A> {
         ensures grows { Grows self.old self.new [] }
         ensures none { self.new.waiting ≡ [] }
         ensures rests { CanRest self.new.motion.square self.new.motion.known }
+        ensures finishes { (legs : List Leg) → IsUnderway self.old legs → Rests self.old.limits self.old.motion.start self.old.motion self.new.motion
+            self.new.chord (length self.new.waiting) legs [] }
     {
         let start = self.shape.start;
         finish(

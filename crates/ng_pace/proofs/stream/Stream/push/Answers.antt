@@ -1,4 +1,6 @@
-use Rattle.std.proofs.Common.{arith, ◌<◌, ◌+◌, length}
+use Rattle.std.proofs.Common.{arith, ◌≡◌, ◌∙◌, ◌<◌, ◌+◌, length, sym, subst, ℕ}
+use Rattle.ng_pace.specs.Underway.{IsPath}
+use Rattle.ng_pace.specs.Putting.{IsPut}
 use Rattle.ng_pace.specs.Flow.{items_waiting}
 use Rattle.ng_pace.proofs.FlowLemmas.{length-items_waiting}
 use Rattle.ng_pace.proofs.stream.Stream.push.Goals as goal
@@ -14,5 +16,12 @@ invariant_of-self g c =
     record {
       fits = omega (arith, room, length-items_waiting c.self.inside.waiting.items, c.push_item.ensures.adds.count, c.push_item.ensures.adds.room);
       capacity_is = omega (arith, c.push_item.ensures.capacity, c.self.invariant.capacity_is, c.push_item.ensures.adds.room);
+      start_is = c.push_item.ensures.start ∙ c.self.invariant.start_is ∙ sym c.push_item.ensures.adds.start;
       limits_are = c.self.invariant.limits_are;
     }
+
+pub returns-clause-put : goal.returns-clause-put
+returns-clause-put g c = rw (← c.self.view_is) (λ legs underway.
+    let path : IsPath c.self.inside.limits 0 c.self.inside.shape.chord (length c.self.inside.waiting.items) legs = rw (length-items_waiting c.self.inside.waiting.items) at underway.0 in
+    let P : ℕ → Type 0 = λ stop. IsPut c.self.inside.limits stop c.self.inside.pacer c.push_item.new.pacer c.push_item.new.shape.chord (length c.push_item.new.waiting.items) legs c.args.item in
+    rw (length-items_waiting c.push_item.new.waiting.items) (subst P c.self.invariant.start_is (c.push_item.ensures.put legs path underway.1)))
