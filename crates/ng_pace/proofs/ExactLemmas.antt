@@ -76,6 +76,7 @@ along-corner limits axis slope turn over over' pulses most ramp some long kept =
 } where
   scaled : slope * ramp * (over' * pulses) ≤ 2 * slice_index limits.accel axis * over * 65536 * (over' * pulses)
   scaled = omega (arith, kept.accel)
+
   scaled_rate : 0 < slice_index limits.rate axis → slope * slope * most * (over' * over') ≤ slice_index limits.rate axis * slice_index limits.rate axis * over * over * 65536 * (over' * over')
   scaled_rate fast = omega (arith, kept.rate fast)
 

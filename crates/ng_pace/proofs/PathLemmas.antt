@@ -32,8 +32,8 @@ pub chord-front : (slack axis : ℕ) (pulses more : List Pulse) → IsNear slack
 chord-front slack axis pulses more near =
     near-front slack (slope_along axis (pulses ++ more)) (steps_along axis pulses) (steps_along axis more)
     (let e : steps_along axis (pulses ++ more) ≡ steps_along axis pulses ++ steps_along axis more = map-append (step_of axis) pulses more in
-     let P : List AxisStep → Type 0 = λ t. IsNear slack (slope_along axis (pulses ++ more)) t in
-     subst P e near)
+    let P : List AxisStep → Type 0 = λ t. IsNear slack (slope_along axis (pulses ++ more)) t in
+    subst P e near)
 
 -- a line that has no more than is allowed
 pub on-chord : (limits : Limits) (stop : ℕ) (slopes : List Slopes) (chord : List Pulse) (most ramp : ℕ) → 0 < length chord → AllowAlong limits slopes most ramp → AreSlopes slopes chord → (line : Line) → IsWithin most ramp stop line → IsOnChord limits stop chord line
@@ -115,9 +115,10 @@ behind-more limits stop leg made (before ∷ rest) behind = record {
 
 pub paced-more : (limits : Limits) (stop : ℕ) (leg : Leg) (made : List Line) (rest : List Leg) → IsPaced limits stop (leg ∷ rest) → All (IsOnChord limits stop leg.pulses) made → length leg.lines + length made ≤ length leg.pulses
     → IsPaced limits stop (record { pulses = leg.pulses; lines = leg.lines ++ made } ∷ rest)
-paced-more limits stop leg made rest paced on few =
-    (record { chord = paced.0.chord; lines = All-append (IsOnChord limits stop leg.pulses) leg.lines made paced.0.lines on; few = omega (arith, length-append leg.lines made, few) },
-    (behind-more limits stop leg made rest paced.1.0, paced.1.1))
+paced-more limits stop leg made rest paced on few = (
+  record { chord = paced.0.chord; lines = All-append (IsOnChord limits stop leg.pulses) leg.lines made paced.0.lines on; few = omega (arith, length-append leg.lines made, few) },
+  (behind-more limits stop leg made rest paced.1.0, paced.1.1),
+)
 
 -- the lines up to the end of a corner: some along the chord before it, and then those at the corner, of which the first half belong to that chord
 pub corner-paced : (limits : Limits) (stop : ℕ) (slopes next : List Slopes) (chord : List Pulse) (before : Leg) (rest : List Leg) (first second : List Line) (pulses most ramp most' ramp' : ℕ)
@@ -130,19 +131,24 @@ corner-paced limits stop slopes next chord before rest first second pulses most 
   where
     on : All (IsOnCorner limits stop before.pulses chord pulses) second
     on = All-weaker (IsWithin most' ramp' stop) (IsOnCorner limits stop before.pulses chord pulses) (on-corner limits stop slopes next before.pulses chord pulses most' ramp' some some' takes are are') second each'
+
     front : length (take (pulses / 2) second) ≡ pulses / 2
     front = length-take-le (pulses / 2) second (omega (arith, len'))
+
     back : length (drop (pulses / 2) second) + pulses / 2 ≡ pulses
     back = omega (arith, ap length (take-append-drop (pulses / 2) second), length-append (take (pulses / 2) second) (drop (pulses / 2) second), front, len')
+
     known : length (before.lines ++ first) ≡ length before.pulses - pulses / 2
     known = omega (arith, length-append before.lines first, len)
+
     before_paced : IsPaced limits stop (record { pulses = before.pulses; lines = (before.lines ++ first) ++ take (pulses / 2) second } ∷ rest)
     before_paced = paced-more limits stop (record { pulses = before.pulses; lines = before.lines ++ first }) (take (pulses / 2) second) rest
         (paced-more limits stop before first rest paced
-          (All-weaker (IsWithin most ramp stop) (IsOnChord limits stop before.pulses) (on-chord limits stop slopes before.pulses most ramp some allowed are) first each) (omega (arith, len)))
+        (All-weaker (IsWithin most ramp stop) (IsOnChord limits stop before.pulses) (on-chord limits stop slopes before.pulses most ramp some allowed are) first each) (omega (arith, len)))
         (All-take (IsOnChord limits stop before.pulses) (pulses / 2) second
-          (All-weaker (IsOnCorner limits stop before.pulses chord pulses) (IsOnChord limits stop before.pulses) (leaves-chord limits stop before.pulses chord pulses long_enough some') second on))
+        (All-weaker (IsOnCorner limits stop before.pulses chord pulses) (IsOnChord limits stop before.pulses) (leaves-chord limits stop before.pulses chord pulses long_enough some') second on))
         (omega (arith, length-append before.lines first, front, len))
+
     leg : IsLeg limits stop (record { pulses = chord; lines = drop (pulses / 2) second })
     leg = record {
       chord = straight;
@@ -150,6 +156,7 @@ corner-paced limits stop slopes next chord before rest first second pulses most 
           (All-weaker (IsOnCorner limits stop before.pulses chord pulses) (IsOnChord limits stop chord) (enters-chord limits stop before.pulses chord pulses long_enough some) second on);
       few = omega (arith, back, few);
     }
+
     cornered : IsCornered limits stop (record { pulses = before.pulses; lines = (before.lines ++ first) ++ take (pulses / 2) second }) (record { pulses = chord; lines = drop (pulses / 2) second })
     cornered = record {
       pulses = pulses;

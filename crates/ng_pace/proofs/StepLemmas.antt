@@ -55,6 +55,7 @@ along-path limits stop chord old new waited waits leg rest slopes kept going som
 } where
   few : (more : List Pulse) → length leg.lines + length passes.makes.made ≤ length (leg.pulses ++ more)
   few more = omega (arith, length-append leg.pulses more, passes.makes.rest, going.waits_are)
+
   on : (more : List Pulse) → IsChord limits.slack (leg.pulses ++ more) → All (IsOnChord limits stop (leg.pulses ++ more)) passes.makes.made
   on more straight = All-weaker (IsWithin passes.most passes.ramp stop) (IsOnChord limits stop (leg.pulses ++ more))
       (on-chord limits stop slopes (leg.pulses ++ more) passes.most passes.ramp (omega (arith, length-append leg.pulses more, some)) passes.allowed (slopes-ahead limits.slack slopes leg.pulses more some ahead straight))
@@ -154,32 +155,36 @@ pub corner-reach : (limits : Limits) (stop : ℕ) (chord : Chord) (old new : Mot
 corner-reach limits stop chord old new waited waits leg before rest next pending some half are p =
     let count : AreCounts (length before.lines) (length p.first.made) (length p.then.made) (length waits) (length leg.pulses) (length before.pulses) limits.half p.pulses
     = corner-counts limits stop chord old new waited waits leg before rest next pending some half p in
-    let back : length (drop (p.pulses / 2) p.then.made) + p.pulses / 2 ≡ length p.then.made = back-length (p.pulses / 2) p.then.made (omega (arith, count.all)) in
-    (record {
-      made = p.first.made ++ p.then.made;
-      known = known-both old p.mid new p.first.made p.then.made p.first.known p.then.known;
-      last = drop (p.pulses / 2) p.then.made;
-      rest = record { pulses = before.pulses; lines = (before.lines ++ p.first.made) ++ take (p.pulses / 2) p.then.made } ∷ rest;
-      pulses_are = refl;
-      lines_are = corner-split leg before rest p.first.made p.then.made (p.pulses / 2) pending.none;
-      paced = corner-lines limits stop chord old new waited waits leg before rest next leg.pulses pending pending.opened.straight (omega arith) some are p count;
-      waits_are = omega (arith, back, count.all, count.left);
-    }, omega (arith, count.left, count.kept))
+    let back : length (drop (p.pulses / 2) p.then.made) + p.pulses / 2 ≡ length p.then.made = back-length (p.pulses / 2) p.then.made (omega (arith, count.all)) in (
+      record {
+        made = p.first.made ++ p.then.made;
+        known = known-both old p.mid new p.first.made p.then.made p.first.known p.then.known;
+        last = drop (p.pulses / 2) p.then.made;
+        rest = record { pulses = before.pulses; lines = (before.lines ++ p.first.made) ++ take (p.pulses / 2) p.then.made } ∷ rest;
+        pulses_are = refl;
+        lines_are = corner-split leg before rest p.first.made p.then.made (p.pulses / 2) pending.none;
+        paced = corner-lines limits stop chord old new waited waits leg before rest next leg.pulses pending pending.opened.straight (omega arith) some are p count;
+        waits_are = omega (arith, back, count.all, count.left);
+      },
+      omega (arith, count.left, count.kept),
+    )
 
 -- where it was decided before, nothing is made
 pub going-reach : (limits : Limits) (stop : ℕ) (chord : Chord) (m : Motion) (waited : List Waiting) (leg : Leg) (rest : List Leg) → IsGoing limits stop chord (length waited) leg rest
     → Reaches limits stop m m (length waited) leg.pulses (pulses_of (leg ∷ rest)) (lines_of (leg ∷ rest)) × (kept_of limits.half (length leg.pulses) ≤ length waited)
-going-reach limits stop chord m waited leg rest going =
-    (record {
-      made = [];
-      known = sym (append-nil m.known);
-      last = leg.lines;
-      rest = rest;
-      pulses_are = refl;
-      lines_are = sym (append-nil (lines_of (leg ∷ rest)));
-      paced = let P : List Pulse → Type 0 = λ t. IsPaced limits stop (record { pulses = t; lines = leg.lines } ∷ rest) in subst P (append-nil leg.pulses) (going.paced [] (rw (append-nil leg.pulses) going.opened.straight));
-      waits_are = going.waits_are;
-    }, omega (arith, going.waits_are, going.kept))
+going-reach limits stop chord m waited leg rest going = (
+  record {
+    made = [];
+    known = sym (append-nil m.known);
+    last = leg.lines;
+    rest = rest;
+    pulses_are = refl;
+    lines_are = sym (append-nil (lines_of (leg ∷ rest)));
+    paced = let P : List Pulse → Type 0 = λ t. IsPaced limits stop (record { pulses = t; lines = leg.lines } ∷ rest) in subst P (append-nil leg.pulses) (going.paced [] (rw (append-nil leg.pulses) going.opened.straight));
+    waits_are = going.waits_are;
+  },
+  omega (arith, going.waits_are, going.kept),
+)
 
 -- nothing is made of a path
 pub path-stays : (limits : Limits) (stop : ℕ) (chord : Chord) (m : Motion) (waits : ℕ) (leg : Leg) (rest : List Leg) → IsPath limits stop chord waits (leg ∷ rest) → 0 < length leg.pulses
@@ -233,19 +238,21 @@ path-opened limits stop chord waits leg (before ∷ rest) (inr pending) = pendin
 pub along-reach : (limits : Limits) (stop : ℕ) (old mid new : Motion) (waited waits : List Waiting) (chord pulses : List Pulse) (lines : List Line) (slopes : List Slopes) (kept : ℕ)
     → Reaches limits stop old mid (length waited) chord pulses lines → AreSlopes slopes chord → 0 < length chord → PassesAlong limits slopes stop kept mid new waited waits → kept ≤ length waited
     → Reaches limits stop old new (length waits) chord pulses lines × (length waits ≡ kept)
-along-reach limits stop old mid new waited waits chord pulses lines slopes kept reached are some passes enough =
-    (record {
-      made = reached.made ++ passes.makes.made;
-      known = known-both old mid new reached.made passes.makes.made reached.known passes.makes.known;
-      last = reached.last ++ passes.makes.made;
-      rest = reached.rest;
-      pulses_are = reached.pulses_are;
-      lines_are = sym (append_assoc (lines_of reached.rest) reached.last passes.makes.made) ∙ ap (λ t. t ++ passes.makes.made) reached.lines_are ∙ append_assoc lines reached.made passes.makes.made;
-      paced = paced-more limits stop (record { pulses = chord; lines = reached.last }) passes.makes.made reached.rest reached.paced
-          (All-weaker (IsWithin passes.most passes.ramp stop) (IsOnChord limits stop chord) (on-chord limits stop slopes chord passes.most passes.ramp some passes.allowed are) passes.makes.made passes.makes.each)
-          (omega (arith, reached.waits_are, passes.makes.rest));
-      waits_are = omega (arith, length-append reached.last passes.makes.made, reached.waits_are, passes.makes.rest);
-    }, omega (arith, passes.makes.count_is, passes.makes.rest, enough))
+along-reach limits stop old mid new waited waits chord pulses lines slopes kept reached are some passes enough = (
+  record {
+    made = reached.made ++ passes.makes.made;
+    known = known-both old mid new reached.made passes.makes.made reached.known passes.makes.known;
+    last = reached.last ++ passes.makes.made;
+    rest = reached.rest;
+    pulses_are = reached.pulses_are;
+    lines_are = sym (append_assoc (lines_of reached.rest) reached.last passes.makes.made) ∙ ap (λ t. t ++ passes.makes.made) reached.lines_are ∙ append_assoc lines reached.made passes.makes.made;
+    paced = paced-more limits stop (record { pulses = chord; lines = reached.last }) passes.makes.made reached.rest reached.paced
+        (All-weaker (IsWithin passes.most passes.ramp stop) (IsOnChord limits stop chord) (on-chord limits stop slopes chord passes.most passes.ramp some passes.allowed are) passes.makes.made passes.makes.each)
+        (omega (arith, reached.waits_are, passes.makes.rest));
+    waits_are = omega (arith, length-append reached.last passes.makes.made, reached.waits_are, passes.makes.rest);
+  },
+  omega (arith, passes.makes.count_is, passes.makes.rest, enough),
+)
 
 -- a pulse is taken into the last chord
 pub take-path : (limits : Limits) (stop : ℕ) (chord chord' : Chord) (waits : ℕ) (leg : Leg) (rest : List Leg) (pulse : Pulse) → IsPath limits stop chord waits (leg ∷ rest)
@@ -261,6 +268,7 @@ take-path limits stop chord chord' waits leg rest pulse path same cones count st
     few = omega (arith, length-append leg.pulses (pulse ∷ []), few);
     straight = straight;
   }
+
   by_path : (rest : List Leg) → IsPath limits stop chord waits (leg ∷ rest) → IsPath limits stop chord' (waits + 1) (record { pulses = leg.pulses ++ pulse ∷ []; lines = leg.lines } ∷ rest)
   by_path rest (inl going) = inl (record {
     opened = opened going.opened;
@@ -314,12 +322,14 @@ behind-stop limits stop leg (before ∷ rest) behind = record {
 
 pub paced-stop : (limits : Limits) (stop : ℕ) (legs : List Leg) → IsPaced limits 0 legs → IsPaced limits stop legs
 paced-stop limits stop [] paced = tt
-paced-stop limits stop (leg ∷ rest) paced =
-    (record {
-      chord = paced.0.chord;
-      lines = All-weaker (IsOnChord limits 0 leg.pulses) (IsOnChord limits stop leg.pulses) (λ line on. allowed-stop _ stop line on) leg.lines paced.0.lines;
-      few = paced.0.few;
-    }, (behind-stop limits stop leg rest paced.1.0, paced-stop limits stop rest paced.1.1))
+paced-stop limits stop (leg ∷ rest) paced = (
+  record {
+    chord = paced.0.chord;
+    lines = All-weaker (IsOnChord limits 0 leg.pulses) (IsOnChord limits stop leg.pulses) (λ line on. allowed-stop _ stop line on) leg.lines paced.0.lines;
+    few = paced.0.few;
+  },
+  (behind-stop limits stop leg rest paced.1.0, paced-stop limits stop rest paced.1.1),
+)
 
 pub path-stop : (limits : Limits) (stop : ℕ) (chord : Chord) (waits : ℕ) (legs : List Leg) → IsPath limits 0 chord waits legs → IsPath limits stop chord waits legs
 path-stop limits stop chord waits [] path = path
@@ -458,7 +468,7 @@ turns-on limits old mid new chord chord' waits waits' pulse pulses lines turned 
 -- a path whose chord is open has one, and a path whose chord isn't has none
 pub closes-path : (limits : Limits) (stop : ℕ) (chord chord' : Chord) (old new : Motion) (waits waits' : ℕ) (legs : List Leg) → IsPath limits 0 chord waits legs → IsBegun legs → IsTrue chord.is_open
     → ((leg : Leg) (rest : List Leg) → IsPath limits stop chord waits (leg ∷ rest) → 0 < length leg.pulses → 0 ≤ kept_of limits.half (length leg.pulses)
-      → Reaches limits stop old new waits' leg.pulses (pulses_of (leg ∷ rest)) (lines_of (leg ∷ rest)) × IsClosed chord' leg.pulses waits' 0)
+    → Reaches limits stop old new waits' leg.pulses (pulses_of (leg ∷ rest)) (lines_of (leg ∷ rest)) × IsClosed chord' leg.pulses waits' 0)
     → Finishes limits stop old new (pulses_of legs) (lines_of legs) × (waits' ≡ 0)
 closes-path limits stop chord chord' old new waits waits' [] path begun is closes = absurd (cc (path.0, is))
 closes-path limits stop chord chord' old new waits waits' (leg ∷ rest) path begun is closes =
@@ -476,7 +486,7 @@ fresh-path limits chord chord' m waits pulse (leg ∷ rest) path is same cones =
 
 pub turned-path : (limits : Limits) (chord chord' chord'' : Chord) (old new : Motion) (waits waits' kept : ℕ) (pulse : Pulse) (legs : List Leg) → IsPath limits 0 chord waits legs → IsBegun legs → IsTrue chord.is_open → kept ≡ kept_of limits.half chord.pulses
     → ((leg : Leg) (rest : List Leg) → IsPath limits 0 chord waits (leg ∷ rest) → 0 < length leg.pulses → kept ≤ kept_of limits.half (length leg.pulses)
-      → Reaches limits 0 old new waits' leg.pulses (pulses_of (leg ∷ rest)) (lines_of (leg ∷ rest)) × IsClosed chord' leg.pulses waits' kept)
+    → Reaches limits 0 old new waits' leg.pulses (pulses_of (leg ∷ rest)) (lines_of (leg ∷ rest)) × IsClosed chord' leg.pulses waits' kept)
     → chord'' ≡ record chord' { pulses = 0; cones = chord''.cones; is_open = true; has_corner = true } → AreCones limits.slack chord''.cones [] → Turns limits old new chord'' waits' pulse (pulses_of legs) (lines_of legs)
 turned-path limits chord chord' chord'' old new waits waits' kept pulse [] path begun is kept_is closes same cones = absurd (cc (path.0, is))
 turned-path limits chord chord' chord'' old new waits waits' kept pulse (leg ∷ rest) path begun is kept_is closes same cones =

@@ -22,10 +22,7 @@ fn axis_turn(before: &Slopes, after: &Slopes) -> (u64, u64)
     ensures most { (slope : Slope) (next : Slope) → IsSlope slope → IsSlope next → IsBetween before.now slope → IsBetween after.now next
         → IsTurn result.0 result.1 slope next }
 {
-    (
-        before.size().max(after.size()),
-        before.turn_to(after),
-    )
+    (before.size().max(after.size()), before.turn_to(after))
 }
 
 impl Turn {

@@ -18,6 +18,7 @@ mod laws;
 mod limits;
 mod line;
 mod pacer;
+mod path;
 mod planning;
 mod root;
 mod settling;

@@ -9,9 +9,11 @@ returns-clause-takes c = λ pulses cones count short.
     let fits : 2 * c.saturating_add-pulses.result + c.args.limits.now.slack < 4294967296 = omega (arith, next, short, c.requires.slack_at_most) in
     let x : length (steps_along 0 pulses) + 1 ≡ c.saturating_add-pulses.result = omega (arith, length-map pulses (step_of 0), next) in
     let y : length (steps_along 1 pulses) + 1 ≡ c.saturating_add-pulses.result = omega (arith, length-map pulses (step_of 1), next) in
-    let z : length (steps_along 2 pulses) + 1 ≡ c.saturating_add-pulses.result = omega (arith, length-map pulses (step_of 2), next) in
-    (record {
-      x = λ d. rw (map-append (step_of 0) pulses (c.args.pulse.now ∷ [])) (c.after.ensures (steps_along 0 pulses) (cones.x _) x fits);
-      y = λ d. rw (map-append (step_of 1) pulses (c.args.pulse.now ∷ [])) (c.after-2.ensures (steps_along 1 pulses) (cones.y _) y fits);
-      z = λ d. rw (map-append (step_of 2) pulses (c.args.pulse.now ∷ [])) (c.after-3.ensures (steps_along 2 pulses) (cones.z _) z fits);
-    }, next)
+    let z : length (steps_along 2 pulses) + 1 ≡ c.saturating_add-pulses.result = omega (arith, length-map pulses (step_of 2), next) in (
+      record {
+        x = λ d. rw (map-append (step_of 0) pulses (c.args.pulse.now ∷ [])) (c.after.ensures (steps_along 0 pulses) (cones.x _) x fits);
+        y = λ d. rw (map-append (step_of 1) pulses (c.args.pulse.now ∷ [])) (c.after-2.ensures (steps_along 1 pulses) (cones.y _) y fits);
+        z = λ d. rw (map-append (step_of 2) pulses (c.args.pulse.now ∷ [])) (c.after-3.ensures (steps_along 2 pulses) (cones.z _) z fits);
+      },
+      next,
+    )

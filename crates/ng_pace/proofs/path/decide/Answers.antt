@@ -1,5 +1,5 @@
 use Rattle.ng_pace.proofs.StepLemmas.{decide-path, path-stays}
-use Rattle.ng_pace.proofs.stream.decide.Goals as goal
+use Rattle.ng_pace.proofs.path.decide.Goals as goal
 
 pub returns-then-chord-saturating_mul-clause-advances : goal.returns-then-chord-saturating_mul-clause-advances
 returns-then-chord-saturating_mul-clause-advances g c = λ leg rest path some.

@@ -1,6 +1,6 @@
 use Rattle.std.proofs.Common.{arith, rules, ◌≡◌, ◌-◌, ◌/◌, length, deque_len}
 use Rattle.ng_pace.proofs.ExactLemmas.{allow-along, takes-corner}
-use Rattle.ng_pace.proofs.stream.pass_corner.Goals as goal
+use Rattle.ng_pace.proofs.path.pass_corner.Goals as goal
 
 pub returns-clause-passes : goal.returns-clause-passes
 returns-clause-passes g c =

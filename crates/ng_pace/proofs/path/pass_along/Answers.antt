@@ -1,6 +1,6 @@
 use Rattle.std.proofs.Common.{arith, rules, ◌≡◌, ◌-◌, length, deque_len}
 use Rattle.ng_pace.proofs.ExactLemmas.{allow-along}
-use Rattle.ng_pace.proofs.stream.pass_along.Goals as goal
+use Rattle.ng_pace.proofs.path.pass_along.Goals as goal
 
 pub returns-clause-passes : goal.returns-clause-passes
 returns-clause-passes g c =

@@ -1,7 +1,7 @@
 use Rattle.std.proofs.Common.{length}
 use Rattle.ng_pace.specs.Making.{stop_of}
 use Rattle.ng_pace.proofs.StepLemmas.{closes-path, closed-path}
-use Rattle.ng_pace.proofs.stream.close_last.Goals as goal
+use Rattle.ng_pace.proofs.path.close_last.Goals as goal
 
 pub returns-then-chord-clause-finishes : goal.returns-then-chord-clause-finishes
 returns-then-chord-clause-finishes g c = λ legs path begun.

@@ -1,6 +1,6 @@
 use Rattle.std.proofs.Common.{length}
 use Rattle.ng_pace.proofs.StepLemmas.{fresh-path, turned-path, going-path}
-use Rattle.ng_pace.proofs.stream.turn.Goals as goal
+use Rattle.ng_pace.proofs.path.turn.Goals as goal
 
 pub returns-then-not-chord-clause-turns : goal.returns-then-not-chord-clause-turns
 returns-then-not-chord-clause-turns g c = λ legs path begun.

@@ -3,7 +3,7 @@ use Rattle.std.proofs.lemmas.List.{length-append}
 use Rattle.ng_pace.specs.Legs.{Leg, lines_of}
 use Rattle.ng_pace.specs.Underway.{IsPath}
 use Rattle.ng_pace.proofs.StepLemmas.{take-path, path-opened, path-stays, advances-on, advances-pulses}
-use Rattle.ng_pace.proofs.stream.extend.Goals as goal
+use Rattle.ng_pace.proofs.path.extend.Goals as goal
 
 pub returns-then-chord-eq0-clause-advances : goal.returns-then-chord-eq0-clause-advances
 returns-then-chord-eq0-clause-advances g c = λ waits leg rest path one straight few.
