@@ -2,6 +2,7 @@ pub mod CapsLemmas
 pub mod MakingLemmas
 pub mod PathLemmas
 pub mod PlanLemmas
+pub mod PutLemmas
 pub mod RestLemmas
 pub mod RootLemmas
 pub mod ConeLemmas

@@ -1,6 +1,8 @@
 -- What lines ask of an axis (own). The square of the rate, in pulses a second times 2^8, is at most `most`, and changes by at most `ramp` from one pulse to the
 -- next. A slope is that of an axis: steps over pulses, without a sign.
-use Rattle.std.specs.Prelude.{ℕ, ◌+◌, ◌*◌, ◌^◌, ◌<◌, ◌≤◌, ◌⊎◌, slice_index}
+use Rattle.std.specs.Prelude.{ℕ, ◌≡◌, ◌+◌, ◌*◌, ◌^◌, ◌<◌, ◌≤◌, ◌⊎◌, slice_index}
+use Rattle.ng_pace.specs.declared.fault.PaceFault.{PaceFault}
+use Rattle.ng_pace.specs.declared.fault.PaceFault.TheVariants.{StartTooSmall, NoAcceleration, NoCorner, NoSlack, SlackTooGreat, NoRoom, OutOfMemory}
 use Rattle.ng_pace.specs.declared.limits.Limits.{Limits}
 
 -- what holds of each axis, by its number
@@ -34,3 +36,18 @@ pub record IsCorner (limits : Limits) (axis slope turn over pulses most ramp : �
 abbrev pub IsNearCorner : Limits → ℕ → ℕ → ℕ → ℕ → Type 0
 IsNearCorner limits axis turn over pulses =
     (turn * pulses ≤ 8 * limits.slack * over) ⊎ (turn * pulses * slice_index limits.accel axis ≤ slice_index limits.start axis * slice_index limits.start axis * over)
+
+-- a motor starts and stops at once at so many parts of 256 of the ramp: at half of it, since at rest it is half a step beyond its pulse, or where no axis then
+-- goes faster than it can start
+abbrev pub IsStop : Limits → ℕ → Type 0
+IsStop limits stop = EachAxis (λ axis. (stop ≤ 128) ⊎ (stop * (2 * slice_index limits.accel axis) ≤ 256 * (slice_index limits.start axis * slice_index limits.start axis)))
+
+-- why limits can't be kept
+abbrev pub IsFaultOf : Limits → PaceFault → Type 0
+IsFaultOf limits NoAcceleration = (slice_index limits.accel 0 < 3) ⊎ ((slice_index limits.accel 1 < 3) ⊎ (slice_index limits.accel 2 < 3))
+IsFaultOf limits NoCorner = limits.half ≡ 0
+IsFaultOf limits NoSlack = limits.slack ≡ 0
+IsFaultOf limits SlackTooGreat = 1000 < limits.slack
+IsFaultOf limits StartTooSmall = ⊥
+IsFaultOf limits NoRoom = ⊥
+IsFaultOf limits OutOfMemory = ⊥

@@ -13,4 +13,5 @@ pub mod Legs
 pub mod Making
 pub mod Passing
 pub mod Underway
+pub mod Halting
 pub mod Putting

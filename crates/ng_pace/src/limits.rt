@@ -1,5 +1,5 @@
 //! What the motors allow.
-ghost use Rattle.std.specs.Prelude.{OnOk};
+ghost use Rattle.std.specs.Prelude.{◌≤◌, ◌<◌, ◌*◌, ◌+◌, OnOk, IfErr, slice_index};
 
 use crate::fault::PaceFault;
 
@@ -38,11 +38,12 @@ pub(crate) struct Caps {
 }
 
 impl Limits {
-    ghost use Rattle.ng_pace.specs.Axes.{AreLimits};
+    ghost use Rattle.ng_pace.specs.Axes.{AreLimits, IsFaultOf, IsStop};
 
     /// Whether all can be kept.
     pub(crate) fn check(&self) -> Result<(), PaceFault>
-        ensures { OnOk result (AreLimits self.now) }
+        ensures limits { OnOk result (AreLimits self.now) }
+        ensures fault { IfErr result (λ fault. IsFaultOf self.now fault) }
     {
         if self.accel[0] < 3 || self.accel[1] < 3 || self.accel[2] < 3 {
             return Err(PaceFault::NoAcceleration);
@@ -57,5 +58,27 @@ impl Limits {
             return Err(PaceFault::SlackTooGreat);
         }
         Ok(())
+    }
+
+    /// What an axis allows of a start or a stop at once, in parts of 256 of a ramp.
+    fn axis_stop(&self, axis: usize) -> u64
+        requires axis { axis < 3 }
+        requires accel { 3 ≤ slice_index self.now.accel axis }
+        ensures { result * (2 * slice_index self.now.accel axis) ≤ 256 * (slice_index self.now.start axis * slice_index self.now.start axis) }
+    {
+        let start = self.start[axis];
+        start.saturating_mul(start).saturating_mul(128) / self.accel[axis]
+    }
+
+    /// At which square motors start and stop at once, in parts of 256 of what a line may change by.
+    pub(crate) fn stop(&self) -> u64
+        requires { AreLimits self.now }
+        ensures stop { IsStop self.now result }
+        ensures half { 128 ≤ result }
+    {
+        self.axis_stop(0)
+            .min(self.axis_stop(1))
+            .min(self.axis_stop(2))
+            .max(128)
     }
 }

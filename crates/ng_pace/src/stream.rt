@@ -1,13 +1,14 @@
 //! A stream of items, whose limits are found from its pulses.
-ghost use Rattle.std.specs.Prelude.{◌≡◌, ◌≤◌, ◌<◌, ◌+◌, ◌++◌, ◌∷◌, [], List, length, nat_le, IsFalse, OnOk, IfOk, IfSome, IfNone};
+ghost use Rattle.std.specs.Prelude.{◌≡◌, ◌≤◌, ◌<◌, ◌+◌, ◌++◌, ◌∷◌, [], List, length, nat_le, IsFalse, ◌⊎◌, OnOk, IfOk, IfErr, IfSome, IfNone};
 ghost use Rattle.std.specs.VecDeque.{deque_capacity};
-ghost use Rattle.ng_pace.specs.Axes.{AreLimits};
+ghost use Rattle.ng_pace.specs.Axes.{AreLimits, IsFaultOf, IsStop};
 ghost use Rattle.ng_pace.specs.Rest.{CanRest};
 ghost use Rattle.ng_pace.specs.Flow.{Keeps, Adds, IsFlowGiven, Grows};
 ghost use Rattle.ng_pace.specs.Paced.{Waits};
 ghost use Rattle.ng_pace.specs.Making.{stop_of};
 ghost use Rattle.ng_pace.specs.Legs.{Leg, lines_of, pulses_of};
 ghost use Rattle.ng_pace.specs.Putting.{IsPut, IsUnderway, Rests};
+ghost use Rattle.ng_pace.specs.Halting.{Halts, Takes};
 ghost use Rattle.ng_pace.specs.Underway.{Advances, IsBegun, Finishes, IsPath};
 
 use crate::chord::{Chord, Waiting};
@@ -57,22 +58,6 @@ impl<A: Allocator> Model for Stream<A> {
 fn feed_of(us: u64) -> u64 {
     let rate = 256_000_000u64.checked_div(us).unwrap_or(256_000_000).max(1);
     rate.saturating_mul(rate).min(GREATEST)
-}
-
-/// At which square motors start and stop at once, in parts of 256 of what a line allows.
-fn start_of(limits: &Limits) -> u64 {
-    let mut start = 0x100_0000_0000u64;
-    for i in 0..3 {
-        let square = limits.start[i]
-            .saturating_mul(limits.start[i])
-            .saturating_mul(256);
-        start = start.min(
-            square
-                .checked_div(limits.accel[i].saturating_mul(2))
-                .unwrap_or(0),
-        );
-    }
-    start.max(128)
 }
 
 /// Makes lines of all that waits: it comes to rest at its end.
@@ -159,7 +144,7 @@ fn push_still<A: Allocator>(
     ensures adds { Adds pacer.old pacer.new waiting.old.items waiting.new.items item }
     ensures capacity { deque_capacity waiting.new ≡ deque_capacity waiting.old }
     ensures rests { (legs : List Leg) → IsPath limits.now 0 shape.old.chord (length waiting.old.items) legs → IsBegun legs
-        → Rests limits.now shape.old.start pacer.old pacer.new shape.new.chord (length waiting.new.items) legs (item ∷ []) }
+        → Halts limits.now shape.old.start pacer.old pacer.new shape.new.chord (length waiting.new.items) legs (item ∷ []) }
     ensures start { shape.new.start ≡ shape.old.start }
 {
     let start = shape.start;
@@ -181,7 +166,7 @@ fn push_item<A: Allocator>(
     ensures adds { Adds pacer.old pacer.new waiting.old.items waiting.new.items item }
     ensures capacity { deque_capacity waiting.new ≡ deque_capacity waiting.old }
     ensures put { (legs : List Leg) → IsPath limits.now 0 shape.old.chord (length waiting.old.items) legs → IsBegun legs
-        → IsPut limits.now shape.old.start pacer.old pacer.new shape.new.chord (length waiting.new.items) legs item }
+        → Takes limits.now shape.old.start pacer.old pacer.new shape.new.chord (length waiting.new.items) legs item }
     ensures start { shape.new.start ≡ shape.old.start }
 {
     match item {
@@ -200,10 +185,12 @@ impl<A: Allocator + Copy> Stream<A> {
         ensures rest { IfOk result (λ s. s.motion.square ≡ 0) }
         ensures room { IfOk result (λ s. s.motion.room ≡ room) }
         ensures limits { OnOk result (AreLimits limits) }
-        ensures underway { IfOk result (λ s. (s.limits ≡ limits) × IsUnderway s []) }
+        ensures stop { IfOk result (λ s. (s.limits ≡ limits) × IsStop limits s.motion.start) }
+        ensures underway { IfOk result (λ s. IsUnderway s []) }
+        ensures fault { IfErr result (λ fault. IsFaultOf limits fault ⊎ AreLimits limits) }
     {
         limits.check()?;
-        let start = start_of(&limits);
+        let start = limits.stop();
         let pacer = Pacer::new(alloc, start, room)?;
         match VecDeque::with_capacity(alloc, room) {
             Ok(waiting) => Ok(Stream {
@@ -234,8 +221,7 @@ impl<A: Allocator> Stream<A> {
         requires { length self.old.motion.known + length self.old.waiting < self.old.motion.room }
         ensures grows { Grows self.old self.new (item ∷ []) }
         ensures rests { CanRest self.new.motion.square self.new.motion.known }
-        ensures put { (legs : List Leg) → IsUnderway self.old legs → IsPut self.old.limits self.old.motion.start self.old.motion self.new.motion
-            self.new.chord (length self.new.waiting) legs item }
+        ensures put { (legs : List Leg) → IsUnderway self.old legs → IsPut self.old self.new legs item }
     {
         push_item(
             &mut self.pacer,
@@ -252,8 +238,7 @@ impl<A: Allocator> Stream<A> {
         ensures grows { Grows self.old self.new [] }
         ensures none { self.new.waiting ≡ [] }
         ensures rests { CanRest self.new.motion.square self.new.motion.known }
-        ensures finishes { (legs : List Leg) → IsUnderway self.old legs → Rests self.old.limits self.old.motion.start self.old.motion self.new.motion
-            self.new.chord (length self.new.waiting) legs [] }
+        ensures finishes { (legs : List Leg) → IsUnderway self.old legs → Rests self.old self.new legs [] }
     {
         let start = self.shape.start;
         finish(
