@@ -65,11 +65,14 @@ rest-flow limits old new chord chord' waited waits legs more underway h items = 
 } where
   known : new.known ≡ old.known ++ (h.finishes.made ++ h.stands)
   known = h.known ∙ ap (λ t. t ++ h.stands) h.finishes.known ∙ append_assoc old.known h.finishes.made h.stands
+
   none : (xs : List Item) → length xs ≡ 0 → xs ≡ []
   none [] e = refl
   none (x ∷ xs) e = absurd (omega (arith, e))
+
   both : items_of (h.finishes.made ++ h.stands) ++ waits ≡ waited ++ more
   both = made-of old.known (h.finishes.made ++ h.stands) waited waits more (ap (λ t. items_of t ++ waits) (sym known) ∙ items)
+
   all : items_of h.finishes.made ≡ waited
   all = append_cancel_right (items_of h.finishes.made) waited more
       (ap (λ t. items_of h.finishes.made ++ t) (sym h.stands_are) ∙ sym (items_of-append h.finishes.made h.stands) ∙ sym (append-nil (items_of (h.finishes.made ++ h.stands)))

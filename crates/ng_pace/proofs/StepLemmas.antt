@@ -15,6 +15,7 @@ use Rattle.ng_pace.specs.Chords.{Slope, IsSlope, IsNear, IsStraight, slope_of}
 use Rattle.ng_pace.specs.Cones.{AreBetween}
 use Rattle.ng_pace.specs.Legs.{Leg, IsChord, IsPaced, IsBehind, IsAllowed, IsOnChord, IsOnCorner, steps_along, slope_along, pulses_of, lines_of}
 use Rattle.ng_pace.specs.Making.{IsWithin}
+use Rattle.ng_pace.specs.Putting.{KeepSoFar}
 use Rattle.ng_pace.specs.Passing.{PassesAlong, PassesCorner}
 use Rattle.ng_pace.specs.Underway.{AreCones, AreSlopes, IsOpen, IsGoing, IsPending, IsJoined, IsPath, IsClosed, Advances, Reaches, Turns, Finishes, IsBegun, longer, kept_of}
 use Rattle.ng_pace.proofs.ConeLemmas.{near-push}
@@ -503,3 +504,11 @@ going-path limits chord m waits pulse (leg ∷ rest) path is stays =
     let opened : IsOpen limits chord leg.pulses = path-opened limits 0 chord waits leg rest path in
     let goes : IsChord limits.slack (leg.pulses ++ pulse ∷ []) × (length leg.pulses < 1048576) = stays leg.pulses opened.cones opened.count in
     turns-none limits chord m waits pulse leg rest path goes.0 goes.1
+
+-- the lines that were made so far
+pub keep-so-far : (limits : Limits) (chord : Chord) (waits : ℕ) (legs : List Leg) → IsPath limits 0 chord waits legs → KeepSoFar limits legs
+keep-so-far limits chord waits [] path = tt
+keep-so-far limits chord waits (leg ∷ rest) (inl going) =
+    inl (let P : List Pulse → Type 0 = λ t. IsPaced limits 0 (record { pulses = t; lines = leg.lines } ∷ rest) in subst P (append-nil leg.pulses) (going.paced [] (rw (append-nil leg.pulses) going.opened.straight)))
+keep-so-far limits chord waits (leg ∷ []) (inr joined) = absurd joined
+keep-so-far limits chord waits (leg ∷ (before ∷ rest)) (inr pending) = inr (pending.none, (pending.opened.straight, pending.paced))

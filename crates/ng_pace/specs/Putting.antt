@@ -1,11 +1,12 @@
 -- What a stream makes of the items that are put in: the chords of its pulses, and lines that keep to them (own).
-use Rattle.std.specs.Prelude.{◌≡◌, List, [], ◌∷◌, ◌++◌, map, length}
+use Rattle.std.specs.Prelude.{◌≡◌, ◌⊎◌, List, [], ◌∷◌, ◌++◌, map, length}
 use Rattle.ng_canon.specs.declared.item.Item.{Item}
 use Rattle.ng_canon.specs.declared.item.Item.TheVariants.{Pulse, Dwell, Switch}
 use Rattle.ng_canon.specs.declared.item.Pulse.{Pulse as OnePulse}
+use Rattle.ng_pace.specs.declared.limits.Limits.{Limits}
 use Rattle.ng_pace.specs.declared.line.Line.{Line}
 use Rattle.ng_pace.specs.Flow.{Flow, items_of}
-use Rattle.ng_pace.specs.Legs.{Leg, IsPaced, pulses_of, lines_of}
+use Rattle.ng_pace.specs.Legs.{Leg, IsChord, IsPaced, pulses_of, lines_of}
 use Rattle.ng_pace.specs.Underway.{IsPath, IsBegun}
 
 -- these are the chords of the pulses that were put in since the last rest, with the lines that were made of them; the other pulses wait
@@ -42,3 +43,8 @@ abbrev pub IsPut : Flow → Flow → List Leg → Item → Type 0
 IsPut old new legs (Pulse pulse) = Goes old new legs pulse
 IsPut old new legs (Dwell us) = Rests old new legs (Dwell us ∷ [])
 IsPut old new legs (Switch outputs) = Rests old new legs (Switch outputs ∷ [])
+
+-- the lines that were made of a path so far keep to its chords and corners: of the last chord there may be none yet
+abbrev pub KeepSoFar : Limits → List Leg → Type 0
+KeepSoFar limits [] = Unit {0}
+KeepSoFar limits (leg ∷ rest) = IsPaced limits 0 (leg ∷ rest) ⊎ ((leg.lines ≡ []) × (IsChord limits.slack leg.pulses × IsPaced limits 0 rest))

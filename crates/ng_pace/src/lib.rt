@@ -14,6 +14,7 @@ mod chord;
 mod cone;
 mod corner;
 mod fault;
+mod keeping;
 mod laws;
 mod limits;
 mod line;
@@ -27,6 +28,7 @@ mod stepping;
 mod stream;
 
 pub use fault::PaceFault;
+pub use keeping::lines_keep;
 pub use laws::timed_beginning;
 pub use limits::Limits;
 pub use line::Line;
