@@ -39,7 +39,8 @@ abbrev pub off : Slope → List AxisStep → ℕ → ℕ
 off slope steps k = abs_diff (forward steps * slope.over + slope.down * k) (backward steps * slope.over + slope.up * k)
 
 -- an axis that is near, and is near after one more pulse
-pub near-push : (slack : ℕ) (slope : Slope) (steps : List AxisStep) (step : AxisStep) → IsNear slack slope steps → off slope (steps ++ step ∷ []) (length steps + 1) ≤ slack * slope.over → IsNear slack slope (steps ++ step ∷ [])
+pub near-push : (slack : ℕ) (slope : Slope) (steps : List AxisStep) (step : AxisStep) → IsNear slack slope steps
+    → off slope (steps ++ step ∷ []) (length steps + 1) ≤ slack * slope.over → IsNear slack slope (steps ++ step ∷ [])
 near-push slack slope steps step near last = λ k within. by_case k within (cases_lt (length steps) k) where
   by_case : (k : ℕ) → k ≤ length (steps ++ step ∷ []) → (length steps < k) ⊎ (k ≤ length steps) → off slope (take k (steps ++ step ∷ [])) k ≤ slack * slope.over
   by_case k within (inl end) =
@@ -71,20 +72,23 @@ IsUpTo-both a b c slope (inl e) up_to up_to' = rw e up_to
 IsUpTo-both a b c slope (inr e) up_to up_to' = rw e up_to'
 
 -- an axis that is off by no more than the slack has a slope between two, and the other way round
-pub off-from : (slack r m f b : ℕ) (slope : Slope) → IsSlope slope → r + b ≡ f + m → abs_diff (f * slope.over + slope.down * m) (b * slope.over + slope.up * m) ≤ slack * slope.over
+pub off-from : (slack r m f b : ℕ) (slope : Slope) → IsSlope slope → r + b ≡ f + m
+    → abs_diff (f * slope.over + slope.down * m) (b * slope.over + slope.up * m) ≤ slack * slope.over
     → ((r - slack) * slope.over + slope.down * m ≤ (slope.up + slope.over) * m) × ((slope.up + slope.over) * m ≤ (r + slack) * slope.over + slope.down * m)
 off-from slack r m f b slope is at off =
     let moved : (r + b) * slope.over ≡ (f + m) * slope.over = ap (λ t. t * slope.over) at in
     let flat : slope.down * m ≤ (slope.over + slope.up) * m = mul-le-mul_right m is.down in
     (low (cases_lt r slack) moved flat, omega arith)
   where
-    low : (r < slack) ⊎ (slack ≤ r) → (r + b) * slope.over ≡ (f + m) * slope.over → slope.down * m ≤ (slope.over + slope.up) * m → (r - slack) * slope.over + slope.down * m ≤ (slope.up + slope.over) * m
+    low : (r < slack) ⊎ (slack ≤ r) → (r + b) * slope.over ≡ (f + m) * slope.over → slope.down * m ≤ (slope.over + slope.up) * m
+        → (r - slack) * slope.over + slope.down * m ≤ (slope.up + slope.over) * m
     low (inl below) moved flat = let none : r - slack ≡ 0 = omega arith in rw none (omega arith)
     low (inr above) moved flat =
         let split : (r - slack + slack) * slope.over ≡ r * slope.over = ap (λ t. t * slope.over) (omega arith) in
         omega arith
 
-pub off-between : (slack r m f b : ℕ) (slope : Slope) → r + b ≡ f + m → (r - slack) * slope.over + slope.down * m ≤ (slope.up + slope.over) * m → (slope.up + slope.over) * m ≤ (r + slack) * slope.over + slope.down * m
+pub off-between : (slack r m f b : ℕ) (slope : Slope) → r + b ≡ f + m → (r - slack) * slope.over + slope.down * m ≤ (slope.up + slope.over) * m
+    → (slope.up + slope.over) * m ≤ (r + slack) * slope.over + slope.down * m
     → abs_diff (f * slope.over + slope.down * m) (b * slope.over + slope.up * m) ≤ slack * slope.over
 off-between slack r m f b slope at from up_to =
     let moved : (r + b) * slope.over ≡ (f + m) * slope.over = ap (λ t. t * slope.over) at in
@@ -95,8 +99,10 @@ off-between slack r m f b slope at from up_to =
 pub cone-push : (slack : ℕ) (cone new : Cone) (low high : Rise) (steps : List AxisStep) (step : AxisStep) → IsCone slack cone steps
     → new.at + backward (steps ++ step ∷ []) ≡ forward (steps ++ step ∷ []) + length (steps ++ step ∷ [])
     → low.steps ≡ new.at - slack → low.pulses ≡ length (steps ++ step ∷ []) → high.steps ≡ new.at + slack → high.pulses ≡ length (steps ++ step ∷ [])
-    → (new.low ≡ cone.low) ⊎ (new.low ≡ low) → cone.low.steps * new.low.pulses ≤ new.low.steps * cone.low.pulses → low.steps * new.low.pulses ≤ new.low.steps * low.pulses
-    → (new.high ≡ cone.high) ⊎ (new.high ≡ high) → new.high.steps * cone.high.pulses ≤ cone.high.steps * new.high.pulses → new.high.steps * high.pulses ≤ high.steps * new.high.pulses
+    → (new.low ≡ cone.low) ⊎ (new.low ≡ low) → cone.low.steps * new.low.pulses ≤ new.low.steps * cone.low.pulses
+    → low.steps * new.low.pulses ≤ new.low.steps * low.pulses
+    → (new.high ≡ cone.high) ⊎ (new.high ≡ high) → new.high.steps * cone.high.pulses ≤ cone.high.steps * new.high.pulses
+    → new.high.steps * high.pulses ≤ high.steps * new.high.pulses
     → IsCone slack new (steps ++ step ∷ [])
 cone-push slack cone new low high steps step is at low-is low-long high-is high-long low-of low-old low-new high-of high-old high-new = record {
   at = at;
@@ -111,7 +117,8 @@ cone-push slack cone new low high steps step is at low-is low-long high-is high-
       (up_to_smaller high.steps high.pulses new.high.steps new.high.pulses slope.over slope.down (slope.up + slope.over) high_some high-new up_to));
   near = λ slope ok near.
       let old = is.near slope ok (near-pop slack slope steps step near) in
-      let end = off-from slack new.at (length (steps ++ step ∷ [])) (forward (steps ++ step ∷ [])) (backward (steps ++ step ∷ [])) slope ok at (near-last slack slope (steps ++ step ∷ []) near) in
+      let end = off-from slack new.at (length (steps ++ step ∷ [])) (forward (steps ++ step ∷ [])) (backward (steps ++ step ∷ [])) slope ok at
+      (near-last slack slope (steps ++ step ∷ []) near) in
       let from : IsFrom low slope = rw (low-is, low-long) end.0 in
       let up_to : IsUpTo high slope = rw (high-is, high-long) end.1 in
       (IsFrom-both cone.low low new.low slope low-of old.0 from, IsUpTo-both cone.high high new.high slope high-of old.1 up_to);
@@ -129,60 +136,72 @@ cone-push slack cone new low high steps step is at low-is low-long high-is high-
   last slope from up_to =
       let from' : IsFrom (record { steps = new.at - slack; pulses = length (steps ++ step ∷ []) }) slope = rw (low-is, low-long) at from in
       let up_to' : IsUpTo (record { steps = new.at + slack; pulses = length (steps ++ step ∷ []) }) slope = rw (high-is, high-long) at up_to in
-      rw (← length-push steps step) (off-between slack new.at (length (steps ++ step ∷ [])) (forward (steps ++ step ∷ [])) (backward (steps ++ step ∷ [])) slope at from' up_to')
+      rw (← length-push steps step) (off-between slack new.at (length (steps ++ step ∷ [])) (forward (steps ++ step ∷ [])) (backward (steps ++ step ∷ []))
+      slope at from' up_to')
 
 -- where an axis is after one more pulse
-pub rise-push : (at rise r : ℕ) (steps : List AxisStep) (step : AxisStep) → at + backward steps ≡ forward steps + length steps → rise + backward (step ∷ []) ≡ forward (step ∷ []) + 1 → r ≡ at + rise
+pub rise-push : (at rise r : ℕ) (steps : List AxisStep) (step : AxisStep) → at + backward steps ≡ forward steps + length steps
+    → rise + backward (step ∷ []) ≡ forward (step ∷ []) + 1 → r ≡ at + rise
     → r + backward (steps ++ step ∷ []) ≡ forward (steps ++ step ∷ []) + length (steps ++ step ∷ [])
 rise-push at rise r steps step is one both = omega (arith, forward-push steps step, backward-push steps step, length-push steps step, is, one, both)
 
 -- it doesn't leave what fits
-pub rise_fits : (at rise : ℕ) (steps : List AxisStep) (step : AxisStep) → at + backward steps ≡ forward steps + length steps → rise + backward (step ∷ []) ≡ forward (step ∷ []) + 1 → at + rise ≤ 2 * (length steps + 1)
+pub rise_fits : (at rise : ℕ) (steps : List AxisStep) (step : AxisStep) → at + backward steps ≡ forward steps + length steps
+    → rise + backward (step ∷ []) ≡ forward (step ∷ []) + 1 → at + rise ≤ 2 * (length steps + 1)
 rise_fits at rise steps step is one = omega (arith, steps_few steps, steps_few (step ∷ []), is, one)
 
 pub slope_of-some : (steps : List AxisStep) → 0 < length steps → IsSlope (slope_of steps)
 slope_of-some steps some = record { some = some; up = omega (arith, steps_few steps); down = omega (arith, steps_few steps) }
 
 -- an axis goes straight with one more pulse exactly if the slope to where it is then is one of the cone's
-pub straight-push : (slack : ℕ) (cone : Cone) (rise : Rise) (steps : List AxisStep) (step : AxisStep) → IsCone slack cone steps → IsRiseOf rise (steps ++ step ∷ [])
-    → cone.low.steps * rise.pulses ≤ rise.steps * cone.low.pulses → rise.steps * cone.high.pulses ≤ cone.high.steps * rise.pulses → IsStraight slack (steps ++ step ∷ [])
-straight-push slack cone rise steps step is at low high = near-push slack (slope_of (steps ++ step ∷ [])) steps step (is.inside (slope_of (steps ++ step ∷ [])) ok from up_to) last where
-  ok : IsSlope (slope_of (steps ++ step ∷ []))
-  ok = slope_of-some (steps ++ step ∷ []) (omega (arith, length-push steps step))
+pub straight-push : (slack : ℕ) (cone : Cone) (rise : Rise) (steps : List AxisStep) (step : AxisStep) → IsCone slack cone steps
+    → IsRiseOf rise (steps ++ step ∷ [])
+    → cone.low.steps * rise.pulses ≤ rise.steps * cone.low.pulses → rise.steps * cone.high.pulses ≤ cone.high.steps * rise.pulses
+    → IsStraight slack (steps ++ step ∷ [])
+straight-push slack cone rise steps step is at low high
+    = near-push slack (slope_of (steps ++ step ∷ [])) steps step (is.inside (slope_of (steps ++ step ∷ [])) ok from up_to) last where
+      ok : IsSlope (slope_of (steps ++ step ∷ []))
+      ok = slope_of-some (steps ++ step ∷ []) (omega (arith, length-push steps step))
 
-  low' : cone.low.steps * length (steps ++ step ∷ []) ≤ rise.steps * cone.low.pulses
-  low' = rw (← at.pulses_are) low
+      low' : cone.low.steps * length (steps ++ step ∷ []) ≤ rise.steps * cone.low.pulses
+      low' = rw (← at.pulses_are) low
 
-  high' : rise.steps * cone.high.pulses ≤ cone.high.steps * length (steps ++ step ∷ [])
-  high' = rw (← at.pulses_are) high
+      high' : rise.steps * cone.high.pulses ≤ cone.high.steps * length (steps ++ step ∷ [])
+      high' = rw (← at.pulses_are) high
 
-  from : IsFrom cone.low (slope_of (steps ++ step ∷ []))
-  from =
-      let moved : (rise.steps + backward (steps ++ step ∷ [])) * cone.low.pulses ≡ (forward (steps ++ step ∷ []) + length (steps ++ step ∷ [])) * cone.low.pulses = ap (λ t. t * cone.low.pulses) at.steps_are in
-      omega (arith, low', moved)
+      from : IsFrom cone.low (slope_of (steps ++ step ∷ []))
+      from =
+          let moved : (rise.steps + backward (steps ++ step ∷ [])) * cone.low.pulses ≡ (forward (steps ++ step ∷ []) + length (steps ++ step ∷ [])) *
+          cone.low.pulses = ap (λ t. t * cone.low.pulses) at.steps_are in
+          omega (arith, low', moved)
 
-  up_to : IsUpTo cone.high (slope_of (steps ++ step ∷ []))
-  up_to =
-      let moved : (rise.steps + backward (steps ++ step ∷ [])) * cone.high.pulses ≡ (forward (steps ++ step ∷ []) + length (steps ++ step ∷ [])) * cone.high.pulses = ap (λ t. t * cone.high.pulses) at.steps_are in
-      omega (arith, high', moved)
+      up_to : IsUpTo cone.high (slope_of (steps ++ step ∷ []))
+      up_to =
+          let moved : (rise.steps + backward (steps ++ step ∷ [])) * cone.high.pulses ≡ (forward (steps ++ step ∷ []) + length (steps ++ step ∷ [])) *
+          cone.high.pulses = ap (λ t. t * cone.high.pulses) at.steps_are in
+          omega (arith, high', moved)
 
-  last : off (slope_of (steps ++ step ∷ [])) (steps ++ step ∷ []) (length steps + 1) ≤ slack * length (steps ++ step ∷ [])
-  last = rw (← length-push steps step) (omega arith)
+      last : off (slope_of (steps ++ step ∷ [])) (steps ++ step ∷ []) (length steps + 1) ≤ slack * length (steps ++ step ∷ [])
+      last = rw (← length-push steps step) (omega arith)
 
-pub straight-within : (slack : ℕ) (cone : Cone) (rise : Rise) (steps : List AxisStep) (step : AxisStep) → IsCone slack cone steps → IsRiseOf rise (steps ++ step ∷ []) → IsStraight slack (steps ++ step ∷ [])
+pub straight-within : (slack : ℕ) (cone : Cone) (rise : Rise) (steps : List AxisStep) (step : AxisStep) → IsCone slack cone steps
+    → IsRiseOf rise (steps ++ step ∷ []) → IsStraight slack (steps ++ step ∷ [])
     → (cone.low.steps * rise.pulses ≤ rise.steps * cone.low.pulses) × (rise.steps * cone.high.pulses ≤ cone.high.steps * rise.pulses)
 straight-within slack cone rise steps step is at straight = rw at.pulses_are (low, high) where
   both : IsFrom cone.low (slope_of (steps ++ step ∷ [])) × IsUpTo cone.high (slope_of (steps ++ step ∷ []))
-  both = is.near (slope_of (steps ++ step ∷ [])) (slope_of-some (steps ++ step ∷ []) (omega (arith, length-push steps step))) (near-pop slack (slope_of (steps ++ step ∷ [])) steps step straight)
+  both = is.near (slope_of (steps ++ step ∷ [])) (slope_of-some (steps ++ step ∷ []) (omega (arith, length-push steps step)))
+      (near-pop slack (slope_of (steps ++ step ∷ [])) steps step straight)
 
   low : cone.low.steps * length (steps ++ step ∷ []) ≤ rise.steps * cone.low.pulses
   low =
-      let moved : (rise.steps + backward (steps ++ step ∷ [])) * cone.low.pulses ≡ (forward (steps ++ step ∷ []) + length (steps ++ step ∷ [])) * cone.low.pulses = ap (λ t. t * cone.low.pulses) at.steps_are in
+      let moved : (rise.steps + backward (steps ++ step ∷ [])) * cone.low.pulses ≡ (forward (steps ++ step ∷ []) + length (steps ++ step ∷ [])) *
+      cone.low.pulses = ap (λ t. t * cone.low.pulses) at.steps_are in
       omega (arith, both.0, moved)
 
   high : rise.steps * cone.high.pulses ≤ cone.high.steps * length (steps ++ step ∷ [])
   high =
-      let moved : (rise.steps + backward (steps ++ step ∷ [])) * cone.high.pulses ≡ (forward (steps ++ step ∷ []) + length (steps ++ step ∷ [])) * cone.high.pulses = ap (λ t. t * cone.high.pulses) at.steps_are in
+      let moved : (rise.steps + backward (steps ++ step ∷ [])) * cone.high.pulses ≡ (forward (steps ++ step ∷ []) + length (steps ++ step ∷ [])) *
+      cone.high.pulses = ap (λ t. t * cone.high.pulses) at.steps_are in
       omega (arith, both.1, moved)
 
 -- an axis is no farther than two steps a pulse

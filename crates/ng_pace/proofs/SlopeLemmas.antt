@@ -27,12 +27,15 @@ pub from_parts : (r o least over down w : ℕ) → 0 < o → least * o ≤ r * 1
 from_parts r o least over down w some less from = from_greater least 1048576 r o over down w some less from
 
 -- a slope up to another, in parts of 2^20 rounded up
-pub up_to_parts : (r o greatest over down w : ℕ) → 0 < o → r * 1048576 ≤ greatest * o → w * o ≤ r * over + down * o → w * 1048576 ≤ greatest * over + down * 1048576
+pub up_to_parts : (r o greatest over down w : ℕ) → 0 < o → r * 1048576 ≤ greatest * o → w * o ≤ r * over + down * o
+    → w * 1048576 ≤ greatest * over + down * 1048576
 up_to_parts r o greatest over down w some less up_to = up_to_smaller greatest 1048576 r o over down w some less up_to
 
 -- the greater of how far two numbers are from a step
-pub size_of : (least greatest up down over size : ℕ) → least * over + down * 1048576 ≤ (up + over) * 1048576 → (up + over) * 1048576 ≤ greatest * over + down * 1048576
-    → up ≤ over + down → down ≤ over + up → size ≡ min (max (abs_diff least 1048576) (abs_diff greatest 1048576)) 1048576 → abs_diff up down * 1048576 ≤ size * over
+pub size_of : (least greatest up down over size : ℕ) → least * over + down * 1048576 ≤ (up + over) * 1048576
+    → (up + over) * 1048576 ≤ greatest * over + down * 1048576
+    → up ≤ over + down → down ≤ over + up → size ≡ min (max (abs_diff least 1048576) (abs_diff greatest 1048576)) 1048576
+    → abs_diff up down * 1048576 ≤ size * over
 size_of least greatest up down over size from up_to flat steep is = by_case (cases_lt up down) where
   rise : down ≤ up → abs_diff up down * 1048576 ≤ size * over
   rise h = chosen (cases_lt greatest 2097152) where
@@ -54,7 +57,8 @@ size_of least greatest up down over size from up_to flat steep is = by_case (cas
   by_case (inr h) = rise h
 
 -- a turn from one slope to a greater one
-turn_up : (least greatest' up down over up' down' over' turn : ℕ) → least * over + down * 1048576 ≤ (up + over) * 1048576 → (up' + over') * 1048576 ≤ greatest' * over' + down' * 1048576
+turn_up : (least greatest' up down over up' down' over' turn : ℕ) → least * over + down * 1048576 ≤ (up + over) * 1048576
+    → (up' + over') * 1048576 ≤ greatest' * over' + down' * 1048576
     → up' ≤ over' + down' → min greatest' 2097152 - least ≤ turn
     → (up' * over + down * over') * 1048576 ≤ turn * (over * over') + (down' * over + up * over') * 1048576
 turn_up least greatest' up down over up' down' over' turn from up_to flat most =

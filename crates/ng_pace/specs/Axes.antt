@@ -35,12 +35,14 @@ pub record IsCorner (limits : Limits) (axis slope turn over pulses most ramp : �
 -- or what it covers while it comes to rest from a rate at which it can stop at once
 abbrev pub IsNearCorner : Limits → ℕ → ℕ → ℕ → ℕ → Type 0
 IsNearCorner limits axis turn over pulses =
-    (turn * pulses ≤ 8 * limits.slack * over) ⊎ (turn * pulses * slice_index limits.accel axis ≤ slice_index limits.start axis * slice_index limits.start axis * over)
+    (turn * pulses ≤ 8 * limits.slack * over) ⊎
+    (turn * pulses * slice_index limits.accel axis ≤ slice_index limits.start axis * slice_index limits.start axis * over)
 
 -- a motor starts and stops at once at so many parts of 256 of the ramp: at half of it, since at rest it is half a step beyond its pulse, or where no axis then
 -- goes faster than it can start
 abbrev pub IsStop : Limits → ℕ → Type 0
-IsStop limits stop = EachAxis (λ axis. (stop ≤ 128) ⊎ (stop * (2 * slice_index limits.accel axis) ≤ 256 * (slice_index limits.start axis * slice_index limits.start axis)))
+IsStop limits stop = EachAxis (λ axis. (stop ≤ 128) ⊎
+    (stop * (2 * slice_index limits.accel axis) ≤ 256 * (slice_index limits.start axis * slice_index limits.start axis)))
 
 -- why limits can't be kept
 abbrev pub IsFaultOf : Limits → PaceFault → Type 0

@@ -27,7 +27,8 @@ AreBetween slopes axis slope = (d : Slopes) → IsBetween (slice_index_or slopes
 pub record IsTurn (size turn : ℕ) (before after : Slope) : Type 0 where
   pub before_size : abs_diff before.up before.down * 2 ^ 20 ≤ size * before.over
   pub after_size : abs_diff after.up after.down * 2 ^ 20 ≤ size * after.over
-  pub change : abs_diff (before.up * after.over + after.down * before.over) (before.down * after.over + after.up * before.over) * 2 ^ 20 ≤ turn * (before.over * after.over)
+  pub change : abs_diff (before.up * after.over + after.down * before.over) (before.down * after.over + after.up * before.over) * 2 ^ 20 ≤ turn *
+      (before.over * after.over)
 
 -- the slope from the first to the last of some pulses
 pub record IsRiseOf (rise : Rise) (steps : List AxisStep) : Type 0 where

@@ -34,7 +34,8 @@ pub record IsTurning (limits : Limits) (axis : ℕ) (before after : Slope) (puls
   pub leaves : IsCorner limits axis (abs_diff before.up before.down * after.over) (turn_between before after) (before.over * after.over) pulses most ramp
   pub enters : IsCorner limits axis (abs_diff after.up after.down * before.over) (turn_between before after) (before.over * after.over) pulses most ramp
 
--- the square and the ramp of a line are allowed. Where the motors then come to rest, the ramp may be a rate at which they stop at once: `stop` parts of 256 of what is allowed
+-- the square and the ramp of a line are allowed. Where the motors then come to rest, the ramp may be a rate at which they stop at once: `stop` parts of 256 of
+-- what is allowed
 pub record IsAllowed (P : ℕ → ℕ → Type 0) (stop : ℕ) (line : Line) : Type 0 where
   pub ramp : ℕ
   pub allowed : P line.most ramp
@@ -43,11 +44,13 @@ pub record IsAllowed (P : ℕ → ℕ → Type 0) (stop : ℕ) (line : Line) : T
 -- along a chord no axis is asked for more than its acceleration, nor for more than its rate
 abbrev pub IsOnChord : Limits → ℕ → List Pulse → Line → Type 0
 IsOnChord limits stop chord line =
-    IsAllowed (λ most ramp. EachAxis (λ axis. IsAlong limits axis (abs_diff (slope_along axis chord).up (slope_along axis chord).down) (slope_along axis chord).over most ramp)) stop line
+    IsAllowed (λ most ramp. EachAxis
+    (λ axis. IsAlong limits axis (abs_diff (slope_along axis chord).up (slope_along axis chord).down) (slope_along axis chord).over most ramp)) stop line
 
 -- at a corner that is taken over so many pulses no axis is asked for more than is left of its acceleration
 abbrev pub IsOnCorner : Limits → ℕ → List Pulse → List Pulse → ℕ → Line → Type 0
-IsOnCorner limits stop before after pulses line = IsAllowed (λ most ramp. EachAxis (λ axis. IsTurning limits axis (slope_along axis before) (slope_along axis after) pulses most ramp)) stop line
+IsOnCorner limits stop before after pulses line
+    = IsAllowed (λ most ramp. EachAxis (λ axis. IsTurning limits axis (slope_along axis before) (slope_along axis after) pulses most ramp)) stop line
 
 -- a chord, and the lines that were made of its first pulses
 pub record Leg : Type 0 where
@@ -63,7 +66,8 @@ pub record IsLeg (limits : Limits) (stop : ℕ) (leg : Leg) : Type 0 where
 pub record IsCornered (limits : Limits) (stop : ℕ) (before after : Leg) : Type 0 where
   pub pulses : ℕ
   pub some : 0 < pulses
-  pub near : EachAxis (λ axis. IsNearCorner limits axis (turn_between (slope_along axis before.pulses) (slope_along axis after.pulses)) ((slope_along axis before.pulses).over * (slope_along axis after.pulses).over) pulses)
+  pub near : EachAxis (λ axis. IsNearCorner limits axis (turn_between (slope_along axis before.pulses) (slope_along axis after.pulses))
+      ((slope_along axis before.pulses).over * (slope_along axis after.pulses).over) pulses)
   pub whole : length before.lines ≡ length before.pulses
   pub begun : (pulses + 1) / 2 ≤ length after.lines
   pub leaves : All (IsOnCorner limits stop before.pulses after.pulses pulses) (drop (length before.pulses - pulses / 2) before.lines)

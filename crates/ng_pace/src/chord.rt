@@ -49,9 +49,11 @@ impl Chord {
 
     /// Whether it doesn't go straight with one more pulse, or is as long as a chord may be.
     pub(crate) fn is_left(&self, pulse: &Pulse) -> bool
-        ensures stays { (slack : ℕ) (pulses : List Pulse) → AreCones slack self.now.cones pulses → self.now.pulses ≡ length pulses
+        ensures stays { (slack : ℕ) (pulses : List Pulse) → AreCones slack self.now.cones pulses
+            → self.now.pulses ≡ length pulses
             → IsFalse result → IsChord slack (pulses ++ pulse.now ∷ []) × (length pulses < LONGEST) }
-        ensures leaves { (slack : ℕ) (pulses : List Pulse) → AreCones slack self.now.cones pulses → self.now.pulses ≡ length pulses
+        ensures leaves { (slack : ℕ) (pulses : List Pulse) → AreCones slack self.now.cones pulses
+            → self.now.pulses ≡ length pulses
             → IsTrue result → ¬ (IsChord slack (pulses ++ pulse.now ∷ []) × (length pulses < LONGEST)) }
     {
         if self.pulses >= LONGEST {
@@ -65,7 +67,12 @@ impl Chord {
 
     /// Begins anew, behind a corner or from rest.
     pub(crate) fn open(&mut self, has_corner: bool)
-        ensures same { self.new ≡ record self.old { pulses = 0; cones = self.new.cones; is_open = true; has_corner = has_corner } }
+        ensures same { self.new ≡ record self.old {
+          pulses = 0;
+          cones = self.new.cones;
+          is_open = true;
+          has_corner = has_corner;
+        } }
         ensures cones { (slack : ℕ) → AreCones slack self.new.cones [] }
     {
         self.pulses = 0;
@@ -78,8 +85,10 @@ impl Chord {
     pub(crate) fn take(&mut self, limits: &Limits, pulse: &Pulse)
         requires { AreLimits limits.now }
         ensures same { self.new ≡ record self.old { pulses = self.new.pulses; cones = self.new.cones } }
-        ensures takes { (pulses : List Pulse) → AreCones limits.now.slack self.old.cones pulses → self.old.pulses ≡ length pulses → length pulses < LONGEST
-            → AreCones limits.now.slack self.new.cones (pulses ++ pulse.now ∷ []) × (self.new.pulses ≡ length pulses + 1) }
+        ensures takes { (pulses : List Pulse) → AreCones limits.now.slack self.old.cones pulses
+            → self.old.pulses ≡ length pulses → length pulses < LONGEST
+            → AreCones limits.now.slack self.new.cones (pulses ++ pulse.now ∷ [])
+            × (self.new.pulses ≡ length pulses + 1) }
     {
         let pulses = self.pulses.saturating_add(1);
         let slack = limits.slack as u32;
@@ -93,7 +102,8 @@ impl Chord {
 
     /// Its slopes, as it is.
     pub(crate) fn slopes(&self) -> [Slopes; 3]
-        ensures { (slack : ℕ) (pulses : List Pulse) → AreCones slack self.now.cones pulses → self.now.pulses ≡ length pulses → 0 < length pulses
+        ensures { (slack : ℕ) (pulses : List Pulse) → AreCones slack self.now.cones pulses
+            → self.now.pulses ≡ length pulses → 0 < length pulses
             → AreSlopes result pulses }
     {
         [
@@ -106,7 +116,8 @@ impl Chord {
     /// The slopes that it may get, whatever pulses it still takes.
     pub(crate) fn slopes_ahead(&self) -> [Slopes; 3]
         ensures { (slack : ℕ) (pulses : List Pulse) → AreCones slack self.now.cones pulses
-            → EachAxis (λ i. (slope : Slope) → IsSlope slope → IsNear slack slope (steps_along i pulses) → AreBetween result i slope) }
+            → EachAxis (λ i. (slope : Slope) → IsSlope slope → IsNear slack slope (steps_along i pulses)
+            → AreBetween result i slope) }
     {
         [
             self.cones[0].slopes(),
@@ -117,8 +128,14 @@ impl Chord {
 
     /// Takes no more pulses.
     pub(crate) fn close(&mut self)
-        ensures same { self.new ≡ record self.old { before = self.new.before; before_pulses = self.old.pulses; is_open = false; has_corner = false } }
-        ensures slopes { (slack : ℕ) (pulses : List Pulse) → AreCones slack self.old.cones pulses → self.old.pulses ≡ length pulses → 0 < length pulses
+        ensures same { self.new ≡ record self.old {
+          before = self.new.before;
+          before_pulses = self.old.pulses;
+          is_open = false;
+          has_corner = false;
+        } }
+        ensures slopes { (slack : ℕ) (pulses : List Pulse) → AreCones slack self.old.cones pulses
+            → self.old.pulses ≡ length pulses → 0 < length pulses
             → AreSlopes self.new.before pulses }
     {
         self.before = self.slopes();

@@ -46,7 +46,8 @@ impl Cone {
 
     /// The slope to where the axis is after one more pulse.
     fn rise_to(&self, step: AxisStep, pulses: u32) -> Rise
-        ensures { (slack : ℕ) (steps : List AxisStep) → IsCone slack self.now steps → length steps + 1 ≡ pulses → 2 * pulses < 2 ^ 32
+        ensures { (slack : ℕ) (steps : List AxisStep) → IsCone slack self.now steps → length steps + 1 ≡ pulses
+            → 2 * pulses < 2 ^ 32
             → IsRiseOf result (steps ++ step ∷ []) }
     {
         Rise {
@@ -57,9 +58,11 @@ impl Cone {
 
     /// Whether the axis doesn't go straight with one more pulse.
     pub(crate) fn is_left(&self, step: AxisStep, pulses: u32) -> bool
-        ensures stays { (slack : ℕ) (steps : List AxisStep) → IsCone slack self.now steps → length steps + 1 ≡ pulses → 2 * pulses < 2 ^ 32
+        ensures stays { (slack : ℕ) (steps : List AxisStep) → IsCone slack self.now steps → length steps + 1 ≡ pulses
+            → 2 * pulses < 2 ^ 32
             → IsFalse result → IsStraight slack (steps ++ step ∷ []) }
-        ensures leaves { (slack : ℕ) (steps : List AxisStep) → IsCone slack self.now steps → length steps + 1 ≡ pulses → 2 * pulses < 2 ^ 32
+        ensures leaves { (slack : ℕ) (steps : List AxisStep) → IsCone slack self.now steps
+            → length steps + 1 ≡ pulses → 2 * pulses < 2 ^ 32
             → IsTrue result → ¬ IsStraight slack (steps ++ step ∷ []) }
     {
         let rise = self.rise_to(step, pulses);
@@ -68,7 +71,8 @@ impl Cone {
 
     /// The cone of one more pulse.
     pub(crate) fn after(self, step: AxisStep, pulses: u32, slack: u32) -> Cone
-        ensures { (steps : List AxisStep) → IsCone slack self steps → length steps + 1 ≡ pulses → 2 * pulses + slack < 2 ^ 32
+        ensures { (steps : List AxisStep) → IsCone slack self steps → length steps + 1 ≡ pulses
+            → 2 * pulses + slack < 2 ^ 32
             → IsCone slack result (steps ++ step ∷ []) }
     {
         let rise = self.rise_to(step, pulses);
@@ -89,7 +93,8 @@ impl Cone {
 
     /// The slope to where the axis is.
     fn rise(&self, pulses: u32) -> Rise
-        ensures { (slack : ℕ) (steps : List AxisStep) → IsCone slack self.now steps → length steps ≡ pulses → IsRiseOf result steps }
+        ensures { (slack : ℕ) (steps : List AxisStep) → IsCone slack self.now steps → length steps ≡ pulses
+            → IsRiseOf result steps }
     {
         Rise {
             steps: self.at,
@@ -99,7 +104,8 @@ impl Cone {
 
     /// All of its slopes.
     pub(crate) fn slopes(&self) -> Slopes
-        ensures { (slack : ℕ) (steps : List AxisStep) → IsCone slack self.now steps → (slope : Slope) → IsSlope slope → IsNear slack slope steps
+        ensures { (slack : ℕ) (steps : List AxisStep) → IsCone slack self.now steps → (slope : Slope) → IsSlope slope
+            → IsNear slack slope steps
             → IsBetween result slope }
     {
         Slopes::between(self.low, self.high)

@@ -19,7 +19,8 @@ pub(crate) struct Turn {
 fn axis_turn(before: &Slopes, after: &Slopes) -> (u64, u64)
     ensures size { result.0 ≤ STEP }
     ensures turn { result.1 ≤ 2 * STEP }
-    ensures most { (slope : Slope) (next : Slope) → IsSlope slope → IsSlope next → IsBetween before.now slope → IsBetween after.now next
+    ensures most { (slope : Slope) (next : Slope) → IsSlope slope → IsSlope next → IsBetween before.now slope
+        → IsBetween after.now next
         → IsTurn result.0 result.1 slope next }
 {
     (before.size().max(after.size()), before.turn_to(after))
@@ -30,8 +31,10 @@ impl Turn {
     pub(crate) fn between(before: &[Slopes; 3], after: &[Slopes; 3]) -> Turn
         ensures size { EachAxis (λ i. slice_index result.slope i ≤ STEP) }
         ensures turn { EachAxis (λ i. slice_index result.turn i ≤ 2 * STEP) }
-        ensures most { EachAxis (λ i. (slope : Slope) (next : Slope) → IsSlope slope → IsSlope next → AreBetween before.now i slope
-            → AreBetween after.now i next → IsTurn (slice_index result.slope i) (slice_index result.turn i) slope next) }
+        ensures most { EachAxis (λ i. (slope : Slope) (next : Slope) → IsSlope slope → IsSlope next
+            → AreBetween before.now i slope
+            → AreBetween after.now i next → IsTurn (slice_index result.slope i) (slice_index result.turn i) slope
+            next) }
     {
         let x = axis_turn(&before[0], &after[0]);
         let y = axis_turn(&before[1], &after[1]);
@@ -105,7 +108,8 @@ fn axis_ramp(limits: &Limits, axis: usize, slope: u64, turn: u64, pulses: u64, m
     requires pulses { 0 < pulses }
     requires most { most ≤ GREATEST }
     requires quarter { 4 * turn * most ≤ 3 * slice_index limits.now.accel axis * pulses * STEP * PULSE }
-    ensures { slope * result * pulses + 2 * turn * most ≤ 2 * slice_index limits.now.accel axis * pulses * STEP * PULSE }
+    ensures { slope * result * pulses + 2 * turn * most ≤ 2 * slice_index limits.now.accel axis * pulses * STEP *
+        PULSE }
 {
     if slope == 0 {
         return GREATEST;
@@ -122,7 +126,8 @@ pub(crate) fn corner_caps(limits: &Limits, turn: &Turn, pulses: u64, feed: u64) 
     requires turn { EachAxis (λ i. slice_index turn.now.turn i ≤ 2 * STEP) }
     requires pulses { 0 < pulses }
     requires limits { AreLimits limits.now }
-    ensures { EachAxis (λ i. IsCorner limits.now i (slice_index turn.now.slope i) (slice_index turn.now.turn i) STEP pulses result.most result.ramp) }
+    ensures { EachAxis (λ i. IsCorner limits.now i (slice_index turn.now.slope i) (slice_index turn.now.turn i) STEP
+        pulses result.most result.ramp) }
 {
     let most = along(limits, &turn.slope)
         .most

@@ -64,7 +64,8 @@ impl Limits {
     fn axis_stop(&self, axis: usize) -> u64
         requires axis { axis < 3 }
         requires accel { 3 ≤ slice_index self.now.accel axis }
-        ensures { result * (2 * slice_index self.now.accel axis) ≤ 256 * (slice_index self.now.start axis * slice_index self.now.start axis) }
+        ensures { result * (2 * slice_index self.now.accel axis) ≤ 256 *
+            (slice_index self.now.start axis * slice_index self.now.start axis) }
     {
         let start = self.start[axis];
         start.saturating_mul(start).saturating_mul(128) / self.accel[axis]

@@ -42,7 +42,8 @@ fn pass_along<A: Allocator>(
     requires { length pacer.old.known + length waiting.old.items ≤ pacer.old.room }
     ensures keeps { Keeps pacer.old pacer.new waiting.old.items waiting.new.items }
     ensures capacity { deque_capacity waiting.new ≡ deque_capacity waiting.old }
-    ensures passes { PassesAlong limits.now slopes.now (stop_of ending) kept pacer.old pacer.new waiting.old.items waiting.new.items }
+    ensures passes { PassesAlong limits.now slopes.now (stop_of ending) kept pacer.old pacer.new waiting.old.items
+        waiting.new.items }
 {
     let count = (waiting.len() as u64).saturating_sub(kept);
     let caps = along(limits, &sizes(slopes));
@@ -62,7 +63,8 @@ fn pass_corner<A: Allocator>(
     requires limits { AreLimits limits.now }
     ensures keeps { Keeps pacer.old pacer.new waiting.old.items waiting.new.items }
     ensures capacity { deque_capacity waiting.new ≡ deque_capacity waiting.old }
-    ensures passes { PassesCorner limits.now chord.old.before after.now chord.old.before_pulses chord.old.pulses (stop_of ending)
+    ensures passes { PassesCorner limits.now chord.old.before after.now chord.old.before_pulses chord.old.pulses
+        (stop_of ending)
         pacer.old pacer.new waiting.old.items waiting.new.items }
     ensures chord { chord.new ≡ record chord.old { has_corner = false } }
 {
@@ -101,9 +103,11 @@ fn decide_at_end<A: Allocator>(
     requires limits { AreLimits limits.now }
     ensures keeps { Keeps pacer.old pacer.new waiting.old.items waiting.new.items }
     ensures capacity { deque_capacity waiting.new ≡ deque_capacity waiting.old }
-    ensures reaches { (leg : Leg) (rest : List Leg) → IsPath limits.now (stop_of ending) chord.old (length waiting.old.items) (leg ∷ rest)
+    ensures reaches { (leg : Leg) (rest : List Leg)
+        → IsPath limits.now (stop_of ending) chord.old (length waiting.old.items) (leg ∷ rest)
         → 0 < length leg.pulses → AreSlopes slopes.now leg.pulses
-        → Reaches limits.now (stop_of ending) pacer.old pacer.new (length waiting.new.items) leg.pulses (pulses_of (leg ∷ rest)) (lines_of (leg ∷ rest))
+        → Reaches limits.now (stop_of ending) pacer.old pacer.new (length waiting.new.items) leg.pulses
+        (pulses_of (leg ∷ rest)) (lines_of (leg ∷ rest))
         × (kept_of limits.now.half (length leg.pulses) ≤ length waiting.new.items) }
     ensures chord { chord.new ≡ record chord.old { has_corner = chord.new.has_corner } }
 {
@@ -125,9 +129,11 @@ fn close<A: Allocator>(
     requires limits { AreLimits limits.now }
     ensures keeps { Keeps pacer.old pacer.new waiting.old.items waiting.new.items }
     ensures capacity { deque_capacity waiting.new ≡ deque_capacity waiting.old }
-    ensures closes { (leg : Leg) (rest : List Leg) → IsPath limits.now (stop_of ending) chord.old (length waiting.old.items) (leg ∷ rest) → 0 < length leg.pulses
+    ensures closes { (leg : Leg) (rest : List Leg)
+        → IsPath limits.now (stop_of ending) chord.old (length waiting.old.items) (leg ∷ rest) → 0 < length leg.pulses
         → kept ≤ kept_of limits.now.half (length leg.pulses)
-        → Reaches limits.now (stop_of ending) pacer.old pacer.new (length waiting.new.items) leg.pulses (pulses_of (leg ∷ rest)) (lines_of (leg ∷ rest))
+        → Reaches limits.now (stop_of ending) pacer.old pacer.new (length waiting.new.items) leg.pulses
+        (pulses_of (leg ∷ rest)) (lines_of (leg ∷ rest))
         × IsClosed chord.new leg.pulses (length waiting.new.items) kept }
     ensures closed { IsFalse chord.new.is_open }
 {
@@ -148,8 +154,10 @@ fn decide<A: Allocator>(
     requires limits { AreLimits limits.now }
     ensures keeps { Keeps pacer.old pacer.new waiting.old.items waiting.new.items }
     ensures capacity { deque_capacity waiting.new ≡ deque_capacity waiting.old }
-    ensures advances { (leg : Leg) (rest : List Leg) → IsPath limits.now 0 chord.old (length waiting.old.items) (leg ∷ rest) → 0 < length leg.pulses
-        → Advances limits.now 0 pacer.old pacer.new chord.new (length waiting.new.items) (pulses_of (leg ∷ rest)) (lines_of (leg ∷ rest)) }
+    ensures advances { (leg : Leg) (rest : List Leg)
+        → IsPath limits.now 0 chord.old (length waiting.old.items) (leg ∷ rest) → 0 < length leg.pulses
+        → Advances limits.now 0 pacer.old pacer.new chord.new (length waiting.new.items) (pulses_of (leg ∷ rest))
+        (lines_of (leg ∷ rest)) }
 {
     if chord.has_corner && chord.pulses as u64 >= limits.half.saturating_mul(4) {
         let slopes = chord.slopes_ahead();
@@ -168,8 +176,10 @@ fn go_along<A: Allocator>(
     requires limits { AreLimits limits.now }
     ensures keeps { Keeps pacer.old pacer.new waiting.old.items waiting.new.items }
     ensures capacity { deque_capacity waiting.new ≡ deque_capacity waiting.old }
-    ensures advances { (leg : Leg) (rest : List Leg) → IsPath limits.now 0 chord.now (length waiting.old.items) (leg ∷ rest) → 0 < length leg.pulses
-        → Advances limits.now 0 pacer.old pacer.new chord.now (length waiting.new.items) (pulses_of (leg ∷ rest)) (lines_of (leg ∷ rest)) }
+    ensures advances { (leg : Leg) (rest : List Leg)
+        → IsPath limits.now 0 chord.now (length waiting.old.items) (leg ∷ rest) → 0 < length leg.pulses
+        → Advances limits.now 0 pacer.old pacer.new chord.now (length waiting.new.items) (pulses_of (leg ∷ rest))
+        (lines_of (leg ∷ rest)) }
 {
     if !chord.has_corner {
         let slopes = chord.slopes_ahead();
@@ -191,9 +201,11 @@ pub(crate) fn extend<A: Allocator>(
     requires limits { AreLimits limits.now }
     ensures keeps { Keeps pacer.old pacer.new waiting.old.items waiting.new.items }
     ensures capacity { deque_capacity waiting.new ≡ deque_capacity waiting.old }
-    ensures advances { (waits : ℕ) (leg : Leg) (rest : List Leg) → IsPath limits.now 0 chord.old waits (leg ∷ rest) → length waiting.old.items ≡ waits + 1
+    ensures advances { (waits : ℕ) (leg : Leg) (rest : List Leg) → IsPath limits.now 0 chord.old waits (leg ∷ rest)
+        → length waiting.old.items ≡ waits + 1
         → IsChord limits.now.slack (leg.pulses ++ pulse.now ∷ []) → length leg.pulses < 2 ^ 20
-        → Advances limits.now 0 pacer.old pacer.new chord.new (length waiting.new.items) (pulses_of (leg ∷ rest) ++ pulse.now ∷ []) (lines_of (leg ∷ rest)) }
+        → Advances limits.now 0 pacer.old pacer.new chord.new (length waiting.new.items)
+        (pulses_of (leg ∷ rest) ++ pulse.now ∷ []) (lines_of (leg ∷ rest)) }
 {
     chord.take(limits, pulse);
     if chord.pulses % 16 == 0 {
@@ -215,7 +227,8 @@ pub(crate) fn close_last<A: Allocator>(
     ensures keeps { Keeps pacer.old pacer.new waiting.old.items waiting.new.items }
     ensures capacity { deque_capacity waiting.new ≡ deque_capacity waiting.old }
     ensures finishes { (legs : List Leg) → IsPath limits.now 0 chord.old (length waiting.old.items) legs → IsBegun legs
-        → Finishes limits.now (stop_of ending) pacer.old pacer.new (pulses_of legs) (lines_of legs) × (length waiting.new.items ≡ 0) }
+        → Finishes limits.now (stop_of ending) pacer.old pacer.new (pulses_of legs) (lines_of legs)
+        × (length waiting.new.items ≡ 0) }
     ensures closed { IsFalse chord.new.is_open }
 {
     if chord.is_open {
@@ -236,7 +249,8 @@ pub(crate) fn turn<A: Allocator>(
     ensures keeps { Keeps pacer.old pacer.new waiting.old.items waiting.new.items }
     ensures capacity { deque_capacity waiting.new ≡ deque_capacity waiting.old }
     ensures turns { (legs : List Leg) → IsPath limits.now 0 chord.old (length waiting.old.items) legs → IsBegun legs
-        → Turns limits.now pacer.old pacer.new chord.new (length waiting.new.items) pulse.now (pulses_of legs) (lines_of legs) }
+        → Turns limits.now pacer.old pacer.new chord.new (length waiting.new.items) pulse.now (pulses_of legs)
+        (lines_of legs) }
 {
     if !chord.is_open {
         chord.open(false);

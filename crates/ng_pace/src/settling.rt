@@ -53,7 +53,8 @@ fn settle_one<A: Allocator>(
     ensures capacity { deque_capacity waiting.new ≡ deque_capacity waiting.old }
     ensures fewer { IsTrue result → length waiting.new.items + 1 ≡ length waiting.old.items }
     ensures none { IsFalse result → waiting.new.items ≡ [] }
-    ensures makes { IsTrue result → Makes pacer.old pacer.new waiting.old.items waiting.new.items limits.most limits.ramp (stop_of ending) 1 }
+    ensures makes { IsTrue result → Makes pacer.old pacer.new waiting.old.items waiting.new.items limits.most
+        limits.ramp (stop_of ending) 1 }
     ensures stays { IsFalse result → (pacer.new.known ≡ pacer.old.known) × (waiting.old.items ≡ []) }
 {
     match waiting.pop_front() {
@@ -81,7 +82,8 @@ pub(crate) fn settle<A: Allocator>(
     requires { length pacer.old.known + length waiting.old.items ≤ pacer.old.room }
     ensures keeps { Keeps pacer.old pacer.new waiting.old.items waiting.new.items }
     ensures capacity { deque_capacity waiting.new ≡ deque_capacity waiting.old }
-    ensures makes { Makes pacer.old pacer.new waiting.old.items waiting.new.items limits.most limits.ramp (stop_of ending) count }
+    ensures makes { Makes pacer.old pacer.new waiting.old.items waiting.new.items limits.most limits.ramp
+        (stop_of ending) count }
 {
     for k in 0..count {
         if !settle_one(pacer, waiting, limits, ending) {

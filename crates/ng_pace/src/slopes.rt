@@ -58,7 +58,8 @@ impl Slopes {
 
     /// All from one to another, rounded outward.
     pub(crate) fn between(low: Rise, high: Rise) -> Slopes
-        ensures { 0 < low.pulses → 0 < high.pulses → (slope : Slope) → IsSlope slope → IsFrom low slope → IsUpTo high slope → IsBetween result slope }
+        ensures { 0 < low.pulses → 0 < high.pulses → (slope : Slope) → IsSlope slope → IsFrom low slope
+            → IsUpTo high slope → IsBetween result slope }
     {
         Slopes {
             least: low.steps as u64 * STEP / (low.pulses as u64).max(1),
@@ -69,7 +70,8 @@ impl Slopes {
     /// The greatest of them without its sign.
     pub(crate) fn size(&self) -> u64
         ensures size { result ≤ STEP }
-        ensures most { (slope : Slope) → IsSlope slope → IsBetween self.now slope → abs_diff slope.up slope.down * STEP ≤ result * slope.over }
+        ensures most { (slope : Slope) → IsSlope slope → IsBetween self.now slope
+            → abs_diff slope.up slope.down * STEP ≤ result * slope.over }
     {
         self.least
             .abs_diff(STEP)
@@ -80,8 +82,10 @@ impl Slopes {
     /// The greatest change from one of these to one of others.
     pub(crate) fn turn_to(&self, other: &Slopes) -> u64
         ensures size { result ≤ 2 * STEP }
-        ensures most { (before : Slope) (after : Slope) → IsSlope before → IsSlope after → IsBetween self.now before → IsBetween other.now after
-            → abs_diff (before.up * after.over + after.down * before.over) (before.down * after.over + after.up * before.over) * STEP ≤ result * (before.over * after.over) }
+        ensures most { (before : Slope) (after : Slope) → IsSlope before → IsSlope after → IsBetween self.now before
+            → IsBetween other.now after
+            → abs_diff (before.up * after.over + after.down * before.over)
+            (before.down * after.over + after.up * before.over) * STEP ≤ result * (before.over * after.over) }
     {
         let greatest = 2 * STEP;
         other

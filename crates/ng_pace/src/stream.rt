@@ -49,7 +49,12 @@ impl<A: Allocator> Model for Stream<A> {
 
     ghost Value = { Flow };
 
-    ghost view = { λ s. record { motion = s.pacer; waiting = items_waiting s.waiting.items; limits = s.limits; chord = s.shape.chord } };
+    ghost view = { λ s. record {
+      motion = s.pacer;
+      waiting = items_waiting s.waiting.items;
+      limits = s.limits;
+      chord = s.shape.chord;
+    } };
 
     ghost invariant = { λ s. IsHeld s.pacer s.waiting.items (deque_capacity s.waiting) s.shape.start s.limits };
 }
@@ -73,7 +78,8 @@ fn finish<A: Allocator>(
     ensures keeps { Keeps pacer.old pacer.new waiting.old.items waiting.new.items }
     ensures capacity { deque_capacity waiting.new ≡ deque_capacity waiting.old }
     ensures none { waiting.new.items ≡ [] }
-    ensures finishes { (legs : List Leg) → IsPath limits.now 0 shape.old.chord (length waiting.old.items) legs → IsBegun legs
+    ensures finishes { (legs : List Leg) → IsPath limits.now 0 shape.old.chord (length waiting.old.items) legs
+        → IsBegun legs
         → Finishes limits.now (stop_of ending) pacer.old pacer.new (pulses_of legs) (lines_of legs) }
     ensures closed { IsFalse shape.new.chord.is_open }
     ensures start { shape.new.start ≡ shape.old.start }
@@ -107,8 +113,10 @@ fn push_pulse<A: Allocator>(
     requires capacity { deque_capacity waiting.old ≡ pacer.old.room }
     ensures adds { Adds pacer.old pacer.new waiting.old.items waiting.new.items item }
     ensures capacity { deque_capacity waiting.new ≡ deque_capacity waiting.old }
-    ensures advances { (legs : List Leg) → IsPath limits.now 0 shape.old.chord (length waiting.old.items) legs → IsBegun legs
-        → Advances limits.now 0 pacer.old pacer.new shape.new.chord (length waiting.new.items) (pulses_of legs ++ pulse.now ∷ []) (lines_of legs) }
+    ensures advances { (legs : List Leg) → IsPath limits.now 0 shape.old.chord (length waiting.old.items) legs
+        → IsBegun legs
+        → Advances limits.now 0 pacer.old pacer.new shape.new.chord (length waiting.new.items)
+        (pulses_of legs ++ pulse.now ∷ []) (lines_of legs) }
     ensures start { shape.new.start ≡ shape.old.start }
 {
     let feed = feed_of(pulse.period_us);
@@ -143,8 +151,10 @@ fn push_still<A: Allocator>(
     requires limits { AreLimits limits.now }
     ensures adds { Adds pacer.old pacer.new waiting.old.items waiting.new.items item }
     ensures capacity { deque_capacity waiting.new ≡ deque_capacity waiting.old }
-    ensures rests { (legs : List Leg) → IsPath limits.now 0 shape.old.chord (length waiting.old.items) legs → IsBegun legs
-        → Halts limits.now shape.old.start pacer.old pacer.new shape.new.chord (length waiting.new.items) legs (item ∷ []) }
+    ensures rests { (legs : List Leg) → IsPath limits.now 0 shape.old.chord (length waiting.old.items) legs
+        → IsBegun legs
+        → Halts limits.now shape.old.start pacer.old pacer.new shape.new.chord (length waiting.new.items) legs
+        (item ∷ []) }
     ensures start { shape.new.start ≡ shape.old.start }
 {
     let start = shape.start;
@@ -251,7 +261,8 @@ impl<A: Allocator> Stream<A> {
         self.pacer.can_rest();
     }
 
-    /// The next line and its time, at no more than the square that is wanted. None if it waits: the limits of no item are
+    /// The next line and its time, at no more than the square that is wanted. None if it waits: the limits of no item
+    /// are
     /// final, or it is at rest and is to be.
     pub fn next(&mut self, wanted: u64) -> Option<Given>
         ensures given { IfSome result (λ given. IsFlowGiven self.old self.new wanted given) }

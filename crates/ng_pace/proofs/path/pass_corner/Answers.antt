@@ -17,11 +17,13 @@ returns-clause-passes g c =
       half = c.corner_pulses-pulses.ensures.half;
       before_most = c.along-before.result.most;
       before_ramp = c.along-before.result.ramp;
-      before_allowed = allow-along c.args.limits.now c.args.chord.now.before c.sizes.result c.along-before.result.most c.along-before.result.ramp c.sizes.ensures c.along-before.ensures.allowed;
+      before_allowed = allow-along c.args.limits.now c.args.chord.now.before c.sizes.result c.along-before.result.most c.along-before.result.ramp
+          c.sizes.ensures c.along-before.ensures.allowed;
       first = rw count at c.settle.ensures.makes;
       most = c.corner_caps-caps.result.most;
       ramp = c.corner_caps-caps.result.ramp;
-      takes = takes-corner c.args.limits.now c.args.chord.now.before c.args.after.now c.between-turn.result.slope c.between-turn.result.turn c.corner_pulses-pulses.result c.corner_caps-caps.result.most c.corner_caps-caps.result.ramp
+      takes = takes-corner c.args.limits.now c.args.chord.now.before c.args.after.now c.between-turn.result.slope c.between-turn.result.turn
+          c.corner_pulses-pulses.result c.corner_caps-caps.result.most c.corner_caps-caps.result.ramp
           c.between-turn.ensures.most c.corner_pulses-pulses.ensures.near c.corner_caps-caps.ensures;
       then = c.settle-2.ensures.makes;
     }

@@ -8,4 +8,5 @@ returns c = λ steps is long fits.
     let pulses : c.args.pulses ≡ length (steps ++ c.args.step ∷ []) = sym long ∙ sym (length-push steps c.args.step) in
     cone-push c.args.slack c.args.self _ _ _ steps c.args.step is at.steps_are c.saturating_sub.ensures pulses
     (omega (arith, c.saturating_add.ensures, at-few c.rise_to-rise.result.steps (steps ++ c.args.step ∷ []) at.steps_are, pulses)) pulses
-    c.greater.ensures.either c.greater.ensures.from_self c.greater.ensures.from_other c.smaller.ensures.either c.smaller.ensures.up_to_self c.smaller.ensures.up_to_other
+    c.greater.ensures.either c.greater.ensures.from_self c.greater.ensures.from_other c.smaller.ensures.either c.smaller.ensures.up_to_self
+    c.smaller.ensures.up_to_other

@@ -8,10 +8,12 @@ use Rattle.ng_pace.proofs.stream.Stream.end.Goals as goal
 
 pub returns-clause-finishes : goal.returns-clause-finishes
 returns-clause-finishes g c = rw (← c.self.view_is) (λ legs underway.
-    let path : IsPath c.self.inside.limits 0 c.self.inside.shape.chord (length c.self.inside.waiting.items) legs = rw (length-items_waiting c.self.inside.waiting.items) at underway.path in
+    let path : IsPath c.self.inside.limits 0 c.self.inside.shape.chord (length c.self.inside.waiting.items) legs
+    = rw (length-items_waiting c.self.inside.waiting.items) at underway.path in
     let P : ℕ → Type 0 = λ stop. Finishes c.self.inside.limits stop c.self.inside.pacer c.finish.new.pacer (pulses_of legs) (lines_of legs) in
     let finishes = subst P c.self.invariant.start_is (c.finish.ensures.finishes legs path underway.begun) in
-    rest-flow c.self.inside.limits c.self.inside.pacer c.finish.new.pacer c.self.inside.shape.chord c.finish.new.shape.chord (items_waiting c.self.inside.waiting.items) (items_waiting c.finish.new.waiting.items) legs [] underway
+    rest-flow c.self.inside.limits c.self.inside.pacer c.finish.new.pacer c.self.inside.shape.chord c.finish.new.shape.chord
+    (items_waiting c.self.inside.waiting.items) (items_waiting c.finish.new.waiting.items) legs [] underway
     (record {
       mid = c.finish.new.pacer;
       finishes = finishes;
