@@ -117,7 +117,7 @@ items_waiting-append : (xs ys : List Timed) → items_waiting (xs ++ ys) ≡ ite
 items_waiting-append [] ys = refl
 items_waiting-append (x ∷ xs) ys = ap (λ t. x.item ∷ t) (items_waiting-append xs ys)
 
-items_of-append : (xs ys : List Line) → items_of (xs ++ ys) ≡ items_of xs ++ items_of ys
+pub items_of-append : (xs ys : List Line) → items_of (xs ++ ys) ≡ items_of xs ++ items_of ys
 items_of-append [] ys = refl
 items_of-append (x ∷ xs) ys = ap (λ t. x.item ∷ t) (items_of-append xs ys)
 

@@ -3,14 +3,13 @@ use Rattle.std.specs.Prelude.{ℕ, ◌+◌, ◌^◌, ◌≤◌, ◌≡◌, min, 
 use Rattle.ng_canon.specs.declared.item.Item.{Item}
 use Rattle.ng_canon.specs.declared.item.Item.TheVariants.{Pulse, Dwell, Switch}
 use Rattle.ng_pace.specs.declared.line.Line.{Line}
-use Rattle.ng_pace.specs.declared.chord.Limits.{Limits}
+use Rattle.ng_pace.specs.declared.limits.Limits.{Limits}
+use Rattle.ng_pace.specs.declared.chord.Chord.{Chord}
 use Rattle.ng_pace.specs.declared.chord.Waiting.{Waiting}
-use Rattle.ng_pace.specs.declared.stepping.Given.{Given}
+use Rattle.ng_pace.specs.Axes.{AreLimits}
 use Rattle.ng_pace.specs.Motion.{Motion}
 use Rattle.ng_pace.specs.Due.{own_square}
-use Rattle.ng_pace.specs.Start.{start_of}
 use Rattle.ng_pace.specs.Rest.{CanRest}
-use Rattle.ng_pace.specs.Paced.{IsGiven}
 
 -- an item, and the square of the rate at which it comes in its own time
 pub record Timed : Type 0 where
@@ -23,6 +22,9 @@ pub record Flow : Type 0 where
   pub waiting : List Timed
   -- the square of the pulse that was put in last; 2^58, above all of them, if none was since the last stop
   pub before : ℕ
+  -- what the motors allow, and the chord that is open
+  pub limits : Limits
+  pub chord : Chord
 
 abbrev pub items_of : List Line → List Item
 items_of [] = []
@@ -73,15 +75,6 @@ pub record Settles (old new : Motion) (waited waits : List Timed) : Type 0 where
   pub start : new.start ≡ old.start
   pub room : new.room ≡ old.room
 
--- at rest, with nothing known, and room for so many items
-pub record IsEmpty (flow : Flow) (limits : Limits) (room : ℕ) : Type 0 where
-  pub known : flow.motion.known ≡ []
-  pub waiting : flow.waiting ≡ []
-  pub rest : flow.motion.square ≡ 0
-  pub before : flow.before ≡ no_pulse
-  pub start : flow.motion.start ≡ start_of limits
-  pub room_is : flow.motion.room ≡ room
-
 -- the line of an item at which everything stands still
 abbrev pub still_line : Item → Line
 still_line item = record { item = item; full = 0; most = 0; ramp = 0; last = false }
@@ -98,33 +91,12 @@ StandsAt known waits (Pulse pulse) = Unit {0}
 StandsAt known waits (Dwell us) = StandsLast known waits (Dwell us)
 StandsAt known waits (Switch outputs) = StandsLast known waits (Switch outputs)
 
--- an item is put in, behind all that are known
-pub record IsPut (old new : Flow) (item : Item) : Type 0 where
-  pub items : all_items new ≡ all_items old ++ item ∷ []
-  pub settles : Settles old.motion new.motion (old.waiting ++ (record { item = item; full = full_of old.before item }) ∷ []) new.waiting
-  pub stands : StandsAt new.motion.known new.waiting item
-  pub before : new.before ≡ square_behind item
-  pub rests : CanRest new.motion.square new.motion.known
-
--- nothing more is known to come: no item waits
-pub record IsEnded (old new : Flow) : Type 0 where
-  pub items : all_items new ≡ all_items old
-  pub settles : Settles old.motion new.motion old.waiting []
-  pub none : new.waiting ≡ []
-  pub before : new.before ≡ no_pulse
-  pub rests : CanRest new.motion.square new.motion.known
-
--- a line is given out
-pub record IsFlowGiven (old new : Flow) (wanted : ℕ) (given : Given) : Type 0 where
-  pub items : all_items old ≡ given.line.item ∷ all_items new
-  pub given_out : IsGiven old.motion new.motion wanted given
-  pub waiting : new.waiting ≡ old.waiting
-  pub before : new.before ≡ old.before
-
--- there is room for all that is known, and a rest can be reached
-pub record IsHeld (motion : Motion) (waiting : List Waiting) (capacity : ℕ) : Type 0 where
+-- there is room for all that is known, its limits can be kept, and a rest can be reached
+pub record IsHeld (motion : Motion) (waiting : List Waiting) (capacity start : ℕ) (limits : Limits) : Type 0 where
   pub fits : length motion.known + length waiting ≤ motion.room
   pub capacity_is : capacity ≡ motion.room
+  pub start_is : start ≡ motion.start
+  pub limits_are : AreLimits limits
   pub rests : CanRest motion.square motion.known
 
 -- limits of waiting items became final; so many items are known as before

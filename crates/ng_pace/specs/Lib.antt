@@ -1,6 +1,8 @@
+pub mod Axes
+pub mod Chords
+pub mod Cones
 pub mod Due
 pub mod Start
-pub mod Refused
 pub mod Plan
 pub mod Rest
 pub mod Squares
@@ -8,4 +10,11 @@ pub mod Interval
 pub mod Motion
 pub mod Paced
 pub mod Flow
+pub mod Legs
+pub mod Making
+pub mod Passing
+pub mod Underway
+pub mod Halting
+pub mod Putting
+pub mod Calls
 pub mod Run

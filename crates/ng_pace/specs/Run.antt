@@ -7,7 +7,8 @@ use Rattle.ng_pace.specs.Rest.{IsRamp}
 use Rattle.ng_pace.specs.Squares.{start_square}
 use Rattle.ng_pace.specs.Interval.{IsTimeOf}
 use Rattle.ng_pace.specs.Paced.{Waits}
-use Rattle.ng_pace.specs.Flow.{Flow, all_items, IsPut, IsEnded, IsFlowGiven}
+use Rattle.ng_pace.specs.Flow.{Flow, all_items}
+use Rattle.ng_pace.specs.Calls.{IsPut, IsEnded, IsFlowGiven}
 
 -- an item is put in; it is told that nothing more comes; or a line is asked for at no more than a square, and what is answered
 pub data Event : Type 0 where

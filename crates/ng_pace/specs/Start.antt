@@ -1,6 +1,6 @@
 -- How motors start and stop at once.
 use Rattle.std.specs.Prelude.{ℕ, ◌-◌, ◌*◌, ◌/◌, ◌^◌, min, max, slice_index}
-use Rattle.ng_pace.specs.declared.chord.Limits.{Limits}
+use Rattle.ng_pace.specs.declared.limits.Limits.{Limits}
 
 -- how far an axis goes while it stops from a rate, in parts of 256 of a step
 abbrev pub stopping_distance : ℕ → ℕ → ℕ

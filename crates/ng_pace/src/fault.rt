@@ -3,12 +3,14 @@
 pub enum PaceFault {
     /// Motors couldn't start: the distance over which they start at once is below half a step.
     StartTooSmall,
-    /// An axis has no acceleration.
+    /// An axis has less acceleration than 3: it couldn't turn at a pulse a second.
     NoAcceleration,
     /// A corner would be taken over no pulse.
     NoCorner,
     /// A motor may be off its pulses by nothing.
     NoSlack,
+    /// A motor may be off its pulses by more than 1,000 steps.
+    SlackTooGreat,
     /// There is no room for a line.
     NoRoom,
     OutOfMemory,

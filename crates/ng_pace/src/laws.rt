@@ -2,6 +2,8 @@
 ghost use Rattle.std.specs.Prelude.{List, ◌≡◌, ◌≤◌, [], length};
 ghost use Rattle.ng_pace.specs.Rest.{CanRest};
 ghost use Rattle.ng_pace.specs.Flow.{Flow, all_items};
+ghost use Rattle.ng_pace.specs.Legs.{Leg};
+ghost use Rattle.ng_pace.specs.Putting.{IsUnderway, KeepSoFar};
 ghost use Rattle.ng_pace.specs.Run.{Event, IsRun, AsksOnly, HoldsOnly, IsPacedBeginning, IsGivenOut, IsStopped};
 
 /// For any items, whatever is wanted and whenever the items come: what was given out is a beginning of what was put in,
@@ -23,4 +25,10 @@ pub fn given_out()
 pub fn held()
     ensures { (old : Flow) (events : List Event) (new : Flow) → IsRun old events new → HoldsOnly events
         → CanRest old.motion.square old.motion.known → length old.motion.known ≤ length events → IsStopped events new }
+{}
+
+/// At any moment the lines that were made of a path keep to its chords and corners: no axis is asked for more than its
+/// acceleration and its greatest rate (own).
+pub fn lines_keep()
+    ensures { (flow : Flow) (legs : List Leg) → IsUnderway flow legs → KeepSoFar flow.limits legs }
 {}

@@ -6,27 +6,35 @@
 //! known, before each dwell and switch too. And no pulse is slower than it has to be: of the squares that may be, the
 //! greatest is taken.
 //!
-//! What motors allow is found from the pulses themselves. A `Pacer` has the promises on time alone, for lines that come
-//! with what is allowed at them. Rates are in pulses a second times 2^8, and a square is that of such a rate.
+//! What motors allow is found from the pulses themselves: along the chords that they follow, and at the corners between
+//! these, no axis is asked for more than its acceleration and its greatest rate. A `Pacer` has the promises on time
+//! alone, for lines that come with what is allowed at them. Rates are in pulses a second times 2^8, and a square is that
+//! of such a rate.
 //!
 //! The crate depends on `ng_canon` alone. Only `Stream::new` and `Pacer::new` allocate.
 #![tactic(auto)]
 
+mod caps;
 mod chord;
+mod cone;
+mod corner;
 mod fault;
 mod laws;
+mod limits;
 mod line;
 mod pacer;
+mod path;
 mod planning;
 mod root;
 mod settling;
+mod slopes;
 mod start;
 mod stepping;
 mod stream;
 
-pub use chord::Limits;
 pub use fault::PaceFault;
-pub use laws::{given_out, held, paced_beginning};
+pub use laws::{given_out, held, lines_keep, paced_beginning};
+pub use limits::Limits;
 pub use line::Line;
 pub use pacer::Pacer;
 pub use stepping::Given;

@@ -2,8 +2,10 @@
 ghost use Rattle.std.specs.Prelude.{◌≡◌, ◌≤◌, ◌+◌, [], length, min, IsTrue, IsFalse};
 ghost use Rattle.std.specs.VecDeque.{deque_capacity};
 ghost use Rattle.ng_pace.specs.Flow.{Keeps};
+ghost use Rattle.ng_pace.specs.Making.{IsWithin, Makes, stop_of};
 
-use crate::chord::{Final, GREATEST, Waiting};
+use crate::chord::Waiting;
+use crate::limits::{Caps, GREATEST};
 use crate::line::Line;
 use crate::pacer::Pacer;
 use std::alloc::Allocator;
@@ -20,10 +22,11 @@ pub(crate) enum Ending {
 }
 
 /// The line of an item.
-fn line_of(item: Waiting, limits: Final, ending: Ending) -> Line
+fn line_of(item: Waiting, limits: Caps, ending: Ending) -> Line
     ensures item { result.item ≡ item.item }
     ensures full { result.full ≡ item.feed }
     ensures most { result.most ≡ min limits.most item.feed }
+    ensures within { IsWithin limits.most limits.ramp (stop_of ending) result }
 {
     let ramp = limits.ramp.min(GREATEST);
     let (ramp, last) = match ending {
@@ -45,7 +48,7 @@ fn line_of(item: Waiting, limits: Final, ending: Ending) -> Line
 fn settle_one<A: Allocator>(
     pacer: &mut Pacer<A>,
     waiting: &mut VecDeque<Waiting, A>,
-    limits: Final,
+    limits: Caps,
     ending: Ending,
 ) -> bool
     requires { length pacer.old.known + length waiting.old.items ≤ pacer.old.room }
@@ -53,6 +56,9 @@ fn settle_one<A: Allocator>(
     ensures capacity { deque_capacity waiting.new ≡ deque_capacity waiting.old }
     ensures fewer { IsTrue result → length waiting.new.items + 1 ≡ length waiting.old.items }
     ensures none { IsFalse result → waiting.new.items ≡ [] }
+    ensures makes { IsTrue result → Makes pacer.old pacer.new waiting.old.items waiting.new.items limits.most
+        limits.ramp (stop_of ending) 1 }
+    ensures stays { IsFalse result → (pacer.new.known ≡ pacer.old.known) × (waiting.old.items ≡ []) }
 {
     match waiting.pop_front() {
         Some(item) => {
@@ -74,14 +80,16 @@ pub(crate) fn settle<A: Allocator>(
     pacer: &mut Pacer<A>,
     waiting: &mut VecDeque<Waiting, A>,
     count: u64,
-    limits: Final,
+    limits: Caps,
     ending: Ending,
 )
     requires { length pacer.old.known + length waiting.old.items ≤ pacer.old.room }
     ensures keeps { Keeps pacer.old pacer.new waiting.old.items waiting.new.items }
     ensures capacity { deque_capacity waiting.new ≡ deque_capacity waiting.old }
+    ensures makes { Makes pacer.old pacer.new waiting.old.items waiting.new.items limits.most limits.ramp
+        (stop_of ending) count }
 {
-    for _ in 0..count {
+    for k in 0..count {
         if !settle_one(pacer, waiting, limits, ending) {
             break;
         }
@@ -93,13 +101,14 @@ pub(crate) fn settle<A: Allocator>(
 pub(crate) fn settle_all<A: Allocator>(
     pacer: &mut Pacer<A>,
     waiting: &mut VecDeque<Waiting, A>,
-    limits: Final,
+    limits: Caps,
     ending: Ending,
 )
     requires { length pacer.old.known + length waiting.old.items ≤ pacer.old.room }
     ensures keeps { Keeps pacer.old pacer.new waiting.old.items waiting.new.items }
     ensures capacity { deque_capacity waiting.new ≡ deque_capacity waiting.old }
     ensures none { waiting.new.items ≡ [] }
+    ensures stays { waiting.old.items ≡ [] → pacer.new.known ≡ pacer.old.known }
 {
     while settle_one(pacer, waiting, limits, ending) {}
 }

@@ -1,17 +1,23 @@
 //! A stream of items, whose limits are found from its pulses.
-ghost use Rattle.std.specs.Prelude.{◌≡◌, ◌↔◌, ◌≤◌, ◌<◌, ◌+◌, [], length, min, nat_le, Err, IfOk, IfSome, IfNone};
+ghost use Rattle.std.specs.Prelude.{◌≡◌, ◌↔◌, ◌≤◌, ◌<◌, ◌+◌, ◌++◌, ◌∷◌, [], List, length, min, nat_le, IsFalse, Err, IfOk, IfSome, IfNone};
 ghost use Rattle.std.specs.VecDeque.{deque_capacity};
-ghost use Rattle.std.specs.List.{Contains};
+ghost use Rattle.ng_pace.specs.Axes.{Accelerate, AreLimits};
 ghost use Rattle.ng_pace.specs.Due.{own_square};
-ghost use Rattle.ng_pace.specs.Refused.{IsAllowed};
-ghost use Rattle.ng_pace.specs.Flow.{Keeps, Adds, IsPut, IsEnded, IsFlowGiven, IsEmpty, StandsAt, StandsLast, full_of, square_behind, no_pulse, still_line, timed_waiting};
+ghost use Rattle.ng_pace.specs.Flow.{Keeps, Adds, StandsAt, StandsLast, full_of, square_behind, no_pulse, still_line, timed_waiting};
 ghost use Rattle.ng_pace.specs.Paced.{Waits};
+ghost use Rattle.ng_pace.specs.Making.{stop_of};
+ghost use Rattle.ng_pace.specs.Legs.{Leg, lines_of, pulses_of};
+ghost use Rattle.ng_pace.specs.Halting.{Halts, Takes};
+ghost use Rattle.ng_pace.specs.Underway.{Advances, IsBegun, Finishes, IsPath};
+ghost use Rattle.ng_pace.specs.Calls.{IsEmpty, IsPut, IsEnded, IsFlowGiven};
 
-use crate::chord::{Chord, Final, GREATEST, Limits, Waiting, steps_of};
+use crate::chord::{Chord, Waiting};
 use crate::fault::PaceFault;
+use crate::limits::{Caps, GREATEST, Limits};
 use crate::line::{Line, own_square};
 use crate::pacer::Pacer;
-use crate::settling::{Ending, settle, settle_all};
+use crate::path::{close_last, extend, turn};
+use crate::settling::{Ending, settle_all};
 use crate::start::start_of;
 use crate::stepping::Given;
 use ng_canon::{Item, Pulse};
@@ -22,12 +28,9 @@ use std::marker::Model;
 /// What is known of the chords of a stream.
 #[derive(Clone, Copy)]
 struct Shape {
-    limits: Limits,
     chord: Chord,
     start: u64,
-    known: u64,
-    fin: u64,
-    /// The feed of the pulse before; the greatest if there is none.
+    /// The square of the pulse before; the greatest if there is none.
     before: u64,
 }
 
@@ -36,6 +39,7 @@ struct Shape {
 pub struct Stream<A: Allocator> {
     pacer: Pacer<A>,
     waiting: VecDeque<Waiting, A>,
+    limits: Limits,
     shape: Shape,
 }
 
@@ -45,129 +49,34 @@ impl<A: Allocator> Model for Stream<A> {
 
     ghost Value = { Flow };
 
-    ghost view = { λ s. record { motion = s.pacer; waiting = timed_waiting s.waiting.items; before = s.shape.before } };
+    ghost view = { λ s. record { motion = s.pacer; waiting = timed_waiting s.waiting.items; before = s.shape.before; limits = s.limits; chord = s.shape.chord } };
 
-    ghost invariant = { λ s. IsHeld s.pacer s.waiting.items (deque_capacity s.waiting) };
+    ghost invariant = { λ s. IsHeld s.pacer s.waiting.items (deque_capacity s.waiting) s.shape.start s.limits };
 }
 
-/// Makes limits final.
-fn make_final<A: Allocator>(
-    pacer: &mut Pacer<A>,
-    waiting: &mut VecDeque<Waiting, A>,
-    shape: &mut Shape,
-    limits: Final,
-    ending: Ending,
-)
-    requires { length pacer.old.known + length waiting.old.items ≤ pacer.old.room }
-    ensures keeps { Keeps pacer.old pacer.new waiting.old.items waiting.new.items }
-    ensures capacity { deque_capacity waiting.new ≡ deque_capacity waiting.old }
-{
-    let count = limits.below.saturating_sub(shape.fin);
-    settle(pacer, waiting, count, limits, ending);
-    shape.fin = shape.fin.max(limits.below);
-}
-
-/// Closes the open chord.
-fn close<A: Allocator>(
-    pacer: &mut Pacer<A>,
-    waiting: &mut VecDeque<Waiting, A>,
-    shape: &mut Shape,
-    ending: Ending,
-    is_whole: bool,
-)
-    requires { length pacer.old.known + length waiting.old.items ≤ pacer.old.room }
-    ensures keeps { Keeps pacer.old pacer.new waiting.old.items waiting.new.items }
-    ensures capacity { deque_capacity waiting.new ≡ deque_capacity waiting.old }
-{
-    let limits = shape.limits;
-    let (before, corner, rest) = shape
-        .chord
-        .close(&limits, shape.known, shape.fin, waiting, is_whole);
-    make_final(pacer, waiting, shape, before, ending);
-    make_final(pacer, waiting, shape, corner, ending);
-    make_final(pacer, waiting, shape, rest, ending);
-}
-
-/// Takes the last item that waits into the open chord.
-fn extend<A: Allocator>(
-    pacer: &mut Pacer<A>,
-    waiting: &mut VecDeque<Waiting, A>,
-    shape: &mut Shape,
-    steps: &[i64; 3],
-)
-    requires { length pacer.old.known + length waiting.old.items ≤ pacer.old.room }
-    ensures keeps { Keeps pacer.old pacer.new waiting.old.items waiting.new.items }
-    ensures capacity { deque_capacity waiting.new ≡ deque_capacity waiting.old }
-{
-    let limits = shape.limits;
-    let (before, corner, rest) = shape
-        .chord
-        .take(&limits, steps, shape.known, shape.fin, waiting);
-    make_final(pacer, waiting, shape, before, Ending::GoesOn);
-    make_final(pacer, waiting, shape, corner, Ending::GoesOn);
-    make_final(pacer, waiting, shape, rest, Ending::GoesOn);
-}
-
-/// Closes the chord that is open, if one is: it is whole.
-fn close_whole<A: Allocator>(
-    pacer: &mut Pacer<A>,
-    waiting: &mut VecDeque<Waiting, A>,
-    shape: &mut Shape,
-    ending: Ending,
-)
-    requires { length pacer.old.known + length waiting.old.items ≤ pacer.old.room }
-    ensures keeps { Keeps pacer.old pacer.new waiting.old.items waiting.new.items }
-    ensures capacity { deque_capacity waiting.new ≡ deque_capacity waiting.old }
-{
-    if shape.chord.is_open() {
-        close(pacer, waiting, shape, ending, true);
-    }
-}
-
-/// Makes all limits final: what waits comes to rest at its end.
+/// Makes lines of all that waits: it comes to rest at its end.
 #[tactic(auto, using(crate::proofs::FlowLemmas::keeps_on))]
 fn finish<A: Allocator>(
     pacer: &mut Pacer<A>,
     waiting: &mut VecDeque<Waiting, A>,
     shape: &mut Shape,
+    limits: &Limits,
     ending: Ending,
 )
-    requires { length pacer.old.known + length waiting.old.items ≤ pacer.old.room }
+    requires room { length pacer.old.known + length waiting.old.items ≤ pacer.old.room }
+    requires limits { AreLimits limits.now }
     ensures keeps { Keeps pacer.old pacer.new waiting.old.items waiting.new.items }
     ensures capacity { deque_capacity waiting.new ≡ deque_capacity waiting.old }
     ensures none { waiting.new.items ≡ [] }
+    ensures finishes { (legs : List Leg) → IsPath limits.now 0 shape.old.chord (length waiting.old.items) legs → IsBegun legs
+        → Finishes limits.now (stop_of ending) pacer.old pacer.new (pulses_of legs) (lines_of legs) }
+    ensures closed { IsFalse shape.new.chord.is_open }
+    ensures start { shape.new.start ≡ shape.old.start }
     ensures before { shape.new.before ≡ no_pulse }
 {
-    close_whole(pacer, waiting, shape, ending);
-    let rest = Final {
-        below: shape.known,
-        most: 0,
-        ramp: 0,
-    };
-    settle_all(pacer, waiting, rest, ending);
-    shape.fin = shape.known;
+    close_last(pacer, waiting, &mut shape.chord, limits, ending);
+    settle_all(pacer, waiting, Caps { most: 0, ramp: 0 }, ending);
     shape.before = GREATEST;
-}
-
-/// Opens a chord for a pulse, if it is none of the open one.
-fn turn<A: Allocator>(
-    pacer: &mut Pacer<A>,
-    waiting: &mut VecDeque<Waiting, A>,
-    shape: &mut Shape,
-    steps: &[i64; 3],
-)
-    requires { length pacer.old.known + length waiting.old.items ≤ pacer.old.room }
-    ensures keeps { Keeps pacer.old pacer.new waiting.old.items waiting.new.items }
-    ensures capacity { deque_capacity waiting.new ≡ deque_capacity waiting.old }
-{
-    let limits = shape.limits;
-    let known = shape.known;
-    if !shape.chord.is_open() {
-        shape.chord.open(&limits, known, false);
-    } else if shape.chord.is_left(steps, known) {
-        close(pacer, waiting, shape, Ending::GoesOn, false);
-        shape.chord.open(&limits, known, true);
-    }
 }
 
 /// Takes a pulse.
@@ -175,22 +84,25 @@ fn push_pulse<A: Allocator>(
     pacer: &mut Pacer<A>,
     waiting: &mut VecDeque<Waiting, A>,
     shape: &mut Shape,
+    limits: &Limits,
     item: Item,
     pulse: &Pulse,
 )
     requires room { length pacer.old.known + length waiting.old.items < pacer.old.room }
+    requires limits { AreLimits limits.now }
     requires capacity { deque_capacity waiting.old ≡ pacer.old.room }
     ensures adds { Adds pacer.old pacer.new waiting.old.items waiting.new.items (record { item = item; full = min (own_square pulse.now.period_us) shape.old.before }) }
     ensures capacity { deque_capacity waiting.new ≡ deque_capacity waiting.old }
+    ensures advances { (legs : List Leg) → IsPath limits.now 0 shape.old.chord (length waiting.old.items) legs → IsBegun legs
+        → Advances limits.now 0 pacer.old pacer.new shape.new.chord (length waiting.new.items) (pulses_of legs ++ pulse.now ∷ []) (lines_of legs) }
+    ensures start { shape.new.start ≡ shape.old.start }
     ensures before { shape.new.before ≡ own_square pulse.now.period_us }
 {
-    let steps = steps_of(pulse);
     let own = own_square(pulse.period_us);
     let feed = own.min(shape.before);
-    turn(pacer, waiting, shape, &steps);
+    turn(pacer, waiting, &mut shape.chord, limits, pulse);
     waiting.push_back_reserved(Waiting { item, feed });
-    shape.known = shape.known.saturating_add(1);
-    extend(pacer, waiting, shape, &steps);
+    extend(pacer, waiting, &mut shape.chord, limits, pulse);
     shape.before = own;
 }
 
@@ -212,19 +124,22 @@ fn push_still<A: Allocator>(
     pacer: &mut Pacer<A>,
     waiting: &mut VecDeque<Waiting, A>,
     shape: &mut Shape,
+    limits: &Limits,
     item: Item,
 )
     requires room { length pacer.old.known + length waiting.old.items < pacer.old.room }
+    requires limits { AreLimits limits.now }
     ensures adds { Adds pacer.old pacer.new waiting.old.items waiting.new.items (record { item = item; full = 0 }) }
     ensures capacity { deque_capacity waiting.new ≡ deque_capacity waiting.old }
     ensures stands { StandsLast pacer.new.known (timed_waiting waiting.new.items) item }
+    ensures halts { (legs : List Leg) → IsPath limits.now 0 shape.old.chord (length waiting.old.items) legs → IsBegun legs
+        → Halts limits.now shape.old.start pacer.old pacer.new shape.new.chord (length waiting.new.items) legs (item ∷ []) }
+    ensures start { shape.new.start ≡ shape.old.start }
     ensures before { shape.new.before ≡ no_pulse }
 {
     let start = shape.start;
-    finish(pacer, waiting, shape, Ending::Stands(start));
+    finish(pacer, waiting, shape, limits, Ending::Stands(start));
     pacer.push(still(item));
-    shape.known = shape.known.saturating_add(1);
-    shape.fin = shape.known;
 }
 
 /// Takes an item.
@@ -232,56 +147,52 @@ fn push_item<A: Allocator>(
     pacer: &mut Pacer<A>,
     waiting: &mut VecDeque<Waiting, A>,
     shape: &mut Shape,
+    limits: &Limits,
     item: Item,
 )
     requires room { length pacer.old.known + length waiting.old.items < pacer.old.room }
+    requires limits { AreLimits limits.now }
     requires capacity { deque_capacity waiting.old ≡ pacer.old.room }
     ensures adds { Adds pacer.old pacer.new waiting.old.items waiting.new.items (record { item = item; full = full_of shape.old.before item }) }
     ensures capacity { deque_capacity waiting.new ≡ deque_capacity waiting.old }
     ensures stands { StandsAt pacer.new.known (timed_waiting waiting.new.items) item }
+    ensures takes { (legs : List Leg) → IsPath limits.now 0 shape.old.chord (length waiting.old.items) legs → IsBegun legs
+        → Takes limits.now shape.old.start pacer.old pacer.new shape.new.chord (length waiting.new.items) legs item }
+    ensures start { shape.new.start ≡ shape.old.start }
     ensures before { shape.new.before ≡ square_behind item }
 {
     match item {
-        Item::Pulse(pulse) => push_pulse(pacer, waiting, shape, item, &pulse),
-        Item::Dwell { us: _ } => push_still(pacer, waiting, shape, item),
-        Item::Switch(_) => push_still(pacer, waiting, shape, item),
+        Item::Pulse(pulse) => push_pulse(pacer, waiting, shape, limits, item, &pulse),
+        Item::Dwell { us: _ } => push_still(pacer, waiting, shape, limits, item),
+        Item::Switch(_) => push_still(pacer, waiting, shape, limits, item),
     }
 }
 
 impl<A: Allocator + Copy> Stream<A> {
     /// At rest, with no item, and room for so many. Nothing is allocated later. Source: own.
     ///
-    /// Refused, in this order: an axis without acceleration, corners of no pulse, no slack, no room; and what memory
-    /// refuses.
+    /// Refused, in this order: an axis with less acceleration than 3, corners of no pulse, a slack that isn't 1 to 1,000,
+    /// no room; and what memory refuses.
     pub fn new(alloc: A, limits: Limits, room: usize) -> Result<Stream<A>, PaceFault>
         ensures made { IfOk result (λ s. IsEmpty s limits room) }
-        ensures no_acceleration { (result ≡ Err PaceFault.NoAcceleration) ↔ Contains limits.accel 0 }
-        ensures no_corner { (result ≡ Err PaceFault.NoCorner) ↔ ((¬ Contains limits.accel 0) × (limits.half ≡ 0)) }
-        ensures no_slack { (result ≡ Err PaceFault.NoSlack) ↔ ((¬ Contains limits.accel 0) × (0 < limits.half) × (limits.slack ≡ 0)) }
-        ensures no_room { (result ≡ Err PaceFault.NoRoom) ↔ (IsAllowed limits × (room ≡ 0)) }
+        ensures no_acceleration { (result ≡ Err PaceFault.NoAcceleration) ↔ (¬ Accelerate limits) }
+        ensures no_corner { (result ≡ Err PaceFault.NoCorner) ↔ (Accelerate limits × (limits.half ≡ 0)) }
+        ensures no_slack { (result ≡ Err PaceFault.NoSlack) ↔ (Accelerate limits × (0 < limits.half) × (limits.slack ≡ 0)) }
+        ensures slack_too_great { (result ≡ Err PaceFault.SlackTooGreat) ↔ (Accelerate limits × (0 < limits.half) × (1000 < limits.slack)) }
+        ensures no_room { (result ≡ Err PaceFault.NoRoom) ↔ (AreLimits limits × (room ≡ 0)) }
         ensures no_other { ¬ (result ≡ Err PaceFault.StartTooSmall) }
     {
-        if limits.accel.contains(&0) {
-            return Err(PaceFault::NoAcceleration);
-        }
-        if limits.half == 0 {
-            return Err(PaceFault::NoCorner);
-        }
-        if limits.slack == 0 {
-            return Err(PaceFault::NoSlack);
-        }
+        limits.check()?;
         let start = start_of(&limits);
         let pacer = Pacer::new(alloc, start, room)?;
         match VecDeque::with_capacity(alloc, room) {
             Ok(waiting) => Ok(Stream {
                 pacer,
                 waiting,
+                limits,
                 shape: Shape {
-                    limits,
                     chord: Chord::new(),
                     start,
-                    known: 0,
-                    fin: 0,
                     before: GREATEST,
                 },
             }),
@@ -303,7 +214,13 @@ impl<A: Allocator> Stream<A> {
         requires { length self.old.motion.known + length self.old.waiting < self.old.motion.room }
         ensures { IsPut self.old self.new item }
     {
-        push_item(&mut self.pacer, &mut self.waiting, &mut self.shape, item);
+        push_item(
+            &mut self.pacer,
+            &mut self.waiting,
+            &mut self.shape,
+            &self.limits,
+            item,
+        );
     }
 
     /// Nothing more is known to come: all that is known may be given out, and comes to rest at its end. What is put in
@@ -316,6 +233,7 @@ impl<A: Allocator> Stream<A> {
             &mut self.pacer,
             &mut self.waiting,
             &mut self.shape,
+            &self.limits,
             Ending::Ends(start),
         );
     }

@@ -1,4 +1,4 @@
-use Rattle.std.proofs.Common.{◌≡◌, length}
+use Rattle.std.proofs.Common.{◌≡◌, [], length}
 use Rattle.std.specs.VecDeque.{deque_capacity}
 use Rattle.ng_pace.specs.Flow.{Keeps}
 use Rattle.ng_pace.proofs.settling.settle_all.Given as goal
@@ -7,6 +7,7 @@ abbrev pub invariant-loop-limits : goal.invariant-loop-limits
 invariant-loop-limits g l = record {
   keeps : Keeps l.initial.pacer l.pacer l.initial.waiting.items l.waiting.items;
   capacity : deque_capacity l.waiting ≡ deque_capacity l.initial.waiting;
+  stays : l.initial.waiting.items ≡ [] → (l.waiting.items ≡ []) × (l.pacer.known ≡ l.initial.pacer.known);
 }
 
 abbrev pub decreases-loop-limits : goal.decreases-loop-limits

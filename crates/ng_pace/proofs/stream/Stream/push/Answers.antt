@@ -1,6 +1,9 @@
-use Rattle.std.proofs.Common.{arith, ◌<◌, ◌+◌, length}
-use Rattle.ng_pace.specs.Flow.{timed_waiting}
+use Rattle.std.proofs.Common.{arith, ◌≡◌, ◌∙◌, ◌<◌, ◌+◌, ◌∷◌, ◌++◌, [], length, refl, sym, subst, ℕ}
+use Rattle.ng_pace.specs.Flow.{Flow, all_items, timed_waiting}
+use Rattle.ng_pace.specs.Halting.{Takes}
+use Rattle.ng_pace.specs.Underway.{IsPath}
 use Rattle.ng_pace.proofs.FlowLemmas.{length-timed_waiting, adds_rest, put_items}
+use Rattle.ng_pace.proofs.PutLemmas.{put-flow}
 use Rattle.ng_pace.proofs.stream.Stream.push.Goals as goal
 
 pub push_item-requires-clause-room : goal.push_item-requires-clause-room
@@ -14,14 +17,25 @@ invariant_of-self g c =
     record {
       fits = omega (arith, room, length-timed_waiting c.self.inside.waiting.items, c.push_item.ensures.adds.count, c.push_item.ensures.adds.settles.room);
       capacity_is = omega (arith, c.push_item.ensures.capacity, c.self.invariant.capacity_is, c.push_item.ensures.adds.settles.room);
+      start_is = c.push_item.ensures.start ∙ c.self.invariant.start_is ∙ sym c.push_item.ensures.adds.settles.start;
+      limits_are = c.self.invariant.limits_are;
       rests = adds_rest c.push_item.ensures.adds c.self.invariant.rests;
     }
 
 pub returns : goal.returns
-returns g c = rw (← c.self.view_is) (record {
-  items = put_items (record { motion = c.self.inside.pacer; waiting = timed_waiting c.self.inside.waiting.items; before = c.self.inside.shape.before }) (record { motion = c.push_item.new.pacer; waiting = timed_waiting c.push_item.new.waiting.items; before = c.push_item.new.shape.before }) c.args.item c.push_item.ensures.adds.settles;
-  settles = c.push_item.ensures.adds.settles;
-  stands = c.push_item.ensures.stands;
-  before = c.push_item.ensures.before;
-  rests = adds_rest c.push_item.ensures.adds c.self.invariant.rests;
-})
+returns g c =
+    let old : Flow = record { motion = c.self.inside.pacer; waiting = timed_waiting c.self.inside.waiting.items; before = c.self.inside.shape.before; limits = c.self.inside.limits; chord = c.self.inside.shape.chord } in
+    let new : Flow = record { motion = c.push_item.new.pacer; waiting = timed_waiting c.push_item.new.waiting.items; before = c.push_item.new.shape.before; limits = c.self.inside.limits; chord = c.push_item.new.shape.chord } in
+    let items : all_items new ≡ all_items old ++ c.args.item ∷ [] = put_items old new c.args.item c.push_item.ensures.adds.settles in
+    rw (← c.self.view_is) (record {
+      items = items;
+      settles = c.push_item.ensures.adds.settles;
+      stands = c.push_item.ensures.stands;
+      before = c.push_item.ensures.before;
+      rests = adds_rest c.push_item.ensures.adds c.self.invariant.rests;
+      limits = refl;
+      path = λ legs underway.
+          let path : IsPath c.self.inside.limits 0 c.self.inside.shape.chord (length c.self.inside.waiting.items) legs = rw (length-timed_waiting c.self.inside.waiting.items) at underway.path in
+          let P : ℕ → Type 0 = λ stop. Takes c.self.inside.limits stop c.self.inside.pacer c.push_item.new.pacer c.push_item.new.shape.chord (length c.push_item.new.waiting.items) legs c.args.item in
+          put-flow old new legs c.args.item underway refl (rw (length-timed_waiting c.push_item.new.waiting.items) (subst P c.self.invariant.start_is (c.push_item.ensures.takes legs path underway.begun))) items;
+    })

@@ -1,0 +1,126 @@
+-- What quotients allow, in whole numbers.
+use Rattle.std.proofs.Common.{arith, ℕ, ◌+◌, ◌-◌, ◌*◌, ◌/◌, ◌<◌, ◌≤◌, ◌≡◌, ◌⊎◌, inl, inr, max, slice_index}
+use Rattle.std.proofs.Math.Nat.{mul-le-mul_left, mul-le-mul_right}
+use Rattle.std.proofs.lemmas.Nat.{mul-le}
+use Rattle.std.proofs.lemmas.Bool.{cases_lt}
+use Rattle.ng_pace.specs.declared.limits.Limits.{Limits}
+use Rattle.ng_pace.specs.Axes.{IsAlong, IsCorner, IsNearCorner}
+
+-- a cap that is a quotient by the slope
+pub by_quotient : (slope number total q cap : ℕ) → slope * q ≤ number → number ≤ total → cap ≤ q * 65536 → slope * cap ≤ total * 65536
+by_quotient slope number total q cap part whole small =
+    let scaled : slope * cap ≤ slope * (q * 65536) = mul-le-mul_left slope small in
+    omega arith
+
+-- the square of a rate that is a quotient by the slope
+pub by_square : (slope number q most : ℕ) → slope * q ≤ number → most ≤ q * q * 65536 → slope * slope * most ≤ number * number * 65536
+by_square slope number q most part small =
+    let squares : slope * q * (slope * q) ≤ number * number = mul-le (slope * q) (slope * q) number number part part in
+    let scaled : slope * slope * most ≤ slope * slope * (q * q * 65536) = mul-le-mul_left (slope * slope) small in
+    omega arith
+
+-- the square of two steps a pulse is the greatest square
+pub square_fits : (rate : ℕ) → rate ≤ 2097152 → rate * rate * 65536 ≤ 288230376151711744
+square_fits rate small = let squares : rate * rate ≤ 2097152 * 2097152 = mul-le rate rate 2097152 2097152 small small in omega arith
+
+-- less of a slope, a square or a ramp asks for less
+pub along_less : (limits : Limits) (axis slope over most ramp most' ramp' : ℕ) → most' ≤ most → ramp' ≤ ramp → IsAlong limits axis slope over most ramp
+    → IsAlong limits axis slope over most' ramp'
+along_less limits axis slope over most ramp most' ramp' less slower kept = record {
+  accel = let scaled : slope * ramp' ≤ slope * ramp = mul-le-mul_left slope slower in omega (arith, kept.accel);
+  rate = λ some. let scaled : slope * slope * most' ≤ slope * slope * most = mul-le-mul_left (slope * slope) less in omega (arith, kept.rate some);
+}
+
+-- what is taken of the acceleration by a turn, and what is left of it
+pub turned : (slope ramp pulses turn most accel q used left : ℕ) → slope * q ≤ left * 2097152 → ramp ≤ q * 65536
+    → turn * most ≤ used * (pulses * 1048576) * 65536 → 4 * turn * most ≤ 3 * accel * pulses * 1048576 * 65536
+    → (left + used ≤ accel) ⊎ (4 * left ≤ accel)
+    → slope * ramp * pulses + 2 * turn * most ≤ 2 * accel * pulses * 1048576 * 65536
+turned slope ramp pulses turn most accel q used left part slower takes quarter (inl fits) =
+    let scaled : slope * ramp * pulses ≤ left * 2097152 * 65536 * pulses
+    = mul-le-mul_right pulses (by_quotient slope (left * 2097152) (left * 2097152) q ramp part (omega arith) slower) in
+    let all : (left + used) * pulses ≤ accel * pulses = mul-le-mul_right pulses fits in
+    omega arith
+turned slope ramp pulses turn most accel q used left part slower takes quarter (inr fits) =
+    let scaled : slope * ramp * pulses ≤ left * 2097152 * 65536 * pulses
+    = mul-le-mul_right pulses (by_quotient slope (left * 2097152) (left * 2097152) q ramp part (omega arith) slower) in
+    let all : 4 * left * pulses ≤ accel * pulses = mul-le-mul_right pulses fits in
+    omega arith
+
+-- the square of less than a pulse a second more than whole ones, times the turn, as the quotient rounded up takes it
+pub takes_up : (whole most turn over used more : ℕ) → most < (whole + 1) * 65536 → (whole + 1) * turn ≤ used * more → more ≤ over
+    → turn * most ≤ used * over * 65536
+takes_up whole most turn over used more small up capped =
+    let a : turn * most ≤ turn * ((whole + 1) * 65536) = mul-le-mul_left turn (omega arith) in
+    let b : used * more ≤ used * over = mul-le-mul_left used capped in
+    omega arith
+
+-- three quarters of a quotient
+pub three_quarters : (turn total square most : ℕ) → turn * square ≤ total → most ≤ square / 4 * 3 * 65536 → 4 * turn * most ≤ 3 * total * 65536
+three_quarters turn total square most part small =
+    let scaled : turn * most ≤ turn * (square / 4 * 3 * 65536) = mul-le-mul_left turn small in
+    let quarter : turn * (square / 4 * 4) ≤ turn * square = mul-le-mul_left turn (omega arith) in
+    omega arith
+
+-- what is left of the acceleration: what the turn doesn't take, or a quarter
+pub left_of : (accel used left : ℕ) → left ≡ max (accel - used) (accel / 4) → (left + used ≤ accel) ⊎ (4 * left ≤ accel)
+left_of accel used left is = by_case (cases_lt (accel / 4) (accel - used)) where
+  by_case : (accel / 4 < accel - used) ⊎ (accel - used ≤ accel / 4) → (left + used ≤ accel) ⊎ (4 * left ≤ accel)
+  by_case (inl more) = inl (omega (arith, is))
+  by_case (inr less) = inr (omega (arith, is))
+
+-- a pulse a second is never too fast for a turn of two steps a pulse
+pub quarter_of : (turn cap most accel pulses : ℕ) → 4 * turn * cap ≤ 3 * accel * pulses * 1048576 * 65536 → most ≤ max cap 65536 → turn ≤ 2097152 → 3 ≤ accel
+    → 0 < pulses
+    → 4 * turn * most ≤ 3 * accel * pulses * 1048576 * 65536
+quarter_of turn cap most accel pulses kept small flat some long = by_case (cases_lt cap 65536) where
+  by_case : (cap < 65536) ⊎ (65536 ≤ cap) → 4 * turn * most ≤ 3 * accel * pulses * 1048576 * 65536
+  by_case (inl slow) =
+      let scaled : turn * most ≤ 2097152 * 65536 = mul-le turn most 2097152 65536 flat (omega arith) in
+      let long_enough : 3 * 1 ≤ accel * pulses = mul-le 3 1 accel pulses some long in
+      omega arith
+  by_case (inr fast) = let scaled : turn * most ≤ turn * cap = mul-le-mul_left turn (omega arith) in omega arith
+
+-- nor for a rate of a step a second, where the slope is a step a pulse at most
+pub rate_of : (slope rate cap most : ℕ) → slope * slope * cap ≤ rate * rate * 1048576 * 1048576 * 65536 → most ≤ max cap 65536 → slope ≤ 1048576 → 0 < rate
+    → slope * slope * most ≤ rate * rate * 1048576 * 1048576 * 65536
+rate_of slope rate cap most kept small flat some = by_case (cases_lt cap 65536) where
+  by_case : (cap < 65536) ⊎ (65536 ≤ cap) → slope * slope * most ≤ rate * rate * 1048576 * 1048576 * 65536
+  by_case (inl slow) =
+      let squares : slope * slope ≤ 1048576 * 1048576 = mul-le slope slope 1048576 1048576 flat flat in
+      let scaled : slope * slope * most ≤ 1048576 * 1048576 * 65536 = mul-le (slope * slope) most (1048576 * 1048576) 65536 squares (omega arith) in
+      let fast_enough : 1 * 1 ≤ rate * rate = mul-le 1 1 rate rate some some in
+      omega arith
+  by_case (inr fast) = let scaled : slope * slope * most ≤ slope * slope * cap = mul-le-mul_left (slope * slope) (omega arith) in omega arith
+
+-- a corner's promise, from that of its axis
+pub corner_of : (limits : Limits) (axis slope turn pulses most ramp ramp' cap : ℕ)
+    → slope * ramp * pulses + 2 * turn * most ≤ 2 * slice_index limits.accel axis * pulses * 1048576 * 65536 → ramp' ≤ ramp
+    → (0 < slice_index limits.rate axis → slope * slope * cap ≤ slice_index limits.rate axis * slice_index limits.rate axis * 1048576 * 1048576 * 65536)
+    → most ≤ max cap 65536 → slope ≤ 1048576
+    → IsCorner limits axis slope turn 1048576 pulses most ramp'
+corner_of limits axis slope turn pulses most ramp ramp' cap kept slower fast small flat = record {
+  accel = let scaled : slope * ramp' * pulses ≤ slope * ramp * pulses = mul-le-mul_right pulses (mul-le-mul_left slope slower) in omega (arith, kept);
+  rate = λ some. rate_of slope (slice_index limits.rate axis) cap most (fast some) small flat some;
+}
+
+-- the pulses of a corner, by the slack or by the rate at which a motor stops at once
+pub near_of : (limits : Limits) (axis turn by_slack by_start quotient : ℕ) → turn * by_slack ≤ 8 * limits.slack * 1048576 → turn * by_start ≤ quotient * 1048576
+    → quotient * slice_index limits.accel axis ≤ slice_index limits.start axis * slice_index limits.start axis
+    → IsNearCorner limits axis turn 1048576 (max by_slack by_start)
+near_of limits axis turn by_slack by_start quotient near far start = by_case (cases_lt by_slack by_start) where
+  by_case : (by_slack < by_start) ⊎ (by_start ≤ by_slack) → IsNearCorner limits axis turn 1048576 (max by_slack by_start)
+  by_case (inl more) =
+      let scaled : turn * by_start * slice_index limits.accel axis ≤ quotient * 1048576 * slice_index limits.accel axis
+      = mul-le-mul_right (slice_index limits.accel axis) far in
+      let is : max by_slack by_start ≡ by_start = omega arith in
+      inr (rw is (omega arith))
+  by_case (inr less) = let is : max by_slack by_start ≡ by_slack = omega arith in inl (rw is near)
+
+-- over fewer pulses an axis is nearer
+pub near_less : (limits : Limits) (axis turn over pulses pulses' : ℕ) → pulses' ≤ pulses → IsNearCorner limits axis turn over pulses
+    → IsNearCorner limits axis turn over pulses'
+near_less limits axis turn over pulses pulses' less (inl near) = inl (let scaled : turn * pulses' ≤ turn * pulses = mul-le-mul_left turn less in omega arith)
+near_less limits axis turn over pulses pulses' less (inr near) =
+    inr (let scaled : turn * pulses' * slice_index limits.accel axis ≤ turn * pulses * slice_index limits.accel axis
+    = mul-le-mul_right (slice_index limits.accel axis) (mul-le-mul_left turn less) in omega arith)

@@ -1,0 +1,210 @@
+-- What lines that are made do to the chords of a path.
+use Rattle.std.proofs.Common.{arith, ℕ, ◌+◌, ◌-◌, ◌*◌, ◌/◌, ◌<◌, ◌≤◌, ◌≡◌, ap, subst, List, [], ◌∷◌, ◌++◌, length, take, drop, All}
+use Rattle.std.proofs.lemmas.List.{take-append-le, drop_at, length-append, length-map, map-append, take-append-drop, length-take-le}
+use Rattle.std.proofs.lemmas.List.Elements.{All-append, All-weaker, All-take, All-drop}
+use Rattle.std.proofs.Math.Nat.{mul-le-mul_left}
+use Rattle.ng_canon.specs.declared.item.AxisStep.{AxisStep}
+use Rattle.ng_canon.specs.declared.item.Pulse.{Pulse}
+use Rattle.ng_pace.specs.declared.limits.Limits.{Limits}
+use Rattle.ng_pace.specs.declared.line.Line.{Line}
+use Rattle.ng_pace.specs.declared.slopes.Slopes.{Slopes}
+use Rattle.ng_pace.specs.Axes.{IsCorner}
+use Rattle.ng_pace.specs.Chords.{Slope, IsSlope, IsNear}
+use Rattle.ng_pace.specs.Legs.{Leg, IsLeg, IsChord, IsPaced, IsBehind, IsCornered, IsOnChord, IsOnCorner, IsTurning, step_of, steps_along, slope_along}
+use Rattle.ng_pace.specs.Making.{IsWithin}
+use Rattle.ng_pace.specs.Passing.{AllowAlong, TakesCorner}
+use Rattle.ng_pace.specs.Underway.{AreSlopes}
+use Rattle.ng_pace.proofs.CapsLemmas.{along_less}
+use Rattle.ng_pace.proofs.ConeLemmas.{slope_of-some}
+use Rattle.ng_pace.proofs.ExactLemmas.{along-corner}
+
+-- the slope of an axis along some pulses
+pub slope-some : (axis : ℕ) (pulses : List Pulse) → 0 < length pulses → IsSlope (slope_along axis pulses)
+slope-some axis pulses some = slope_of-some (steps_along axis pulses) (omega (arith, length-map pulses (step_of axis), some))
+
+-- an axis that is near along pulses is near along the first of them
+near-front : (slack : ℕ) (slope : Slope) (xs ys : List AxisStep) → IsNear slack slope (xs ++ ys) → IsNear slack slope xs
+near-front slack slope xs ys near = λ k within. rw (take-append-le k xs ys within) at (near k (omega (arith, length-append xs ys, within)))
+
+pub chord-front : (slack axis : ℕ) (pulses more : List Pulse) → IsNear slack (slope_along axis (pulses ++ more)) (steps_along axis (pulses ++ more))
+    → IsNear slack (slope_along axis (pulses ++ more)) (steps_along axis pulses)
+chord-front slack axis pulses more near =
+    near-front slack (slope_along axis (pulses ++ more)) (steps_along axis pulses) (steps_along axis more)
+    (let e : steps_along axis (pulses ++ more) ≡ steps_along axis pulses ++ steps_along axis more = map-append (step_of axis) pulses more in
+    let P : List AxisStep → Type 0 = λ t. IsNear slack (slope_along axis (pulses ++ more)) t in
+    subst P e near)
+
+-- a line that has no more than is allowed
+pub on-chord : (limits : Limits) (stop : ℕ) (slopes : List Slopes) (chord : List Pulse) (most ramp : ℕ) → 0 < length chord → AllowAlong limits slopes most ramp
+    → AreSlopes slopes chord → (line : Line) → IsWithin most ramp stop line → IsOnChord limits stop chord line
+on-chord limits stop slopes chord most ramp some allowed are line within = record {
+  ramp = ramp;
+  allowed = record {
+    x = along_less limits 0 _ _ most ramp line.most ramp within.most_is (omega arith) (allowed.x (slope_along 0 chord) (slope-some 0 chord some) are.x);
+    y = along_less limits 1 _ _ most ramp line.most ramp within.most_is (omega arith) (allowed.y (slope_along 1 chord) (slope-some 1 chord some) are.y);
+    z = along_less limits 2 _ _ most ramp line.most ramp within.most_is (omega arith) (allowed.z (slope_along 2 chord) (slope-some 2 chord some) are.z);
+  };
+  within = within.ramp_is;
+}
+
+corner-less : (limits : Limits) (axis slope turn over pulses most ramp most' : ℕ) → most' ≤ most → IsCorner limits axis slope turn over pulses most ramp
+    → IsCorner limits axis slope turn over pulses most' ramp
+corner-less limits axis slope turn over pulses most ramp most' less kept = record {
+  accel = let scaled : 2 * turn * most' ≤ 2 * turn * most = mul-le-mul_left (2 * turn) less in omega (arith, kept.accel);
+  rate = λ some. let scaled : slope * slope * most' ≤ slope * slope * most = mul-le-mul_left (slope * slope) less in omega (arith, kept.rate some);
+}
+
+turning-less : (limits : Limits) (axis : ℕ) (before after : Slope) (pulses most ramp most' : ℕ) → most' ≤ most
+    → IsTurning limits axis before after pulses most ramp → IsTurning limits axis before after pulses most' ramp
+turning-less limits axis before after pulses most ramp most' less kept = record {
+  leaves = corner-less limits axis _ _ _ pulses most ramp most' less kept.leaves;
+  enters = corner-less limits axis _ _ _ pulses most ramp most' less kept.enters;
+}
+
+pub on-corner : (limits : Limits) (stop : ℕ) (slopes next : List Slopes) (before after : List Pulse) (pulses most ramp : ℕ) → 0 < length before
+    → 0 < length after → TakesCorner limits slopes next pulses most ramp
+    → AreSlopes slopes before → AreSlopes next after → (line : Line) → IsWithin most ramp stop line → IsOnCorner limits stop before after pulses line
+on-corner limits stop slopes next before after pulses most ramp some some' takes are are' line within = record {
+  ramp = ramp;
+  allowed = record {
+    x = turning-less limits 0 _ _ pulses most ramp line.most within.most_is
+        (takes.turning.x (slope_along 0 before) (slope_along 0 after) (slope-some 0 before some) (slope-some 0 after some') are.x are'.x);
+    y = turning-less limits 1 _ _ pulses most ramp line.most within.most_is
+        (takes.turning.y (slope_along 1 before) (slope_along 1 after) (slope-some 1 before some) (slope-some 1 after some') are.y are'.y);
+    z = turning-less limits 2 _ _ pulses most ramp line.most within.most_is
+        (takes.turning.z (slope_along 2 before) (slope_along 2 after) (slope-some 2 before some) (slope-some 2 after some') are.z are'.z);
+  };
+  within = within.ramp_is;
+}
+
+-- a line at a corner is a line of the chords on both sides
+turn-swapped : (limits : Limits) (axis slope turn over over' pulses most ramp : ℕ) → IsCorner limits axis (slope * over) turn (over * over') pulses most ramp
+    → IsCorner limits axis (slope * over) turn (over' * over) pulses most ramp
+turn-swapped limits axis slope turn over over' pulses most ramp kept = record {
+  accel = omega (arith, kept.accel);
+  rate = λ some. omega (arith, kept.rate some);
+}
+
+long : (axis : ℕ) (pulses : List Pulse) → 0 < length pulses → 0 < length (steps_along axis pulses)
+long axis pulses some = omega (arith, length-map pulses (step_of axis), some)
+
+pub leaves-chord : (limits : Limits) (stop : ℕ) (before after : List Pulse) (pulses : ℕ) → 0 < pulses → 0 < length after → (line : Line)
+    → IsOnCorner limits stop before after pulses line → IsOnChord limits stop before line
+leaves-chord limits stop before after pulses some some' line on = record {
+  ramp = on.ramp;
+  allowed = record {
+    x = along-corner limits 0 _ _ _ (length (steps_along 0 after)) pulses line.most on.ramp (long 0 after some') some on.allowed.x.leaves;
+    y = along-corner limits 1 _ _ _ (length (steps_along 1 after)) pulses line.most on.ramp (long 1 after some') some on.allowed.y.leaves;
+    z = along-corner limits 2 _ _ _ (length (steps_along 2 after)) pulses line.most on.ramp (long 2 after some') some on.allowed.z.leaves;
+  };
+  within = on.within;
+}
+
+pub enters-chord : (limits : Limits) (stop : ℕ) (before after : List Pulse) (pulses : ℕ) → 0 < pulses → 0 < length before → (line : Line)
+    → IsOnCorner limits stop before after pulses line → IsOnChord limits stop after line
+enters-chord limits stop before after pulses some some' line on = record {
+  ramp = on.ramp;
+  allowed = record {
+    x = along-corner limits 0 _ _ _ (length (steps_along 0 before)) pulses line.most on.ramp (long 0 before some') some
+        (turn-swapped limits 0 _ _ _ _ pulses line.most on.ramp on.allowed.x.enters);
+    y = along-corner limits 1 _ _ _ (length (steps_along 1 before)) pulses line.most on.ramp (long 1 before some') some
+        (turn-swapped limits 1 _ _ _ _ pulses line.most on.ramp on.allowed.y.enters);
+    z = along-corner limits 2 _ _ _ (length (steps_along 2 before)) pulses line.most on.ramp (long 2 before some') some
+        (turn-swapped limits 2 _ _ _ _ pulses line.most on.ramp on.allowed.z.enters);
+  };
+  within = on.within;
+}
+
+-- a chord with more lines
+behind-more : (limits : Limits) (stop : ℕ) (leg : Leg) (made : List Line) (rest : List Leg) → IsBehind limits stop leg rest
+    → IsBehind limits stop (record { pulses = leg.pulses; lines = leg.lines ++ made }) rest
+behind-more limits stop leg made [] behind = tt
+behind-more limits stop leg made (before ∷ rest) behind = record {
+  pulses = behind.pulses;
+  some = behind.some;
+  near = behind.near;
+  whole = behind.whole;
+  begun = omega (arith, length-append leg.lines made, behind.begun);
+  leaves = behind.leaves;
+  enters = rw (take-append-le ((behind.pulses + 1) / 2) leg.lines made behind.begun) behind.enters;
+}
+
+pub paced-more : (limits : Limits) (stop : ℕ) (leg : Leg) (made : List Line) (rest : List Leg) → IsPaced limits stop (leg ∷ rest)
+    → All (IsOnChord limits stop leg.pulses) made → length leg.lines + length made ≤ length leg.pulses
+    → IsPaced limits stop (record { pulses = leg.pulses; lines = leg.lines ++ made } ∷ rest)
+paced-more limits stop leg made rest paced on few = (
+  record {
+    chord = paced.0.chord;
+    lines = All-append (IsOnChord limits stop leg.pulses) leg.lines made paced.0.lines on;
+    few = omega (arith, length-append leg.lines made, few);
+  },
+  (behind-more limits stop leg made rest paced.1.0, paced.1.1),
+)
+
+-- the lines up to the end of a corner: some along the chord before it, and then those at the corner, of which the first half belong to that chord
+pub corner-paced : (limits : Limits) (stop : ℕ) (slopes next : List Slopes) (chord : List Pulse) (before : Leg) (rest : List Leg) (first second : List Line)
+    (pulses most ramp most' ramp' : ℕ)
+    → IsPaced limits stop (before ∷ rest) → IsChord limits.slack chord → 0 < length before.pulses → 0 < length chord → AreSlopes slopes before.pulses
+    → AreSlopes next chord
+    → 0 < pulses → TakesCorner limits slopes next pulses most' ramp' → AllowAlong limits slopes most ramp → All (IsWithin most ramp stop) first
+    → All (IsWithin most' ramp' stop) second
+    → length before.lines + length first + pulses / 2 ≡ length before.pulses → length second ≡ pulses → (pulses + 1) / 2 ≤ length chord
+    → IsPaced limits stop (record {
+      pulses = chord;
+      lines = drop (pulses / 2) second;
+    } ∷ (record { pulses = before.pulses; lines = (before.lines ++ first) ++ take (pulses / 2) second } ∷ rest))
+corner-paced limits stop slopes next chord before rest first second pulses most ramp most' ramp' paced straight some some' are are' long_enough takes allowed
+    each each' len len' few =
+    (leg, (cornered, before_paced))
+  where
+    on : All (IsOnCorner limits stop before.pulses chord pulses) second
+    on = All-weaker (IsWithin most' ramp' stop) (IsOnCorner limits stop before.pulses chord pulses)
+        (on-corner limits stop slopes next before.pulses chord pulses most' ramp' some some' takes are are') second each'
+
+    front : length (take (pulses / 2) second) ≡ pulses / 2
+    front = length-take-le (pulses / 2) second (omega (arith, len'))
+
+    back : length (drop (pulses / 2) second) + pulses / 2 ≡ pulses
+    back = omega (arith, ap length (take-append-drop (pulses / 2) second), length-append (take (pulses / 2) second) (drop (pulses / 2) second), front, len')
+
+    known : length (before.lines ++ first) ≡ length before.pulses - pulses / 2
+    known = omega (arith, length-append before.lines first, len)
+
+    before_paced : IsPaced limits stop (record { pulses = before.pulses; lines = (before.lines ++ first) ++ take (pulses / 2) second } ∷ rest)
+    before_paced = paced-more limits stop (record { pulses = before.pulses; lines = before.lines ++ first }) (take (pulses / 2) second) rest
+        (paced-more limits stop before first rest paced
+        (All-weaker (IsWithin most ramp stop) (IsOnChord limits stop before.pulses) (on-chord limits stop slopes before.pulses most ramp some allowed are)
+        first each) (omega (arith, len)))
+        (All-take (IsOnChord limits stop before.pulses) (pulses / 2) second
+        (All-weaker (IsOnCorner limits stop before.pulses chord pulses) (IsOnChord limits stop before.pulses)
+        (leaves-chord limits stop before.pulses chord pulses long_enough some') second on))
+        (omega (arith, length-append before.lines first, front, len))
+
+    leg : IsLeg limits stop (record { pulses = chord; lines = drop (pulses / 2) second })
+    leg = record {
+      chord = straight;
+      lines = All-drop (IsOnChord limits stop chord) (pulses / 2) second
+          (All-weaker (IsOnCorner limits stop before.pulses chord pulses) (IsOnChord limits stop chord)
+          (enters-chord limits stop before.pulses chord pulses long_enough some) second on);
+      few = omega (arith, back, few);
+    }
+
+    cornered : IsCornered limits stop (record { pulses = before.pulses; lines = (before.lines ++ first) ++ take (pulses / 2) second })
+        (record { pulses = chord; lines = drop (pulses / 2) second })
+    cornered = record {
+      pulses = pulses;
+      some = long_enough;
+      near = record {
+        x = takes.near.x (slope_along 0 before.pulses) (slope_along 0 chord) (slope-some 0 before.pulses some) (slope-some 0 chord some') are.x are'.x;
+        y = takes.near.y (slope_along 1 before.pulses) (slope_along 1 chord) (slope-some 1 before.pulses some) (slope-some 1 chord some') are.y are'.y;
+        z = takes.near.z (slope_along 2 before.pulses) (slope_along 2 chord) (slope-some 2 before.pulses some) (slope-some 2 chord some') are.z are'.z;
+      };
+      whole = omega (arith, length-append (before.lines ++ first) (take (pulses / 2) second), length-append before.lines first, front, len);
+      begun = omega (arith, back);
+      leaves =
+          let cut : drop (length before.pulses - pulses / 2) ((before.lines ++ first) ++ take (pulses / 2) second) ≡ take (pulses / 2) second
+          = drop_at (before.lines ++ first) (take (pulses / 2) second) (length before.pulses - pulses / 2) known in
+          rw cut (All-take (IsOnCorner limits stop before.pulses chord pulses) (pulses / 2) second on);
+      enters = All-take (IsOnCorner limits stop before.pulses chord pulses) ((pulses + 1) / 2) (drop (pulses / 2) second)
+          (All-drop (IsOnCorner limits stop before.pulses chord pulses) (pulses / 2) second on);
+    }

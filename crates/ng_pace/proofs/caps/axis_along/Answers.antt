@@ -1,0 +1,27 @@
+use Rattle.std.proofs.Common.{arith, ◌*◌, ◌/◌, ◌≤◌, slice_index}
+use Rattle.std.proofs.Math.Nat.{mul-div-le}
+use Rattle.ng_pace.proofs.CapsLemmas.{by_quotient, by_square}
+use Rattle.ng_pace.proofs.caps.axis_along.Goals as goal
+use Rattle.ng_pace.proofs.caps.axis_along.Goals.{then-limits-axis-eq0, else-limits-axis-eq0}
+
+pub returns-clause-allowed : goal.returns-clause-allowed
+returns-clause-allowed c = record {
+  accel =
+      let kept : c.args.slope * c.saturating_mul-2.result ≤ slice_index c.args.limits.now.accel c.args.axis * 2097152 * 65536
+      = by_quotient c.args.slope c.saturating_mul-accel.result (slice_index c.args.limits.now.accel c.args.axis * 2097152)
+      (c.saturating_mul-accel.result / c.args.slope) c.saturating_mul-2.result
+      (mul-div-le c.saturating_mul-accel.result c.args.slope) (omega (arith, c.saturating_mul-accel.ensures)) (omega (arith, c.saturating_mul-2.ensures)) in
+      omega arith;
+  rate = λ some. elim c.if-limits-axis-eq0.branch [
+    | then-limits-axis-eq0 w ↦ absurd (omega arith)
+    | else-limits-axis-eq0 w ↦
+        let part : c.args.slope * (w.saturating_mul.result / c.args.slope) ≤ slice_index c.args.limits.now.rate c.args.axis * 1048576
+        = omega (arith, mul-div-le w.saturating_mul.result c.args.slope, w.saturating_mul.ensures) in
+        let kept : c.args.slope * c.args.slope * c.if-limits-axis-eq0.most ≤ slice_index c.args.limits.now.rate c.args.axis * 1048576 *
+        (slice_index c.args.limits.now.rate c.args.axis * 1048576) * 65536
+        = by_square c.args.slope (slice_index c.args.limits.now.rate c.args.axis * 1048576) (w.saturating_mul.result / c.args.slope) c.if-limits-axis-eq0.most
+        part
+        (omega (arith, w.square_of-most.ensures.square, w.most-is)) in
+        omega arith
+  ];
+}

@@ -1,0 +1,12 @@
+use Rattle.std.proofs.Common.{arith, ◌/◌, slice_index}
+use Rattle.std.proofs.Math.Nat.{mul-div-le, div-mul-le_self}
+use Rattle.ng_pace.proofs.CapsLemmas.{near_of}
+use Rattle.ng_pace.proofs.corner.axis_pulses.Goals as goal
+
+pub returns-clause-near : goal.returns-clause-near
+returns-clause-near c =
+    let is = c.max.ensures in
+    rw is (near_of c.args.limits.now c.args.axis c.args.turn _ _ (c.saturating_mul-2.result / slice_index c.args.limits.now.accel c.args.axis)
+    (omega (arith, mul-div-le c.saturating_mul.result c.args.turn, c.saturating_mul.ensures))
+    (omega (arith, mul-div-le c.saturating_mul-3.result c.args.turn, c.saturating_mul-3.ensures))
+    (omega (arith, div-mul-le_self c.saturating_mul-2.result (slice_index c.args.limits.now.accel c.args.axis), c.saturating_mul-2.ensures)))

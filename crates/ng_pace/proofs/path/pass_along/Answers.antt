@@ -1,0 +1,16 @@
+use Rattle.std.proofs.Common.{arith, rules, ◌≡◌, ◌-◌, length, deque_len}
+use Rattle.ng_pace.proofs.ExactLemmas.{allow-along}
+use Rattle.ng_pace.proofs.path.pass_along.Goals as goal
+
+pub returns-clause-passes : goal.returns-clause-passes
+returns-clause-passes g c =
+    let len : deque_len c.args.waiting.now ≡ length c.args.waiting.now.items = search rules in
+    let count : c.saturating_sub-count.result ≡ length c.args.waiting.now.items - c.args.kept
+    = omega (arith, c.saturating_sub-count.ensures, c.len.ensures, len) in
+    record {
+      most = c.along-caps.result.most;
+      ramp = c.along-caps.result.ramp;
+      allowed = allow-along c.args.limits.now c.args.slopes.now c.sizes.result c.along-caps.result.most c.along-caps.result.ramp c.sizes.ensures
+          c.along-caps.ensures.allowed;
+      makes = rw count at c.settle.ensures.makes;
+    }

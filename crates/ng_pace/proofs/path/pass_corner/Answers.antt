@@ -1,0 +1,29 @@
+use Rattle.std.proofs.Common.{arith, rules, ◌≡◌, ◌-◌, ◌/◌, length, deque_len}
+use Rattle.ng_pace.proofs.ExactLemmas.{allow-along, takes-corner}
+use Rattle.ng_pace.proofs.path.pass_corner.Goals as goal
+
+pub returns-clause-passes : goal.returns-clause-passes
+returns-clause-passes g c =
+    let len : deque_len c.args.waiting.now ≡ length c.args.waiting.now.items = search rules in
+    let count : c.saturating_sub-count.result ≡ length c.args.waiting.now.items - c.args.chord.now.pulses - c.corner_pulses-pulses.result / 2
+    = omega (arith, c.saturating_sub-count.ensures, c.saturating_sub.ensures, c.len.ensures, len) in
+    record {
+      mid = c.settle.new.pacer;
+      left = c.settle.new.waiting.items;
+      pulses = c.corner_pulses-pulses.result;
+      some = c.corner_pulses-pulses.ensures.some;
+      before_few = c.corner_pulses-pulses.ensures.before;
+      after_few = c.corner_pulses-pulses.ensures.after;
+      half = c.corner_pulses-pulses.ensures.half;
+      before_most = c.along-before.result.most;
+      before_ramp = c.along-before.result.ramp;
+      before_allowed = allow-along c.args.limits.now c.args.chord.now.before c.sizes.result c.along-before.result.most c.along-before.result.ramp
+          c.sizes.ensures c.along-before.ensures.allowed;
+      first = rw count at c.settle.ensures.makes;
+      most = c.corner_caps-caps.result.most;
+      ramp = c.corner_caps-caps.result.ramp;
+      takes = takes-corner c.args.limits.now c.args.chord.now.before c.args.after.now c.between-turn.result.slope c.between-turn.result.turn
+          c.corner_pulses-pulses.result c.corner_caps-caps.result.most c.corner_caps-caps.result.ramp
+          c.between-turn.ensures.most c.corner_pulses-pulses.ensures.near c.corner_caps-caps.ensures;
+      then = c.settle-2.ensures.makes;
+    }

@@ -1,0 +1,56 @@
+-- What a stream promises of each call.
+use Rattle.std.specs.Prelude.{ℕ, ◌≡◌, List, [], ◌∷◌, ◌++◌}
+use Rattle.ng_canon.specs.declared.item.Item.{Item}
+use Rattle.ng_pace.specs.declared.limits.Limits.{Limits}
+use Rattle.ng_pace.specs.declared.stepping.Given.{Given}
+use Rattle.ng_pace.specs.Axes.{AreLimits, IsStop}
+use Rattle.ng_pace.specs.Start.{start_of}
+use Rattle.ng_pace.specs.Rest.{CanRest}
+use Rattle.ng_pace.specs.Paced.{IsGiven}
+use Rattle.ng_pace.specs.Flow.{Flow, Settles, StandsAt, all_items, full_of, square_behind, no_pulse}
+use Rattle.ng_pace.specs.Legs.{Leg}
+use Rattle.ng_pace.specs.Putting.{IsUnderway, GoesOnWith, Rests}
+
+-- at rest, with nothing known, and room for so many items
+pub record IsEmpty (flow : Flow) (limits : Limits) (room : ℕ) : Type 0 where
+  pub known : flow.motion.known ≡ []
+  pub waiting : flow.waiting ≡ []
+  pub rest : flow.motion.square ≡ 0
+  pub before : flow.before ≡ no_pulse
+  pub start : flow.motion.start ≡ start_of limits
+  pub stops : IsStop limits flow.motion.start
+  pub room_is : flow.motion.room ≡ room
+  pub limits_are : flow.limits ≡ limits
+  pub can_be_kept : AreLimits limits
+  pub underway : IsUnderway flow []
+
+-- an item is put in, behind all that are known
+pub record IsPut (old new : Flow) (item : Item) : Type 0 where
+  pub items : all_items new ≡ all_items old ++ item ∷ []
+  pub settles : Settles old.motion new.motion (old.waiting ++ (record { item = item; full = full_of old.before item }) ∷ []) new.waiting
+  pub stands : StandsAt new.motion.known new.waiting item
+  pub before : new.before ≡ square_behind item
+  pub rests : CanRest new.motion.square new.motion.known
+  pub limits : new.limits ≡ old.limits
+  -- the chords of the pulses go on with it, and the lines keep to them
+  pub path : (legs : List Leg) → IsUnderway old legs → GoesOnWith old new legs item
+
+-- nothing more is known to come: no item waits
+pub record IsEnded (old new : Flow) : Type 0 where
+  pub items : all_items new ≡ all_items old
+  pub settles : Settles old.motion new.motion old.waiting []
+  pub none : new.waiting ≡ []
+  pub before : new.before ≡ no_pulse
+  pub rests : CanRest new.motion.square new.motion.known
+  pub limits : new.limits ≡ old.limits
+  -- the chords of the pulses come to rest at their end
+  pub path : (legs : List Leg) → IsUnderway old legs → Rests old new legs []
+
+-- a line is given out
+pub record IsFlowGiven (old new : Flow) (wanted : ℕ) (given : Given) : Type 0 where
+  pub items : all_items old ≡ given.line.item ∷ all_items new
+  pub given_out : IsGiven old.motion new.motion wanted given
+  pub waiting : new.waiting ≡ old.waiting
+  pub before : new.before ≡ old.before
+  pub limits : new.limits ≡ old.limits
+  pub chord : new.chord ≡ old.chord

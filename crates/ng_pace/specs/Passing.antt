@@ -1,0 +1,49 @@
+-- Lines that are made along a chord, and at a corner.
+use Rattle.std.specs.Prelude.{ℕ, ◌-◌, ◌*◌, ◌/◌, ◌<◌, ◌≤◌, max, List, length}
+use Rattle.std.specs.Int.{abs_diff}
+use Rattle.ng_pace.specs.declared.limits.Limits.{Limits}
+use Rattle.ng_pace.specs.declared.slopes.Slopes.{Slopes}
+use Rattle.ng_pace.specs.declared.chord.Waiting.{Waiting}
+use Rattle.ng_pace.specs.Motion.{Motion}
+use Rattle.ng_pace.specs.Axes.{EachAxis, IsAlong, IsNearCorner}
+use Rattle.ng_pace.specs.Chords.{Slope, IsSlope}
+use Rattle.ng_pace.specs.Cones.{AreBetween}
+use Rattle.ng_pace.specs.Legs.{IsTurning, turn_between}
+use Rattle.ng_pace.specs.Making.{Makes}
+
+-- along any slopes that are among these, this is allowed
+abbrev pub AllowAlong : Limits → List Slopes → ℕ → ℕ → Type 0
+AllowAlong limits slopes most ramp =
+    EachAxis (λ axis. (slope : Slope) → IsSlope slope → AreBetween slopes axis slope → IsAlong limits axis (abs_diff slope.up slope.down) slope.over most ramp)
+
+-- of all that waits, but so many, lines are made that are allowed along the slopes
+pub record PassesAlong (limits : Limits) (slopes : List Slopes) (stop kept : ℕ) (old new : Motion) (waited waits : List Waiting) : Type 0 where
+  pub most : ℕ
+  pub ramp : ℕ
+  pub allowed : AllowAlong limits slopes most ramp
+  pub makes : Makes old new waited waits most ramp stop (length waited - kept)
+
+-- a corner is taken over so many pulses, half on each side
+pub record TakesCorner (limits : Limits) (before after : List Slopes) (pulses most ramp : ℕ) : Type 0 where
+  pub near : EachAxis (λ axis. (slope : Slope) (next : Slope) → IsSlope slope → IsSlope next → AreBetween before axis slope → AreBetween after axis next
+      → IsNearCorner limits axis (turn_between slope next) (slope.over * next.over) pulses)
+  pub turning : EachAxis (λ axis. (slope : Slope) (next : Slope) → IsSlope slope → IsSlope next → AreBetween before axis slope → AreBetween after axis next
+      → IsTurning limits axis slope next pulses most ramp)
+
+-- lines are made up to the end of a corner, behind which so many pulses wait: along the chord before it, and then at the corner
+pub record PassesCorner (limits : Limits) (before after : List Slopes) (count count' stop : ℕ) (old new : Motion) (waited waits : List Waiting) : Type 0 where
+  pub mid : Motion
+  pub left : List Waiting
+  pub pulses : ℕ
+  pub some : 0 < pulses
+  pub before_few : pulses ≤ max 1 count
+  pub after_few : pulses ≤ max 1 count'
+  pub half : pulses ≤ max 1 (2 * limits.half)
+  pub before_most : ℕ
+  pub before_ramp : ℕ
+  pub before_allowed : AllowAlong limits before before_most before_ramp
+  pub first : Makes old mid waited left before_most before_ramp stop (length waited - count' - pulses / 2)
+  pub most : ℕ
+  pub ramp : ℕ
+  pub takes : TakesCorner limits before after pulses most ramp
+  pub then : Makes mid new left waits most ramp stop pulses

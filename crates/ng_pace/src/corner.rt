@@ -1,0 +1,146 @@
+//! Corners between two chords.
+ghost use Rattle.std.specs.Prelude.{◌≤◌, ◌<◌, ◌+◌, ◌*◌, max, slice_index};
+ghost use Rattle.ng_pace.specs.Chords.{Slope, IsSlope};
+ghost use Rattle.ng_pace.specs.Cones.{AreBetween, IsBetween, IsTurn};
+ghost use Rattle.ng_pace.specs.Axes.{AreLimits, EachAxis, IsCorner, IsNearCorner};
+
+use crate::caps::along;
+use crate::limits::{Caps, GREATEST, Limits, PULSE, STEP};
+use crate::slopes::Slopes;
+
+/// A corner: of each axis the greatest slope on either side, and the greatest change of slope, in parts of 2^20.
+#[derive(Clone, Copy, Debug)]
+pub(crate) struct Turn {
+    pub(crate) slope: [u64; 3],
+    pub(crate) turn: [u64; 3],
+}
+
+/// The greatest slope of an axis on either side of a corner, and the greatest change of slope.
+fn axis_turn(before: &Slopes, after: &Slopes) -> (u64, u64)
+    ensures size { result.0 ≤ STEP }
+    ensures turn { result.1 ≤ 2 * STEP }
+    ensures most { (slope : Slope) (next : Slope) → IsSlope slope → IsSlope next → IsBetween before.now slope
+        → IsBetween after.now next
+        → IsTurn result.0 result.1 slope next }
+{
+    (before.size().max(after.size()), before.turn_to(after))
+}
+
+impl Turn {
+    /// Between two chords.
+    pub(crate) fn between(before: &[Slopes; 3], after: &[Slopes; 3]) -> Turn
+        ensures size { EachAxis (λ i. slice_index result.slope i ≤ STEP) }
+        ensures turn { EachAxis (λ i. slice_index result.turn i ≤ 2 * STEP) }
+        ensures most { EachAxis (λ i. (slope : Slope) (next : Slope) → IsSlope slope → IsSlope next
+            → AreBetween before.now i slope
+            → AreBetween after.now i next → IsTurn (slice_index result.slope i) (slice_index result.turn i) slope
+            next) }
+    {
+        let x = axis_turn(&before[0], &after[0]);
+        let y = axis_turn(&before[1], &after[1]);
+        let z = axis_turn(&before[2], &after[2]);
+        Turn {
+            slope: [x.0, y.0, z.0],
+            turn: [x.1, y.1, z.1],
+        }
+    }
+}
+
+/// Over how many pulses an axis may take a change of slope: 1 at least.
+fn axis_pulses(limits: &Limits, axis: usize, turn: u64) -> u64
+    requires axis { axis < 3 }
+    requires turn { turn ≤ 2 * STEP }
+    requires accel { 3 ≤ slice_index limits.now.accel axis }
+    requires slack { 0 < limits.now.slack }
+    ensures near { IsNearCorner limits.now axis turn STEP result }
+    ensures some { 0 < result }
+{
+    if turn == 0 {
+        return u64::MAX;
+    }
+    let start = limits.start[axis];
+    let by_slack = limits.slack.saturating_mul(8 * STEP) / turn;
+    let double = start.saturating_mul(start) / limits.accel[axis];
+    let by_start = double.saturating_mul(STEP) / turn;
+    by_slack.max(by_start)
+}
+
+/// Over how many pulses a corner is taken, between so many and so many.
+pub(crate) fn corner_pulses(limits: &Limits, turn: &[u64; 3], before: u64, after: u64) -> u64
+    requires turn { EachAxis (λ i. slice_index turn.now i ≤ 2 * STEP) }
+    requires limits { AreLimits limits.now }
+    ensures near { EachAxis (λ i. IsNearCorner limits.now i (slice_index turn.now i) STEP result) }
+    ensures some { 0 < result }
+    ensures before { result ≤ max 1 before }
+    ensures after { result ≤ max 1 after }
+    ensures half { result ≤ max 1 (2 * limits.now.half) }
+{
+    limits
+        .half
+        .saturating_mul(2)
+        .min(before)
+        .min(after)
+        .max(1)
+        .min(axis_pulses(limits, 0, turn[0]))
+        .min(axis_pulses(limits, 1, turn[1]))
+        .min(axis_pulses(limits, 2, turn[2]))
+}
+
+/// The greatest square at which an axis may turn: it takes three quarters of its acceleration.
+fn axis_most(limits: &Limits, axis: usize, turn: u64, pulses: u64) -> u64
+    requires { axis < 3 }
+    ensures { 4 * turn * result ≤ 3 * slice_index limits.now.accel axis * pulses * STEP * PULSE }
+{
+    if turn == 0 {
+        return GREATEST;
+    }
+    let square = limits.accel[axis]
+        .saturating_mul(pulses)
+        .saturating_mul(STEP)
+        / turn;
+    (square / 4).saturating_mul(3).saturating_mul(PULSE)
+}
+
+/// By how much the square may change where an axis turns.
+fn axis_ramp(limits: &Limits, axis: usize, slope: u64, turn: u64, pulses: u64, most: u64) -> u64
+    requires axis { axis < 3 }
+    requires turn { turn ≤ 2 * STEP }
+    requires pulses { 0 < pulses }
+    requires most { most ≤ GREATEST }
+    requires quarter { 4 * turn * most ≤ 3 * slice_index limits.now.accel axis * pulses * STEP * PULSE }
+    ensures { slope * result * pulses + 2 * turn * most ≤ 2 * slice_index limits.now.accel axis * pulses * STEP *
+        PULSE }
+{
+    if slope == 0 {
+        return GREATEST;
+    }
+    let accel = limits.accel[axis];
+    let used = ((most / PULSE + 1) * turn).div_ceil(pulses.saturating_mul(STEP));
+    let left = accel.saturating_sub(used).max(accel / 4);
+    (left.saturating_mul(2 * STEP) / slope).saturating_mul(PULSE)
+}
+
+/// What a corner allows that is taken over so many pulses at no more than `feed`.
+pub(crate) fn corner_caps(limits: &Limits, turn: &Turn, pulses: u64, feed: u64) -> Caps
+    requires slope { EachAxis (λ i. slice_index turn.now.slope i ≤ STEP) }
+    requires turn { EachAxis (λ i. slice_index turn.now.turn i ≤ 2 * STEP) }
+    requires pulses { 0 < pulses }
+    requires limits { AreLimits limits.now }
+    ensures { EachAxis (λ i. IsCorner limits.now i (slice_index turn.now.slope i) (slice_index turn.now.turn i) STEP
+        pulses result.most result.ramp) }
+{
+    let most = along(limits, &turn.slope)
+        .most
+        .min(feed)
+        .min(axis_most(limits, 0, turn.turn[0], pulses))
+        .min(axis_most(limits, 1, turn.turn[1], pulses))
+        .min(axis_most(limits, 2, turn.turn[2], pulses))
+        .max(PULSE);
+    let x = axis_ramp(limits, 0, turn.slope[0], turn.turn[0], pulses, most);
+    let y = axis_ramp(limits, 1, turn.slope[1], turn.turn[1], pulses, most);
+    let z = axis_ramp(limits, 2, turn.slope[2], turn.turn[2], pulses, most);
+    Caps {
+        most,
+        ramp: x.min(y).min(z),
+    }
+}

@@ -1,0 +1,74 @@
+//! What the motors allow.
+ghost use Rattle.std.specs.Prelude.{◌≡◌, ◌↔◌, ◌<◌, Err, IfErr, OnOk, IsTrue, IsFalse};
+ghost use Rattle.ng_pace.specs.Axes.{Accelerate, AreLimits};
+
+use crate::fault::PaceFault;
+
+/// One step a pulse, in slopes: 2^20.
+pub(crate) const STEP: u64 = 0x10_0000;
+
+/// One pulse a second, squared: 2^16.
+pub(crate) const PULSE: u64 = 0x1_0000;
+
+/// Most pulses of a chord.
+pub(crate) const LONGEST: u32 = 0x10_0000;
+
+/// The greatest square.
+pub(crate) const GREATEST: u64 = 0x400_0000_0000_0000;
+
+/// What the motors allow, by axes.
+#[derive(Clone, Copy, Debug, PartialEq, Eq)]
+pub struct Limits {
+    /// In steps a second, each second: at least 3.
+    pub accel: [u64; 3],
+    /// In steps a second; 0 for as many as are asked for.
+    pub rate: [u64; 3],
+    /// In steps a second: a rate at which a motor can start and stop at once.
+    pub start: [u64; 3],
+    /// Most pulses on each side of a corner in which it is taken: at least 1.
+    pub half: u64,
+    /// How many steps a motor may be off its pulses: 1 to 1,000.
+    pub slack: u64,
+}
+
+/// What lines may have: the greatest square, and by how much it may change up to the next line.
+#[derive(Clone, Copy, Debug)]
+pub(crate) struct Caps {
+    pub(crate) most: u64,
+    pub(crate) ramp: u64,
+}
+
+impl Limits {
+    /// Whether each axis can turn at a pulse a second.
+    fn accelerate(&self) -> bool
+        ensures yes { IsTrue result → Accelerate self.now }
+        ensures no { IsFalse result → ¬ Accelerate self.now }
+    {
+        self.accel[0] >= 3 && self.accel[1] >= 3 && self.accel[2] >= 3
+    }
+
+    /// Whether all can be kept.
+    pub(crate) fn check(&self) -> Result<(), PaceFault>
+        ensures limits { OnOk result (AreLimits self.now) }
+        ensures refused { IfErr result (λ fault. ¬ AreLimits self.now) }
+        ensures no_acceleration { (result ≡ Err PaceFault.NoAcceleration) ↔ (¬ Accelerate self.now) }
+        ensures no_corner { (result ≡ Err PaceFault.NoCorner) ↔ (Accelerate self.now × (self.now.half ≡ 0)) }
+        ensures no_slack { (result ≡ Err PaceFault.NoSlack) ↔ (Accelerate self.now × (0 < self.now.half) × (self.now.slack ≡ 0)) }
+        ensures slack_too_great { (result ≡ Err PaceFault.SlackTooGreat) ↔ (Accelerate self.now × (0 < self.now.half) × (1000 < self.now.slack)) }
+        ensures no_other { IfErr result (λ fault. (¬ (fault ≡ PaceFault.NoRoom)) × ¬ (fault ≡ PaceFault.StartTooSmall)) }
+    {
+        if !self.accelerate() {
+            return Err(PaceFault::NoAcceleration);
+        }
+        if self.half == 0 {
+            return Err(PaceFault::NoCorner);
+        }
+        if self.slack == 0 {
+            return Err(PaceFault::NoSlack);
+        }
+        if self.slack > 1_000 {
+            return Err(PaceFault::SlackTooGreat);
+        }
+        Ok(())
+    }
+}
