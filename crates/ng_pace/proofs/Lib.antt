@@ -4,6 +4,7 @@ pub mod ExactLemmas
 pub mod FlowLemmas
 pub mod MakingLemmas
 pub mod PathLemmas
+pub mod PathsLemmas
 pub mod PlanLemmas
 pub mod PutLemmas
 pub mod RestLemmas

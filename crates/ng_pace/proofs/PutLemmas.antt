@@ -5,7 +5,7 @@ use Rattle.ng_canon.specs.declared.item.Item.{Item}
 use Rattle.ng_canon.specs.declared.item.Item.TheVariants.{Pulse, Dwell, Switch}
 use Rattle.ng_canon.specs.declared.item.Pulse.{Pulse as OnePulse}
 use Rattle.ng_pace.specs.declared.line.Line.{Line}
-use Rattle.ng_pace.specs.Flow.{Flow, Timed, items_of, items_waiting, all_items}
+use Rattle.ng_pace.specs.Flow.{Flow, Timed, items_of, items_waiting, all_items, still_line}
 use Rattle.ng_pace.specs.Legs.{Leg, pulses_of, lines_of}
 use Rattle.ng_pace.specs.Underway.{Advances}
 use Rattle.ng_pace.specs.Halting.{Halts, Takes}
@@ -43,6 +43,10 @@ goes-flow old new legs pulse underway same a items = record {
   };
 }
 
+items_of-still : (items : List Item) → items_of (map still_line items) ≡ items
+items_of-still [] = refl
+items_of-still (item ∷ items) = ap (λ t. item ∷ t) (items_of-still items)
+
 none-waits : (xs : List Timed) → length xs ≡ 0 → xs ≡ []
 none-waits [] e = refl
 none-waits (x ∷ xs) e = absurd (omega (arith, e))
@@ -52,9 +56,7 @@ pub rest-flow : (old new : Flow) (legs : List Leg) (more : List Item) → IsUnde
     → Rests old new legs more
 rest-flow old new legs more underway h items = record {
   made = h.finishes.made;
-  stands = h.stands;
   known = known;
-  stands_are = h.stands_are;
   chords = h.finishes.legs;
   pulses_are = h.finishes.pulses_are;
   lines_are = h.finishes.lines_are;
@@ -62,19 +64,19 @@ rest-flow old new legs more underway h items = record {
   paced = h.finishes.paced;
   underway = record { path = h.path; begun = tt; items = none };
 } where
-  known : new.motion.known ≡ old.motion.known ++ (h.finishes.made ++ h.stands)
-  known = h.known ∙ ap (λ t. t ++ h.stands) h.finishes.known ∙ append_assoc old.motion.known h.finishes.made h.stands
+  known : new.motion.known ≡ old.motion.known ++ (h.finishes.made ++ map still_line more)
+  known = h.known ∙ ap (λ t. t ++ map still_line more) h.finishes.known ∙ append_assoc old.motion.known h.finishes.made (map still_line more)
 
   none : items_waiting new.waiting ≡ []
   none = ap items_waiting (none-waits new.waiting h.path.1)
 
-  both : items_of (h.finishes.made ++ h.stands) ++ items_waiting new.waiting ≡ items_waiting old.waiting ++ more
-  both = made-of old.motion.known (h.finishes.made ++ h.stands) (items_waiting old.waiting) (items_waiting new.waiting) more (ap (λ t. items_of t ++ items_waiting new.waiting) (sym known) ∙ items)
+  both : items_of (h.finishes.made ++ map still_line more) ++ items_waiting new.waiting ≡ items_waiting old.waiting ++ more
+  both = made-of old.motion.known (h.finishes.made ++ map still_line more) (items_waiting old.waiting) (items_waiting new.waiting) more (ap (λ t. items_of t ++ items_waiting new.waiting) (sym known) ∙ items)
 
   all : items_of h.finishes.made ≡ items_waiting old.waiting
   all = append_cancel_right (items_of h.finishes.made) (items_waiting old.waiting) more
-      (ap (λ t. items_of h.finishes.made ++ t) (sym h.stands_are) ∙ sym (items_of-append h.finishes.made h.stands) ∙ sym (append-nil (items_of (h.finishes.made ++ h.stands)))
-      ∙ ap (λ t. items_of (h.finishes.made ++ h.stands) ++ t) (sym none) ∙ both)
+      (ap (λ t. items_of h.finishes.made ++ t) (sym (items_of-still more)) ∙ sym (items_of-append h.finishes.made (map still_line more)) ∙ sym (append-nil (items_of (h.finishes.made ++ map still_line more)))
+      ∙ ap (λ t. items_of (h.finishes.made ++ map still_line more) ++ t) (sym none) ∙ both)
 
 pub put-flow : (old new : Flow) (legs : List Leg) (item : Item) → IsUnderway old legs → new.limits ≡ old.limits
     → Takes old.limits old.motion.start old.motion new.motion new.chord (length new.waiting) legs item → all_items new ≡ all_items old ++ item ∷ []

@@ -1,12 +1,11 @@
 -- What is known of a path once an item was taken.
-use Rattle.std.specs.Prelude.{ℕ, ◌≡◌, List, [], ◌∷◌, ◌++◌}
+use Rattle.std.specs.Prelude.{ℕ, ◌≡◌, List, [], ◌∷◌, ◌++◌, map}
 use Rattle.ng_canon.specs.declared.item.Item.{Item}
 use Rattle.ng_canon.specs.declared.item.Item.TheVariants.{Pulse, Dwell, Switch}
 use Rattle.ng_pace.specs.declared.limits.Limits.{Limits}
-use Rattle.ng_pace.specs.declared.line.Line.{Line}
 use Rattle.ng_pace.specs.declared.chord.Chord.{Chord}
 use Rattle.ng_pace.specs.Motion.{Motion}
-use Rattle.ng_pace.specs.Flow.{items_of}
+use Rattle.ng_pace.specs.Flow.{still_line}
 use Rattle.ng_pace.specs.Legs.{Leg, pulses_of, lines_of}
 use Rattle.ng_pace.specs.Underway.{IsPath, Advances, Finishes}
 
@@ -14,9 +13,7 @@ use Rattle.ng_pace.specs.Underway.{IsPath, Advances, Finishes}
 pub record Halts (limits : Limits) (stop : ℕ) (old new : Motion) (chord : Chord) (waits : ℕ) (legs : List Leg) (items : List Item) : Type 0 where
   pub mid : Motion
   pub finishes : Finishes limits stop old mid (pulses_of legs) (lines_of legs)
-  pub stands : List Line
-  pub stands_are : items_of stands ≡ items
-  pub known : new.known ≡ mid.known ++ stands
+  pub known : new.known ≡ mid.known ++ map still_line items
   pub path : IsPath limits 0 chord waits []
 
 -- a pulse goes on with a path, all else ends it

@@ -18,3 +18,4 @@ pub mod Halting
 pub mod Putting
 pub mod Calls
 pub mod Run
+pub mod Paths

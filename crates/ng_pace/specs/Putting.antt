@@ -5,7 +5,7 @@ use Rattle.ng_canon.specs.declared.item.Item.TheVariants.{Pulse, Dwell, Switch}
 use Rattle.ng_canon.specs.declared.item.Pulse.{Pulse as OnePulse}
 use Rattle.ng_pace.specs.declared.limits.Limits.{Limits}
 use Rattle.ng_pace.specs.declared.line.Line.{Line}
-use Rattle.ng_pace.specs.Flow.{Flow, items_of, items_waiting}
+use Rattle.ng_pace.specs.Flow.{Flow, items_of, items_waiting, still_line}
 use Rattle.ng_pace.specs.Legs.{Leg, IsChord, IsPaced, pulses_of, lines_of}
 use Rattle.ng_pace.specs.Underway.{IsPath, IsBegun}
 
@@ -28,9 +28,7 @@ pub record Goes (old new : Flow) (legs : List Leg) (pulse : OnePulse) : Type 0 w
 -- stands still
 pub record Rests (old new : Flow) (legs : List Leg) (items : List Item) : Type 0 where
   pub made : List Line
-  pub stands : List Line
-  pub known : new.motion.known ≡ old.motion.known ++ (made ++ stands)
-  pub stands_are : items_of stands ≡ items
+  pub known : new.motion.known ≡ old.motion.known ++ (made ++ map still_line items)
   pub chords : List Leg
   pub pulses_are : pulses_of chords ≡ pulses_of legs
   pub lines_are : lines_of chords ≡ lines_of legs ++ made

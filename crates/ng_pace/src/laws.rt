@@ -1,8 +1,12 @@
 //! What the promises of single calls say of whole streams. The calls do nothing; their contracts are the laws.
-ghost use Rattle.std.specs.Prelude.{List, ◌≡◌, ◌≤◌, [], length};
+ghost use Rattle.std.specs.Prelude.{ℕ, List, ◌≡◌, ◌≤◌, [], length};
 ghost use Rattle.ng_pace.specs.Rest.{CanRest};
 ghost use Rattle.ng_pace.specs.Flow.{Flow, all_items};
+ghost use Rattle.ng_pace.specs.declared.limits.Limits.{Limits};
+ghost use Rattle.ng_pace.specs.Start.{start_of};
 ghost use Rattle.ng_pace.specs.Legs.{Leg};
+ghost use Rattle.ng_pace.specs.Calls.{IsEmpty};
+ghost use Rattle.ng_pace.specs.Paths.{KeepsToPaths};
 ghost use Rattle.ng_pace.specs.Putting.{IsUnderway, KeepSoFar};
 ghost use Rattle.ng_pace.specs.Run.{Event, IsRun, AsksOnly, HoldsOnly, IsPacedBeginning, IsGivenOut, IsStopped};
 
@@ -25,6 +29,14 @@ pub fn given_out()
 pub fn held()
     ensures { (old : Flow) (events : List Event) (new : Flow) → IsRun old events new → HoldsOnly events
         → CanRest old.motion.square old.motion.known → length old.motion.known ≤ length events → IsStopped events new }
+{}
+
+/// Of a stream from its beginning, whatever is put in and wanted: each line that was given out, or is known, keeps to the
+/// chord of its pulse, and to the corner if it is at one. Along a chord no axis is asked for more than its acceleration and
+/// its greatest rate, and at a corner for no more than is left of them (own).
+pub fn kept_to_paths()
+    ensures { (old : Flow) (limits : Limits) (room : ℕ) (events : List Event) (new : Flow) → IsEmpty old limits room
+        → IsRun old events new → KeepsToPaths limits (start_of limits) events new }
 {}
 
 /// At any moment the lines that were made of a path keep to its chords and corners: no axis is asked for more than its

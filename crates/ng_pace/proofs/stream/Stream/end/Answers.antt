@@ -33,8 +33,6 @@ returns g c =
           rest-flow old new legs [] underway (record {
             mid = c.finish.new.pacer;
             finishes = subst P c.self.invariant.start_is (c.finish.ensures.finishes legs path underway.begun);
-            stands = [];
-            stands_are = refl;
             known = sym (append-nil c.finish.new.pacer.known);
             path = (c.finish.ensures.closed, rw c.finish.ensures.none refl);
           }) (items ∙ sym (append-nil (all_items old)));
