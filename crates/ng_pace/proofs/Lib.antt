@@ -1,6 +1,7 @@
 pub mod CapsLemmas
 pub mod ConeLemmas
 pub mod ExactLemmas
+pub mod FewLemmas
 pub mod FlowLemmas
 pub mod MakingLemmas
 pub mod PathLemmas

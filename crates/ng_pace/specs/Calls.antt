@@ -1,5 +1,5 @@
 -- What a stream promises of each call.
-use Rattle.std.specs.Prelude.{ℕ, ◌≡◌, List, [], ◌∷◌, ◌++◌}
+use Rattle.std.specs.Prelude.{ℕ, ◌+◌, ◌*◌, ◌<◌, ◌≡◌, List, [], ◌∷◌, ◌++◌, length}
 use Rattle.ng_canon.specs.declared.item.Item.{Item}
 use Rattle.ng_pace.specs.declared.limits.Limits.{Limits}
 use Rattle.ng_pace.specs.declared.stepping.Given.{Given}
@@ -32,6 +32,8 @@ pub record IsPut (old new : Flow) (item : Item) : Type 0 where
   pub before : new.before ≡ square_behind item
   pub rests : CanRest new.motion.square new.motion.known
   pub limits : new.limits ≡ old.limits
+  -- few items wait
+  pub few : length new.waiting < 5 * new.limits.half + 15
   -- the chords of the pulses go on with it, and the lines keep to them
   pub path : (legs : List Leg) → IsUnderway old legs → GoesOnWith old new legs item
 

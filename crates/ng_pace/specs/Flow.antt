@@ -7,6 +7,7 @@ use Rattle.ng_pace.specs.declared.limits.Limits.{Limits}
 use Rattle.ng_pace.specs.declared.chord.Chord.{Chord}
 use Rattle.ng_pace.specs.declared.chord.Waiting.{Waiting}
 use Rattle.ng_pace.specs.Axes.{AreLimits}
+use Rattle.ng_pace.specs.Few.{WaitFew}
 use Rattle.ng_pace.specs.Motion.{Motion}
 use Rattle.ng_pace.specs.Due.{own_square}
 use Rattle.ng_pace.specs.Rest.{CanRest}
@@ -91,13 +92,14 @@ StandsAt known waits (Pulse pulse) = Unit {0}
 StandsAt known waits (Dwell us) = StandsLast known waits (Dwell us)
 StandsAt known waits (Switch outputs) = StandsLast known waits (Switch outputs)
 
--- there is room for all that is known, its limits can be kept, and a rest can be reached
-pub record IsHeld (motion : Motion) (waiting : List Waiting) (capacity start : ℕ) (limits : Limits) : Type 0 where
+-- there is room for all that is known, its limits can be kept, a rest can be reached, and few items wait
+pub record IsHeld (motion : Motion) (waiting : List Waiting) (capacity start : ℕ) (limits : Limits) (chord : Chord) : Type 0 where
   pub fits : length motion.known + length waiting ≤ motion.room
   pub capacity_is : capacity ≡ motion.room
   pub start_is : start ≡ motion.start
   pub limits_are : AreLimits limits
   pub rests : CanRest motion.square motion.known
+  pub few : WaitFew limits chord (length waiting)
 
 -- limits of waiting items became final; so many items are known as before
 pub record Keeps (old new : Motion) (waited waits : List Waiting) : Type 0 where

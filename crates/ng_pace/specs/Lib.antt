@@ -9,6 +9,7 @@ pub mod Squares
 pub mod Interval
 pub mod Motion
 pub mod Paced
+pub mod Few
 pub mod Flow
 pub mod Legs
 pub mod Making

@@ -55,6 +55,7 @@ impl Chord {
         ensures leaves { (slack : ℕ) (pulses : List Pulse) → AreCones slack self.now.cones pulses
             → self.now.pulses ≡ length pulses
             → IsTrue result → ¬ (IsChord slack (pulses ++ pulse.now ∷ []) × (length pulses < LONGEST)) }
+        ensures short { IsFalse result → self.now.pulses < LONGEST }
     {
         if self.pulses >= LONGEST {
             return true;
@@ -85,6 +86,7 @@ impl Chord {
     pub(crate) fn take(&mut self, limits: &Limits, pulse: &Pulse)
         requires { AreLimits limits.now }
         ensures same { self.new ≡ record self.old { pulses = self.new.pulses; cones = self.new.cones } }
+        ensures one { self.old.pulses < LONGEST → self.new.pulses ≡ self.old.pulses + 1 }
         ensures takes { (pulses : List Pulse) → AreCones limits.now.slack self.old.cones pulses
             → self.old.pulses ≡ length pulses → length pulses < LONGEST
             → AreCones limits.now.slack self.new.cones (pulses ++ pulse.now ∷ [])

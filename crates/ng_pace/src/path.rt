@@ -1,7 +1,8 @@
 //! The lines of a path: along its chords, and at the corners between them.
-ghost use Rattle.std.specs.Prelude.{◌≡◌, ◌≤◌, ◌<◌, ◌+◌, ◌++◌, ◌∷◌, [], ℕ, ◌^◌, false, List, length, IsFalse};
+ghost use Rattle.std.specs.Prelude.{◌≡◌, ◌≤◌, ◌<◌, ◌+◌, ◌++◌, ◌∷◌, [], ℕ, ◌^◌, false, List, length, IsFalse, ◌*◌, IsTrue};
 ghost use Rattle.std.specs.VecDeque.{deque_capacity};
 ghost use Rattle.ng_pace.specs.Axes.{AreLimits};
+ghost use Rattle.ng_pace.specs.Few.{WaitFew};
 ghost use Rattle.ng_pace.specs.Flow.{Keeps};
 ghost use Rattle.ng_pace.specs.Making.{stop_of};
 ghost use Rattle.ng_pace.specs.Passing.{PassesAlong, PassesCorner};
@@ -42,6 +43,7 @@ fn pass_along<A: Allocator>(
     requires { length pacer.old.known + length waiting.old.items ≤ pacer.old.room }
     ensures keeps { Keeps pacer.old pacer.new waiting.old.items waiting.new.items }
     ensures capacity { deque_capacity waiting.new ≡ deque_capacity waiting.old }
+    ensures few { length waiting.new.items ≤ kept }
     ensures passes { PassesAlong limits.now slopes.now (stop_of ending) kept pacer.old pacer.new waiting.old.items
         waiting.new.items }
 {
@@ -64,6 +66,7 @@ fn pass_corner<A: Allocator>(
     requires limits { AreLimits limits.now }
     ensures keeps { Keeps pacer.old pacer.new waiting.old.items waiting.new.items }
     ensures capacity { deque_capacity waiting.new ≡ deque_capacity waiting.old }
+    ensures few { length waiting.new.items ≤ chord.old.pulses }
     ensures passes { PassesCorner limits.now chord.old.before after.now chord.old.before_pulses chord.old.pulses
         (stop_of ending)
         pacer.old pacer.new waiting.old.items waiting.new.items }
@@ -137,6 +140,7 @@ fn close<A: Allocator>(
         → Reaches limits.now (stop_of ending) pacer.old pacer.new (length waiting.new.items) leg.pulses
         (pulses_of (leg ∷ rest)) (lines_of (leg ∷ rest))
         × IsClosed chord.new leg.pulses (length waiting.new.items) kept }
+    ensures few { length waiting.new.items ≤ kept }
     ensures closed { IsFalse chord.new.is_open }
 {
     let slopes = chord.slopes();
@@ -156,6 +160,9 @@ fn decide<A: Allocator>(
     requires limits { AreLimits limits.now }
     ensures keeps { Keeps pacer.old pacer.new waiting.old.items waiting.new.items }
     ensures capacity { deque_capacity waiting.new ≡ deque_capacity waiting.old }
+    ensures few { IsTrue chord.new.has_corner → (length waiting.new.items ≡ length waiting.old.items)
+        × (chord.old.pulses < 4 * limits.now.half) }
+    ensures chord { chord.new ≡ record chord.old { has_corner = chord.new.has_corner } }
     ensures advances { (leg : Leg) (rest : List Leg)
         → IsPath limits.now 0 chord.old (length waiting.old.items) (leg ∷ rest) → 0 < length leg.pulses
         → Advances limits.now 0 pacer.old pacer.new chord.new (length waiting.new.items) (pulses_of (leg ∷ rest))
@@ -178,6 +185,8 @@ fn go_along<A: Allocator>(
     requires limits { AreLimits limits.now }
     ensures keeps { Keeps pacer.old pacer.new waiting.old.items waiting.new.items }
     ensures capacity { deque_capacity waiting.new ≡ deque_capacity waiting.old }
+    ensures few { IsFalse chord.now.has_corner → length waiting.new.items ≤ limits.now.half }
+    ensures stays { IsTrue chord.now.has_corner → length waiting.new.items ≡ length waiting.old.items }
     ensures advances { (leg : Leg) (rest : List Leg)
         → IsPath limits.now 0 chord.now (length waiting.old.items) (leg ∷ rest) → 0 < length leg.pulses
         → Advances limits.now 0 pacer.old pacer.new chord.now (length waiting.new.items) (pulses_of (leg ∷ rest))
@@ -204,6 +213,9 @@ pub(crate) fn extend<A: Allocator>(
     requires limits { AreLimits limits.now }
     ensures keeps { Keeps pacer.old pacer.new waiting.old.items waiting.new.items }
     ensures capacity { deque_capacity waiting.new ≡ deque_capacity waiting.old }
+    ensures few { (waits : ℕ) → WaitFew limits.now chord.old waits → IsTrue chord.old.is_open
+        → chord.old.pulses < 2 ^ 20 → length waiting.old.items ≡ waits + 1
+        → WaitFew limits.now chord.new (length waiting.new.items) }
     ensures advances { (waits : ℕ) (leg : Leg) (rest : List Leg) → IsPath limits.now 0 chord.old waits (leg ∷ rest)
         → length waiting.old.items ≡ waits + 1
         → IsChord limits.now.slack (leg.pulses ++ pulse.now ∷ []) → length leg.pulses < 2 ^ 20
@@ -251,6 +263,10 @@ pub(crate) fn turn<A: Allocator>(
     requires limits { AreLimits limits.now }
     ensures keeps { Keeps pacer.old pacer.new waiting.old.items waiting.new.items }
     ensures capacity { deque_capacity waiting.new ≡ deque_capacity waiting.old }
+    ensures few { WaitFew limits.now chord.old (length waiting.old.items)
+        → WaitFew limits.now chord.new (length waiting.new.items) }
+    ensures open { IsTrue chord.new.is_open }
+    ensures short { chord.new.pulses < 2 ^ 20 }
     ensures turns { (legs : List Leg) → IsPath limits.now 0 chord.old (length waiting.old.items) legs → IsBegun legs
         → Turns limits.now pacer.old pacer.new chord.new (length waiting.new.items) pulse.now (pulses_of legs)
         (lines_of legs) }

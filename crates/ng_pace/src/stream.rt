@@ -1,8 +1,9 @@
 //! A stream of items, whose limits are found from its pulses.
-ghost use Rattle.std.specs.Prelude.{◌≡◌, ◌↔◌, ◌≤◌, ◌<◌, ◌+◌, ◌++◌, ◌∷◌, [], List, length, min, nat_le, IsFalse, Err, IfOk, IfSome, IfNone};
+ghost use Rattle.std.specs.Prelude.{◌≡◌, ◌↔◌, ◌≤◌, ◌<◌, ◌+◌, ◌++◌, ◌∷◌, [], List, length, min, nat_le, IsFalse, Err, IfOk, IfSome, IfNone, ◌*◌, IsTrue};
 ghost use Rattle.std.specs.VecDeque.{deque_capacity};
 ghost use Rattle.ng_pace.specs.Axes.{Accelerate, AreLimits};
 ghost use Rattle.ng_pace.specs.Due.{own_square};
+ghost use Rattle.ng_pace.specs.Few.{WaitFew};
 ghost use Rattle.ng_pace.specs.Flow.{Keeps, Adds, StandsAt, StandsLast, full_of, square_behind, no_pulse, still_line, timed_waiting};
 ghost use Rattle.ng_pace.specs.Paced.{Waits};
 ghost use Rattle.ng_pace.specs.Making.{stop_of};
@@ -51,7 +52,7 @@ impl<A: Allocator> Model for Stream<A> {
 
     ghost view = { λ s. record { motion = s.pacer; waiting = timed_waiting s.waiting.items; before = s.shape.before; limits = s.limits; chord = s.shape.chord } };
 
-    ghost invariant = { λ s. IsHeld s.pacer s.waiting.items (deque_capacity s.waiting) s.shape.start s.limits };
+    ghost invariant = { λ s. IsHeld s.pacer s.waiting.items (deque_capacity s.waiting) s.shape.start s.limits s.shape.chord };
 }
 
 /// Makes lines of all that waits: it comes to rest at its end.
@@ -71,6 +72,7 @@ fn finish<A: Allocator>(
     ensures finishes { (legs : List Leg) → IsPath limits.now 0 shape.old.chord (length waiting.old.items) legs → IsBegun legs
         → Finishes limits.now (stop_of ending) pacer.old pacer.new (pulses_of legs) (lines_of legs) }
     ensures closed { IsFalse shape.new.chord.is_open }
+    ensures few { WaitFew limits.now shape.new.chord (length waiting.new.items) }
     ensures start { shape.new.start ≡ shape.old.start }
     ensures before { shape.new.before ≡ no_pulse }
 {
@@ -95,6 +97,8 @@ fn push_pulse<A: Allocator>(
     ensures capacity { deque_capacity waiting.new ≡ deque_capacity waiting.old }
     ensures advances { (legs : List Leg) → IsPath limits.now 0 shape.old.chord (length waiting.old.items) legs → IsBegun legs
         → Advances limits.now 0 pacer.old pacer.new shape.new.chord (length waiting.new.items) (pulses_of legs ++ pulse.now ∷ []) (lines_of legs) }
+    ensures few { WaitFew limits.now shape.old.chord (length waiting.old.items)
+        → WaitFew limits.now shape.new.chord (length waiting.new.items) }
     ensures start { shape.new.start ≡ shape.old.start }
     ensures before { shape.new.before ≡ own_square pulse.now.period_us }
 {
@@ -134,6 +138,7 @@ fn push_still<A: Allocator>(
     ensures stands { StandsLast pacer.new.known (timed_waiting waiting.new.items) item }
     ensures halts { (legs : List Leg) → IsPath limits.now 0 shape.old.chord (length waiting.old.items) legs → IsBegun legs
         → Halts limits.now shape.old.start pacer.old pacer.new shape.new.chord (length waiting.new.items) legs (item ∷ []) }
+    ensures few { WaitFew limits.now shape.new.chord (length waiting.new.items) }
     ensures start { shape.new.start ≡ shape.old.start }
     ensures before { shape.new.before ≡ no_pulse }
 {
@@ -158,6 +163,8 @@ fn push_item<A: Allocator>(
     ensures stands { StandsAt pacer.new.known (timed_waiting waiting.new.items) item }
     ensures takes { (legs : List Leg) → IsPath limits.now 0 shape.old.chord (length waiting.old.items) legs → IsBegun legs
         → Takes limits.now shape.old.start pacer.old pacer.new shape.new.chord (length waiting.new.items) legs item }
+    ensures few { WaitFew limits.now shape.old.chord (length waiting.old.items)
+        → WaitFew limits.now shape.new.chord (length waiting.new.items) }
     ensures start { shape.new.start ≡ shape.old.start }
     ensures before { shape.new.before ≡ square_behind item }
 {
@@ -202,9 +209,13 @@ impl<A: Allocator + Copy> Stream<A> {
 }
 
 impl<A: Allocator> Stream<A> {
-    /// Whether there is no room for an item: the one that is asked before `push`.
+    /// Whether there is no room for an item: it is asked before `push`. A full stream with room for 5 times `half` and 15
+    /// items knows a line, so that `next` gives one wherever some motion is wanted. With less room all items may wait: then
+    /// only `end` goes on. Source: own.
     pub fn is_full(&self) -> bool
-        ensures { result ≡ nat_le self.now.motion.room (length self.now.motion.known + length self.now.waiting) }
+        ensures full { result ≡ nat_le self.now.motion.room (length self.now.motion.known + length self.now.waiting) }
+        ensures known { IsTrue result → 5 * self.now.limits.half + 15 ≤ self.now.motion.room
+            → 0 < length self.now.motion.known }
     {
         self.pacer.room() <= self.pacer.len() + self.waiting.len()
     }

@@ -13,6 +13,7 @@ invariant_of-self g c = record {
   start_is = c.finish.ensures.start ∙ c.self.invariant.start_is ∙ sym c.finish.ensures.keeps.settles.start;
   limits_are = c.self.invariant.limits_are;
   rests = settles_rest c.finish.ensures.keeps.settles c.self.invariant.rests;
+  few = c.finish.ensures.few;
 }
 
 pub returns : goal.returns

@@ -2,6 +2,7 @@ use Rattle.std.proofs.Common.{arith, ◌≡◌, ◌∙◌, ◌<◌, ◌+◌, ◌
 use Rattle.ng_pace.specs.Flow.{Flow, all_items, timed_waiting}
 use Rattle.ng_pace.specs.Halting.{Takes}
 use Rattle.ng_pace.specs.Underway.{IsPath}
+use Rattle.ng_pace.proofs.FewLemmas.{few-most}
 use Rattle.ng_pace.proofs.FlowLemmas.{length-timed_waiting, adds_rest, put_items}
 use Rattle.ng_pace.proofs.PutLemmas.{put-flow}
 use Rattle.ng_pace.proofs.stream.Stream.push.Goals as goal
@@ -20,6 +21,7 @@ invariant_of-self g c =
       start_is = c.push_item.ensures.start ∙ c.self.invariant.start_is ∙ sym c.push_item.ensures.adds.settles.start;
       limits_are = c.self.invariant.limits_are;
       rests = adds_rest c.push_item.ensures.adds c.self.invariant.rests;
+      few = c.push_item.ensures.few c.self.invariant.few;
     }
 
 pub returns : goal.returns
@@ -34,6 +36,8 @@ returns g c =
       before = c.push_item.ensures.before;
       rests = adds_rest c.push_item.ensures.adds c.self.invariant.rests;
       limits = refl;
+      few = few-most c.self.inside.limits c.push_item.new.shape.chord (length (timed_waiting c.push_item.new.waiting.items)) c.self.invariant.limits_are.half
+          (rw (length-timed_waiting c.push_item.new.waiting.items) (c.push_item.ensures.few c.self.invariant.few));
       path = λ legs underway.
           let path : IsPath c.self.inside.limits 0 c.self.inside.shape.chord (length c.self.inside.waiting.items) legs = rw (length-timed_waiting c.self.inside.waiting.items) at underway.path in
           let P : ℕ → Type 0 = λ stop. Takes c.self.inside.limits stop c.self.inside.pacer c.push_item.new.pacer c.push_item.new.shape.chord (length c.push_item.new.waiting.items) legs c.args.item in
