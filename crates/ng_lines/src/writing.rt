@@ -1,6 +1,6 @@
-//! The line of an item.
+//! Writing the line of an item.
 ghost use Rattle.std.specs.Prelude.{◌≡◌, ◌++◌, OnOk};
-ghost use Rattle.ng_file.specs.Lines.{item_line, pulse_line, slots_text, spindle_text, step_text, switch_line, truth_digit, turning_text};
+ghost use Rattle.ng_lines.specs.Lines.{item_line, pulse_line, slots_text, spindle_text, step_text, switch_line, truth_digit, turning_text};
 
 use ng_canon::{AxisStep, Item, Outputs, Pulse, Spindle};
 use ng_num::{print_number, print_whole};
@@ -99,7 +99,7 @@ fn push_switch<A: Allocator + Copy + Drop>(
 
 /// Appends the line of an item: `P x y z period`, `D microseconds` or `S spindle speed mist flood selected slot`. After
 /// an error part of it may have been appended. Source: own.
-pub(crate) fn push_item<A: Allocator + Copy + Drop>(
+pub fn push_item<A: Allocator + Copy + Drop>(
     text: &mut Vec<u8, A>,
     item: Item,
 ) -> Result<(), AllocError>
