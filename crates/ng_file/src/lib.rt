@@ -16,7 +16,6 @@
 mod device;
 mod hold;
 mod lengthening;
-mod line;
 mod opened;
 mod rig;
 mod same;

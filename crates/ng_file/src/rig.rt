@@ -1,10 +1,10 @@
 //! A device whose sectors are those of a file.
 ghost use Rattle.std.specs.Prelude.{◌*◌, ◌<◌, ◌^◌, ℕ};
 
-use crate::line::push_item;
 use crate::storage::{SECTOR, Storage};
 use crate::writing::write_out;
 use ng_canon::Item;
+use ng_lines::push_item;
 use ng_rig::{Failed, Rig};
 use std::alloc::Allocator;
 use std::io;
@@ -33,7 +33,7 @@ impl<S: Storage + Drop, W: Write + Drop, A: Allocator + Copy + Drop> FileRig<S, 
     ghost use Rattle.std.specs.Io.KnownBytes.{Appends};
     ghost use Rattle.ng_file.specs.Bytes.{AppendsBeginning, Put, PutInPart};
     ghost use Rattle.ng_file.specs.FileRig.{failure_count, outlet, sector_count, storage};
-    ghost use Rattle.ng_file.specs.Lines.{item_line};
+    ghost use Rattle.ng_lines.specs.Lines.{item_line};
 
     /// The device in a file, which hands out to a writer. Fails if the file's length can't be read, or if there is no
     /// memory for a line.
@@ -120,7 +120,7 @@ impl<S: Storage + Drop, W: Write + Drop, A: Allocator + Copy + Drop> Rig for Fil
     ghost use Rattle.ng_rig.specs.Calls.{IsCall};
     ghost use Rattle.ng_file.specs.Bytes.{AppendsBeginning, Put, PutInPart, sector_of};
     ghost use Rattle.ng_file.specs.FileRig.{device_of, outlet, sector_count, storage};
-    ghost use Rattle.ng_file.specs.Lines.{item_line};
+    ghost use Rattle.ng_lines.specs.Lines.{item_line};
 
     ghost seen = { device_of };
 

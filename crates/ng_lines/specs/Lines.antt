@@ -1,6 +1,7 @@
 -- The line of an item that is handed out (own).
-use Rattle.std.specs.Prelude.{ℕ, Bool, true, false, List, [], ◌∷◌, ◌++◌, codes}
+use Rattle.std.specs.Prelude.{ℕ, ◌<◌, ◌^◌, Bool, true, false, List, [], ◌∷◌, ◌++◌, codes}
 use Rattle.std.specs.Fmt.{decimal}
+use Rattle.ng_num.specs.Range.{IsCount}
 use Rattle.ng_num.specs.Text.{number_text}
 use Rattle.ng_canon.specs.declared.item.AxisStep.{AxisStep}
 use Rattle.ng_canon.specs.declared.item.AxisStep.TheVariants.{Backward, Still, Forward}
@@ -46,3 +47,9 @@ abbrev pub item_line : Item → List ℕ
 item_line (Pulse p) = pulse_line p
 item_line (Dwell us) = codes "D " ++ decimal us ++ codes "\n"
 item_line (Switch o) = switch_line o
+
+-- the numbers of an item are in the ranges of their types
+abbrev pub IsItem : Item → Type 0
+IsItem (Pulse p) = p.period_us < 2 ^ 64
+IsItem (Dwell us) = us < 2 ^ 64
+IsItem (Switch o) = IsCount o.speed × (o.selected_slot < 2 ^ 8) × (o.spindle_slot < 2 ^ 8)

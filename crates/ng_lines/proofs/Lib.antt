@@ -1,0 +1,5 @@
+pub mod DigitLemmas
+pub mod BlankLemmas
+pub mod MillionthLemmas
+pub mod NumberLemmas
+pub mod LineLemmas

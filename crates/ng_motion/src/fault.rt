@@ -1,0 +1,54 @@
+ghost use Rattle.std.specs.Prelude.{◌≡◌};
+ghost use Rattle.ng_motion.specs.Texts.{fault_text};
+
+use crate::key::Key;
+
+/// Why a text gives no limits (own).
+#[derive(Clone, Copy, Debug, PartialEq, Eq)]
+pub enum MotionFault {
+    /// The text isn't TOML.
+    NotToml,
+    OutOfMemory,
+    /// There is no table `[motion]`.
+    NoTable,
+    /// The table has a key that it doesn't have.
+    UnknownKey,
+    /// There is no `accel_mm_s2`.
+    NoAcceleration,
+    /// The value of a key has another type, or is outside the key's range.
+    OutOfRange(Key),
+    /// An axis gains less than a step a second, each second.
+    TooSlowToStart,
+    /// An axis goes less than a step a second.
+    TooSlow,
+}
+
+impl MotionFault {
+    /// The key, if it is that of one, and what is wrong with it; the range, if it is outside.
+    pub fn text(self) -> &'static [u8]
+        ensures { result.now ≡ fault_text self }
+    {
+        match self {
+            MotionFault::NotToml => b": not TOML",
+            MotionFault::OutOfMemory => b": out of memory",
+            MotionFault::NoTable => b" motion: missing",
+            MotionFault::UnknownKey => b" motion: has a key that isn't one of its five",
+            MotionFault::NoAcceleration => b" accel_mm_s2: missing",
+            MotionFault::OutOfRange(Key::Accel) => {
+                b" accel_mm_s2: not three whole numbers from 1 to 1000000"
+            }
+            MotionFault::OutOfRange(Key::Rate) => {
+                b" rate_mm_min: not three whole numbers from 0 to 100000"
+            }
+            MotionFault::OutOfRange(Key::Start) => {
+                b" start_mm_min: not three whole numbers from 0 to 100000"
+            }
+            MotionFault::OutOfRange(Key::Slack) => {
+                b" slack_steps: not a whole number from 1 to 64"
+            }
+            MotionFault::OutOfRange(Key::Most) => b" most_percent: not 100",
+            MotionFault::TooSlowToStart => b" accel_mm_s2: less than a step a second, each second",
+            MotionFault::TooSlow => b" rate_mm_min: less than a step a second",
+        }
+    }
+}

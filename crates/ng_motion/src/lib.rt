@@ -1,0 +1,20 @@
+//! How a machine moves: what its motors allow, read from a text in TOML.
+//!
+//! `limits` reads the table `[motion]` of a text, in millimetres, and returns what a pacer takes, in steps; or it
+//! returns a fault, whose text names the key and its range. specs/Table.antt has the keys, their ranges and the faults,
+//! specs/Steps.antt how millimetres become steps. Other tables of the text are others' and aren't looked at.
+//!
+//! The crate `toml` defines what TOML is, and which table a text stands for; `ng_pace` takes the limits. Memory is
+//! allocated only for the parsed table.
+#![tactic(auto)]
+
+mod fault;
+mod given;
+mod key;
+mod reading;
+mod steps;
+mod values;
+
+pub use fault::MotionFault;
+pub use key::Key;
+pub use reading::limits;

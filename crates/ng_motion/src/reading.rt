@@ -1,0 +1,58 @@
+//! Limits read from a text.
+ghost use Rattle.std.specs.Prelude.{◌≡◌, IfNone, IfSome, MatchResult, Some, codes};
+ghost use Rattle.toml.specs.Data.{Members};
+ghost use Rattle.toml.specs.View.{table_view};
+ghost use Rattle.ng_motion.specs.Limits.{AreLimitsOf, GivesAtRoot, IsMotion, IsRefused, IsRootFault};
+
+use crate::fault::MotionFault;
+use crate::given::{read_given, value_at};
+use crate::steps::limits_of;
+use ng_canon::Geometry;
+use ng_pace::Limits;
+use std::alloc::Global;
+use toml::Table;
+
+/// The table `[motion]`.
+fn motion_table(root: &Table) -> Option<&Table>
+    ensures found { IfSome result (λ motion. IsMotion (table_view root.now) (table_view motion.now)) }
+    ensures none { IfNone result ((motion : Members) → IsMotion (table_view root.now) motion → ⊥) }
+{
+    match value_at(root, "motion") {
+        Some(value) => value.as_table(),
+        None => None,
+    }
+}
+
+/// The limits that the table of a text gives, or its fault.
+fn limits_in(root: &Table, machine: &Geometry) -> Result<Limits, MotionFault>
+    ensures { MatchResult result (GivesAtRoot (table_view root.now) machine.now) (IsRootFault (table_view root.now) machine.now) }
+{
+    let Some(motion) = motion_table(root) else {
+        return Err(MotionFault::NoTable);
+    };
+    match read_given(motion) {
+        Ok(given) => limits_of(&given, machine),
+        Err(fault) => Err(fault),
+    }
+}
+
+/// The limits of the motors of a machine, in steps, from a TOML text with a table `[motion]` (own). The machine's steps
+/// turn millimetres into steps, rounded down, so that nothing is exceeded.
+///
+/// Refused: a text that isn't TOML, has no `[motion]`, or has a key there that it doesn't have; no `accel_mm_s2`; a
+/// value of another type or outside its key's range; a limit that is less than one step. Of several faults one is
+/// returned. `OutOfMemory` if memory runs out. Without `start_mm_min` or `rate_mm_min` they are 0, `slack_steps` is 2.
+pub fn limits(alloc: Global, text: &[u8], machine: &Geometry) -> Result<Limits, MotionFault>
+    ensures { MatchResult result (AreLimitsOf text.now machine.now) (IsRefused text.now machine.now) }
+{
+    match toml::table_from_slice(alloc, text) {
+        Ok(root) => limits_in(&root, machine),
+        Err(error) => {
+            if error.is_memory() {
+                Err(MotionFault::OutOfMemory)
+            } else {
+                Err(MotionFault::NotToml)
+            }
+        }
+    }
+}

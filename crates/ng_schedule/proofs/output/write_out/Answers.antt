@@ -1,0 +1,10 @@
+use Rattle.std.proofs.Common.{arith, length-drop}
+use Rattle.std.proofs.Math.Seq.{take-add}
+use Rattle.ng_schedule.proofs.Streams.{Appends-trans, rest_is}
+use Rattle.ng_schedule.proofs.output.write_out.Goals as goal
+
+pub loop-written-preserved : goal.loop-written-preserved
+loop-written-preserved g c =
+    let bytes = rw rest_is at c.in-Ok.ensures.bytes in
+    let bound = rw rest_is at c.in-Ok.ensures.bound in
+    (rw take-add (Appends-trans _ _ _ _ _ c.loop-written.invariant.0 bytes), omega (arith, length-drop c.loop-written.written c.args.bytes.now, bound))

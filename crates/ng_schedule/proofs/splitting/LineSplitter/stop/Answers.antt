@@ -1,0 +1,11 @@
+use Rattle.std.proofs.Common.{◌++◌, ◌∙◌, ap, append_assoc, refl, subst}
+use Rattle.ng_schedule.specs.Private.Parts.{StopSpec}
+use Rattle.ng_schedule.specs.declared.ending.Stop.{Stop}
+use Rattle.ng_schedule.proofs.FinishLemmas.{ScheduleSpec-from, some_more}
+use Rattle.ng_schedule.proofs.splitting.LineSplitter.stop.Goals as goal
+
+pub returns-in-NotALine : goal.returns-in-NotALine
+returns-in-NotALine g c start bytes more h =
+    let stopped = subst (λ (why : Stop). StopSpec start (g.W.Write.contents c.args.writer.now) bytes c.args.self.now.schedule why) c.in-NotALine.is h in
+    ScheduleSpec-from _ _ _ _ start _ c.refuse.result refl (ap (λ l. l ++ more) stopped.parts ∙ append_assoc stopped.before stopped.rest more)
+    (c.refuse.ensures start stopped.before (stopped.rest ++ more) stopped.under_way (some_more stopped.rest more stopped.some) (stopped.other more))

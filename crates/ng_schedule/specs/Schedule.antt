@@ -1,0 +1,108 @@
+-- What a run writes, and how it ends (own): the lines in their order, each behind the time at which it is due.
+use Rattle.std.specs.Prelude.{ℕ, ◌+◌, ◌-◌, ◌*◌, ◌^◌, ◌≤◌, ◌≡◌, ◌≢◌, ◌⊎◌, List, [], ◌∷◌, ◌++◌, Option, Result, Ok, Err, length, codes}
+use Rattle.std.specs.Fmt.{decimal}
+use Rattle.std.specs.Io.KnownBytes.{Appends}
+use Rattle.ng_canon.specs.declared.item.Item.{Item}
+use Rattle.ng_lines.specs.Lines.{IsItem, item_line}
+use Rattle.ng_pace.specs.Due.{due_us, least_ns}
+use Rattle.ng_schedule.specs.declared.ending.Shown.{Shown}
+use Rattle.ng_schedule.specs.declared.ending.Shown.TheVariants.{Lines, Total}
+use Rattle.ng_schedule.specs.declared.ending.Ended.{Ended}
+use Rattle.ng_schedule.specs.declared.ending.Ended.TheVariants.{Done, NotALine, TooLate}
+use Rattle.ng_schedule.specs.declared.ending.ScheduleFault.{ScheduleFault}
+
+-- a line, and the nanoseconds until the next
+pub record Timed : Type 0 where
+  pub item : Item
+  pub ns : ℕ
+
+-- the lines as they were handed out
+abbrev pub lines_of : List Timed → List ℕ
+lines_of [] = []
+lines_of (t ∷ ts) = item_line t.item ++ lines_of ts
+
+-- how long they take
+abbrev pub span : List Timed → ℕ
+span [] = 0
+span (t ∷ ts) = t.ns + span ts
+
+-- no line is over sooner than OUT says
+abbrev pub AreNeverSooner : List Timed → Type 0
+AreNeverSooner [] = Unit {0}
+AreNeverSooner (t ∷ ts) = (due_us t.item * 1000 ≤ t.ns) × AreNeverSooner ts
+
+-- what is written of a line that is due at a time
+abbrev pub due_text : Shown → ℕ → Item → List ℕ
+due_text Lines due item = decimal due ++ 32 ∷ item_line item
+due_text Total due item = []
+
+-- what is written of lines, of which the first is due at a time
+abbrev pub timed_text : Shown → ℕ → List Timed → List ℕ
+timed_text shown due [] = []
+timed_text shown due (t ∷ ts) = due_text shown due t.item ++ timed_text shown (due + t.ns) ts
+
+-- what is written behind them
+abbrev pub end_text : Shown → ℕ → List ℕ
+end_text Lines ns = []
+end_text Total ns = decimal ns ++ codes "\n"
+
+abbrev pub not_a_line_text : ℕ → List ℕ
+not_a_line_text number = codes "refused line " ++ decimal number ++ codes ": not a line of OUT\n"
+
+abbrev pub too_late_text : ℕ → List ℕ
+too_late_text number = codes "refused line " ++ decimal number ++ codes ": over after more than 584 years\n"
+
+-- no item's line is at the beginning of these bytes
+abbrev pub BeginsNoLine : List ℕ → Type 0
+BeginsNoLine bytes = (item : Item) (after : List ℕ) → IsItem item → bytes ≡ item_line item ++ after → ⊥
+
+-- all is lines
+pub record IsWhole (shown : Shown) (text : List ℕ) (written : List ℕ) : Type 0 where
+  pub timed : List Timed
+  pub never_sooner : AreNeverSooner timed
+  pub lines : text ≡ lines_of timed
+  pub writes : written ≡ timed_text shown 0 timed ++ end_text shown (span timed)
+
+-- what follows the lines before this number isn't a line
+pub record StopsAtOther (shown : Shown) (text : List ℕ) (number : ℕ) (written : List ℕ) : Type 0 where
+  pub timed : List Timed
+  pub never_sooner : AreNeverSooner timed
+  pub rest : List ℕ
+  pub lines : text ≡ lines_of timed ++ rest
+  pub some : rest ≢ []
+  pub other : BeginsNoLine rest
+  pub counted : number ≡ length timed + 1
+  pub writes : written ≡ timed_text shown 0 timed ++ not_a_line_text number
+
+-- the line of this number would be over after more than 584 years
+pub record StopsTooLate (shown : Shown) (text : List ℕ) (number : ℕ) (written : List ℕ) : Type 0 where
+  pub timed : List Timed
+  pub never_sooner : AreNeverSooner timed
+  pub late : Timed
+  pub least : least_ns late.item ≤ late.ns
+  pub rest : List ℕ
+  pub lines : text ≡ lines_of timed ++ (item_line late.item ++ rest)
+  pub beyond : 2 ^ 64 - 1 ≤ span timed + late.ns
+  pub counted : number ≡ length timed + 1
+  pub writes : written ≡ timed_text shown 0 timed ++ too_late_text number
+
+-- a beginning of such a text
+pub record IsBroken (shown : Shown) (text : List ℕ) (written : List ℕ) : Type 0 where
+  pub timed : List Timed
+  pub never_sooner : AreNeverSooner timed
+  pub rest : List ℕ
+  pub lines : text ≡ lines_of timed ++ rest
+  pub last : List ℕ
+  pub ends : (last ≡ []) ⊎ ((last ≡ end_text shown (span timed)) ⊎ ((last ≡ not_a_line_text (length timed + 1)) ⊎ (last ≡ too_late_text (length timed + 1))))
+  pub after : List ℕ
+  pub begins : timed_text shown 0 timed ++ last ≡ written ++ after
+
+abbrev pub EndsSo : Shown → List ℕ → Result Ended ScheduleFault → List ℕ → Type 0
+EndsSo shown text (Ok Done) written = IsWhole shown text written
+EndsSo shown text (Ok (NotALine number)) written = StopsAtOther shown text number written
+EndsSo shown text (Ok (TooLate number)) written = StopsTooLate shown text number written
+EndsSo shown text (Err fault) written = IsBroken shown text written
+
+-- a run over a text wrote what it had to, and returns how it ended
+abbrev pub ScheduleSpec : Shown → List ℕ → Option (List ℕ) → Option (List ℕ) → Result Ended ScheduleFault → Type 0
+ScheduleSpec shown text old new result = (written : List ℕ) × Appends old new written × EndsSo shown text result written

@@ -1,0 +1,128 @@
+//! Splitting the bytes of OUT into lines as they come.
+ghost use Rattle.std.specs.Prelude.{◌≡◌, ◌∷◌, ◌++◌, [], List, MatchOption, OnOk, Option, ℕ};
+ghost use Rattle.ng_schedule.specs.Private.Parts.{HasNoNewline, IsUnderWay, StopSpec, TakeSpec};
+
+use crate::ending::Stop;
+use crate::giving::Schedule;
+use arrayvec::ArrayVec;
+use memchr::memchr;
+use ng_lines::read_item;
+use std::alloc::Allocator;
+use std::io::Write;
+
+/// The most bytes that are kept of a line without its end; no line has as many.
+const KEPT: usize = 128;
+
+/// Splits bytes into the lines of a run, and keeps the beginning of a line until its end comes.
+#[derive(Drop)]
+pub(crate) struct LineSplitter<A: Allocator> {
+    pub(crate) schedule: Schedule<A>,
+    pub(crate) kept: ArrayVec<u8, KEPT>,
+}
+
+/// The first line of some bytes, without its newline, and what follows it.
+#[inline(always)]
+fn split_line(bytes: &[u8]) -> Option<(&[u8], &[u8])>
+    ensures { MatchOption result (HasNoNewline bytes.now)
+        (λ x. HasNoNewline x.0.now × (bytes.now ≡ x.0.now ++ 10 ∷ x.1.now)) }
+{
+    match memchr(b'\n', bytes) {
+        Some(end) => Some((&bytes[..end], &bytes[end + 1..])),
+        None => None,
+    }
+}
+
+impl<A: Allocator + Copy + Drop> Schedule<A> {
+    /// Takes the next line, without its newline.
+    #[inline(always)]
+    fn take_line<W: Write>(&mut self, writer: &mut W, line: &[u8]) -> Result<(), Stop>
+        requires { HasNoNewline line.now }
+        ensures step { (start : Option (List ℕ)) (bytes : List ℕ)
+            → IsUnderWay start (W.contents writer.old) bytes [] self.old
+            → TakeSpec start (W.contents writer.new) (bytes ++ (line.now ++ 10 ∷ [])) [] self.new result }
+        ensures shown { self.new.shown ≡ self.old.shown }
+    {
+        match read_item(line) {
+            Some(item) => match self.take_item(writer, item) {
+                Ok(()) => Ok(()),
+                Err(halt) => Err(Stop::Halted(halt)),
+            },
+            None => Err(Stop::NotALine),
+        }
+    }
+}
+
+impl<A: Allocator + Copy + Drop> LineSplitter<A> {
+    /// Takes the end of a line: the bytes before its newline.
+    #[inline(always)]
+    fn end_line<W: Write>(&mut self, writer: &mut W, line: &[u8]) -> Result<(), Stop>
+        requires kept { HasNoNewline self.old.kept.items }
+        requires line { HasNoNewline line.now }
+        ensures step { (start : Option (List ℕ)) (bytes : List ℕ)
+            → IsUnderWay start (W.contents writer.old) bytes self.old.kept.items self.old.schedule
+            → TakeSpec start (W.contents writer.new) (bytes ++ (line.now ++ 10 ∷ [])) self.new.kept.items self.new.schedule result }
+        ensures kept { HasNoNewline self.new.kept.items }
+        ensures shown { self.new.schedule.shown ≡ self.old.schedule.shown }
+    {
+        if self.kept.is_empty() {
+            return self.schedule.take_line(writer, line);
+        }
+        self.end_kept(writer, line)
+    }
+
+    /// The same where the beginning of the line is kept.
+    #[inline(never)]
+    fn end_kept<W: Write>(&mut self, writer: &mut W, line: &[u8]) -> Result<(), Stop>
+        requires kept { HasNoNewline self.old.kept.items }
+        requires line { HasNoNewline line.now }
+        ensures step { (start : Option (List ℕ)) (bytes : List ℕ)
+            → IsUnderWay start (W.contents writer.old) bytes self.old.kept.items self.old.schedule
+            → TakeSpec start (W.contents writer.new) (bytes ++ (line.now ++ 10 ∷ [])) self.new.kept.items self.new.schedule result }
+        ensures kept { HasNoNewline self.new.kept.items }
+        ensures shown { self.new.schedule.shown ≡ self.old.schedule.shown }
+    {
+        match self.kept.try_extend_from_slice(line) {
+            Err(_) => Err(Stop::NotALine),
+            Ok(()) => {
+                let taken = self.schedule.take_line(writer, self.kept.as_slice());
+                self.kept.clear();
+                taken
+            }
+        }
+    }
+
+    /// Keeps the beginning of a line.
+    fn keep(&mut self, bytes: &[u8]) -> Result<(), Stop>
+        requires kept { HasNoNewline self.old.kept.items }
+        requires bytes { HasNoNewline bytes.now }
+        ensures step { (start now : Option (List ℕ)) (before : List ℕ)
+            → IsUnderWay start now before self.old.kept.items self.old.schedule
+            → TakeSpec start now (before ++ bytes.now) self.new.kept.items self.new.schedule result }
+        ensures kept { HasNoNewline self.new.kept.items }
+        ensures shown { self.new.schedule.shown ≡ self.old.schedule.shown }
+    {
+        match self.kept.try_extend_from_slice(bytes) {
+            Ok(()) => Ok(()),
+            Err(_) => Err(Stop::NotALine),
+        }
+    }
+
+    /// Takes the next bytes, and writes the lines that are given.
+    pub(crate) fn take<W: Write>(&mut self, writer: &mut W, bytes: &[u8]) -> Result<(), Stop>
+        requires { HasNoNewline self.old.kept.items }
+        ensures step { (start : Option (List ℕ)) (before : List ℕ)
+            → IsUnderWay start (W.contents writer.old) before self.old.kept.items self.old.schedule
+            → TakeSpec start (W.contents writer.new) (before ++ bytes.now) self.new.kept.items self.new.schedule result }
+        ensures kept { HasNoNewline self.new.kept.items }
+        ensures shown { self.new.schedule.shown ≡ self.old.schedule.shown }
+    {
+        let mut left = bytes;
+        while let Some((line, after)) = split_line(left) {
+            match self.end_line(writer, line) {
+                Ok(()) => left = after,
+                Err(stop) => return Err(stop),
+            }
+        }
+        self.keep(left)
+    }
+}
