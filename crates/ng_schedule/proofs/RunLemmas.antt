@@ -5,7 +5,8 @@ use Rattle.ng_lines.specs.Lines.{item_line}
 use Rattle.ng_pace.specs.declared.line.Line.{Line}
 use Rattle.ng_pace.specs.Due.{due_us, least_ns}
 use Rattle.ng_pace.specs.declared.stepping.Given.{Given}
-use Rattle.ng_pace.specs.Flow.{Flow, Grows, IsFlowGiven, all_items, items_of}
+use Rattle.ng_pace.specs.Flow.{Flow, all_items}
+use Rattle.ng_pace.specs.Calls.{IsPut, IsEnded, IsFlowGiven}
 use Rattle.ng_schedule.specs.Flush.{FlushSpec, Wrote}
 use Rattle.ng_schedule.specs.Schedule.{AreNeverSooner, Timed, due_text, lines_of, span, timed_text}
 use Rattle.ng_schedule.specs.Private.Parts.{HasGiven, HaltSpec, IsCut, IsTooLate, IsUnderWay, item_lines}
@@ -133,8 +134,7 @@ long_enough item due ns least fits = omega (arith, least, fits)
 
 -- the line that is given was the first
 pub first_given : (old new : Flow) (wanted : ℕ) (given : Given) → IsFlowGiven old new wanted given → all_items old ≡ given.line.item ∷ all_items new
-first_given old new wanted given h =
-    ap (λ (k : List Line). items_of k ++ old.waiting) h.given_out.order ∙ ap (λ w. given.line.item ∷ (items_of new.motion.known ++ w)) (sym h.waiting)
+first_given old new wanted given h = h.items
 
 pub one_fewer : (old new : Flow) (wanted : ℕ) (given : Given) → IsFlowGiven old new wanted given → length (all_items new) + 1 ≡ length (all_items old)
 one_fewer old new wanted given h = omega (arith, ap length (first_given old new wanted given h))
@@ -152,20 +152,20 @@ same_items {Z} start w bytes kept s t here items_are shown_is due_is number_is t
     }
 
 -- nothing more came
-pub ended_items : (old new : Flow) → Grows old new [] → all_items new ≡ all_items old
-ended_items old new grows = grows.items ∙ append-nil (all_items old)
+pub ended_items : (old new : Flow) → IsEnded old new → all_items new ≡ all_items old
+ended_items old new ended = ended.items
 
-pub ended_count : (old new : Flow) → Grows old new [] → length (all_items new) ≡ length (all_items old)
-ended_count old new grows = ap length (ended_items old new grows)
+pub ended_count : (old new : Flow) → IsEnded old new → length (all_items new) ≡ length (all_items old)
+ended_count old new ended = ap length ended.items
 
 -- one more item is known
 pub takes : {Z : Type 0} (start w : Option (List ℕ)) (bytes : List ℕ) (s t : Schedule Z) (item : Item) → IsUnderWay start w bytes [] s
-    → Grows s.stream t.stream (item ∷ []) → t.shown ≡ s.shown → t.due_ns ≡ s.due_ns → t.number ≡ s.number → t.text.items ≡ s.text.items
+    → IsPut s.stream t.stream item → t.shown ≡ s.shown → t.due_ns ≡ s.due_ns → t.number ≡ s.number → t.text.items ≡ s.text.items
     → IsUnderWay start w (bytes ++ item_line item) [] t
-takes {Z} start w bytes s t item here grows shown_is due_is number_is text_is =
+takes {Z} start w bytes s t item here put shown_is due_is number_is text_is =
     let known = item_lines (all_items s.stream) in
     let more : item_lines (all_items t.stream) ≡ known ++ item_line item =
-    ap item_lines grows.items ∙ item_lines-append (all_items s.stream) (item ∷ []) ∙ ap (λ l. known ++ l) (append-nil (item_line item)) in
+    ap item_lines put.items ∙ item_lines-append (all_items s.stream) (item ∷ []) ∙ ap (λ l. known ++ l) (append-nil (item_line item)) in
     record {
       timed = here.timed;
       given = subst (λ (sh : Shown). HasGiven sh start w here.timed t.text.items) (sym shown_is) (subst (λ (l : List ℕ). HasGiven s.shown start w here.timed l) (sym text_is) here.given);
