@@ -3,7 +3,7 @@ use Rattle.std.specs.Prelude.{◌≡◌, ◌⊎◌, ℕ, List, Some, codes}
 use Rattle.toml.specs.Data.{Members, get_member, table}
 use Rattle.toml.specs.Errors.{IsBlank}
 use Rattle.ng_canon.specs.declared.geometry.Geometry.{Geometry}
-use Rattle.ng_pace.specs.declared.chord.Limits.{Limits}
+use Rattle.ng_pace.specs.declared.limits.Limits.{Limits}
 use Rattle.ng_settings.specs.Check.{IsToml}
 use Rattle.ng_motion.specs.declared.fault.MotionFault.{MotionFault}
 use Rattle.ng_motion.specs.declared.fault.MotionFault.TheVariants.{NotToml, OutOfMemory, NoTable}

@@ -1,7 +1,7 @@
 -- Millimetres as steps, rounded down, so that nothing is exceeded (own).
 use Rattle.std.specs.Prelude.{◌≡◌, ◌⊎◌, ℕ, ◌*◌, ◌/◌, ◌<◌, ◌≤◌, List, [], ◌∷◌}
 use Rattle.ng_canon.specs.declared.geometry.Geometry.{Geometry}
-use Rattle.ng_pace.specs.declared.chord.Limits.{Limits}
+use Rattle.ng_pace.specs.declared.limits.Limits.{Limits}
 use Rattle.ng_motion.specs.declared.fault.MotionFault.{MotionFault}
 use Rattle.ng_motion.specs.declared.fault.MotionFault.TheVariants.{TooSlowToStart, TooSlow}
 use Rattle.ng_motion.specs.declared.values.PerAxis.{PerAxis}
