@@ -1,21 +1,19 @@
 -- What lines that are made do to the chords of a path.
-use Rattle.std.proofs.Common.{arith, ℕ, ◌+◌, ◌-◌, ◌*◌, ◌/◌, ◌<◌, ◌≤◌, ◌≡◌, ◌∙◌, ◌⊎◌, inl, inr, min, max, refl, ap, sym, subst, List, [], ◌∷◌, ◌++◌, length, take, drop, map, All, append-nil, append_assoc}
-use Rattle.std.proofs.lemmas.List.{take-append-le, drop_at, length-append, length-map, map-append, take-append-drop, length-take-le, length-drop}
-use Rattle.std.proofs.lemmas.List.Elements.{All-append, All-weaker, All-take, All-drop, All-nil}
-use Rattle.std.proofs.Math.Nat.{mul-le-mul_left, mul-le-mul_right}
-use Rattle.std.specs.Int.{abs_diff}
+use Rattle.std.proofs.Common.{arith, ℕ, ◌+◌, ◌-◌, ◌*◌, ◌/◌, ◌<◌, ◌≤◌, ◌≡◌, ap, subst, List, [], ◌∷◌, ◌++◌, length, take, drop, All}
+use Rattle.std.proofs.lemmas.List.{take-append-le, drop_at, length-append, length-map, map-append, take-append-drop, length-take-le}
+use Rattle.std.proofs.lemmas.List.Elements.{All-append, All-weaker, All-take, All-drop}
+use Rattle.std.proofs.Math.Nat.{mul-le-mul_left}
 use Rattle.ng_canon.specs.declared.item.AxisStep.{AxisStep}
 use Rattle.ng_canon.specs.declared.item.Pulse.{Pulse}
 use Rattle.ng_pace.specs.declared.limits.Limits.{Limits}
 use Rattle.ng_pace.specs.declared.line.Line.{Line}
 use Rattle.ng_pace.specs.declared.slopes.Slopes.{Slopes}
-use Rattle.ng_pace.specs.Axes.{EachAxis, IsAlong, IsCorner}
-use Rattle.ng_pace.specs.Chords.{Slope, IsSlope, IsNear, slope_of, forward, backward}
-use Rattle.ng_pace.specs.Cones.{AreBetween}
-use Rattle.ng_pace.specs.Legs.{Leg, IsLeg, IsChord, IsPaced, IsBehind, IsCornered, IsAllowed, IsOnChord, IsOnCorner, IsTurning, turn_between, step_of, steps_along, slope_along}
+use Rattle.ng_pace.specs.Axes.{IsCorner}
+use Rattle.ng_pace.specs.Chords.{Slope, IsSlope, IsNear}
+use Rattle.ng_pace.specs.Legs.{Leg, IsLeg, IsChord, IsPaced, IsBehind, IsCornered, IsOnChord, IsOnCorner, IsTurning, step_of, steps_along, slope_along}
 use Rattle.ng_pace.specs.Making.{IsWithin}
 use Rattle.ng_pace.specs.Passing.{AllowAlong, TakesCorner}
-use Rattle.ng_pace.specs.Underway.{AreSlopes, longer}
+use Rattle.ng_pace.specs.Underway.{AreSlopes}
 use Rattle.ng_pace.proofs.CapsLemmas.{along_less}
 use Rattle.ng_pace.proofs.ConeLemmas.{slope_of-some}
 use Rattle.ng_pace.proofs.ExactLemmas.{along-corner}

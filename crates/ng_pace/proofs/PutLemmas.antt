@@ -1,5 +1,5 @@
 -- An item that is put into a stream.
-use Rattle.std.proofs.Common.{arith, ℕ, ◌≡◌, ◌∙◌, refl, ap, sym, List, [], ◌∷◌, ◌++◌, map, length, append-nil, append_assoc}
+use Rattle.std.proofs.Common.{arith, ◌≡◌, ◌∙◌, refl, ap, sym, List, [], ◌∷◌, ◌++◌, map, length, append-nil, append_assoc}
 use Rattle.std.proofs.lemmas.List.{append_cancel_left, append_cancel_right, map-append}
 use Rattle.ng_canon.specs.declared.item.Item.{Item}
 use Rattle.ng_canon.specs.declared.item.Item.TheVariants.{Pulse, Dwell, Switch}
@@ -8,7 +8,7 @@ use Rattle.ng_pace.specs.declared.limits.Limits.{Limits}
 use Rattle.ng_pace.specs.declared.line.Line.{Line}
 use Rattle.ng_pace.specs.declared.chord.Chord.{Chord}
 use Rattle.ng_pace.specs.Motion.{Motion}
-use Rattle.ng_pace.specs.Flow.{Flow, items_of}
+use Rattle.ng_pace.specs.Flow.{items_of}
 use Rattle.ng_pace.specs.Legs.{Leg, pulses_of, lines_of}
 use Rattle.ng_pace.specs.Underway.{Advances}
 use Rattle.ng_pace.specs.Halting.{Halts, Takes}

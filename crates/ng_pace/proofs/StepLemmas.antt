@@ -1,5 +1,5 @@
 -- How far a path comes with each step of the code.
-use Rattle.std.proofs.Common.{arith, ℕ, ◌+◌, ◌-◌, ◌*◌, ◌/◌, ◌<◌, ◌≤◌, ◌≡◌, ◌∙◌, ◌⊎◌, inl, inr, min, max, refl, ap, sym, subst, List, [], ◌∷◌, ◌++◌, length, take, drop, All, append-nil, append_assoc, Bool, true, false, IsTrue, IsFalse}
+use Rattle.std.proofs.Common.{arith, ℕ, ◌+◌, ◌-◌, ◌*◌, ◌/◌, ◌<◌, ◌≤◌, ◌≡◌, ◌∙◌, inl, inr, min, max, refl, ap, sym, subst, List, [], ◌∷◌, ◌++◌, length, take, drop, All, append-nil, append_assoc, true, false, IsTrue, IsFalse}
 use Rattle.std.proofs.lemmas.List.{length-append, take-append-drop, length-take-le}
 use Rattle.std.proofs.lemmas.List.Elements.{All-weaker, All-nil}
 use Rattle.ng_canon.specs.declared.item.AxisStep.{AxisStep}

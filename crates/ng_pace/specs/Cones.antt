@@ -1,5 +1,5 @@
 -- What the code keeps of slopes. There a slope is counted from a step back at each pulse, so that none is below 0.
-use Rattle.std.specs.Prelude.{ℕ, ◌≡◌, ◌+◌, ◌-◌, ◌*◌, ◌^◌, ◌<◌, ◌≤◌, ◌↔◌, List, length, slice_index_or}
+use Rattle.std.specs.Prelude.{ℕ, ◌≡◌, ◌+◌, ◌*◌, ◌^◌, ◌<◌, ◌≤◌, List, length, slice_index_or}
 use Rattle.std.specs.Int.{abs_diff}
 use Rattle.ng_canon.specs.declared.item.AxisStep.{AxisStep}
 use Rattle.ng_pace.specs.declared.slopes.Rise.{Rise}

@@ -1,4 +1,4 @@
-use Rattle.std.proofs.Common.{arith, ◌*◌, ◌/◌, ◌≤◌, ◌<◌, slice_index}
+use Rattle.std.proofs.Common.{arith, ◌*◌, ◌/◌, ◌≤◌, slice_index}
 use Rattle.std.proofs.Math.Nat.{mul-div-le}
 use Rattle.ng_pace.proofs.CapsLemmas.{by_quotient, by_square}
 use Rattle.ng_pace.proofs.caps.axis_along.Goals as goal

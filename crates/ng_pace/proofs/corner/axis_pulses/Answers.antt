@@ -1,4 +1,4 @@
-use Rattle.std.proofs.Common.{arith, ◌*◌, ◌/◌, ◌≤◌, slice_index}
+use Rattle.std.proofs.Common.{arith, ◌/◌, slice_index}
 use Rattle.std.proofs.Math.Nat.{mul-div-le, div-mul-le_self}
 use Rattle.ng_pace.proofs.CapsLemmas.{near_of}
 use Rattle.ng_pace.proofs.corner.axis_pulses.Goals as goal

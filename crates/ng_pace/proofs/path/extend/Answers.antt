@@ -1,4 +1,4 @@
-use Rattle.std.proofs.Common.{arith, ◌≡◌, ◌<◌, ◌++◌, ◌∷◌, [], length, subst, sym, ℕ}
+use Rattle.std.proofs.Common.{arith, ◌++◌, ◌∷◌, [], length}
 use Rattle.std.proofs.lemmas.List.{length-append}
 use Rattle.ng_pace.specs.Legs.{Leg, lines_of}
 use Rattle.ng_pace.specs.Underway.{IsPath}

@@ -1,4 +1,4 @@
-use Rattle.std.proofs.Common.{arith, ◌≡◌, ◌+◌, ◌∷◌, [], length, sym, ◌∙◌}
+use Rattle.std.proofs.Common.{arith, ◌∷◌, [], sym, ◌∙◌}
 use Rattle.std.proofs.lemmas.List.{map-append, length-map}
 use Rattle.ng_pace.specs.Legs.{step_of, steps_along}
 use Rattle.ng_pace.proofs.chord.Chord.is_left.Goals as goal

@@ -1,4 +1,4 @@
-use Rattle.std.proofs.Common.{arith, ◌*◌, ◌+◌, ◌<◌, ◌≡◌, ◌++◌, ◌∷◌, [], length, sym, ◌∙◌}
+use Rattle.std.proofs.Common.{arith, ◌≡◌, ◌++◌, ◌∷◌, [], length, sym, ◌∙◌}
 use Rattle.ng_pace.proofs.ConeLemmas.{cone-push, length-push, at-few}
 use Rattle.ng_pace.proofs.cone.Cone.after.Goals as goal
 

@@ -1,4 +1,3 @@
-use Rattle.std.proofs.Common.{arith}
 use Rattle.ng_pace.proofs.corner.Turn.between.Goals as goal
 
 pub returns-clause-most : goal.returns-clause-most

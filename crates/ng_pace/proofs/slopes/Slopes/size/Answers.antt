@@ -1,4 +1,3 @@
-use Rattle.std.proofs.Common.{arith}
 use Rattle.ng_pace.proofs.SlopeLemmas.{size_of}
 use Rattle.ng_pace.proofs.slopes.Slopes.size.Goals as goal
 

@@ -1,4 +1,4 @@
-use Rattle.std.proofs.Common.{◌≡◌, ◌∙◌, [], length, refl, sym, subst, ℕ, append-nil}
+use Rattle.std.proofs.Common.{◌∙◌, [], length, refl, sym, subst, ℕ, append-nil}
 use Rattle.ng_pace.specs.Legs.{pulses_of, lines_of}
 use Rattle.ng_pace.specs.Underway.{IsPath, Finishes}
 use Rattle.ng_pace.specs.Flow.{items_waiting}

@@ -1,4 +1,4 @@
-use Rattle.std.proofs.Common.{arith, ◌≡◌, ◌∙◌, ◌<◌, ◌+◌, length, sym, subst, ℕ}
+use Rattle.std.proofs.Common.{arith, ◌∙◌, ◌<◌, ◌+◌, length, sym, subst, ℕ}
 use Rattle.ng_pace.specs.Underway.{IsPath}
 use Rattle.ng_pace.specs.Halting.{Takes}
 use Rattle.ng_pace.proofs.PutLemmas.{put-flow}
