@@ -1,10 +1,10 @@
 -- What quotients allow, in whole numbers.
-use Rattle.std.proofs.Common.{arith, ℕ, ◌+◌, ◌-◌, ◌*◌, ◌/◌, ◌<◌, ◌≤◌, ◌≡◌, ◌⊎◌, inl, inr, max, slice_index}
-use Rattle.std.proofs.Math.Nat.{mul-le-mul_left, mul-le-mul_right}
+use Rattle.std.proofs.Common.{min, List, ◌∙◌, arith, ℕ, ◌+◌, ◌-◌, ◌*◌, ◌/◌, ◌<◌, ◌≤◌, ◌≡◌, ◌⊎◌, inl, inr, max, slice_index}
+use Rattle.std.proofs.Math.Nat.{lt-div-mul-add, mul-le-mul_left, mul-le-mul_right}
 use Rattle.std.proofs.lemmas.Nat.{mul-le}
 use Rattle.std.proofs.lemmas.Bool.{cases_lt}
 use Rattle.ng_pace.specs.declared.limits.Limits.{Limits}
-use Rattle.ng_pace.specs.Axes.{IsAlong, IsCorner, IsNearCorner}
+use Rattle.ng_pace.specs.Axes.{IsFullAlone, IsFullRate, IsAlong, IsCorner, IsNearCorner}
 
 -- a cap that is a quotient by the slope
 pub by_quotient : (slope number total q cap : ℕ) → slope * q ≤ number → number ≤ total → cap ≤ q * 65536 → slope * cap ≤ total * 65536
@@ -124,3 +124,33 @@ near_less limits axis turn over pulses pulses' less (inl near) = inl (let scaled
 near_less limits axis turn over pulses pulses' less (inr near) =
     inr (let scaled : turn * pulses' * slice_index limits.accel axis ≤ turn * pulses * slice_index limits.accel axis
     = mul-le-mul_right (slice_index limits.accel axis) (mul-le-mul_left turn less) in omega arith)
+
+-- the rate that an axis allows is the greatest
+pub root_of : (slope number limit : ℕ) → 0 < slope → 0 < limit → number ≡ limit * 1048576
+    → (2097152 ≤ min (number / slope) 2097152) ⊎ ((0 < limit) × (limit * 1048576 < slope * (min (number / slope) 2097152 + 1)))
+root_of slope number limit some more is = by_case (cases_lt (number / slope) 2097152) where
+  by_case : (number / slope < 2097152) ⊎ (2097152 ≤ number / slope)
+      → (2097152 ≤ min (number / slope) 2097152) ⊎ ((0 < limit) × (limit * 1048576 < slope * (min (number / slope) 2097152 + 1)))
+  by_case (inl small) =
+      let less : min (number / slope) 2097152 ≡ number / slope = omega arith in
+      let next : number < number / slope * slope + slope = lt-div-mul-add some in
+      inr (more, rw less (omega (arith, next, is)))
+  by_case (inr great) = inl (omega arith)
+
+-- the least of three is one of them
+least_of : (x y z m : ℕ) → m ≡ min (min x y) z → (m ≡ x) ⊎ ((m ≡ y) ⊎ (m ≡ z))
+least_of x y z m is = by_case (cases_lt x y) (cases_lt (min x y) z) where
+  by_case : (x < y) ⊎ (y ≤ x) → (min x y < z) ⊎ (z ≤ min x y) → (m ≡ x) ⊎ ((m ≡ y) ⊎ (m ≡ z))
+  by_case (inl a) (inl b) = inl (omega (arith, is))
+  by_case (inr a) (inl b) = inr (inl (omega (arith, is)))
+  by_case a (inr b) = inr (inr (omega (arith, is)))
+
+-- the rate that the axes allow is that of one of them
+pub full-rate : (limits : Limits) (slopes : List ℕ) (x y z m : ℕ) → m ≡ min (min x y) z
+    → IsFullAlone limits 0 (slice_index slopes 0) 1048576 x → IsFullAlone limits 1 (slice_index slopes 1) 1048576 y
+    → IsFullAlone limits 2 (slice_index slopes 2) 1048576 z → IsFullRate limits slopes 1048576 m
+full-rate limits slopes x y z m is a b c = by_case (least_of x y z m is) where
+  by_case : (m ≡ x) ⊎ ((m ≡ y) ⊎ (m ≡ z)) → IsFullRate limits slopes 1048576 m
+  by_case (inl e) = inl (record { rate = a.rate; square = e ∙ a.square; full = a.full })
+  by_case (inr (inl e)) = inr (inl (record { rate = b.rate; square = e ∙ b.square; full = b.full }))
+  by_case (inr (inr e)) = inr (inr (record { rate = c.rate; square = e ∙ c.square; full = c.full }))

@@ -1,8 +1,8 @@
 -- What lines ask of an axis (own). The square of the rate, in pulses a second times 2^8, is at most `most`, and changes by at most `ramp` from one pulse to the
 -- next. A slope is that of an axis: steps over pulses, without a sign.
-use Rattle.std.specs.Prelude.{ℕ, ◌≡◌, ◌+◌, ◌*◌, ◌^◌, ◌<◌, ◌≤◌, ◌⊎◌, slice_index}
+use Rattle.std.specs.Prelude.{ℕ, ◌≡◌, ◌+◌, ◌*◌, ◌/◌, ◌^◌, ◌<◌, ◌≤◌, ◌⊎◌, List, slice_index}
 use Rattle.ng_pace.specs.declared.fault.PaceFault.{PaceFault}
-use Rattle.ng_pace.specs.declared.fault.PaceFault.TheVariants.{StartTooSmall, NoAcceleration, NoCorner, NoSlack, SlackTooGreat, NoRoom, OutOfMemory}
+use Rattle.ng_pace.specs.declared.fault.PaceFault.TheVariants.{StartTooSmall, NoAcceleration, AccelerationTooGreat, RateTooGreat, NoCorner, NoSlack, SlackTooGreat, NoRoom, OutOfMemory}
 use Rattle.ng_pace.specs.declared.limits.Limits.{Limits}
 
 -- what holds of each axis, by its number
@@ -14,6 +14,8 @@ pub record EachAxis (P : ℕ → Type 0) : Type 0 where
 -- limits that can be kept: with less acceleration an axis couldn't turn at a pulse a second
 pub record AreLimits (limits : Limits) : Type 0 where
   pub accel : EachAxis (λ i. 3 ≤ slice_index limits.accel i)
+  pub accel_at_most : EachAxis (λ i. slice_index limits.accel i ≤ 1000000000)
+  pub rate_at_most : EachAxis (λ i. slice_index limits.rate i ≤ 1000000000)
   pub half : 0 < limits.half
   pub slack : 0 < limits.slack
   pub slack_at_most : limits.slack ≤ 1000
@@ -24,6 +26,24 @@ pub record IsAlong (limits : Limits) (axis slope over most ramp : ℕ) : Type 0 
   pub accel : slope * ramp ≤ 2 * slice_index limits.accel axis * over * 2 ^ 16
   -- no axis goes faster than its greatest rate, if it has one
   pub rate : 0 < slice_index limits.rate axis → slope * slope * most ≤ slice_index limits.rate axis * slice_index limits.rate axis * over * over * 2 ^ 16
+
+-- what holds of some axis, by its number
+abbrev pub SomeAxis : (ℕ → Type 0) → Type 0
+SomeAxis P = P 0 ⊎ (P 1 ⊎ P 2)
+
+-- the ramp is the greatest that is a whole square of a pulse a second: one more would be too much for some axis, or it is that of any square
+abbrev pub IsFullRamp : Limits → List ℕ → ℕ → ℕ → Type 0
+IsFullRamp limits slopes over ramp
+    = (2 ^ 58 ≤ ramp) ⊎ SomeAxis (λ axis. 2 * slice_index limits.accel axis * over < slice_index slopes axis * (ramp / 2 ^ 16 + 1))
+
+-- so is the rate of an axis: one more pulse a second would be too much for it if it has a greatest rate, or it is that of any square
+pub record IsFullAlone (limits : Limits) (axis slope over most : ℕ) : Type 0 where
+  pub rate : ℕ
+  pub square : most ≡ rate * rate * 2 ^ 16
+  pub full : (2 ^ 21 ≤ rate) ⊎ ((0 < slice_index limits.rate axis) × (slice_index limits.rate axis * over < slope * (rate + 1)))
+
+abbrev pub IsFullRate : Limits → List ℕ → ℕ → ℕ → Type 0
+IsFullRate limits slopes over most = SomeAxis (λ axis. IsFullAlone limits axis (slice_index slopes axis) over most)
 
 -- at a corner the slope of an axis changes evenly over some pulses. That takes of its acceleration the change of slope times the square, over the pulses: what
 -- is left bounds the ramp
@@ -46,7 +66,9 @@ IsStop limits stop = EachAxis (λ axis. (stop ≤ 128) ⊎
 
 -- why limits can't be kept
 abbrev pub IsFaultOf : Limits → PaceFault → Type 0
-IsFaultOf limits NoAcceleration = (slice_index limits.accel 0 < 3) ⊎ ((slice_index limits.accel 1 < 3) ⊎ (slice_index limits.accel 2 < 3))
+IsFaultOf limits NoAcceleration = SomeAxis (λ axis. slice_index limits.accel axis < 3)
+IsFaultOf limits AccelerationTooGreat = SomeAxis (λ axis. 1000000000 < slice_index limits.accel axis)
+IsFaultOf limits RateTooGreat = SomeAxis (λ axis. 1000000000 < slice_index limits.rate axis)
 IsFaultOf limits NoCorner = limits.half ≡ 0
 IsFaultOf limits NoSlack = limits.slack ≡ 0
 IsFaultOf limits SlackTooGreat = 1000 < limits.slack

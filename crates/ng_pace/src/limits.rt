@@ -15,12 +15,15 @@ pub(crate) const LONGEST: u32 = 0x10_0000;
 /// The greatest square.
 pub(crate) const GREATEST: u64 = 0x400_0000_0000_0000;
 
+/// The greatest acceleration and the greatest rate that limits may have.
+const GREATEST_LIMIT: u64 = 1_000_000_000;
+
 /// What the motors allow, by axes.
 #[derive(Clone, Copy, Debug, PartialEq, Eq)]
 pub struct Limits {
-    /// In steps a second, each second: at least 3.
+    /// In steps a second, each second: 3 to 1,000,000,000.
     pub accel: [u64; 3],
-    /// In steps a second; 0 for as many as are asked for.
+    /// In steps a second, at most 1,000,000,000; 0 for as many as are asked for.
     pub rate: [u64; 3],
     /// In steps a second: a rate at which a motor can start and stop at once.
     pub start: [u64; 3],
@@ -47,6 +50,18 @@ impl Limits {
     {
         if self.accel[0] < 3 || self.accel[1] < 3 || self.accel[2] < 3 {
             return Err(PaceFault::NoAcceleration);
+        }
+        if self.accel[0] > GREATEST_LIMIT
+            || self.accel[1] > GREATEST_LIMIT
+            || self.accel[2] > GREATEST_LIMIT
+        {
+            return Err(PaceFault::AccelerationTooGreat);
+        }
+        if self.rate[0] > GREATEST_LIMIT
+            || self.rate[1] > GREATEST_LIMIT
+            || self.rate[2] > GREATEST_LIMIT
+        {
+            return Err(PaceFault::RateTooGreat);
         }
         if self.half == 0 {
             return Err(PaceFault::NoCorner);
