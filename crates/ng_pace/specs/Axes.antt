@@ -39,7 +39,7 @@ IsFullRamp limits slopes over ramp
 -- so is the rate of an axis: one more pulse a second would be too much for it if it has a greatest rate, or it is that of any square
 pub record IsFullAlone (limits : Limits) (axis slope over most : ℕ) : Type 0 where
   pub rate : ℕ
-  pub square : most ≡ rate * rate * 2 ^ 16
+  pub square : rate * rate * 2 ^ 16 ≤ most
   pub full : (2 ^ 21 ≤ rate) ⊎ ((0 < slice_index limits.rate axis) × (slice_index limits.rate axis * over < slope * (rate + 1)))
 
 abbrev pub IsFullRate : Limits → List ℕ → ℕ → ℕ → Type 0
@@ -50,6 +50,18 @@ IsFullRate limits slopes over most = SomeAxis (λ axis. IsFullAlone limits axis 
 pub record IsCorner (limits : Limits) (axis slope turn over pulses most ramp : ℕ) : Type 0 where
   pub accel : slope * ramp * pulses + 2 * turn * most ≤ 2 * slice_index limits.accel axis * pulses * over * 2 ^ 16
   pub rate : 0 < slice_index limits.rate axis → slope * slope * most ≤ slice_index limits.rate axis * slice_index limits.rate axis * over * over * 2 ^ 16
+
+-- the square at a corner is no less than this one, or than the chords on both sides allow, or than three quarters of the acceleration of some axis allow, but
+-- for
+-- less than 3 squares of a pulse a second
+abbrev pub IsFullCorner : Limits → List ℕ → List ℕ → ℕ → ℕ → ℕ → ℕ → Type 0
+IsFullCorner limits slopes turns over pulses feed most = (feed ≤ most) ⊎ (IsFullRate limits slopes over most
+    ⊎ ((2 ^ 58 ≤ most) ⊎ SomeAxis (λ axis. 3 * slice_index limits.accel axis * pulses * over < 4 * slice_index turns axis * (most / 2 ^ 16 + 3))))
+
+-- and the ramp than a quarter of that of some axis
+abbrev pub IsQuarterRamp : Limits → List ℕ → ℕ → ℕ → Type 0
+IsQuarterRamp limits slopes over ramp = (2 ^ 58 ≤ ramp)
+    ⊎ SomeAxis (λ axis. 2 * (slice_index limits.accel axis / 4) * over < slice_index slopes axis * (ramp / 2 ^ 16 + 1))
 
 -- an axis whose slope changes evenly by so much over so many pulses leaves its straight lines by an eighth of their product: no more than the slack,
 -- or what it covers while it comes to rest from a rate at which it can stop at once

@@ -1,4 +1,4 @@
-use Rattle.std.proofs.Common.{arith, ◌*◌, ◌/◌, ◌≤◌, slice_index, ◌∙◌, min, refl, inl}
+use Rattle.std.proofs.Common.{arith, ◌*◌, ◌/◌, ◌≤◌, slice_index, min, inl}
 use Rattle.std.proofs.lemmas.Nat.{mul-le}
 use Rattle.std.proofs.Math.Nat.{mul-div-le}
 use Rattle.ng_pace.proofs.CapsLemmas.{by_quotient, by_square, root_of}
@@ -32,14 +32,14 @@ returns-clause-allowed c = record {
 }
 
 pub returns-then-slope-eq0-clause-rate : goal.returns-then-slope-eq0-clause-rate
-returns-then-slope-eq0-clause-rate c = record { rate = 2097152; square = refl; full = inl (omega arith) }
+returns-then-slope-eq0-clause-rate c = record { rate = 2097152; square = omega arith; full = inl (omega arith) }
 
 pub returns-clause-rate : goal.returns-clause-rate
 returns-clause-rate c = elim c.if-limits-axis-eq0.branch [
-  | then-limits-axis-eq0 w ↦ record { rate = 2097152; square = w.most-is; full = inl (omega arith) }
+  | then-limits-axis-eq0 w ↦ record { rate = 2097152; square = omega (arith, w.most-is); full = inl (omega arith) }
   | else-limits-axis-eq0 w ↦ record {
     rate = min (w.saturating_mul.result / c.args.slope) 2097152;
-    square = w.most-is ∙ w.square_of-most.ensures.square;
+    square = omega (arith, w.most-is, w.square_of-most.ensures.square);
     full = root_of c.args.slope w.saturating_mul.result (slice_index c.args.limits.now.rate c.args.axis) (omega arith) (omega arith)
         (omega (arith, w.saturating_mul.ensures, c.requires.rate));
   }
