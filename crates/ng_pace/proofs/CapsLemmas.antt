@@ -1,10 +1,10 @@
 -- What quotients allow, in whole numbers.
-use Rattle.std.proofs.Common.{arith, ℕ, ◌+◌, ◌-◌, ◌*◌, ◌/◌, ◌<◌, ◌≤◌, ◌≡◌, ◌⊎◌, inl, inr, max, slice_index}
-use Rattle.std.proofs.Math.Nat.{mul-le-mul_left, mul-le-mul_right}
-use Rattle.std.proofs.lemmas.Nat.{mul-le}
+use Rattle.std.proofs.Common.{min, List, arith, ℕ, ◌+◌, ◌-◌, ◌*◌, ◌/◌, ◌<◌, ◌≤◌, ◌≡◌, ◌⊎◌, inl, inr, max, slice_index}
+use Rattle.std.proofs.Math.Nat.{lt-div-mul-add, mul-le-mul_left, mul-le-mul_right}
+use Rattle.std.proofs.lemmas.Nat.{le-div, mul-le}
 use Rattle.std.proofs.lemmas.Bool.{cases_lt}
 use Rattle.ng_pace.specs.declared.limits.Limits.{Limits}
-use Rattle.ng_pace.specs.Axes.{IsAlong, IsCorner, IsNearCorner}
+use Rattle.ng_pace.specs.Axes.{IsFullAlone, IsFullCorner, IsFullRate, IsQuarterRamp, IsAlong, IsCorner, IsNearCorner}
 
 -- a cap that is a quotient by the slope
 pub by_quotient : (slope number total q cap : ℕ) → slope * q ≤ number → number ≤ total → cap ≤ q * 65536 → slope * cap ≤ total * 65536
@@ -124,3 +124,111 @@ near_less limits axis turn over pulses pulses' less (inl near) = inl (let scaled
 near_less limits axis turn over pulses pulses' less (inr near) =
     inr (let scaled : turn * pulses' * slice_index limits.accel axis ≤ turn * pulses * slice_index limits.accel axis
     = mul-le-mul_right (slice_index limits.accel axis) (mul-le-mul_left turn less) in omega arith)
+
+-- the rate that an axis allows is the greatest
+pub root_of : (slope number limit : ℕ) → 0 < slope → 0 < limit → number ≡ limit * 1048576
+    → (2097152 ≤ min (number / slope) 2097152) ⊎ ((0 < limit) × (limit * 1048576 < slope * (min (number / slope) 2097152 + 1)))
+root_of slope number limit some more is = by_case (cases_lt (number / slope) 2097152) where
+  by_case : (number / slope < 2097152) ⊎ (2097152 ≤ number / slope)
+      → (2097152 ≤ min (number / slope) 2097152) ⊎ ((0 < limit) × (limit * 1048576 < slope * (min (number / slope) 2097152 + 1)))
+  by_case (inl small) =
+      let less : min (number / slope) 2097152 ≡ number / slope = omega arith in
+      let next : number < number / slope * slope + slope = lt-div-mul-add some in
+      inr (more, rw less (omega (arith, next, is)))
+  by_case (inr great) = inl (omega arith)
+
+-- the least of three is one of them
+least_of : (x y z m : ℕ) → m ≡ min (min x y) z → (m ≡ x) ⊎ ((m ≡ y) ⊎ (m ≡ z))
+least_of x y z m is = by_case (cases_lt x y) (cases_lt (min x y) z) where
+  by_case : (x < y) ⊎ (y ≤ x) → (min x y < z) ⊎ (z ≤ min x y) → (m ≡ x) ⊎ ((m ≡ y) ⊎ (m ≡ z))
+  by_case (inl a) (inl b) = inl (omega (arith, is))
+  by_case (inr a) (inl b) = inr (inl (omega (arith, is)))
+  by_case a (inr b) = inr (inr (omega (arith, is)))
+
+-- the rate that the axes allow is that of one of them
+pub full-rate : (limits : Limits) (slopes : List ℕ) (x y z m : ℕ) → m ≡ min (min x y) z
+    → IsFullAlone limits 0 (slice_index slopes 0) 1048576 x → IsFullAlone limits 1 (slice_index slopes 1) 1048576 y
+    → IsFullAlone limits 2 (slice_index slopes 2) 1048576 z → IsFullRate limits slopes 1048576 m
+full-rate limits slopes x y z m is a b c = by_case (least_of x y z m is) where
+  by_case : (m ≡ x) ⊎ ((m ≡ y) ⊎ (m ≡ z)) → IsFullRate limits slopes 1048576 m
+  by_case (inl e) = inl (record { rate = a.rate; square = omega (arith, e, a.square); full = a.full })
+  by_case (inr (inl e)) = inr (inl (record { rate = b.rate; square = omega (arith, e, b.square); full = b.full }))
+  by_case (inr (inr e)) = inr (inr (record { rate = c.rate; square = omega (arith, e, c.square); full = c.full }))
+
+-- what an axis may turn at is three quarters of its acceleration, but for less than 3
+pub most_full : (turn accel pulses number square most : ℕ) → 0 < turn → turn ≤ 2097152
+    → number ≡ min (min (accel * pulses) 18446744073709551615 * 1048576) 18446744073709551615
+    → square ≡ min (number / turn / 4 * 3) 18446744073709551615 → most ≡ min (square * 65536) 18446744073709551615
+    → (288230376151711744 ≤ most) ⊎ (3 * accel * pulses * 1048576 < 4 * turn * (most / 65536 + 3))
+most_full turn accel pulses number square most some flat number-is square-is most-is = by_case (cases_lt number 18446744073709551615) where
+  exact : number < 18446744073709551615 → (number / turn / 4 * 3 * 65536 < 18446744073709551615) ⊎ (18446744073709551615 ≤ number / turn / 4 * 3 * 65536)
+      → (288230376151711744 ≤ most) ⊎ (3 * accel * pulses * 1048576 < 4 * turn * (most / 65536 + 3))
+  exact small (inl fits) =
+      let whole : accel * pulses * 1048576 ≡ number = omega (arith, number-is, small) in
+      let next : number < number / turn * turn + turn = lt-div-mul-add some in
+      let quarter : turn * (number / turn + 1) ≤ turn * (number / turn / 4 * 4 + 4) = mul-le-mul_left turn (omega arith) in
+      let is : most / 65536 ≡ number / turn / 4 * 3 = omega (arith, square-is, most-is, fits) in
+      inr (rw is (omega (arith, whole, next, quarter)))
+  exact small (inr over) = inl (omega (arith, square-is, most-is, over))
+
+  by_case : (number < 18446744073709551615) ⊎ (18446744073709551615 ≤ number)
+      → (288230376151711744 ≤ most) ⊎ (3 * accel * pulses * 1048576 < 4 * turn * (most / 65536 + 3))
+  by_case (inl small) = exact small (cases_lt (number / turn / 4 * 3 * 65536) 18446744073709551615)
+  by_case (inr great) =
+      let many : 8796093022207 ≤ number / turn = le-div 8796093022207 number turn some (omega (arith, great, flat)) in
+      inl (omega (arith, many, square-is, most-is))
+
+-- what is full stays so where more is allowed
+more-turn : (turn number x m : ℕ) → x ≤ m → (288230376151711744 ≤ x) ⊎ (number < 4 * turn * (x / 65536 + 3))
+    → (288230376151711744 ≤ m) ⊎ (number < 4 * turn * (m / 65536 + 3))
+more-turn turn number x m more (inl great) = inl (omega (arith, more, great))
+more-turn turn number x m more (inr full) =
+    inr (let scaled : 4 * turn * (x / 65536 + 3) ≤ 4 * turn * (m / 65536 + 3) = mul-le-mul_left (4 * turn) (omega (arith, more)) in omega (arith, full, scaled))
+
+more-rate : (limits : Limits) (slopes : List ℕ) (x m : ℕ) → x ≤ m → IsFullRate limits slopes 1048576 x → IsFullRate limits slopes 1048576 m
+more-rate limits slopes x m more (inl a) = inl (record { rate = a.rate; square = omega (arith, more, a.square); full = a.full })
+more-rate limits slopes x m more (inr (inl a)) = inr (inl (record { rate = a.rate; square = omega (arith, more, a.square); full = a.full }))
+more-rate limits slopes x m more (inr (inr a)) = inr (inr (record { rate = a.rate; square = omega (arith, more, a.square); full = a.full }))
+
+-- the square at a corner is no less than one of those that bound it
+pub full-corner : (limits : Limits) (slopes turns : List ℕ) (pulses feed a x y z m : ℕ) → m ≡ max (min (min (min (min a feed) x) y) z) 65536
+    → IsFullRate limits slopes 1048576 a
+    → ((288230376151711744 ≤ x) ⊎ (3 * slice_index limits.accel 0 * pulses * 1048576 < 4 * slice_index turns 0 * (x / 65536 + 3)))
+    → ((288230376151711744 ≤ y) ⊎ (3 * slice_index limits.accel 1 * pulses * 1048576 < 4 * slice_index turns 1 * (y / 65536 + 3)))
+    → ((288230376151711744 ≤ z) ⊎ (3 * slice_index limits.accel 2 * pulses * 1048576 < 4 * slice_index turns 2 * (z / 65536 + 3)))
+    → IsFullCorner limits slopes turns 1048576 pulses feed m
+full-corner limits slopes turns pulses feed a x y z m is rate at_x at_y at_z = by_feed (cases_lt m feed) where
+  by_z : m < feed → m < a → m < x → m < y → (m < z) ⊎ (z ≤ m) → IsFullCorner limits slopes turns 1048576 pulses feed m
+  by_z b c d e (inl f) = absurd (omega (arith, is, b, c, d, e, f))
+  by_z b c d e (inr f) = elim (more-turn (slice_index turns 2) (3 * slice_index limits.accel 2 * pulses * 1048576) z m f at_z)
+      [ inl great ↦ inr (inr (inl great)) | inr full ↦ inr (inr (inr (inr (inr full)))) ]
+
+  by_y : m < feed → m < a → m < x → (m < y) ⊎ (y ≤ m) → IsFullCorner limits slopes turns 1048576 pulses feed m
+  by_y b c d (inl e) = by_z b c d e (cases_lt m z)
+  by_y b c d (inr e) = elim (more-turn (slice_index turns 1) (3 * slice_index limits.accel 1 * pulses * 1048576) y m e at_y)
+      [ inl great ↦ inr (inr (inl great)) | inr full ↦ inr (inr (inr (inr (inl full)))) ]
+
+  by_x : m < feed → m < a → (m < x) ⊎ (x ≤ m) → IsFullCorner limits slopes turns 1048576 pulses feed m
+  by_x b c (inl d) = by_y b c d (cases_lt m y)
+  by_x b c (inr d) = elim (more-turn (slice_index turns 0) (3 * slice_index limits.accel 0 * pulses * 1048576) x m d at_x)
+      [ inl great ↦ inr (inr (inl great)) | inr full ↦ inr (inr (inr (inl full))) ]
+
+  by_a : m < feed → (m < a) ⊎ (a ≤ m) → IsFullCorner limits slopes turns 1048576 pulses feed m
+  by_a b (inl c) = by_x b c (cases_lt m x)
+  by_a b (inr c) = inr (inl (more-rate limits slopes a m c rate))
+
+  by_feed : (m < feed) ⊎ (feed ≤ m) → IsFullCorner limits slopes turns 1048576 pulses feed m
+  by_feed (inl b) = by_a b (cases_lt m a)
+  by_feed (inr b) = inl b
+
+-- a quarter of the acceleration is left for the ramp
+pub quarter-ramp : (limits : Limits) (slopes : List ℕ) (x y z m : ℕ) → m ≡ min (min x y) z
+    → ((288230376151711744 ≤ x) ⊎ (2 * (slice_index limits.accel 0 / 4) * 1048576 < slice_index slopes 0 * (x / 65536 + 1)))
+    → ((288230376151711744 ≤ y) ⊎ (2 * (slice_index limits.accel 1 / 4) * 1048576 < slice_index slopes 1 * (y / 65536 + 1)))
+    → ((288230376151711744 ≤ z) ⊎ (2 * (slice_index limits.accel 2 / 4) * 1048576 < slice_index slopes 2 * (z / 65536 + 1)))
+    → IsQuarterRamp limits slopes 1048576 m
+quarter-ramp limits slopes x y z m is at_x at_y at_z = by_case (least_of x y z m is) where
+  by_case : (m ≡ x) ⊎ ((m ≡ y) ⊎ (m ≡ z)) → IsQuarterRamp limits slopes 1048576 m
+  by_case (inl e) = rw e (elim at_x [ inl great ↦ inl great | inr full ↦ inr (inl full) ])
+  by_case (inr (inl e)) = rw e (elim at_y [ inl great ↦ inl great | inr full ↦ inr (inr (inl full)) ])
+  by_case (inr (inr e)) = rw e (elim at_z [ inl great ↦ inl great | inr full ↦ inr (inr (inr full)) ])

@@ -1,6 +1,6 @@
 -- What lines ask of an axis (own). The square of the rate, in pulses a second times 2^8, is at most `most`, and changes by at most `ramp` from one pulse to the
 -- next. A slope is that of an axis: steps over pulses, without a sign.
-use Rattle.std.specs.Prelude.{ℕ, ◌+◌, ◌*◌, ◌^◌, ◌<◌, ◌≤◌, ◌⊎◌, slice_index}
+use Rattle.std.specs.Prelude.{ℕ, ◌+◌, ◌*◌, ◌/◌, ◌^◌, ◌<◌, ◌≤◌, ◌⊎◌, List, slice_index}
 use Rattle.ng_pace.specs.declared.limits.Limits.{Limits}
 
 -- what holds of each axis, by its number
@@ -9,13 +9,34 @@ pub record EachAxis (P : ℕ → Type 0) : Type 0 where
   pub y : P 1
   pub z : P 2
 
--- each axis accelerates: by less it couldn't turn at a pulse a second
-abbrev pub Accelerate : Limits → Type 0
-Accelerate limits = EachAxis (λ i. 3 ≤ slice_index limits.accel i)
+-- what holds of some axis, by its number
+abbrev pub SomeAxis : (ℕ → Type 0) → Type 0
+SomeAxis P = P 0 ⊎ (P 1 ⊎ P 2)
+
+-- limits that can't be kept, by the first of these that holds: with so little acceleration an axis couldn't turn at a pulse a second
+abbrev pub AccelerateTooLittle : Limits → Type 0
+AccelerateTooLittle limits = SomeAxis (λ axis. slice_index limits.accel axis < 3)
+
+pub record AccelerateTooMuch (limits : Limits) : Type 0 where
+  pub enough : EachAxis (λ axis. 3 ≤ slice_index limits.accel axis)
+  pub much : SomeAxis (λ axis. 1000000000 < slice_index limits.accel axis)
+
+pub record GoTooFast (limits : Limits) : Type 0 where
+  pub enough : EachAxis (λ axis. 3 ≤ slice_index limits.accel axis)
+  pub little : EachAxis (λ axis. slice_index limits.accel axis ≤ 1000000000)
+  pub fast : SomeAxis (λ axis. 1000000000 < slice_index limits.rate axis)
+
+-- each axis can be kept
+pub record HaveAxes (limits : Limits) : Type 0 where
+  pub accel : EachAxis (λ axis. 3 ≤ slice_index limits.accel axis)
+  pub accel_at_most : EachAxis (λ axis. slice_index limits.accel axis ≤ 1000000000)
+  pub rate_at_most : EachAxis (λ axis. slice_index limits.rate axis ≤ 1000000000)
 
 -- limits that can be kept
 pub record AreLimits (limits : Limits) : Type 0 where
-  pub accel : Accelerate limits
+  pub accel : EachAxis (λ i. 3 ≤ slice_index limits.accel i)
+  pub accel_at_most : EachAxis (λ i. slice_index limits.accel i ≤ 1000000000)
+  pub rate_at_most : EachAxis (λ i. slice_index limits.rate i ≤ 1000000000)
   pub half : 0 < limits.half
   pub slack : 0 < limits.slack
   pub slack_at_most : limits.slack ≤ 1000
@@ -27,11 +48,37 @@ pub record IsAlong (limits : Limits) (axis slope over most ramp : ℕ) : Type 0 
   -- no axis goes faster than its greatest rate, if it has one
   pub rate : 0 < slice_index limits.rate axis → slope * slope * most ≤ slice_index limits.rate axis * slice_index limits.rate axis * over * over * 2 ^ 16
 
+-- the ramp is the greatest that is a whole square of a pulse a second: one more would be too much for some axis, or it is that of any square
+abbrev pub IsFullRamp : Limits → List ℕ → ℕ → ℕ → Type 0
+IsFullRamp limits slopes over ramp
+    = (2 ^ 58 ≤ ramp) ⊎ SomeAxis (λ axis. 2 * slice_index limits.accel axis * over < slice_index slopes axis * (ramp / 2 ^ 16 + 1))
+
+-- so is the rate of an axis: one more pulse a second would be too much for it if it has a greatest rate, or it is that of any square
+pub record IsFullAlone (limits : Limits) (axis slope over most : ℕ) : Type 0 where
+  pub rate : ℕ
+  pub square : rate * rate * 2 ^ 16 ≤ most
+  pub full : (2 ^ 21 ≤ rate) ⊎ ((0 < slice_index limits.rate axis) × (slice_index limits.rate axis * over < slope * (rate + 1)))
+
+abbrev pub IsFullRate : Limits → List ℕ → ℕ → ℕ → Type 0
+IsFullRate limits slopes over most = SomeAxis (λ axis. IsFullAlone limits axis (slice_index slopes axis) over most)
+
 -- at a corner the slope of an axis changes evenly over some pulses. That takes of its acceleration the change of slope times the square, over the pulses: what
 -- is left bounds the ramp
 pub record IsCorner (limits : Limits) (axis slope turn over pulses most ramp : ℕ) : Type 0 where
   pub accel : slope * ramp * pulses + 2 * turn * most ≤ 2 * slice_index limits.accel axis * pulses * over * 2 ^ 16
   pub rate : 0 < slice_index limits.rate axis → slope * slope * most ≤ slice_index limits.rate axis * slice_index limits.rate axis * over * over * 2 ^ 16
+
+-- the square at a corner is no less than this one, or than the chords on both sides allow, or than three quarters of the acceleration of some axis allow, but
+-- for
+-- less than 3 squares of a pulse a second
+abbrev pub IsFullCorner : Limits → List ℕ → List ℕ → ℕ → ℕ → ℕ → ℕ → Type 0
+IsFullCorner limits slopes turns over pulses feed most = (feed ≤ most) ⊎ (IsFullRate limits slopes over most
+    ⊎ ((2 ^ 58 ≤ most) ⊎ SomeAxis (λ axis. 3 * slice_index limits.accel axis * pulses * over < 4 * slice_index turns axis * (most / 2 ^ 16 + 3))))
+
+-- and the ramp than a quarter of that of some axis
+abbrev pub IsQuarterRamp : Limits → List ℕ → ℕ → ℕ → Type 0
+IsQuarterRamp limits slopes over ramp = (2 ^ 58 ≤ ramp)
+    ⊎ SomeAxis (λ axis. 2 * (slice_index limits.accel axis / 4) * over < slice_index slopes axis * (ramp / 2 ^ 16 + 1))
 
 -- an axis whose slope changes evenly by so much over so many pulses leaves its straight lines by an eighth of their product: no more than the slack,
 -- or what it covers while it comes to rest from a rate at which it can stop at once

@@ -1,6 +1,6 @@
 //! What axes allow along a chord.
-ghost use Rattle.std.specs.Prelude.{◌≡◌, ◌≤◌, ◌<◌, ◌*◌, min, slice_index};
-ghost use Rattle.ng_pace.specs.Axes.{EachAxis, IsAlong};
+ghost use Rattle.std.specs.Prelude.{◌≡◌, ◌≤◌, ◌<◌, ◌+◌, ◌*◌, ◌/◌, ◌⊎◌, min, slice_index};
+ghost use Rattle.ng_pace.specs.Axes.{AreLimits, EachAxis, IsAlong, IsFullAlone, IsFullRamp, IsFullRate};
 
 use crate::limits::{Caps, GREATEST, Limits, PULSE, STEP};
 
@@ -19,9 +19,14 @@ impl Caps {
 
 /// What an axis allows along a slope, in parts of 2^20.
 fn axis_along(limits: &Limits, axis: usize, slope: u64) -> Caps
-    requires { axis < 3 }
+    requires axis { axis < 3 }
+    requires accel { slice_index limits.now.accel axis ≤ 1000000000 }
+    requires rate { slice_index limits.now.rate axis ≤ 1000000000 }
     ensures allowed { IsAlong limits.now axis slope STEP result.most result.ramp }
     ensures size { result.most ≤ GREATEST }
+    ensures full { (GREATEST ≤ result.ramp) ⊎
+        (2 * slice_index limits.now.accel axis * STEP < slope * (result.ramp / PULSE + 1)) }
+    ensures rate { IsFullAlone limits.now axis slope STEP result.most }
 {
     if slope == 0 {
         return Caps {
@@ -43,7 +48,7 @@ fn axis_along(limits: &Limits, axis: usize, slope: u64) -> Caps
 
 /// The square of a rate in pulses a second.
 fn square_of(rate: u64) -> u64
-    ensures square { result ≤ rate * rate * PULSE }
+    ensures square { result ≡ min rate (2 * STEP) * min rate (2 * STEP) * PULSE }
     ensures size { result ≤ GREATEST }
 {
     let rate = rate.min(2 * STEP);
@@ -52,6 +57,9 @@ fn square_of(rate: u64) -> u64
 
 /// What the axes allow along their slopes, in parts of 2^20.
 pub(crate) fn along(limits: &Limits, slope: &[u64; 3]) -> Caps
+    requires { AreLimits limits.now }
+    ensures ramp { IsFullRamp limits.now slope.now STEP result.ramp }
+    ensures rate { IsFullRate limits.now slope.now STEP result.most }
     ensures allowed { EachAxis (λ i. IsAlong limits.now i (slice_index slope.now i) STEP result.most result.ramp) }
     ensures size { result.most ≤ GREATEST }
 {

@@ -1,8 +1,8 @@
 //! Corners between two chords.
-ghost use Rattle.std.specs.Prelude.{◌≤◌, ◌<◌, ◌+◌, ◌*◌, max, slice_index};
+ghost use Rattle.std.specs.Prelude.{◌≤◌, ◌<◌, ◌+◌, ◌*◌, ◌/◌, ◌⊎◌, max, slice_index};
 ghost use Rattle.ng_pace.specs.Chords.{Slope, IsSlope};
 ghost use Rattle.ng_pace.specs.Cones.{AreBetween, IsBetween, IsTurn};
-ghost use Rattle.ng_pace.specs.Axes.{AreLimits, EachAxis, IsCorner, IsNearCorner};
+ghost use Rattle.ng_pace.specs.Axes.{AreLimits, EachAxis, IsCorner, IsFullCorner, IsNearCorner, IsQuarterRamp};
 
 use crate::caps::along;
 use crate::limits::{Caps, GREATEST, Limits, PULSE, STEP};
@@ -88,8 +88,12 @@ pub(crate) fn corner_pulses(limits: &Limits, turn: &[u64; 3], before: u64, after
 
 /// The greatest square at which an axis may turn: it takes three quarters of its acceleration.
 fn axis_most(limits: &Limits, axis: usize, turn: u64, pulses: u64) -> u64
-    requires { axis < 3 }
-    ensures { 4 * turn * result ≤ 3 * slice_index limits.now.accel axis * pulses * STEP * PULSE }
+    requires axis { axis < 3 }
+    requires turn { turn ≤ 2 * STEP }
+    requires accel { slice_index limits.now.accel axis ≤ 1000000000 }
+    ensures full { (GREATEST ≤ result)
+        ⊎ (3 * slice_index limits.now.accel axis * pulses * STEP < 4 * turn * (result / PULSE + 3)) }
+    ensures quarter { 4 * turn * result ≤ 3 * slice_index limits.now.accel axis * pulses * STEP * PULSE }
 {
     if turn == 0 {
         return GREATEST;
@@ -104,11 +108,14 @@ fn axis_most(limits: &Limits, axis: usize, turn: u64, pulses: u64) -> u64
 /// By how much the square may change where an axis turns.
 fn axis_ramp(limits: &Limits, axis: usize, slope: u64, turn: u64, pulses: u64, most: u64) -> u64
     requires axis { axis < 3 }
+    requires accel { slice_index limits.now.accel axis ≤ 1000000000 }
     requires turn { turn ≤ 2 * STEP }
     requires pulses { 0 < pulses }
     requires most { most ≤ GREATEST }
     requires quarter { 4 * turn * most ≤ 3 * slice_index limits.now.accel axis * pulses * STEP * PULSE }
-    ensures { slope * result * pulses + 2 * turn * most ≤ 2 * slice_index limits.now.accel axis * pulses * STEP *
+    ensures full { (GREATEST ≤ result) ⊎
+        (2 * (slice_index limits.now.accel axis / 4) * STEP < slope * (result / PULSE + 1)) }
+    ensures left { slope * result * pulses + 2 * turn * most ≤ 2 * slice_index limits.now.accel axis * pulses * STEP *
         PULSE }
 {
     if slope == 0 {
@@ -126,7 +133,10 @@ pub(crate) fn corner_caps(limits: &Limits, turn: &Turn, pulses: u64, feed: u64) 
     requires turn { EachAxis (λ i. slice_index turn.now.turn i ≤ 2 * STEP) }
     requires pulses { 0 < pulses }
     requires limits { AreLimits limits.now }
-    ensures { EachAxis (λ i. IsCorner limits.now i (slice_index turn.now.slope i) (slice_index turn.now.turn i) STEP
+    ensures most { IsFullCorner limits.now turn.now.slope turn.now.turn STEP pulses feed result.most }
+    ensures ramp { IsQuarterRamp limits.now turn.now.slope STEP result.ramp }
+    ensures allowed { EachAxis (λ i. IsCorner limits.now i (slice_index turn.now.slope i)
+        (slice_index turn.now.turn i) STEP
         pulses result.most result.ramp) }
 {
     let most = along(limits, &turn.slope)

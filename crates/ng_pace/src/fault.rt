@@ -5,6 +5,10 @@ pub enum PaceFault {
     StartTooSmall,
     /// An axis has less acceleration than 3: it couldn't turn at a pulse a second.
     NoAcceleration,
+    /// An axis has more acceleration than 1,000,000,000.
+    AccelerationTooGreat,
+    /// An axis has a greater rate than 1,000,000,000.
+    RateTooGreat,
     /// A corner would be taken over no pulse.
     NoCorner,
     /// A motor may be off its pulses by nothing.

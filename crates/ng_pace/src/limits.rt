@@ -1,6 +1,6 @@
 //! What the motors allow.
-ghost use Rattle.std.specs.Prelude.{◌≡◌, ◌↔◌, ◌<◌, Err, IfErr, OnOk, IsTrue, IsFalse};
-ghost use Rattle.ng_pace.specs.Axes.{Accelerate, AreLimits};
+ghost use Rattle.std.specs.Prelude.{◌≡◌, ◌↔◌, ◌<◌, ◌≤◌, Err, IfErr, OnOk, IsTrue, IsFalse, slice_index};
+ghost use Rattle.ng_pace.specs.Axes.{AccelerateTooLittle, AccelerateTooMuch, AreLimits, EachAxis, GoTooFast, HaveAxes, SomeAxis};
 
 use crate::fault::PaceFault;
 
@@ -16,12 +16,15 @@ pub(crate) const LONGEST: u32 = 0x10_0000;
 /// The greatest square.
 pub(crate) const GREATEST: u64 = 0x400_0000_0000_0000;
 
+/// The greatest acceleration and the greatest rate that limits may have.
+const GREATEST_LIMIT: u64 = 1_000_000_000;
+
 /// What the motors allow, by axes.
 #[derive(Clone, Copy, Debug, PartialEq, Eq)]
 pub struct Limits {
-    /// In steps a second, each second: at least 3.
+    /// In steps a second, each second: 3 to 1,000,000,000.
     pub accel: [u64; 3],
-    /// In steps a second; 0 for as many as are asked for.
+    /// In steps a second, at most 1,000,000,000; 0 for as many as are asked for.
     pub rate: [u64; 3],
     /// In steps a second: a rate at which a motor can start and stop at once.
     pub start: [u64; 3],
@@ -39,26 +42,57 @@ pub(crate) struct Caps {
 }
 
 impl Limits {
-    /// Whether each axis can turn at a pulse a second.
-    fn accelerate(&self) -> bool
-        ensures yes { IsTrue result → Accelerate self.now }
-        ensures no { IsFalse result → ¬ Accelerate self.now }
+    /// Whether an axis can't turn at a pulse a second.
+    fn accelerate_too_little(&self) -> bool
+        ensures yes { IsTrue result → AccelerateTooLittle self.now }
+        ensures no { IsFalse result → EachAxis (λ axis. 3 ≤ slice_index self.now.accel axis) }
     {
-        self.accel[0] >= 3 && self.accel[1] >= 3 && self.accel[2] >= 3
+        self.accel[0] < 3 || self.accel[1] < 3 || self.accel[2] < 3
+    }
+
+    /// Whether an axis has more acceleration than limits may have.
+    fn accelerate_too_much(&self) -> bool
+        ensures yes { IsTrue result → SomeAxis (λ axis. 1000000000 < slice_index self.now.accel axis) }
+        ensures no { IsFalse result → EachAxis (λ axis. slice_index self.now.accel axis ≤ 1000000000) }
+    {
+        self.accel[0] > GREATEST_LIMIT
+            || self.accel[1] > GREATEST_LIMIT
+            || self.accel[2] > GREATEST_LIMIT
+    }
+
+    /// Whether an axis has a greater rate than limits may have.
+    fn go_too_fast(&self) -> bool
+        ensures yes { IsTrue result → SomeAxis (λ axis. 1000000000 < slice_index self.now.rate axis) }
+        ensures no { IsFalse result → EachAxis (λ axis. slice_index self.now.rate axis ≤ 1000000000) }
+    {
+        self.rate[0] > GREATEST_LIMIT
+            || self.rate[1] > GREATEST_LIMIT
+            || self.rate[2] > GREATEST_LIMIT
     }
 
     /// Whether all can be kept.
     pub(crate) fn check(&self) -> Result<(), PaceFault>
         ensures limits { OnOk result (AreLimits self.now) }
         ensures refused { IfErr result (λ fault. ¬ AreLimits self.now) }
-        ensures no_acceleration { (result ≡ Err PaceFault.NoAcceleration) ↔ (¬ Accelerate self.now) }
-        ensures no_corner { (result ≡ Err PaceFault.NoCorner) ↔ (Accelerate self.now × (self.now.half ≡ 0)) }
-        ensures no_slack { (result ≡ Err PaceFault.NoSlack) ↔ (Accelerate self.now × (0 < self.now.half) × (self.now.slack ≡ 0)) }
-        ensures slack_too_great { (result ≡ Err PaceFault.SlackTooGreat) ↔ (Accelerate self.now × (0 < self.now.half) × (1000 < self.now.slack)) }
-        ensures no_other { IfErr result (λ fault. (¬ (fault ≡ PaceFault.NoRoom)) × ¬ (fault ≡ PaceFault.StartTooSmall)) }
+        ensures no_acceleration { (result ≡ Err PaceFault.NoAcceleration) ↔ AccelerateTooLittle self.now }
+        ensures acceleration_too_great { (result ≡ Err PaceFault.AccelerationTooGreat) ↔ AccelerateTooMuch self.now }
+        ensures rate_too_great { (result ≡ Err PaceFault.RateTooGreat) ↔ GoTooFast self.now }
+        ensures no_corner { (result ≡ Err PaceFault.NoCorner) ↔ (HaveAxes self.now × (self.now.half ≡ 0)) }
+        ensures no_slack { (result ≡ Err PaceFault.NoSlack)
+            ↔ (HaveAxes self.now × (0 < self.now.half) × (self.now.slack ≡ 0)) }
+        ensures slack_too_great { (result ≡ Err PaceFault.SlackTooGreat)
+            ↔ (HaveAxes self.now × (0 < self.now.half) × (1000 < self.now.slack)) }
+        ensures no_other { IfErr result
+            (λ fault. (¬ (fault ≡ PaceFault.NoRoom)) × ¬ (fault ≡ PaceFault.StartTooSmall)) }
     {
-        if !self.accelerate() {
+        if self.accelerate_too_little() {
             return Err(PaceFault::NoAcceleration);
+        }
+        if self.accelerate_too_much() {
+            return Err(PaceFault::AccelerationTooGreat);
+        }
+        if self.go_too_fast() {
+            return Err(PaceFault::RateTooGreat);
         }
         if self.half == 0 {
             return Err(PaceFault::NoCorner);

@@ -40,7 +40,8 @@ fn pass_along<A: Allocator>(
     kept: u64,
     ending: Ending,
 )
-    requires { length pacer.old.known + length waiting.old.items ≤ pacer.old.room }
+    requires room { length pacer.old.known + length waiting.old.items ≤ pacer.old.room }
+    requires limits { AreLimits limits.now }
     ensures keeps { Keeps pacer.old pacer.new waiting.old.items waiting.new.items }
     ensures capacity { deque_capacity waiting.new ≡ deque_capacity waiting.old }
     ensures few { length waiting.new.items ≤ kept }

@@ -1,7 +1,7 @@
 //! A stream of items, whose limits are found from its pulses.
 ghost use Rattle.std.specs.Prelude.{◌≡◌, ◌↔◌, ◌≤◌, ◌<◌, ◌+◌, ◌++◌, ◌∷◌, [], List, length, min, nat_le, IsFalse, Err, IfOk, IfSome, IfNone, ◌*◌, IsTrue};
 ghost use Rattle.std.specs.VecDeque.{deque_capacity};
-ghost use Rattle.ng_pace.specs.Axes.{Accelerate, AreLimits};
+ghost use Rattle.ng_pace.specs.Axes.{AccelerateTooLittle, AccelerateTooMuch, AreLimits, GoTooFast, HaveAxes};
 ghost use Rattle.ng_pace.specs.Due.{own_square};
 ghost use Rattle.ng_pace.specs.Few.{WaitFew};
 ghost use Rattle.ng_pace.specs.Flow.{Keeps, Adds, StandsAt, StandsLast, full_of, square_behind, no_pulse, still_line, timed_waiting};
@@ -178,14 +178,18 @@ fn push_item<A: Allocator>(
 impl<A: Allocator + Copy> Stream<A> {
     /// At rest, with no item, and room for so many. Nothing is allocated later. Source: own.
     ///
-    /// Refused, in this order: an axis with less acceleration than 3, corners of no pulse, a slack that isn't 1 to 1,000,
-    /// no room; and what memory refuses.
+    /// Refused, in this order: an axis with less acceleration than 3, with more than 1,000,000,000, or with a greater rate
+    /// than that; corners of no pulse; a slack that isn't 1 to 1,000; no room; and what memory refuses.
     pub fn new(alloc: A, limits: Limits, room: usize) -> Result<Stream<A>, PaceFault>
         ensures made { IfOk result (λ s. IsEmpty s limits room) }
-        ensures no_acceleration { (result ≡ Err PaceFault.NoAcceleration) ↔ (¬ Accelerate limits) }
-        ensures no_corner { (result ≡ Err PaceFault.NoCorner) ↔ (Accelerate limits × (limits.half ≡ 0)) }
-        ensures no_slack { (result ≡ Err PaceFault.NoSlack) ↔ (Accelerate limits × (0 < limits.half) × (limits.slack ≡ 0)) }
-        ensures slack_too_great { (result ≡ Err PaceFault.SlackTooGreat) ↔ (Accelerate limits × (0 < limits.half) × (1000 < limits.slack)) }
+        ensures no_acceleration { (result ≡ Err PaceFault.NoAcceleration) ↔ AccelerateTooLittle limits }
+        ensures acceleration_too_great { (result ≡ Err PaceFault.AccelerationTooGreat) ↔ AccelerateTooMuch limits }
+        ensures rate_too_great { (result ≡ Err PaceFault.RateTooGreat) ↔ GoTooFast limits }
+        ensures no_corner { (result ≡ Err PaceFault.NoCorner) ↔ (HaveAxes limits × (limits.half ≡ 0)) }
+        ensures no_slack { (result ≡ Err PaceFault.NoSlack)
+            ↔ (HaveAxes limits × (0 < limits.half) × (limits.slack ≡ 0)) }
+        ensures slack_too_great { (result ≡ Err PaceFault.SlackTooGreat)
+            ↔ (HaveAxes limits × (0 < limits.half) × (1000 < limits.slack)) }
         ensures no_room { (result ≡ Err PaceFault.NoRoom) ↔ (AreLimits limits × (room ≡ 0)) }
         ensures no_other { ¬ (result ≡ Err PaceFault.StartTooSmall) }
     {

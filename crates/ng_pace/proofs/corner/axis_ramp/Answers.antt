@@ -4,8 +4,8 @@ use Rattle.std.proofs.lemmas.Grind.{div_ceil_times}
 use Rattle.ng_pace.proofs.CapsLemmas.{turned, takes_up, left_of}
 use Rattle.ng_pace.proofs.corner.axis_ramp.Goals as goal
 
-pub returns : goal.returns
-returns c =
+pub returns-clause-left : goal.returns-clause-left
+returns-clause-left c =
     let up : (c.args.most / 65536 + 1) * c.args.turn ≤ c.div_ceil-used.result * c.saturating_mul.result
     = rw c.div_ceil-used.ensures (div_ceil_times ((c.args.most / 65536 + 1) * c.args.turn) c.saturating_mul.result
     (omega (arith, c.saturating_mul.ensures, c.requires.pulses))).0 in

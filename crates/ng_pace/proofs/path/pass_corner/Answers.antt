@@ -24,6 +24,6 @@ returns-clause-passes g c =
       ramp = c.corner_caps-caps.result.ramp;
       takes = takes-corner c.args.limits.now c.args.chord.now.before c.args.after.now c.between-turn.result.slope c.between-turn.result.turn
           c.corner_pulses-pulses.result c.corner_caps-caps.result.most c.corner_caps-caps.result.ramp
-          c.between-turn.ensures.most c.corner_pulses-pulses.ensures.near c.corner_caps-caps.ensures;
+          c.between-turn.ensures.most c.corner_pulses-pulses.ensures.near c.corner_caps-caps.ensures.allowed;
       then = c.settle-2.ensures.makes;
     }
