@@ -1,6 +1,6 @@
 //! The lines of OUT: what is handed out to a machine, one line for each item (own).
 //!
-//! `push_item` appends the line of an item, and `read_item` reads one. specs/Lines.antt says which line is that of an
+//! `push_item` appends the line of an item, `push_numbered` one behind a number, and `read_item` reads one. specs/Lines.antt says which line is that of an
 //! item. A text is read exactly if it is such a line. So what is read would be written the same, and `read_back` says
 //! that what is written is read as it was.
 //!
@@ -9,10 +9,11 @@
 
 mod laws;
 mod number;
+mod pulses;
 mod reading;
 mod whole;
 mod writing;
 
 pub use laws::read_back;
 pub use reading::read_item;
-pub use writing::push_item;
+pub use writing::{push_item, push_numbered};

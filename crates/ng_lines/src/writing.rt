@@ -1,20 +1,12 @@
 //! Writing the line of an item.
-ghost use Rattle.std.specs.Prelude.{◌≡◌, ◌++◌, OnOk};
-ghost use Rattle.ng_lines.specs.Lines.{item_line, pulse_line, slots_text, spindle_text, step_text, switch_line, truth_digit, turning_text};
+ghost use Rattle.std.specs.Prelude.{◌≡◌, ◌++◌, ◌∷◌, OnOk};
+ghost use Rattle.std.specs.Fmt.{decimal};
+ghost use Rattle.ng_lines.specs.Lines.{item_line, slots_text, spindle_text, switch_line, truth_digit, turning_text};
 
-use ng_canon::{AxisStep, Item, Outputs, Pulse, Spindle};
+use crate::pulses::{push_numbered_pulse, push_pulse};
+use ng_canon::{Item, Outputs, Spindle};
 use ng_num::{print_number, print_whole};
 use std::alloc::{AllocError, Allocator};
-
-fn step_text(step: AxisStep) -> &'static [u8]
-    ensures { result.now ≡ step_text step }
-{
-    match step {
-        AxisStep::Backward => b"-1",
-        AxisStep::Still => b"0",
-        AxisStep::Forward => b"1",
-    }
-}
 
 fn spindle_text(spindle: Spindle) -> &'static [u8]
     ensures { result.now ≡ spindle_text spindle }
@@ -30,24 +22,6 @@ fn truth_digit(truth: bool) -> u8
     ensures { result ≡ truth_digit truth }
 {
     if truth { b'1' } else { b'0' }
-}
-
-/// Appends the line of a pulse.
-fn push_pulse<A: Allocator + Copy + Drop>(
-    text: &mut Vec<u8, A>,
-    pulse: Pulse,
-) -> Result<(), AllocError>
-    ensures { OnOk result (text.new.items ≡ text.old.items ++ pulse_line pulse) }
-{
-    text.extend_from_slice(b"P ")?;
-    text.extend_from_slice(step_text(pulse.x))?;
-    text.extend_from_slice(b" ")?;
-    text.extend_from_slice(step_text(pulse.y))?;
-    text.extend_from_slice(b" ")?;
-    text.extend_from_slice(step_text(pulse.z))?;
-    text.extend_from_slice(b" ")?;
-    print_whole(text, pulse.period_us)?;
-    text.extend_from_slice(b"\n")
 }
 
 /// Appends the line of a dwell.
@@ -106,8 +80,39 @@ pub fn push_item<A: Allocator + Copy + Drop>(
     ensures { OnOk result (text.new.items ≡ text.old.items ++ item_line item) }
 {
     match item {
-        Item::Pulse(pulse) => push_pulse(text, pulse),
+        Item::Pulse(pulse) => push_pulse(text, &pulse),
         Item::Dwell { us } => push_dwell(text, us),
         Item::Switch(outputs) => push_switch(text, outputs),
     }
+}
+
+/// Appends a number, a blank and the line of an item, as a pacer's time of it. After an error part of it may have been
+/// appended. Source: own.
+#[inline(always)]
+pub fn push_numbered<A: Allocator + Copy + Drop>(
+    text: &mut Vec<u8, A>,
+    number: u64,
+    item: Item,
+) -> Result<(), AllocError>
+    ensures { OnOk result (text.new.items ≡ text.old.items ++ (decimal number ++ 32 ∷ item_line item)) }
+{
+    match item {
+        Item::Pulse(pulse) => push_numbered_pulse(text, number, &pulse),
+        Item::Dwell { us: _ } => push_number_and_item(text, number, item),
+        Item::Switch(_) => push_number_and_item(text, number, item),
+    }
+}
+
+/// The same, part by part.
+#[inline(never)]
+fn push_number_and_item<A: Allocator + Copy + Drop>(
+    text: &mut Vec<u8, A>,
+    number: u64,
+    item: Item,
+) -> Result<(), AllocError>
+    ensures { OnOk result (text.new.items ≡ text.old.items ++ (decimal number ++ 32 ∷ item_line item)) }
+{
+    print_whole(text, number)?;
+    text.extend_from_slice(b" ")?;
+    push_item(text, item)
 }
