@@ -6,7 +6,7 @@ ghost use Rattle.ng_schedule.specs.Flush.{FlushSpec, WritesOrBeginning};
 
 use crate::ending::ScheduleFault;
 use ng_canon::Item;
-use ng_lines::push_item;
+use ng_lines::push_numbered;
 use ng_num::print_whole;
 use std::alloc::{AllocError, Allocator};
 use std::io::Write;
@@ -64,20 +64,6 @@ fn relieve<W: Write, A: Allocator + Copy + Drop>(
     flush(text, writer)
 }
 
-/// Appends the line of an item behind the nanosecond at which it is due.
-#[inline(always)]
-fn push_due<A: Allocator + Copy + Drop>(
-    text: &mut Vec<u8, A>,
-    due_ns: u64,
-    item: Item,
-) -> Result<(), AllocError>
-    ensures { OnOk result (text.new.items ≡ text.old.items ++ (decimal due_ns ++ 32 ∷ item_line item)) }
-{
-    print_whole(text, due_ns)?;
-    text.extend_from_slice(b" ")?;
-    push_item(text, item)
-}
-
 /// Prints the line of an item behind the nanosecond at which it is due, and writes the text if it is long.
 #[inline(always)]
 pub(crate) fn put_due<W: Write, A: Allocator + Copy + Drop>(
@@ -89,7 +75,7 @@ pub(crate) fn put_due<W: Write, A: Allocator + Copy + Drop>(
     ensures { FlushSpec (W.contents writer.old) (W.contents writer.new)
         (text.old.items ++ (decimal due_ns ++ 32 ∷ item_line item)) text.new.items result }
 {
-    match push_due(text, due_ns, item) {
+    match push_numbered(text, due_ns, item) {
         Ok(()) => relieve(text, writer),
         Err(_) => Err(ScheduleFault::Memory),
     }
