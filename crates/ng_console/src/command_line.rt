@@ -12,7 +12,7 @@ const VERSION: &str = "0.1.0";
 
 /// The text below the program's help: how a job ends.
 const ENDINGS: &str =
-    "Exit status:\n  0  done: a program ran to its end, a device is fresh or large, an operator's\n     commands are answered, all lines have their times\n  1  dry, pace: a line was refused; the last line printed says which one and why\n  2  the words are wrong, or ask for help or the version; or a file can't be\n     opened or read, the settings or the device are refused, the device, the\n     input or the output fails, or there isn't enough memory\n\nRefused settings, machines and devices print why. A file that can't be read prints\nnothing.";
+    "Exit status:\n  0  done: a program ran to its end, a device is fresh or large, an operator's\n     commands are answered, all lines have their times\n  1  dry, pace: a line was refused; the last line printed says which one and why\n  2  the words are wrong, or ask for help or the version; or a file can't be\n     opened or read, the settings or the device are refused, the device, the\n     input or the output fails, or there isn't enough memory\n\nRefused settings, machines and devices print why.\nA file that can't be read prints nothing.";
 
 /// The text below the help of `dry`.
 const PROGRAM_ENDINGS: &str =
