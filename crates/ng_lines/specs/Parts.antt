@@ -13,7 +13,8 @@ pulse_rest p = step_text p.x ++ 32 ∷ (step_text p.y ++ 32 ∷ (step_text p.z +
 -- the same for all outputs
 abbrev pub outputs_rest : Outputs → List ℕ
 outputs_rest o =
-    spindle_text o.spindle ++ 32 ∷ (number_text o.speed ++ 32 ∷ (truth_digit o.mist ∷ 32 ∷ (truth_digit o.flood ∷ 32 ∷ (decimal o.selected_slot ++ 32 ∷ decimal o.spindle_slot))))
+    spindle_text o.spindle ++ 32 ∷ (number_text o.speed ++ 32 ∷ (truth_digit o.mist ∷ 32
+    ∷ (truth_digit o.flood ∷ 32 ∷ (decimal o.selected_slot ++ 32 ∷ decimal o.spindle_slot))))
 
 -- a number that isn't below 0
 abbrev pub size_text : ℕ → List ℕ

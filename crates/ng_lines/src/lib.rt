@@ -1,10 +1,10 @@
 //! The lines of OUT: what is handed out to a machine, one line for each item (own).
 //!
-//! `push_item` appends the line of an item, `push_numbered` one behind a number, and `read_item` reads one. specs/Lines.antt says which line is that of an
-//! item. A text is read exactly if it is such a line. So what is read would be written the same, and `read_back` says
-//! that what is written is read as it was.
+//! `push_item` appends the line of an item, `push_numbered` one behind a number, and `read_item` reads one.
+//! specs/Lines.antt says which line is that of an item. A text is read exactly if it is such a line. So what is read
+//! would be written the same, and `read_back` says that what is written is read as it was.
 //!
-//! The crate depends on `ng_canon` for the items and on `ng_num` for their numbers. Reading doesn't allocate.
+//! The crate depends on `ng_canon` for the items, on `ng_num` for their numbers and on `itoa`. Reading doesn't allocate.
 #![tactic(auto)]
 
 mod laws;

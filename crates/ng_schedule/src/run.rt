@@ -50,18 +50,18 @@ impl<A: Allocator + Copy + Drop> Schedule<A> {
 
 /// Writes when each line of OUT is due, on a machine whose motors have these limits.
 ///
-/// A line is written as it stood, behind the nanosecond from the start at which it is due, and a blank: the first is due
-/// at 0, each other when the time that the pacer gave the one before is over. `Shown::Total` writes the nanosecond at
-/// which the last line is over, alone. All lines come to rest at the end of the last.
+/// A line is written as it stood, behind the nanosecond from the start at which it is due, and a blank: the first is
+/// due at 0, each other when the time that the pacer gave the one before is over. `Shown::Total` writes the nanosecond
+/// at which the last line is over, alone. All lines come to rest at the end of the last.
 ///
 /// A line that isn't one of OUT ends the run, as does a last line without its newline: all lines before it are written,
-/// come to rest at the end of the last, and then `refused line K: not a line of OUT`; K counts lines from 1. A line that
-/// would be over after more than 584 years, 2^64 - 2 nanoseconds, ends it with another such line. Where a run ends so,
-/// no total is written.
+/// come to rest at the end of the last, and then `refused line K: not a line of OUT`; K counts lines from 1. A line
+/// that would be over after more than 584 years, 2^64 - 2 nanoseconds, ends it with another such line. Where a run ends
+/// so, no total is written.
 ///
-/// The lines are read through a buffer of fixed size, by at most 1,000,000,000 reads; room for 8,192 lines is made once,
-/// and memory doesn't grow. After a `ScheduleFault` a beginning of the text has been written; `Limits` and `Memory` come
-/// before the first read. Source: own.
+/// The lines are read through a buffer of fixed size, by at most 1,000,000,000 reads; room for 8,192 lines is made
+/// once, and memory doesn't grow. After a `ScheduleFault` a beginning of the text has been written; `Limits` and
+/// `Memory` come before the first read. Source: own.
 pub fn schedule<R: Read, W: Write, A: Allocator + Copy + Drop>(
     alloc: A,
     reader: &mut R,
