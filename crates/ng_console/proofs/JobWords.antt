@@ -19,7 +19,7 @@ use Rattle.clap.specs.declared.parser.matches.ArgMatches.TheViews.{out-ArgMatche
 use Rattle.clap.specs.declared.parser.matches.SubCommand.{SubCommand}
 use Rattle.ng_console.specs.Words.{RequestsJob, HasFiles, HasFlag, HasFlags, ngc_app, subcommand_name}
 use Rattle.ng_console.specs.declared.command_line.Job.{Job}
-use Rattle.ng_console.specs.declared.command_line.Job.TheVariants.{Dry, Format, Grow, Run}
+use Rattle.ng_console.specs.declared.command_line.Job.TheVariants.{Dry, Format, Grow, Run, Pace}
 use Rattle.ng_console.proofs.Entered.{IsNotHelp, enters_no_help}
 use Rattle.ng_console.proofs.Walked.{Each, IsDistinct, all_given, apart_distinct, flag_distinct}
 
@@ -29,30 +29,43 @@ pub data Subcommand : Type 0 where
   format : Subcommand
   grow : Subcommand
   run : Subcommand
+  pace : Subcommand
 
 abbrev pub name_of : Subcommand → Text
 name_of dry = codes "dry"
 name_of format = codes "format"
 name_of grow = codes "grow"
 name_of run = codes "run"
+name_of pace = codes "pace"
 
 abbrev first_letter : Subcommand → ℕ
 first_letter dry = 100
 first_letter format = 102
 first_letter grow = 103
 first_letter run = 114
+first_letter pace = 112
 
 first_of_name : (a : Subcommand) → get_or (name_of a) 0 0 ≡ first_letter a
 first_of_name dry = refl
 first_of_name format = refl
 first_of_name grow = refl
 first_of_name run = refl
+first_of_name pace = refl
 
 same_letter : (a b : Subcommand) → first_letter a ≡ first_letter b → a ≡ b
 same_letter dry dry e = refl
 same_letter format format e = refl
 same_letter grow grow e = refl
 same_letter run run e = refl
+same_letter pace pace e = refl
+same_letter dry pace e = absurd (omega arith)
+same_letter format pace e = absurd (omega arith)
+same_letter grow pace e = absurd (omega arith)
+same_letter run pace e = absurd (omega arith)
+same_letter pace dry e = absurd (omega arith)
+same_letter pace format e = absurd (omega arith)
+same_letter pace grow e = absurd (omega arith)
+same_letter pace run e = absurd (omega arith)
 same_letter dry grow e = absurd (omega arith)
 same_letter format grow e = absurd (omega arith)
 same_letter run grow e = absurd (omega arith)
@@ -76,6 +89,7 @@ Has dry rows = (is_some (first_of (codes "PROGRAM") rows) ≡ true) × HasFlag (
 Has format rows = (is_some (first_of (codes "DEVICE") rows) ≡ true) × HasFlag (codes "large") rows
 Has grow rows = is_some (first_of (codes "DEVICE") rows) ≡ true
 Has run rows = (is_some (first_of (codes "DEVICE") rows) ≡ true) × (is_some (first_of (codes "SETTINGS") rows) ≡ true) × (is_some (first_of (codes "OUT") rows) ≡ true)
+Has pace rows = (is_some (first_of (codes "SETTINGS") rows) ≡ true) × (is_some (first_of (codes "MACHINE") rows) ≡ true) × HasFlag (codes "total") rows
 
 -- ---- as clap builds them
 
@@ -88,10 +102,11 @@ shape_of dry = first_shape (built ngc_app).subs
 shape_of format = first_shape (drop 1 (built ngc_app).subs)
 shape_of grow = first_shape (drop 2 (built ngc_app).subs)
 shape_of run = first_shape (drop 3 (built ngc_app).subs)
+shape_of pace = first_shape (drop 4 (built ngc_app).subs)
 
 -- the subcommand `help` that clap adds
 abbrev help_built : Shape
-help_built = first_shape (drop 4 (built ngc_app).subs)
+help_built = first_shape (drop 5 (built ngc_app).subs)
 
 -- no argument of a subcommand has the name of another kind of argument
 distinct : (s : Subcommand) → Each (IsDistinct (shape_of s).rules) (shape_of s).rules
@@ -114,6 +129,16 @@ distinct format = (
 )
 distinct grow = (apart_distinct _ _ refl, (apart_distinct _ _ refl, tt))
 distinct run = (apart_distinct _ _ refl, (apart_distinct _ _ refl, (apart_distinct _ _ refl, (apart_distinct _ _ refl, tt))))
+distinct pace = (
+  apart_distinct _ _ refl,
+  (
+    apart_distinct _ _ refl,
+    (
+      flag_distinct _ _ (record { takes_none = refl; no_place = refl; used = (true, refl); unused = (false, refl) }) refl refl,
+      (apart_distinct _ _ refl, tt),
+    ),
+  ),
+)
 
 -- the command is one whose faults clap defines
 is_plain : is_simple_and_free ngc_app ≡ true
@@ -173,6 +198,9 @@ right grow words h =
 right run words h =
     let given = all_given (shape_of run).rules (distinct run) [] words (none_wanting (shape_of run) words h) in
     (given.0.0 refl refl, given.1.0.0 refl refl, given.1.1.0.0 refl refl)
+right pace words h =
+    let given = all_given (shape_of pace).rules (distinct pace) [] words (none_wanting (shape_of pace) words h) in
+    (given.0.0 refl refl, given.1.0.0 refl refl, given.1.1.0.1 refl)
 
 -- the words name this subcommand, with these matches
 abbrev pub IsNamed : Subcommand → Option (Text × List Row) → List Row → Type 0
@@ -189,18 +217,19 @@ names_one words h =
     let no_help = enters_no_help app.top (names_of app) (walk_from nothing_held) rest refl tt (walk_right app.top (names_of app) rest _ _ h) in
     go (stop_after app.top.rules (names_of app) rest) no_help (level_right app.top (names_of app) rest _ _ h)
   where
-    met : (b f w r d : Bool) (p : Text × List Text) (top : List Row) → d ≡ false
-        → option_map_or (λ s. level_fault s [] nothing_held p.1 false []) (if b then Some (shape_of dry) else (if f then Some (shape_of format) else (if w then Some (shape_of grow) else (if r then Some (shape_of run) else (if d then Some help_built else None))))) [] ≡ []
-        → check_fault (built ngc_app).top top (is_some (option_map (λ s. rows_at s p.1) (if b then Some (shape_of dry) else (if f then Some (shape_of format) else (if w then Some (shape_of grow) else (if r then Some (shape_of run) else (if d then Some help_built else None))))))) ≡ []
-        → IsOneNamed (option_map (λ s. rows_at s p.1) (if b then Some (shape_of dry) else (if f then Some (shape_of format) else (if w then Some (shape_of grow) else (if r then Some (shape_of run) else (if d then Some help_built else None))))))
-    met true f w r d p top no_help below checked = (dry, rows_after (shape_of dry).rules [] p.1, (refl, right dry p.1 below))
-    met false true w r d p top no_help below checked = (format, rows_after (shape_of format).rules [] p.1, (refl, right format p.1 below))
-    met false false true r d p top no_help below checked = (grow, rows_after (shape_of grow).rules [] p.1, (refl, right grow p.1 below))
-    met false false false true d p top no_help below checked = (run, rows_after (shape_of run).rules [] p.1, (refl, right run p.1 below))
-    met false false false false false p top no_help below checked =
+    met : (b f w r a d : Bool) (p : Text × List Text) (top : List Row) → d ≡ false
+        → option_map_or (λ s. level_fault s [] nothing_held p.1 false []) (if b then Some (shape_of dry) else (if f then Some (shape_of format) else (if w then Some (shape_of grow) else (if r then Some (shape_of run) else (if a then Some (shape_of pace) else (if d then Some help_built else None)))))) [] ≡ []
+        → check_fault (built ngc_app).top top (is_some (option_map (λ s. rows_at s p.1) (if b then Some (shape_of dry) else (if f then Some (shape_of format) else (if w then Some (shape_of grow) else (if r then Some (shape_of run) else (if a then Some (shape_of pace) else (if d then Some help_built else None)))))))) ≡ []
+        → IsOneNamed (option_map (λ s. rows_at s p.1) (if b then Some (shape_of dry) else (if f then Some (shape_of format) else (if w then Some (shape_of grow) else (if r then Some (shape_of run) else (if a then Some (shape_of pace) else (if d then Some help_built else None)))))))
+    met true f w r a d p top no_help below checked = (dry, rows_after (shape_of dry).rules [] p.1, (refl, right dry p.1 below))
+    met false true w r a d p top no_help below checked = (format, rows_after (shape_of format).rules [] p.1, (refl, right format p.1 below))
+    met false false true r a d p top no_help below checked = (grow, rows_after (shape_of grow).rules [] p.1, (refl, right grow p.1 below))
+    met false false false true a d p top no_help below checked = (run, rows_after (shape_of run).rules [] p.1, (refl, right run p.1 below))
+    met false false false false true d p top no_help below checked = (pace, rows_after (shape_of pace).rules [] p.1, (refl, right pace p.1 below))
+    met false false false false false false p top no_help below checked =
         let no : true ≡ false = (nothing_wanted (built ngc_app).top top false checked).0 in
         cc
-    met false false false false true p top no_help below checked = cc
+    met false false false false false true p top no_help below checked = cc
 
     is_no_help : (p : Text × List Text) → bytes_eq p.0 (codes "help") ≡ false → answers_to p.0 (label_of help_built) ≡ false
     is_no_help p differs = go_help (bytes_eq (codes "help") p.0) refl
@@ -218,7 +247,7 @@ names_one words h =
         let no : true ≡ false = (nothing_wanted (built ngc_app).top (matches_of ngc_app words) false right.1).0 in
         cc
     go (Some p) differs right =
-        met (answers_to p.0 (label_of (shape_of dry))) (answers_to p.0 (label_of (shape_of format))) (answers_to p.0 (label_of (shape_of grow))) (answers_to p.0 (label_of (shape_of run))) (answers_to p.0 (label_of help_built)) p
+        met (answers_to p.0 (label_of (shape_of dry))) (answers_to p.0 (label_of (shape_of format))) (answers_to p.0 (label_of (shape_of grow))) (answers_to p.0 (label_of (shape_of run))) (answers_to p.0 (label_of (shape_of pace))) (answers_to p.0 (label_of help_built)) p
         (matches_of ngc_app words) (is_no_help p differs) right.0 right.1
 
 -- ---- what clap's matches then say
@@ -261,6 +290,7 @@ is_asked words (Dry file settings_file block_delete) found named files flags = (
 is_asked words (Format device large) found named files flags = (found, named, files, flags)
 is_asked words (Grow device) found named files flags = (found, named, files, flags)
 is_asked words (Run device settings out) found named files flags = (found, named, files, flags)
+is_asked words (Pace settings machine total) found named files flags = (found, named, files, flags)
 
 -- if clap found no fault, the matches name one of the subcommands
 pub name_found : (words : List Text) (app : App) (matches : ArgMatches) → app ≡ ngc_app → (is_simple_and_free app ≡ true → fault_of app words ≡ [])

@@ -3,6 +3,7 @@ pub mod Chosen
 pub mod Refusals
 pub mod Formatting
 pub mod Operating
+pub mod Pacing
 pub mod Status
 pub mod Sizes
 pub mod Devices

@@ -1,5 +1,5 @@
--- How `ngc` ends (own): 0 done, 1 the program of a dry run was refused, 2 anything else that kept it from its work. The
--- causes of status 2 are checked in this order: the words, one file given twice, the settings file, other files, the
+-- How `ngc` ends (own): 0 done, 1 a line of a dry run or of OUT was refused, 2 anything else that kept it from its work.
+-- The causes of status 2 are checked in this order: the words, one file given twice, the settings file, other files, the
 -- run.
 use Rattle.std.specs.Prelude.{ℕ, ◌≡◌, Bool, List, Option, None, Result, Ok, Err, IfSome, is_some}
 use Rattle.std.specs.declared.io.Error.{Error}
@@ -15,9 +15,10 @@ use Rattle.ng_console.specs.Chosen.{GivesChoice}
 use Rattle.ng_console.specs.Formatting.{FormatsOpened}
 use Rattle.ng_console.specs.Growing.{GrowsOpened}
 use Rattle.ng_console.specs.Operating.{Operates}
+use Rattle.ng_console.specs.Pacing.{Paces}
 use Rattle.ng_console.specs.Refusals.{IsSilent, RefusesSettings}
 use Rattle.ng_console.specs.declared.command_line.Job.{Job}
-use Rattle.ng_console.specs.declared.command_line.Job.TheVariants.{Dry, Format, Grow, Run}
+use Rattle.ng_console.specs.declared.command_line.Job.TheVariants.{Dry, Format, Grow, Run, Pace}
 use Rattle.ng_console.specs.declared.settings_file.NoSettings.{NoSettings}
 
 abbrev pub status_of : Result Ended DryFault → ℕ
@@ -59,3 +60,4 @@ module _ {F : Type 0} (bytes_of : F → Option (List ℕ)) where
   JobSpec (Grow device) text old new status =
       (opened : Result (OpenedFile F) NoDevice) × GrowsOpened (λ (file : OpenedFile F). None) (λ (file : OpenedFile F). None) opened old new status
   JobSpec (Run device settings out) text old new status = Operates bytes_of text old new status
+  JobSpec (Pace settings machine total) text old new status = Paces bytes_of total text old new status

@@ -4,7 +4,7 @@ use Rattle.clap.specs.Words.{App, Row, Rule, Text, first_of, new_app, new_rule, 
 use Rattle.clap.specs.declared.builder.ArgAction.TheVariants.{Set, SetTrue}
 use Rattle.clap.specs.Values.{bool_text}
 use Rattle.ng_console.specs.declared.command_line.Job.{Job}
-use Rattle.ng_console.specs.declared.command_line.Job.TheVariants.{Dry, Format, Grow, Run}
+use Rattle.ng_console.specs.declared.command_line.Job.TheVariants.{Dry, Format, Grow, Run, Pace}
 
 -- PROGRAM, a file that has to be named
 abbrev pub program_rule : Rule
@@ -49,14 +49,27 @@ out_rule = record (new_rule (codes "OUT")) { action = Some Set; required = true 
 abbrev pub run_app : App
 run_app = with_rule (with_rule (with_rule (new_app (codes "run")) device_rule) settings_file_rule) out_rule
 
+-- MACHINE, a file that has to be named
+abbrev pub machine_rule : Rule
+machine_rule = record (new_rule (codes "MACHINE")) { action = Some Set; required = true }
+
+-- --total, a flag that is off if it isn't given
+abbrev pub total_rule : Rule
+total_rule = record (new_rule (codes "total")) { long = Some (codes "total"); action = Some SetTrue }
+
+-- pace SETTINGS MACHINE [--total]
+abbrev pub pace_app : App
+pace_app = with_rule (with_rule (with_rule (new_app (codes "pace")) settings_file_rule) machine_rule) total_rule
+
 -- a command line names one of the subcommands; --version, and help in either form, print their text
 abbrev pub only_by_subcommands : App → App
 only_by_subcommands app = record app { top = record app.top { has_version = true; subcommand_required = true; arg_required_else_help = true } }
 
--- ngc dry PROGRAM [--settings FILE] [--block-delete], ngc format DEVICE [--large], ngc grow DEVICE, or ngc run DEVICE
--- SETTINGS OUT
+-- ngc dry PROGRAM [--settings FILE] [--block-delete], ngc format DEVICE [--large], ngc grow DEVICE, ngc run DEVICE
+-- SETTINGS OUT, or ngc pace SETTINGS MACHINE [--total]
 abbrev pub ngc_app : App
-ngc_app = with_subcommand (with_subcommand (with_subcommand (with_subcommand (only_by_subcommands (new_app (codes "ngc"))) dry_app.top) format_app.top) grow_app.top) run_app.top
+ngc_app =
+    with_subcommand (with_subcommand (with_subcommand (with_subcommand (with_subcommand (only_by_subcommands (new_app (codes "ngc"))) dry_app.top) format_app.top) grow_app.top) run_app.top) pace_app.top
 
 -- the name of the job's subcommand
 abbrev pub subcommand_name : Job → Text
@@ -64,6 +77,7 @@ subcommand_name (Dry program settings block_delete) = codes "dry"
 subcommand_name (Format device large) = codes "format"
 subcommand_name (Grow device) = codes "grow"
 subcommand_name (Run device settings out) = codes "run"
+subcommand_name (Pace settings machine total) = codes "pace"
 
 -- the job's files are those that the subcommand's matches name
 abbrev pub HasFiles : List Row → Job → Type 0
@@ -73,6 +87,7 @@ HasFiles rows (Format device large) = first_of (codes "DEVICE") rows ≡ Some de
 HasFiles rows (Grow device) = first_of (codes "DEVICE") rows ≡ Some device.now
 HasFiles rows (Run device settings out) =
     (first_of (codes "DEVICE") rows ≡ Some device.now) × (first_of (codes "SETTINGS") rows ≡ Some settings.now) × (first_of (codes "OUT") rows ≡ Some out.now)
+HasFiles rows (Pace settings machine total) = (first_of (codes "SETTINGS") rows ≡ Some settings.now) × (first_of (codes "MACHINE") rows ≡ Some machine.now)
 
 -- the matches say of the flag that it is on, or off
 abbrev pub SaysFlag : Text → List Row → Bool → Type 0
@@ -88,6 +103,7 @@ HasFlags rows (Dry program settings block_delete) = SaysFlag (codes "block-delet
 HasFlags rows (Format device large) = SaysFlag (codes "large") rows large
 HasFlags rows (Grow device) = Unit {0}
 HasFlags rows (Run device settings out) = Unit {0}
+HasFlags rows (Pace settings machine total) = SaysFlag (codes "total") rows total
 
 -- the job is what the words mean by clap's definition: the subcommand that they name, its files and its flags
 abbrev pub RequestsJob : List Text → Job → Type 0

@@ -1,7 +1,7 @@
 //! The words of the command line, parsed with clap.
 ghost use Rattle.std.specs.Prelude.{◌≡◌, IfOk, IfErr, true, is_some, map, codes};
 ghost use Rattle.clap.specs.Words.{app_of, first_of, found_of, kind_of, rows_of, takes};
-ghost use Rattle.ng_console.specs.Words.{RequestsJob, HasFiles, HasFlag, HasFlags, dry_app, format_app, grow_app, ngc_app, run_app, subcommand_name};
+ghost use Rattle.ng_console.specs.Words.{RequestsJob, HasFiles, HasFlag, HasFlags, dry_app, format_app, grow_app, ngc_app, pace_app, run_app, subcommand_name};
 
 use clap::error::ErrorKind;
 use clap::{Arg, ArgAction, ArgMatches, Command, Error};
@@ -12,7 +12,7 @@ const VERSION: &str = "0.1.0";
 
 /// The text below the program's help: how a job ends.
 const ENDINGS: &str =
-    "Exit status:\n  0  done: a program ran to its end, a device is fresh or large, an operator's\n     commands are answered\n  1  dry: a line was refused; the last line printed says which one and why\n  2  the words are wrong, or ask for help or the version; or a file can't be\n     opened or read, the settings or the device are refused, the device, the\n     input or the output fails, or there isn't enough memory\n\nRefused settings and devices print why. A file that can't be read prints nothing.";
+    "Exit status:\n  0  done: a program ran to its end, a device is fresh or large, an operator's\n     commands are answered, all lines have their times\n  1  dry, pace: a line was refused; the last line printed says which one and why\n  2  the words are wrong, or ask for help or the version; or a file can't be\n     opened or read, the settings or the device are refused, the device, the\n     input or the output fails, or there isn't enough memory\n\nRefused settings, machines and devices print why.\nA file that can't be read prints nothing.";
 
 /// The text below the help of `dry`.
 const PROGRAM_ENDINGS: &str =
@@ -29,6 +29,10 @@ const GROWTH_ENDINGS: &str =
 /// The text below the help of `run`: the commands of its console, and how it ends.
 const RUN_COMMANDS_AND_ENDINGS: &str =
     "Commands, read from the input, a line each:\n  load N           store the program in the N bytes after this line, at most 131072,\n                   on a large device 1048576\n  start            run the program from its place on\n  hold             hand out nothing more until `continue` or an `mdi` line\n  continue         go on with what was held, or stopped at M0, M1 or M60\n  mdi LINE         do a line of the operator's own\n  reference X Y Z  tell where the machine stands, in machine millimetres\n  resume           go on with a half-done block, from where the machine stands\n  abandon          give a half-done block up; nothing moves\n  tool N LENGTH    put a tool's length into slot N of the tool table, in millimetres\n  optional on|off  stop the program at M1, or don't\n  delete on|off    leave out the lines that begin with a slash, or don't\n  tick N           do up to N steps of the work, 1 to 1000000\n  status           tell where the machine stands and what it does\n  quit             end, as the end of the input does\n\nExit status:\n  0  all commands are answered, up to `quit` or to the end of the input\n  2  the words are wrong, or ask for help; or a file can't be opened or read, the\n     settings or the device are refused, the device is held by another process or\n     failed, the input or the output failed, or there isn't enough memory\n\nA refused command or program line prints why, and the next one is read. Refused\nsettings and devices print why. A file that can't be read prints nothing.";
+
+/// The text below the help of `pace`: what it reads, and how it ends.
+const PACE_FILES_AND_ENDINGS: &str =
+    "The lines are those of OUT, from the standard input. Each is printed behind the\nnanosecond from the start at which it is due: in order, never sooner than OUT says,\nwith ramps that the motors can follow.\n\nMACHINE is a file in TOML; of it the table [motion] is read:\n  accel_mm_s2   three numbers for X, Y and Z, 1 to 1000000; required\n  rate_mm_min   the most of each axis, 0 to 100000; 0, the default: what OUT asks\n  start_mm_min  a rate at which each motor starts and stops at once, 0 to 100000;\n                default 0\n  slack_steps   how many steps a motor may be off its pulses, 1 to 64; default 2\n  most_percent  100, the default and for now the only value\n\nExit status:\n  0  all lines have their times\n  1  a line is none of OUT, or would be over after more than 584 years; the last\n     line printed says which one; those before it have their times\n  2  the words are wrong, or ask for help; or a file can't be read, the settings or\n     the machine are refused, the input or the output fails, or there isn't enough\n     memory\n\nRefused settings and machines print why. A file that can't be read prints nothing.";
 
 /// What a command line asks for.
 #[derive(Clone, Copy, Debug, PartialEq, Eq)]
@@ -63,6 +67,15 @@ pub enum Job<'a> {
         /// The path of the file that items are handed out to. They are appended.
         out: &'a str,
     },
+    /// `ngc pace SETTINGS MACHINE [--total]`: when each line of OUT is due.
+    Pace {
+        /// The path of the settings file.
+        settings: &'a str,
+        /// The path of the file with the table `[motion]`.
+        machine: &'a str,
+        /// Whether the time of all lines is printed alone.
+        total: bool,
+    },
 }
 
 /// What the words of a command line ask for. The first word is the program's own name, as the system gives it.
@@ -83,8 +96,11 @@ pub fn words<'a>(alloc: Global, words: &'a [&'a str]) -> Result<Job<'a>, Error>
     if let Some(grow) = matches.subcommand_matches("grow") {
         return Ok(grow_job(grow));
     }
-    match matches.subcommand_matches("run") {
-        Some(run) => Ok(run_job(run)),
+    if let Some(run) = matches.subcommand_matches("run") {
+        return Ok(run_job(run));
+    }
+    match matches.subcommand_matches("pace") {
+        Some(pace) => Ok(pace_job(pace)),
         None => unreachable!(),
     }
 }
@@ -162,6 +178,29 @@ fn run_job<'a>(matches: &ArgMatches<'a>) -> Job<'a>
     }
 }
 
+/// The job of the matches of `pace`.
+fn pace_job<'a>(matches: &ArgMatches<'a>) -> Job<'a>
+    requires settings { is_some (first_of (codes "SETTINGS") (rows_of (found_of matches.now))) ≡ true }
+    requires machine { is_some (first_of (codes "MACHINE") (rows_of (found_of matches.now))) ≡ true }
+    requires flag { HasFlag (codes "total") (rows_of (found_of matches.now)) }
+    ensures files { HasFiles (rows_of (found_of matches.now)) result }
+    ensures flags { HasFlags (rows_of (found_of matches.now)) result }
+    ensures name { subcommand_name result ≡ codes "pace" }
+{
+    let total = matches.get_flag("total");
+    let Some(settings) = matches.get_str("SETTINGS") else {
+        unreachable!()
+    };
+    match matches.get_str("MACHINE") {
+        Some(machine) => Job::Pace {
+            settings,
+            machine,
+            total,
+        },
+        None => unreachable!(),
+    }
+}
+
 /// The command `ngc`, with its subcommands.
 fn command<'a>(alloc: Global) -> Result<Command<'a>, AllocError>
     ensures { IfOk result (λ command. app_of command ≡ ngc_app) }
@@ -175,7 +214,8 @@ fn command<'a>(alloc: Global) -> Result<Command<'a>, AllocError>
         .subcommand(dry_command(alloc)?)?
         .subcommand(format_command(alloc)?)?
         .subcommand(grow_command(alloc)?)?
-        .subcommand(run_command(alloc)?)
+        .subcommand(run_command(alloc)?)?
+        .subcommand(pace_command(alloc)?)
 }
 
 /// The subcommand `dry`.
@@ -264,4 +304,28 @@ fn run_command<'a>(alloc: Global) -> Result<Command<'a>, AllocError>
         .arg(device)?
         .arg(settings)?
         .arg(out)
+}
+
+/// The subcommand `pace`.
+fn pace_command<'a>(alloc: Global) -> Result<Command<'a>, AllocError>
+    ensures { IfOk result (λ command. app_of command ≡ pace_app) }
+{
+    let settings = Arg::new(alloc, "SETTINGS")
+        .help("The file of the machine's settings, in TOML, with the steps of its axes")
+        .required(true)
+        .action(ArgAction::Set);
+    let machine = Arg::new(alloc, "MACHINE")
+        .help("The file with the table [motion], in TOML")
+        .required(true)
+        .action(ArgAction::Set);
+    let total = Arg::new(alloc, "total")
+        .long("total")
+        .help("Print the nanosecond at which the last line is over, alone")
+        .action(ArgAction::SetTrue);
+    Command::new(alloc, "pace")
+        .about("Print when each line of OUT is due, by what the motors can do")
+        .after_help(PACE_FILES_AND_ENDINGS)
+        .arg(settings)?
+        .arg(machine)?
+        .arg(total)
 }

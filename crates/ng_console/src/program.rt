@@ -9,6 +9,7 @@ use crate::command_line::{Job, words};
 use crate::format::format_opened;
 use crate::grow::grow_opened;
 use crate::operating::{are_three_files, operate_chosen};
+use crate::pacing::pace_chosen;
 use crate::settings_file::{NoSettings, chosen_settings};
 use crate::size::wanted_size;
 use ng_dry::{DryFault, Ended, dry};
@@ -78,11 +79,11 @@ fn given_words<R: Env + AllocGlobal>(rt: &R) -> io::Result<Vec<String>> {
 }
 
 /// Does what a line of words asks for, writes what that prints, and returns the exit status. The reader is an
-/// operator's; only `run` reads from it.
+/// operator's; only `run` and `pace` read from it.
 ///
-/// The status is 0 if the program ran to its end, the device is fresh or large, or everything that the operator asked
-/// is answered. It is 1 if the program of a dry run is refused; the last line written says where and why. It is 2 in
-/// these cases, of which the first that holds counts:
+/// The status is 0 if the program ran to its end, the device is fresh or large, everything that the operator asked is
+/// answered, or all lines have their times. It is 1 if the program of a dry run or a line of OUT is refused; the last
+/// line written says where and why. It is 2 in these cases, of which the first that holds counts:
 /// - The words ask for nothing that `ngc` does, or for help: clap's text is written.
 /// - Two of the three files of `run` are the same: nothing is written or created.
 /// - The settings file can't be opened or read: nothing is written. It is refused: one line with its fault is written.
@@ -161,6 +162,16 @@ where
             let settings = Some(fs::open(rt, settings));
             let chosen = chosen_settings(rt.alloc(), settings);
             operate_chosen(rt, chosen, device, out, reader, writer).unwrap_or(FAILED)
+        }
+        Job::Pace {
+            settings,
+            machine,
+            total,
+        } => {
+            let settings = Some(fs::open(rt, settings));
+            let machine = fs::open(rt, machine);
+            let chosen = chosen_settings(rt.alloc(), settings);
+            pace_chosen(rt.alloc(), chosen, machine, total, reader, writer).unwrap_or(FAILED)
         }
     }
 }

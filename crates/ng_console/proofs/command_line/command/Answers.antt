@@ -4,7 +4,7 @@ use Rattle.clap.specs.Words.{App, app_of, new_app, with_subcommand}
 use Rattle.clap.specs.Simple.{app_of_fields}
 use Rattle.clap.specs.declared.builder.command.Command.TheViews.{out-Command}
 use Rattle.clap.proofs.SimpleLemmas.{plain_fields}
-use Rattle.ng_console.specs.Words.{dry_app, format_app, grow_app, only_by_subcommands, run_app}
+use Rattle.ng_console.specs.Words.{dry_app, format_app, grow_app, only_by_subcommands, pace_app, run_app}
 use Rattle.ng_console.proofs.command_line.command.Goals as goal
 
 -- a command with a version has a flag for it
@@ -34,4 +34,8 @@ returns c =
     c.in_ok-subcommand-3.ensures.shape grow_local ∙ ap₂ with_subcommand with_format (ap (λ (a : App). a.top) grow_is) in
     let run_is : app_of c.in_ok-run_command.field-0 ≡ run_app = c.in_ok-run_command.ensures in
     let run_local : (out-Command c.in_ok-run_command.field-0).has_globals ≡ false = (plain_fields c.in_ok-run_command.field-0 (ap (λ (a : App). a.top.is_plain) run_is)).globals in
-    IfOk-weaker c.subcommand-4.result _ _ (λ r h. h.shape run_local ∙ ap₂ with_subcommand with_grow (ap (λ (a : App). a.top) run_is)) c.subcommand-4.ensures
+    let with_run : app_of c.in_ok-subcommand-4.field-0 ≡ with_subcommand (with_subcommand (with_subcommand (with_subcommand (only_by_subcommands (new_app (codes "ngc"))) dry_app.top) format_app.top) grow_app.top) run_app.top =
+    c.in_ok-subcommand-4.ensures.shape run_local ∙ ap₂ with_subcommand with_grow (ap (λ (a : App). a.top) run_is) in
+    let pace_is : app_of c.in_ok-pace_command.field-0 ≡ pace_app = c.in_ok-pace_command.ensures in
+    let pace_local : (out-Command c.in_ok-pace_command.field-0).has_globals ≡ false = (plain_fields c.in_ok-pace_command.field-0 (ap (λ (a : App). a.top.is_plain) pace_is)).globals in
+    IfOk-weaker c.subcommand-5.result _ _ (λ r h. h.shape pace_local ∙ ap₂ with_subcommand with_run (ap (λ (a : App). a.top) pace_is)) c.subcommand-5.ensures

@@ -4,7 +4,7 @@ use Rattle.clap.specs.Words.{app_of, takes, found_of as found_in, rows_of, Row, 
 use Rattle.clap.proofs.TakesLemmas.{passed_up}
 use Rattle.ng_console.specs.Words.{ngc_app}
 use Rattle.clap.specs.Matches.{subcommand_name_of}
-use Rattle.ng_console.proofs.JobWords.{Subcommand, dry, format, grow, run, found_of, is_asked, name_found, name_of}
+use Rattle.ng_console.proofs.JobWords.{Subcommand, dry, format, grow, run, pace, found_of, is_asked, name_found, name_of}
 use Rattle.ng_console.proofs.command_line.words.Goals as goal
 
 pub returns-in_err-matches-clause-taken : goal.returns-in_err-matches-clause-taken
@@ -19,12 +19,14 @@ unreachable-requires c =
     let no_format : is_some c.subcommand_matches-2.result ≡ false = search rules in
     let no_grow : is_some c.subcommand_matches-3.result ≡ false = search rules in
     let no_run : is_some c.subcommand_matches-4.result ≡ false = search rules in
+    let no_pace : is_some c.subcommand_matches-5.result ≡ false = search rules in
     let (subcommand, named) = name_found texts _ c.in_ok-matches.matches c.in_ok-command.ensures c.in_ok-matches.ensures.kinds c.in_ok-matches.ensures.matches in
     elim subcommand as (λ (s : Subcommand). subcommand_name_of c.in_ok-matches.matches ≡ Some (name_of s) → ⊥) [
       | dry ↦ λ met. let found : is_some c.subcommand_matches.result ≡ true = c.subcommand_matches.ensures.found.1 met in cc
       | format ↦ λ met. let found : is_some c.subcommand_matches-2.result ≡ true = c.subcommand_matches-2.ensures.found.1 met in cc
       | grow ↦ λ met. let found : is_some c.subcommand_matches-3.result ≡ true = c.subcommand_matches-3.ensures.found.1 met in cc
       | run ↦ λ met. let found : is_some c.subcommand_matches-4.result ≡ true = c.subcommand_matches-4.ensures.found.1 met in cc
+      | pace ↦ λ met. let found : is_some c.subcommand_matches-5.result ≡ true = c.subcommand_matches-5.ensures.found.1 met in cc
     ] named
 
 pub dry_job-requires-clause-program : goal.dry_job-requires-clause-program
@@ -96,9 +98,34 @@ run_job-requires-clause-out c =
     let met = found_of run texts _ c.in_ok-matches.matches (rows_of (found_in c.in-Some-subcommand_matches-3.run'.now)) c.in_ok-command.ensures c.in_ok-matches.ensures.kinds c.in_ok-matches.ensures.matches c.in-Some-subcommand_matches-3.ensures.rows (c.in-Some-subcommand_matches-3.ensures.found.0 refl) in
     met.1.2
 
-pub returns-clause-job : goal.returns-clause-job
-returns-clause-job c =
+pub returns-in-Some-subcommand_matches-3-clause-job : goal.returns-in-Some-subcommand_matches-3-clause-job
+returns-in-Some-subcommand_matches-3-clause-job c =
     let texts = map (λ (s : Bor (List ℕ)). s.now) c.args.words.now in
     let rows : List Row = rows_of (found_in c.in-Some-subcommand_matches-3.run'.now) in
     let met = found_of run texts _ c.in_ok-matches.matches (rows_of (found_in c.in-Some-subcommand_matches-3.run'.now)) c.in_ok-command.ensures c.in_ok-matches.ensures.kinds c.in_ok-matches.ensures.matches c.in-Some-subcommand_matches-3.ensures.rows (c.in-Some-subcommand_matches-3.ensures.found.0 refl) in
     is_asked texts c.run_job.result rows (met.0 ∙ ap (λ (name : Text). Some (name, rows)) (sym c.run_job.ensures.name)) c.run_job.ensures.files c.run_job.ensures.flags
+
+pub pace_job-requires-clause-settings : goal.pace_job-requires-clause-settings
+pace_job-requires-clause-settings c =
+    let texts = map (λ (s : Bor (List ℕ)). s.now) c.args.words.now in
+    let met = found_of pace texts _ c.in_ok-matches.matches (rows_of (found_in c.in-Some-subcommand_matches-4.pace.now)) c.in_ok-command.ensures c.in_ok-matches.ensures.kinds c.in_ok-matches.ensures.matches c.in-Some-subcommand_matches-4.ensures.rows (c.in-Some-subcommand_matches-4.ensures.found.0 refl) in
+    met.1.0
+
+pub pace_job-requires-clause-machine : goal.pace_job-requires-clause-machine
+pace_job-requires-clause-machine c =
+    let texts = map (λ (s : Bor (List ℕ)). s.now) c.args.words.now in
+    let met = found_of pace texts _ c.in_ok-matches.matches (rows_of (found_in c.in-Some-subcommand_matches-4.pace.now)) c.in_ok-command.ensures c.in_ok-matches.ensures.kinds c.in_ok-matches.ensures.matches c.in-Some-subcommand_matches-4.ensures.rows (c.in-Some-subcommand_matches-4.ensures.found.0 refl) in
+    met.1.1
+
+pub pace_job-requires-clause-flag : goal.pace_job-requires-clause-flag
+pace_job-requires-clause-flag c =
+    let texts = map (λ (s : Bor (List ℕ)). s.now) c.args.words.now in
+    let met = found_of pace texts _ c.in_ok-matches.matches (rows_of (found_in c.in-Some-subcommand_matches-4.pace.now)) c.in_ok-command.ensures c.in_ok-matches.ensures.kinds c.in_ok-matches.ensures.matches c.in-Some-subcommand_matches-4.ensures.rows (c.in-Some-subcommand_matches-4.ensures.found.0 refl) in
+    met.1.2
+
+pub returns-clause-job : goal.returns-clause-job
+returns-clause-job c =
+    let texts = map (λ (s : Bor (List ℕ)). s.now) c.args.words.now in
+    let rows : List Row = rows_of (found_in c.in-Some-subcommand_matches-4.pace.now) in
+    let met = found_of pace texts _ c.in_ok-matches.matches (rows_of (found_in c.in-Some-subcommand_matches-4.pace.now)) c.in_ok-command.ensures c.in_ok-matches.ensures.kinds c.in_ok-matches.ensures.matches c.in-Some-subcommand_matches-4.ensures.rows (c.in-Some-subcommand_matches-4.ensures.found.0 refl) in
+    is_asked texts c.pace_job.result rows (met.0 ∙ ap (λ (name : Text). Some (name, rows)) (sym c.pace_job.ensures.name)) c.pace_job.ensures.files c.pace_job.ensures.flags

@@ -1,0 +1,73 @@
+-- What the job `pace` does (own): the lines of OUT that an operator's input holds get the times at which they are due,
+-- on a machine with these settings and this motion.
+use Rattle.std.specs.Prelude.{ℕ, ◌≡◌, Bool, true, false, List, ◌++◌, Option, Some, Result, Ok, Err, IfSome, ⊤, codes}
+use Rattle.std.specs.declared.io.Error.{Error}
+use Rattle.std.specs.Io.KnownBytes.{Appends}
+use Rattle.ng_canon.specs.declared.geometry.Geometry.{Geometry}
+use Rattle.ng_pace.specs.declared.chord.Limits.{Limits}
+use Rattle.ng_motion.specs.declared.fault.MotionFault.{MotionFault}
+use Rattle.ng_motion.specs.Limits.{AreLimitsOf, IsRefused}
+use Rattle.ng_motion.specs.Texts.{fault_text}
+use Rattle.ng_schedule.specs.Schedule.{ScheduleSpec}
+use Rattle.ng_schedule.specs.declared.ending.Shown.{Shown}
+use Rattle.ng_schedule.specs.declared.ending.Shown.TheVariants.{Lines, Total}
+use Rattle.ng_schedule.specs.declared.ending.Ended.{Ended}
+use Rattle.ng_schedule.specs.declared.ending.Ended.TheVariants.{Done, NotALine, TooLate}
+use Rattle.ng_schedule.specs.declared.ending.ScheduleFault.{ScheduleFault}
+use Rattle.ng_settings.specs.declared.standard.Settings.{Settings}
+use Rattle.ng_console.specs.Chosen.{GivesChoice}
+use Rattle.ng_console.specs.Refusals.{IsSilent, RefusesSettings}
+use Rattle.ng_console.specs.declared.pacing.NoLimits.{NoLimits}
+use Rattle.ng_console.specs.declared.pacing.NoLimits.TheVariants.{Unread, Refused}
+use Rattle.ng_console.specs.declared.settings_file.NoSettings.{NoSettings}
+
+-- what is shown of the lines
+abbrev pub shown_of : Bool → Shown
+shown_of false = Lines
+shown_of true = Total
+
+-- 0 if all lines have their times, 1 if one was refused, 2 if the run was aborted
+abbrev pub pace_status : Result Ended ScheduleFault → ℕ
+pace_status (Ok Done) = 0
+pace_status (Ok (NotALine number)) = 1
+pace_status (Ok (TooLate number)) = 1
+pace_status (Err fault) = 2
+
+-- the times of the lines that a reader gives, if they are known
+abbrev pub IsPaced : Bool → Option (List ℕ) → Option (List ℕ) → Option (List ℕ) → ℕ → Type 0
+IsPaced total given old new status =
+    IfSome given (λ text. (ended : Result Ended ScheduleFault) × (status ≡ pace_status ended) × ScheduleSpec (shown_of total) text old new ended)
+
+-- what is written of a machine that is refused
+abbrev pub refused_machine_text : MotionFault → List ℕ
+refused_machine_text fault = codes "refused MACHINE" ++ (fault_text fault ++ codes "\n")
+
+-- the limits in a text that can be read, or a fault of it
+abbrev pub FindsLimits : List ℕ → Geometry → Result Limits NoLimits → Type 0
+FindsLimits text machine (Ok limits) = AreLimitsOf text machine limits
+FindsLimits text machine (Err (Refused fault)) = IsRefused text machine fault
+FindsLimits text machine (Err Unread) = ⊤
+
+-- the times, with the limits that were found; if there are none, no line is read
+abbrev pub PacesFound : Result Limits NoLimits → Bool → Option (List ℕ) → Option (List ℕ) → Option (List ℕ) → ℕ → Type 0
+PacesFound (Ok limits) total text old new status = IsPaced total text old new status
+PacesFound (Err Unread) total text old new status = IsSilent old new status
+PacesFound (Err (Refused fault)) total text old new status = (status ≡ 2) × Appends old new (refused_machine_text fault)
+
+module _ {F : Type 0} (bytes_of : F → Option (List ℕ)) where
+  -- the limits in a file, as it was opened
+  abbrev pub FindsIn : Result F Error → Geometry → Result Limits NoLimits → Type 0
+  FindsIn (Ok file) machine found = IfSome (bytes_of file) (λ text. FindsLimits text machine found)
+  FindsIn (Err error) machine found = found ≡ Err Unread
+
+  -- the times, with the settings that were found; if there are none, the file of the machine isn't used
+  abbrev pub PacesChosen : Result Settings NoSettings → Result F Error → Bool → Option (List ℕ) → Option (List ℕ) → Option (List ℕ) → ℕ → Type 0
+  PacesChosen (Err why) machine_file total text old new status = RefusesSettings why old new status
+  PacesChosen (Ok settings) machine_file total text old new status =
+      (found : Result Limits NoLimits) × FindsIn machine_file settings.geometry found × PacesFound found total text old new status
+
+  -- the same with the settings of some file, and some file of the machine
+  abbrev pub Paces : Bool → Option (List ℕ) → Option (List ℕ) → Option (List ℕ) → ℕ → Type 0
+  Paces total text old new status =
+      (settings_file : Result F Error) × (machine_file : Result F Error) × (chosen : Result Settings NoSettings)
+      × GivesChoice bytes_of (Some settings_file) chosen × PacesChosen chosen machine_file total text old new status

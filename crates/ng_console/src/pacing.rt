@@ -1,0 +1,159 @@
+//! The job `pace`: when each line of OUT is due.
+ghost use Rattle.std.specs.Prelude.{◌≡◌, ◌≢◌, ◌≤◌, IfOk, IfSome, OnOk, Result};
+ghost use Rattle.std.specs.Io.KnownBytes.{Appends};
+ghost use Rattle.ng_pace.specs.declared.chord.Limits.{Limits};
+ghost use Rattle.ng_console.specs.Pacing.{FindsIn, FindsLimits, IsPaced, PacesChosen, PacesFound, pace_status, refused_machine_text, shown_of};
+
+use crate::program::refuse_settings;
+use crate::settings_file::NoSettings;
+use ng_canon::Geometry;
+use ng_motion::{MotionFault, limits};
+use ng_pace::Limits;
+use ng_run::{DONE, FAILED};
+use ng_schedule::{Ended, ScheduleFault, Shown, schedule};
+use ng_settings::Settings;
+use std::alloc::Global;
+use std::io;
+use std::io::{Read, Write};
+
+/// The exit status if a line is refused.
+const REFUSED: u8 = 1;
+
+/// Why there are no limits.
+#[derive(Clone, Copy)]
+pub(crate) enum NoLimits {
+    /// The file can't be opened or read, or there is no memory for its bytes.
+    Unread,
+    /// The text is refused.
+    Refused(MotionFault),
+}
+
+/// The limits of a text.
+fn limits_of_text(alloc: Global, text: &[u8], machine: &Geometry) -> Result<Limits, NoLimits>
+    ensures finds { FindsLimits text.now machine.now result }
+    ensures read { result ≢ Err NoLimits.Unread }
+{
+    match limits(alloc, text, machine) {
+        Ok(limits) => Ok(limits),
+        Err(fault) => Err(NoLimits::Refused(fault)),
+    }
+}
+
+/// The limits of a file.
+fn limits_of_file<R: Read + Drop>(
+    alloc: Global,
+    mut file: R,
+    machine: &Geometry,
+) -> Result<Limits, NoLimits>
+    ensures { IfSome (R.remaining file) (λ text. FindsLimits text machine.now result) }
+{
+    let mut bytes = Vec::new(alloc);
+    match file.read_to_end(&mut bytes) {
+        Ok(_) => limits_of_text(alloc, bytes.as_slice(), machine),
+        Err(_) => Err(NoLimits::Unread),
+    }
+}
+
+/// The limits of an opened file.
+fn limits_of_opened<R: Read + Drop>(
+    alloc: Global,
+    opened: io::Result<R>,
+    machine: &Geometry,
+) -> Result<Limits, NoLimits>
+    ensures { FindsIn R.remaining opened machine.now result }
+{
+    match opened {
+        Ok(file) => limits_of_file(alloc, file, machine),
+        Err(_) => Err(NoLimits::Unread),
+    }
+}
+
+/// Writes the line of a machine's fault.
+fn refuse_machine<W: Write>(writer: &mut W, fault: MotionFault) -> io::Result<()>
+    ensures { OnOk result (Appends (W.contents writer.old) (W.contents writer.new) (refused_machine_text fault)) }
+{
+    writer.write_all(b"refused MACHINE")?;
+    writer.write_all(fault.text())?;
+    writer.write_all(b"\n")
+}
+
+/// What is shown of the lines.
+fn shown(total: bool) -> Shown
+    ensures { result ≡ shown_of total }
+{
+    if total { Shown::Total } else { Shown::Lines }
+}
+
+/// The exit status of a run.
+fn pace_status(ended: &Result<Ended, ScheduleFault>) -> u8
+    ensures value { result ≡ pace_status ended.now }
+    ensures range { result ≤ 2 }
+{
+    match ended {
+        Ok(Ended::Done) => DONE,
+        Ok(Ended::NotALine(_)) | Ok(Ended::TooLate(_)) => REFUSED,
+        Err(_) => FAILED,
+    }
+}
+
+/// Writes the times of the lines that a reader gives, and returns the exit status.
+fn pace_lines<I: Read, W: Write>(
+    alloc: Global,
+    limits: Limits,
+    total: bool,
+    reader: &mut I,
+    writer: &mut W,
+) -> u8
+    ensures run { IsPaced total (I.remaining reader.old) (W.contents writer.old) (W.contents writer.new) result }
+    ensures range { result ≤ 2 }
+{
+    let ended = schedule(alloc, reader, writer, limits, shown(total));
+    pace_status(&ended)
+}
+
+/// The same with the limits that were found. If there are none, no line is read, and if the machine was refused, the
+/// line of its fault is written. The error is the writer's while it writes that.
+fn pace_found<I: Read, W: Write>(
+    alloc: Global,
+    found: Result<Limits, NoLimits>,
+    total: bool,
+    reader: &mut I,
+    writer: &mut W,
+) -> io::Result<u8>
+    ensures run { IfOk result (PacesFound found total (I.remaining reader.old) (W.contents writer.old) (W.contents writer.new)) }
+    ensures range { IfOk result (λ status. status ≤ 2) }
+{
+    match found {
+        Ok(limits) => Ok(pace_lines(alloc, limits, total, reader, writer)),
+        Err(NoLimits::Unread) => Ok(FAILED),
+        Err(NoLimits::Refused(fault)) => {
+            refuse_machine(writer, fault)?;
+            Ok(FAILED)
+        }
+    }
+}
+
+/// Writes when each line that a reader gives is due, with the settings that were found and the limits in the file of
+/// the machine, and returns the exit status. If there are no settings, that file isn't used, and if they were refused,
+/// their fault is written. The error is the writer's while it writes a fault.
+pub(crate) fn pace_chosen<R: Read + Drop, I: Read, W: Write>(
+    alloc: Global,
+    chosen: Result<Settings, NoSettings>,
+    machine: io::Result<R>,
+    total: bool,
+    reader: &mut I,
+    writer: &mut W,
+) -> io::Result<u8>
+    ensures run { IfOk result
+        (PacesChosen R.remaining chosen machine total (I.remaining reader.old) (W.contents writer.old)
+        (W.contents writer.new)) }
+    ensures range { IfOk result (λ status. status ≤ 2) }
+{
+    match chosen {
+        Ok(settings) => {
+            let found = limits_of_opened(alloc, machine, &settings.geometry);
+            pace_found(alloc, found, total, reader, writer)
+        }
+        Err(why) => refuse_settings(writer, why),
+    }
+}
