@@ -100,7 +100,7 @@ on-paths limits start old (end ∷ events) new legs same starts underway run =
 on-paths limits start old (ask wanted (Some given) ∷ events) new legs same starts underway run =
     let gives : IsFlowGiven old run.0 wanted given = run.1.0 in
     let later : Makes limits start run.0 legs (lines_given events) new = on-paths limits start run.0 events new legs (gives.limits ∙ same) (gives.given_out.start ∙ starts)
-        (given-underway old run.0 legs gives.waiting gives.limits gives.chord underway) run.1.1 in record {
+    (given-underway old run.0 legs gives.waiting gives.limits gives.chord underway) run.1.1 in record {
       made = later.made;
       paths = later.paths;
       last = later.last;
