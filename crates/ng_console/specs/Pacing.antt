@@ -4,7 +4,7 @@ use Rattle.std.specs.Prelude.{ℕ, ◌≡◌, Bool, true, false, List, ◌++◌,
 use Rattle.std.specs.declared.io.Error.{Error}
 use Rattle.std.specs.Io.KnownBytes.{Appends}
 use Rattle.ng_canon.specs.declared.geometry.Geometry.{Geometry}
-use Rattle.ng_pace.specs.declared.chord.Limits.{Limits}
+use Rattle.ng_pace.specs.declared.limits.Limits.{Limits}
 use Rattle.ng_motion.specs.declared.fault.MotionFault.{MotionFault}
 use Rattle.ng_motion.specs.Limits.{AreLimitsOf, IsRefused}
 use Rattle.ng_motion.specs.Texts.{fault_text}

@@ -1,7 +1,7 @@
 //! The job `pace`: when each line of OUT is due.
 ghost use Rattle.std.specs.Prelude.{◌≡◌, ◌≢◌, ◌≤◌, IfOk, IfSome, OnOk, Result};
 ghost use Rattle.std.specs.Io.KnownBytes.{Appends};
-ghost use Rattle.ng_pace.specs.declared.chord.Limits.{Limits};
+ghost use Rattle.ng_pace.specs.declared.limits.Limits.{Limits};
 ghost use Rattle.ng_console.specs.Pacing.{FindsIn, FindsLimits, IsPaced, PacesChosen, PacesFound, pace_status, refused_machine_text, shown_of};
 
 use crate::program::refuse_settings;
