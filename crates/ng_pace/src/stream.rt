@@ -189,7 +189,8 @@ fn push_item<A: Allocator>(
 impl<A: Allocator + Copy> Stream<A> {
     /// At rest, with no item, and room for so many.
     ///
-    /// Refused: less acceleration than 3, corners of no pulse, a slack that isn't 1 to 1,000, no room.
+    /// Refused: limits that can't be kept, each by its name (`Limits` has the ranges), no room, no memory. Nothing is made
+    /// then. Source: own.
     pub fn new(alloc: A, limits: Limits, room: usize) -> Result<Stream<A>, PaceFault>
         ensures nothing { IfOk result (λ s. (s.motion.known ≡ []) × (s.waiting ≡ [])) }
         ensures rest { IfOk result (λ s. s.motion.square ≡ 0) }
