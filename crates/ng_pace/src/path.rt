@@ -1,5 +1,6 @@
 //! The lines of a path: along its chords, and at the corners between them.
-ghost use Rattle.std.specs.Prelude.{◌≡◌, ◌≤◌, ◌<◌, ◌+◌, ◌++◌, ◌∷◌, [], ℕ, ◌^◌, false, List, length, slice_index_or, IsFalse};
+ghost use Rattle.std.specs.Prelude.{◌≡◌, ◌≤◌, ◌<◌, ◌+◌, ◌++◌, ◌∷◌, []};
+ghost use Rattle.std.specs.Prelude.{ℕ, ◌^◌, false, List, length, slice_index_or, IsFalse};
 ghost use Rattle.std.specs.VecDeque.{deque_capacity};
 ghost use Rattle.ng_pace.specs.declared.chord.Waiting.{Waiting};
 ghost use Rattle.ng_pace.specs.Axes.{AreLimits};
@@ -7,7 +8,8 @@ ghost use Rattle.ng_pace.specs.Flow.{Keeps};
 ghost use Rattle.ng_pace.specs.Making.{stop_of};
 ghost use Rattle.ng_pace.specs.Passing.{PassesAlong, PassesCorner};
 ghost use Rattle.ng_pace.specs.Legs.{IsChord, Leg, lines_of, pulses_of};
-ghost use Rattle.ng_pace.specs.Underway.{Advances, AreSlopes, IsBegun, IsClosed, Finishes, IsPath, Reaches, Turns, kept_of};
+ghost use Rattle.ng_pace.specs.Underway.{Advances, AreSlopes, IsBegun, IsClosed};
+ghost use Rattle.ng_pace.specs.Underway.{Finishes, IsPath, Reaches, Turns, kept_of};
 
 use crate::caps::along;
 use crate::chord::{Chord, Waiting};

@@ -1,5 +1,6 @@
 //! A stream of items, whose limits are found from its pulses.
-ghost use Rattle.std.specs.Prelude.{◌≡◌, ◌≤◌, ◌<◌, ◌+◌, ◌++◌, ◌∷◌, [], List, length, nat_le, IsFalse, ◌⊎◌, OnOk, IfOk, IfErr, IfSome, IfNone};
+ghost use Rattle.std.specs.Prelude.{◌≡◌, ◌≤◌, ◌<◌, ◌+◌, ◌++◌, ◌∷◌, [], List};
+ghost use Rattle.std.specs.Prelude.{length, nat_le, IsFalse, ◌⊎◌, OnOk, IfOk, IfErr, IfSome, IfNone};
 ghost use Rattle.std.specs.VecDeque.{deque_capacity};
 ghost use Rattle.ng_pace.specs.Axes.{AreLimits, IsFaultOf, IsStop};
 ghost use Rattle.ng_pace.specs.Rest.{CanRest};
@@ -189,8 +190,8 @@ fn push_item<A: Allocator>(
 impl<A: Allocator + Copy> Stream<A> {
     /// At rest, with no item, and room for so many.
     ///
-    /// Refused: limits that can't be kept, each by its name (`Limits` has the ranges), no room, no memory. Nothing is made
-    /// then. Source: own.
+    /// Refused: limits that can't be kept, each by its name (`Limits` has the ranges), no room, no memory. Nothing is
+    /// made then. Source: own.
     pub fn new(alloc: A, limits: Limits, room: usize) -> Result<Stream<A>, PaceFault>
         ensures nothing { IfOk result (λ s. (s.motion.known ≡ []) × (s.waiting ≡ [])) }
         ensures rest { IfOk result (λ s. s.motion.square ≡ 0) }
