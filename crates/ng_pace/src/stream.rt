@@ -232,9 +232,9 @@ impl<A: Allocator + Copy> Stream<A> {
 }
 
 impl<A: Allocator> Stream<A> {
-    /// Whether there is no room for an item: it is asked before `push`. A full stream with room for 5 times `half` and 15
-    /// items knows a line, so that `next` gives one wherever some motion is wanted. With less room all items may wait: then
-    /// only `end` goes on. Source: own.
+    /// Whether there is no room for an item: it is asked before `push`. A full stream with room for 5 times `half` and
+    /// 15 items knows a line, so `next` gives one wherever some motion is wanted. With less room it may be that all
+    /// items wait: then only `end` goes on. Source: own.
     pub fn is_full(&self) -> bool
         ensures full { result ≡ nat_le self.now.motion.room (length self.now.motion.known + length self.now.waiting) }
         ensures known { IsTrue result → 5 * self.now.limits.half + 15 ≤ self.now.motion.room
@@ -273,8 +273,8 @@ impl<A: Allocator> Stream<A> {
     }
 
     /// The next line and its time. `wanted` is the greatest square that the operator wants, in pulses a second times
-    /// 2^8, squared; 0 is a hold: the rate falls as fast as may be, and then everything stands still. None, with nothing
-    /// changed, if the limits of no item are final, or at rest in a hold. Source: own.
+    /// 2^8, squared; 0 is a hold: the rate falls as fast as may be, and then everything stands still. None, with
+    /// nothing changed, if the limits of no item are final, or at rest in a hold. Source: own.
     #[tactic(auto, using(crate::proofs::FlowLemmas::given_items))]
     pub fn next(&mut self, wanted: u64) -> Option<Given>
         ensures given { IfSome result (λ given. IsFlowGiven self.old self.new wanted given) }
