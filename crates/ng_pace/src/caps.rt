@@ -24,8 +24,8 @@ fn axis_along(limits: &Limits, axis: usize, slope: u64) -> Caps
     requires rate { slice_index limits.now.rate axis ≤ 1000000000 }
     ensures allowed { IsAlong limits.now axis slope STEP result.most result.ramp }
     ensures size { result.most ≤ GREATEST }
-    ensures full { (GREATEST ≤ result.ramp) ⊎
-        (2 * slice_index limits.now.accel axis * STEP < slope * (result.ramp / PULSE + 1)) }
+    ensures full { (GREATEST ≤ result.ramp)
+        ⊎ (2 * slice_index limits.now.accel axis * STEP < slope * (result.ramp / PULSE + 1)) }
     ensures rate { IsFullAlone limits.now axis slope STEP result.most }
 {
     if slope == 0 {

@@ -32,9 +32,8 @@ impl Turn {
         ensures size { EachAxis (λ i. slice_index result.slope i ≤ STEP) }
         ensures turn { EachAxis (λ i. slice_index result.turn i ≤ 2 * STEP) }
         ensures most { EachAxis (λ i. (slope : Slope) (next : Slope) → IsSlope slope → IsSlope next
-            → AreBetween before.now i slope
-            → AreBetween after.now i next → IsTurn (slice_index result.slope i) (slice_index result.turn i) slope
-            next) }
+            → AreBetween before.now i slope → AreBetween after.now i next
+            → IsTurn (slice_index result.slope i) (slice_index result.turn i) slope next) }
     {
         let x = axis_turn(&before[0], &after[0]);
         let y = axis_turn(&before[1], &after[1]);
@@ -46,7 +45,8 @@ impl Turn {
     }
 }
 
-/// Over how many pulses an axis may take a change of slope: 1 at least.
+/// Over how many pulses an axis may take a change of slope, in parts of 2^20: 1 at least. It leaves the chords by an
+/// eighth of their product, so the slack, and the way from its start rate to rest, count eight times.
 fn axis_pulses(limits: &Limits, axis: usize, turn: u64) -> u64
     requires axis { axis < 3 }
     requires turn { turn ≤ 2 * STEP }
@@ -60,8 +60,8 @@ fn axis_pulses(limits: &Limits, axis: usize, turn: u64) -> u64
     }
     let start = limits.start[axis];
     let by_slack = limits.slack.saturating_mul(8 * STEP) / turn;
-    let double = start.saturating_mul(start) / limits.accel[axis];
-    let by_start = double.saturating_mul(STEP) / turn;
+    let eighth = start.saturating_mul(start) / limits.accel[axis];
+    let by_start = eighth.saturating_mul(STEP) / turn;
     by_slack.max(by_start)
 }
 
@@ -113,10 +113,10 @@ fn axis_ramp(limits: &Limits, axis: usize, slope: u64, turn: u64, pulses: u64, m
     requires pulses { 0 < pulses }
     requires most { most ≤ GREATEST }
     requires quarter { 4 * turn * most ≤ 3 * slice_index limits.now.accel axis * pulses * STEP * PULSE }
-    ensures full { (GREATEST ≤ result) ⊎
-        (2 * (slice_index limits.now.accel axis / 4) * STEP < slope * (result / PULSE + 1)) }
-    ensures left { slope * result * pulses + 2 * turn * most ≤ 2 * slice_index limits.now.accel axis * pulses * STEP *
-        PULSE }
+    ensures full { (GREATEST ≤ result)
+        ⊎ (2 * (slice_index limits.now.accel axis / 4) * STEP < slope * (result / PULSE + 1)) }
+    ensures left { slope * result * pulses + 2 * turn * most
+        ≤ 2 * slice_index limits.now.accel axis * pulses * STEP * PULSE }
 {
     if slope == 0 {
         return GREATEST;
@@ -135,9 +135,8 @@ pub(crate) fn corner_caps(limits: &Limits, turn: &Turn, pulses: u64, feed: u64) 
     requires limits { AreLimits limits.now }
     ensures most { IsFullCorner limits.now turn.now.slope turn.now.turn STEP pulses feed result.most }
     ensures ramp { IsQuarterRamp limits.now turn.now.slope STEP result.ramp }
-    ensures allowed { EachAxis (λ i. IsCorner limits.now i (slice_index turn.now.slope i)
-        (slice_index turn.now.turn i) STEP
-        pulses result.most result.ramp) }
+    ensures allowed { EachAxis (λ i. IsCorner limits.now i (slice_index turn.now.slope i) (slice_index turn.now.turn i)
+        STEP pulses result.most result.ramp) }
 {
     let most = along(limits, &turn.slope)
         .most

@@ -10,9 +10,9 @@ ghost use Rattle.ng_pace.specs.Paths.{KeepsToPaths};
 ghost use Rattle.ng_pace.specs.Putting.{IsUnderway, KeepSoFar};
 ghost use Rattle.ng_pace.specs.Run.{Event, IsRun, AsksOnly, HoldsOnly, IsPacedBeginning, IsGivenOut, IsStopped};
 
-/// For any items, whatever is wanted and whenever the items come: what was given out is a beginning of what was put in,
-/// each line once and in order. No line is sooner than in its own time, and each takes the time of its squares. No square
-/// is greater than its line allows, and up to the next line it changes by no more than the line allows (own).
+/// For any items, whatever is wanted and whenever the items come: what was given out is a beginning of what was put
+/// in, each line once and in order. No line is sooner than in its own time, and each takes the time of its squares. No
+/// square is greater than its line allows, and up to the next line it changes by no more than the line allows (own).
 pub fn paced_beginning()
     ensures { (old : Flow) (events : List Event) (new : Flow) → IsRun old events new → IsPacedBeginning old events new }
 {}
@@ -20,8 +20,9 @@ pub fn paced_beginning()
 /// Where no item waits, as after `end`, as many calls of `next` as lines are known give all of them out, if each wants
 /// some motion. Then everything stands still (own).
 pub fn given_out()
-    ensures { (old : Flow) (events : List Event) (new : Flow) → IsRun old events new → AsksOnly events → old.waiting ≡ []
-        → CanRest old.motion.square old.motion.known → length (all_items old) ≤ length events → IsGivenOut old events new }
+    ensures { (old : Flow) (events : List Event) (new : Flow) → IsRun old events new → AsksOnly events
+        → old.waiting ≡ [] → CanRest old.motion.square old.motion.known → length (all_items old) ≤ length events
+        → IsGivenOut old events new }
 {}
 
 /// In a hold the square falls by the whole ramp at each line. After as many calls of `next` as lines are known, or
@@ -31,9 +32,9 @@ pub fn held()
         → CanRest old.motion.square old.motion.known → length old.motion.known ≤ length events → IsStopped events new }
 {}
 
-/// Of a stream from its beginning, whatever is put in and wanted: each line that was given out, or is known, keeps to the
-/// chord of its pulse, and to the corner if it is at one. Along a chord no axis is asked for more than its acceleration and
-/// its greatest rate, and at a corner for no more than is left of them (own).
+/// Of a stream from its beginning, whatever is put in and wanted: each line that was given out, or is known, keeps to
+/// the chord of its pulse, and to the corner if it is at one. Along a chord no axis is asked for more than its
+/// acceleration and its greatest rate, and at a corner for no more than is left of them (own).
 pub fn kept_to_paths()
     ensures { (old : Flow) (limits : Limits) (room : ℕ) (events : List Event) (new : Flow) → IsEmpty old limits room
         → IsRun old events new → KeepsToPaths limits (start_of limits) events new }

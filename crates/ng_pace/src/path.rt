@@ -1,13 +1,16 @@
 //! The lines of a path: along its chords, and at the corners between them.
-ghost use Rattle.std.specs.Prelude.{◌≡◌, ◌≤◌, ◌<◌, ◌+◌, ◌++◌, ◌∷◌, [], ℕ, ◌^◌, false, List, length, IsFalse, ◌*◌, IsTrue};
+ghost use Rattle.std.specs.Prelude.{◌≡◌, ◌≤◌, ◌<◌, ◌+◌, ◌*◌, ◌++◌, ◌∷◌, []};
+ghost use Rattle.std.specs.Prelude.{ℕ, ◌^◌, false, List, length, slice_index_or, IsTrue, IsFalse};
 ghost use Rattle.std.specs.VecDeque.{deque_capacity};
+ghost use Rattle.ng_pace.specs.declared.chord.Waiting.{Waiting};
 ghost use Rattle.ng_pace.specs.Axes.{AreLimits};
 ghost use Rattle.ng_pace.specs.Few.{WaitFew};
 ghost use Rattle.ng_pace.specs.Flow.{Keeps};
 ghost use Rattle.ng_pace.specs.Making.{stop_of};
 ghost use Rattle.ng_pace.specs.Passing.{PassesAlong, PassesCorner};
 ghost use Rattle.ng_pace.specs.Legs.{IsChord, Leg, lines_of, pulses_of};
-ghost use Rattle.ng_pace.specs.Underway.{Advances, AreSlopes, IsBegun, IsClosed, Finishes, IsPath, Reaches, Turns, kept_of};
+ghost use Rattle.ng_pace.specs.Underway.{Advances, AreSlopes, IsBegun, IsClosed};
+ghost use Rattle.ng_pace.specs.Underway.{Finishes, IsPath, Reaches, Turns, kept_of};
 
 use crate::caps::along;
 use crate::chord::{Chord, Waiting};
@@ -21,7 +24,10 @@ use std::alloc::Allocator;
 use std::collections::VecDeque;
 
 /// The greatest feed of some of the items that wait.
-fn greatest_feed<A: Allocator>(waiting: &VecDeque<Waiting, A>, from: u64, to: u64) -> u64 {
+fn greatest_feed<A: Allocator>(waiting: &VecDeque<Waiting, A>, from: u64, to: u64) -> u64
+    ensures { (k : ℕ) (d : Waiting) → from ≤ k → k < to → k < length waiting.now.items
+        → (slice_index_or waiting.now.items k d).feed ≤ result }
+{
     let mut greatest = 0;
     for k in from..to {
         if k < waiting.len() as u64 {

@@ -1,10 +1,12 @@
 //! A stream of items, whose limits are found from its pulses.
-ghost use Rattle.std.specs.Prelude.{◌≡◌, ◌↔◌, ◌≤◌, ◌<◌, ◌+◌, ◌++◌, ◌∷◌, [], List, length, min, nat_le, IsFalse, Err, IfOk, IfSome, IfNone, ◌*◌, IsTrue};
+ghost use Rattle.std.specs.Prelude.{◌≡◌, ◌↔◌, ◌≤◌, ◌<◌, ◌+◌, ◌*◌, ◌++◌, ◌∷◌, [], List};
+ghost use Rattle.std.specs.Prelude.{length, min, nat_le, IsTrue, IsFalse, Err, IfOk, IfSome, IfNone};
 ghost use Rattle.std.specs.VecDeque.{deque_capacity};
 ghost use Rattle.ng_pace.specs.Axes.{AccelerateTooLittle, AccelerateTooMuch, AreLimits, GoTooFast, HaveAxes};
 ghost use Rattle.ng_pace.specs.Due.{own_square};
 ghost use Rattle.ng_pace.specs.Few.{WaitFew};
-ghost use Rattle.ng_pace.specs.Flow.{Keeps, Adds, StandsAt, StandsLast, full_of, square_behind, no_pulse, still_line, timed_waiting};
+ghost use Rattle.ng_pace.specs.Flow.{Keeps, Adds, StandsAt, StandsLast, full_of};
+ghost use Rattle.ng_pace.specs.Flow.{square_behind, no_pulse, still_line, timed_waiting};
 ghost use Rattle.ng_pace.specs.Paced.{Waits};
 ghost use Rattle.ng_pace.specs.Making.{stop_of};
 ghost use Rattle.ng_pace.specs.Legs.{Leg, lines_of, pulses_of};
@@ -50,9 +52,16 @@ impl<A: Allocator> Model for Stream<A> {
 
     ghost Value = { Flow };
 
-    ghost view = { λ s. record { motion = s.pacer; waiting = timed_waiting s.waiting.items; before = s.shape.before; limits = s.limits; chord = s.shape.chord } };
+    ghost view = { λ s. record {
+      motion = s.pacer;
+      waiting = timed_waiting s.waiting.items;
+      before = s.shape.before;
+      limits = s.limits;
+      chord = s.shape.chord;
+    } };
 
-    ghost invariant = { λ s. IsHeld s.pacer s.waiting.items (deque_capacity s.waiting) s.shape.start s.limits s.shape.chord };
+    ghost invariant = { λ s. IsHeld s.pacer s.waiting.items (deque_capacity s.waiting) s.shape.start s.limits
+        s.shape.chord };
 }
 
 /// Makes lines of all that waits: it comes to rest at its end.
@@ -69,7 +78,8 @@ fn finish<A: Allocator>(
     ensures keeps { Keeps pacer.old pacer.new waiting.old.items waiting.new.items }
     ensures capacity { deque_capacity waiting.new ≡ deque_capacity waiting.old }
     ensures none { waiting.new.items ≡ [] }
-    ensures finishes { (legs : List Leg) → IsPath limits.now 0 shape.old.chord (length waiting.old.items) legs → IsBegun legs
+    ensures finishes { (legs : List Leg) → IsPath limits.now 0 shape.old.chord (length waiting.old.items) legs
+        → IsBegun legs
         → Finishes limits.now (stop_of ending) pacer.old pacer.new (pulses_of legs) (lines_of legs) }
     ensures closed { IsFalse shape.new.chord.is_open }
     ensures few { WaitFew limits.now shape.new.chord (length waiting.new.items) }
@@ -93,10 +103,13 @@ fn push_pulse<A: Allocator>(
     requires room { length pacer.old.known + length waiting.old.items < pacer.old.room }
     requires limits { AreLimits limits.now }
     requires capacity { deque_capacity waiting.old ≡ pacer.old.room }
-    ensures adds { Adds pacer.old pacer.new waiting.old.items waiting.new.items (record { item = item; full = min (own_square pulse.now.period_us) shape.old.before }) }
+    ensures adds { Adds pacer.old pacer.new waiting.old.items waiting.new.items
+        (record { item = item; full = min (own_square pulse.now.period_us) shape.old.before }) }
     ensures capacity { deque_capacity waiting.new ≡ deque_capacity waiting.old }
-    ensures advances { (legs : List Leg) → IsPath limits.now 0 shape.old.chord (length waiting.old.items) legs → IsBegun legs
-        → Advances limits.now 0 pacer.old pacer.new shape.new.chord (length waiting.new.items) (pulses_of legs ++ pulse.now ∷ []) (lines_of legs) }
+    ensures advances { (legs : List Leg) → IsPath limits.now 0 shape.old.chord (length waiting.old.items) legs
+        → IsBegun legs
+        → Advances limits.now 0 pacer.old pacer.new shape.new.chord (length waiting.new.items)
+        (pulses_of legs ++ pulse.now ∷ []) (lines_of legs) }
     ensures few { WaitFew limits.now shape.old.chord (length waiting.old.items)
         → WaitFew limits.now shape.new.chord (length waiting.new.items) }
     ensures start { shape.new.start ≡ shape.old.start }
@@ -133,11 +146,14 @@ fn push_still<A: Allocator>(
 )
     requires room { length pacer.old.known + length waiting.old.items < pacer.old.room }
     requires limits { AreLimits limits.now }
-    ensures adds { Adds pacer.old pacer.new waiting.old.items waiting.new.items (record { item = item; full = 0 }) }
+    ensures adds { Adds pacer.old pacer.new waiting.old.items waiting.new.items
+        (record { item = item; full = 0 }) }
     ensures capacity { deque_capacity waiting.new ≡ deque_capacity waiting.old }
     ensures stands { StandsLast pacer.new.known (timed_waiting waiting.new.items) item }
-    ensures halts { (legs : List Leg) → IsPath limits.now 0 shape.old.chord (length waiting.old.items) legs → IsBegun legs
-        → Halts limits.now shape.old.start pacer.old pacer.new shape.new.chord (length waiting.new.items) legs (item ∷ []) }
+    ensures halts { (legs : List Leg) → IsPath limits.now 0 shape.old.chord (length waiting.old.items) legs
+        → IsBegun legs
+        → Halts limits.now shape.old.start pacer.old pacer.new shape.new.chord (length waiting.new.items) legs
+        (item ∷ []) }
     ensures few { WaitFew limits.now shape.new.chord (length waiting.new.items) }
     ensures start { shape.new.start ≡ shape.old.start }
     ensures before { shape.new.before ≡ no_pulse }
@@ -158,10 +174,12 @@ fn push_item<A: Allocator>(
     requires room { length pacer.old.known + length waiting.old.items < pacer.old.room }
     requires limits { AreLimits limits.now }
     requires capacity { deque_capacity waiting.old ≡ pacer.old.room }
-    ensures adds { Adds pacer.old pacer.new waiting.old.items waiting.new.items (record { item = item; full = full_of shape.old.before item }) }
+    ensures adds { Adds pacer.old pacer.new waiting.old.items waiting.new.items
+        (record { item = item; full = full_of shape.old.before item }) }
     ensures capacity { deque_capacity waiting.new ≡ deque_capacity waiting.old }
     ensures stands { StandsAt pacer.new.known (timed_waiting waiting.new.items) item }
-    ensures takes { (legs : List Leg) → IsPath limits.now 0 shape.old.chord (length waiting.old.items) legs → IsBegun legs
+    ensures takes { (legs : List Leg) → IsPath limits.now 0 shape.old.chord (length waiting.old.items) legs
+        → IsBegun legs
         → Takes limits.now shape.old.start pacer.old pacer.new shape.new.chord (length waiting.new.items) legs item }
     ensures few { WaitFew limits.now shape.old.chord (length waiting.old.items)
         → WaitFew limits.now shape.new.chord (length waiting.new.items) }
@@ -178,8 +196,9 @@ fn push_item<A: Allocator>(
 impl<A: Allocator + Copy> Stream<A> {
     /// At rest, with no item, and room for so many. Nothing is allocated later. Source: own.
     ///
-    /// Refused, in this order: an axis with less acceleration than 3, with more than 1,000,000,000, or with a greater rate
-    /// than that; corners of no pulse; a slack that isn't 1 to 1,000; no room; and what memory refuses.
+    /// Refused, in this order: an axis with less acceleration than 3, with more than 1,000,000,000, or with a greater
+    /// rate than that; corners of no pulse; a slack that isn't 1 to 1,000; no room; and what memory refuses. Nothing is
+    /// made then.
     pub fn new(alloc: A, limits: Limits, room: usize) -> Result<Stream<A>, PaceFault>
         ensures made { IfOk result (λ s. IsEmpty s limits room) }
         ensures no_acceleration { (result ≡ Err PaceFault.NoAcceleration) ↔ AccelerateTooLittle limits }
@@ -213,9 +232,9 @@ impl<A: Allocator + Copy> Stream<A> {
 }
 
 impl<A: Allocator> Stream<A> {
-    /// Whether there is no room for an item: it is asked before `push`. A full stream with room for 5 times `half` and 15
-    /// items knows a line, so that `next` gives one wherever some motion is wanted. With less room all items may wait: then
-    /// only `end` goes on. Source: own.
+    /// Whether there is no room for an item: it is asked before `push`. A full stream with room for 5 times `half` and
+    /// 15 items knows a line, so `next` gives one wherever some motion is wanted. With less room it may be that all
+    /// items wait: then only `end` goes on. Source: own.
     pub fn is_full(&self) -> bool
         ensures full { result ≡ nat_le self.now.motion.room (length self.now.motion.known + length self.now.waiting) }
         ensures known { IsTrue result → 5 * self.now.limits.half + 15 ≤ self.now.motion.room
@@ -253,9 +272,9 @@ impl<A: Allocator> Stream<A> {
         );
     }
 
-    /// The next line and its time. `wanted` is the greatest square that the operator wants, in pulses a second times 2^8,
-    /// squared; 0 is a hold: the rate falls as fast as may be, and then everything stands still. None, with nothing
-    /// changed, if the limits of no item are final, or at rest in a hold. Source: own.
+    /// The next line and its time. `wanted` is the greatest square that the operator wants, in pulses a second times
+    /// 2^8, squared; 0 is a hold: the rate falls as fast as may be, and then everything stands still. None, with
+    /// nothing changed, if the limits of no item are final, or at rest in a hold. Source: own.
     #[tactic(auto, using(crate::proofs::FlowLemmas::given_items))]
     pub fn next(&mut self, wanted: u64) -> Option<Given>
         ensures given { IfSome result (λ given. IsFlowGiven self.old self.new wanted given) }
