@@ -25,13 +25,13 @@ sys.path.insert(0, str(Path(__file__).resolve().parent))
 
 from session_support import FIRST  # noqa: E402
 
-from ngc_tools.console import Console, Ended, Status  # noqa: E402
-from ngc_tools.meter import Meter  # noqa: E402
-from ngc_tools.out import parse  # noqa: E402
-from ngc_tools.player_main import main as play  # noqa: E402
-from ngc_tools.position import Position, millimetres  # noqa: E402
-from ngc_tools.progress import Link, NoAnswer  # noqa: E402
-from ngc_tools.record import Record  # noqa: E402
+from ngc_tools.ngc.console import Console, Ended, Status  # noqa: E402
+from ngc_tools.operator.meter import Meter  # noqa: E402
+from ngc_tools.formats.out import read_line  # noqa: E402
+from ngc_tools.cli.player import main as play  # noqa: E402
+from ngc_tools.formats.position import Position, millimetres  # noqa: E402
+from ngc_tools.player.progress import Link, NoAnswer  # noqa: E402
+from ngc_tools.formats.record import Record  # noqa: E402
 
 STEP_NM = (1000, 1000, 1000)
 
@@ -76,7 +76,7 @@ def steps_after(lines: list[bytes], start: tuple[int, ...] = (0, 0, 0)) -> tuple
     """Where pulses lead, in steps."""
     position = Position(STEP_NM)
     position.steps = list(start)
-    return tuple(position.take_all(parse(line, number) for number, line in enumerate(lines, 1)).steps)
+    return tuple(position.take_all(read_line(line, number) for number, line in enumerate(lines, 1)).steps)
 
 
 def run_uncut(ngc: str, folder: Path, text: bytes) -> Uncut:

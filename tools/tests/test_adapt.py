@@ -8,9 +8,9 @@ sys.path.insert(0, str(Path(__file__).resolve().parent))
 
 from session_support import TOOLS, InFolder, Terminal, ngc, told  # noqa: E402
 
-from ngc_tools.adapt_main import main  # noqa: E402
-from ngc_tools.cam import Line, Missing, Places, rewritten  # noqa: E402
-from ngc_tools.radius_arcs import Ends, centre  # noqa: E402
+from ngc_tools.cli.adapt import main  # noqa: E402
+from ngc_tools.job.cam import CamLine, Missing, Places, rewritten  # noqa: E402
+from ngc_tools.job.radius_arcs import Ends, centre  # noqa: E402
 
 CAM = Path(__file__).resolve().parent / "cam"
 CHANGED = {  # the numbers of the changed lines
@@ -149,7 +149,7 @@ class Rules(unittest.TestCase):
     def test_pieces(self) -> None:
         """A line that is cut is the line."""
         for text in ("", " \t", "G0X1 (a)Y 2 ", "/N1 G 0 1 X+.5", "(open", "#1=[2*[3]] X#1", "a\x80(\xff)", "%"):
-            self.assertEqual(Line.cut(text).text, text)
+            self.assertEqual(CamLine.cut(text).text, text)
 
 
 class Arcs(InFolder):

@@ -7,10 +7,10 @@ sys.path.insert(0, str(Path(__file__).resolve().parent))
 
 from session_support import FIRST, InFolder, ngc  # noqa: E402
 
-from ngc_tools.canonical import parse  # noqa: E402
-from ngc_tools.dangers import by_line  # noqa: E402
-from ngc_tools.refused import Lines, find_all  # noqa: E402
-from ngc_tools.run import Refusal, dry, refusal  # noqa: E402
+from ngc_tools.formats.canonical import read_commands  # noqa: E402
+from ngc_tools.job.dangers import by_line  # noqa: E402
+from ngc_tools.job.refused import Lines, find_all  # noqa: E402
+from ngc_tools.ngc.run import Refusal, dry, refusal  # noqa: E402
 
 HEAD = "G17 G21 G90 G98\nF600\n"
 UNUSED = """    a word H, I, J, K, L, P, Q or R that nothing takes. H is taken by G43 alone; I, J and K as
@@ -278,7 +278,7 @@ class ByChance(InFolder):
             left = self.ask(mended)
             self.assertTrue(left is None or left.code in ("X3", "X4"), text)
             printed = [command for _, each in sorted(by_line(lines, self.dry).items()) for command in each]
-            whole = [command for command in parse(self.dry(mended)) if command.name not in
+            whole = [command for command in read_commands(self.dry(mended)) if command.name not in
                      ("COMMENT", "MESSAGE", "REFUSED")]
             self.assertEqual(printed, whole, text)
 

@@ -7,9 +7,9 @@ sys.path.insert(0, str(Path(__file__).resolve().parent))
 
 from session_support import InFolder, ngc  # noqa: E402
 
-from ngc_tools.console import Console, Ended, Status  # noqa: E402
-from ngc_tools.meter import Meter  # noqa: E402
-from ngc_tools.progress import Report  # noqa: E402
+from ngc_tools.ngc.console import Console, Ended, Status  # noqa: E402
+from ngc_tools.operator.meter import Meter  # noqa: E402
+from ngc_tools.player.progress import Report  # noqa: E402
 
 
 class Consoles(InFolder):

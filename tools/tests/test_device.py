@@ -12,7 +12,7 @@ sys.path.insert(0, str(Path(__file__).resolve().parent))
 
 from session_support import TOOLS, InFolder, ngc  # noqa: E402
 
-from ngc_tools.device import LARGE_SIZE, LOG_END, SECTOR, SIZE, Device, Held, NoDevice, copied  # noqa: E402
+from ngc_tools.formats.device import LARGE_SIZE, LOG_END, SECTOR, SIZE, Device, Held, NoDevice, copied  # noqa: E402
 
 ROOT = TOOLS.parent
 DATA = ROOT / "crates" / "ngc_cases" / "data"
@@ -216,8 +216,8 @@ class Script(InFolder):
         self.assertEqual(self.read_device()[0], 2)
         alone = Path(shutil.copy(ROOT / "examples" / "read_device.py", self.folder))
         self.assertEqual(self.read_device("short.dev", script=alone), (
-            2, "", f"{alone}: no folder above it has tools/ngc_tools/device.py, by which it reads: leave it in its"
-                   " checkout\n"))
+            2, "", f"{alone}: no folder above it has tools/ngc_tools/formats/device.py, by which it reads: leave it"
+                   " in its checkout\n"))
 
 
 class Large(InFolder):

@@ -14,7 +14,7 @@ sys.path.insert(0, str(Path(__file__).resolve().parent))
 from session_support import PATIENCE_S, TOOLS, InFolder, Terminal, ngc  # noqa: E402
 from test_rehearse import HOLE, OUT  # noqa: E402
 
-from ngc_tools.record import Record  # noqa: E402
+from ngc_tools.formats.record import Record  # noqa: E402
 
 DOCS = TOOLS.parent / "docs"
 CAM = Path(__file__).resolve().parent / "cam"

@@ -9,11 +9,11 @@ sys.path.insert(0, str(Path(__file__).resolve().parent))
 
 from session_support import FIRST, TOOLS, InFolder, ngc, told  # noqa: E402
 
-from ngc_tools.adapt_main import main as adapt  # noqa: E402
-from ngc_tools.canonical import MOTIONS, Command, parse  # noqa: E402
-from ngc_tools.position import Position, millimetres  # noqa: E402
-from ngc_tools.rehearse_main import main as rehearse  # noqa: E402
-from ngc_tools.split_main import main as split  # noqa: E402
+from ngc_tools.cli.adapt import main as adapt  # noqa: E402
+from ngc_tools.formats.canonical import MOTIONS, Command, read_commands  # noqa: E402
+from ngc_tools.formats.position import Position, millimetres  # noqa: E402
+from ngc_tools.cli.rehearse import main as rehearse  # noqa: E402
+from ngc_tools.cli.split import main as split  # noqa: E402
 
 EXAMPLES = TOOLS.parent / "examples"
 NAMES = sorted(path.stem for path in EXAMPLES.glob("*.ngc"))
@@ -30,7 +30,7 @@ SECONDS = {"first": "0.070 s", "bolts": "2 min 10.6", "pocket": "53.3"}
 
 def moves(name: str) -> list[Command]:
     """The motions of the text beside an example."""
-    return [command for command in parse((EXAMPLES / f"{name}.txt").read_bytes()) if command.name in MOTIONS]
+    return [command for command in read_commands((EXAMPLES / f"{name}.txt").read_bytes()) if command.name in MOTIONS]
 
 
 class Examples(InFolder):

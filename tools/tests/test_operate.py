@@ -16,11 +16,11 @@ sys.path.insert(0, str(Path(__file__).resolve().parent))
 
 from session_support import TOOLS, InFolder, Terminal, ngc, told  # noqa: E402
 
-from ngc_tools import faults  # noqa: E402
-from ngc_tools.lines import Program  # noqa: E402
-from ngc_tools.operate import HELP, REFUSALS, explained  # noqa: E402
-from ngc_tools.operate_main import main  # noqa: E402
-from ngc_tools.progress import Listener, Report  # noqa: E402
+from ngc_tools.ngc import faults  # noqa: E402
+from ngc_tools.formats.lines import Program  # noqa: E402
+from ngc_tools.operator.operator import HELP, REFUSALS, explained  # noqa: E402
+from ngc_tools.cli.operate import main  # noqa: E402
+from ngc_tools.player.progress import Listener, Report  # noqa: E402
 
 PROMPT = b"ngc> "
 PART = """G21 G90 G17
@@ -204,11 +204,11 @@ class Scripted(InFolder):
     def test_not_permitted(self) -> None:
         """What the system doesn't permit, or a file system can't do."""
         words = operate("mill.dev", "first.toml", "out")
-        with patch("ngc_tools.checks.os.access", return_value=False), patch("ngc_tools.operate_main.find_ngc"):
+        with patch("ngc_tools.ngc.before_start.os.access", return_value=False), patch("ngc_tools.cli.operate.find_ngc"):
             wanted = f"ngc-operate: out: OUT can't be made in {self.folder}: permission denied\n"
             self.assertEqual(told(main, *words), (2, "", wanted))
         no_locks = OSError(errno.ENOLCK, "No locks available")
-        with patch("ngc_tools.checks.fcntl.flock", side_effect=no_locks):
+        with patch("ngc_tools.ngc.before_start.fcntl.flock", side_effect=no_locks):
             self.assertEqual(told(main, *words), (2, "", "ngc-operate: mill.dev: the device can't be locked: No locks"
                                                          " available\n"))
 

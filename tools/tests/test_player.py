@@ -15,9 +15,9 @@ sys.path.insert(0, str(Path(__file__).resolve().parent))
 
 from session_support import FIRST, PATIENCE_S, TOOLS, InFolder  # noqa: E402
 
-from ngc_tools.out import BadLine, parse  # noqa: E402
-from ngc_tools.progress import Link, NoAnswer, Report  # noqa: E402
-from ngc_tools.record import Record  # noqa: E402
+from ngc_tools.formats.out import BadLine, read_line  # noqa: E402
+from ngc_tools.player.progress import Link, NoAnswer, Report  # noqa: E402
+from ngc_tools.formats.record import Record  # noqa: E402
 
 LINES = """S 0 1000.000000 0 0 2 0
 S 0 1000.000000 0 0 2 2
@@ -55,7 +55,7 @@ def accepted(text: bytes) -> tuple[list[bytes], int]:
     *lines, part = text.split(b"\n")
     for number, line in enumerate(lines, 1):
         try:
-            parse(line, number, 50)
+            read_line(line, number, 50)
         except BadLine:
             return lines[:number - 1], number
     return lines, len(lines) + 1 if part else 0

@@ -11,11 +11,11 @@ sys.path.insert(0, str(Path(__file__).resolve().parent))
 
 from session_support import FIRST, TOOLS, InFolder, ngc  # noqa: E402
 
-from ngc_tools import timing  # noqa: E402
-from ngc_tools.canonical import parse  # noqa: E402
-from ngc_tools.figures import duration, micrometres  # noqa: E402
-from ngc_tools.moves import Arc, arc_points, of_canonical  # noqa: E402
-from ngc_tools.timing import timed  # noqa: E402
+from ngc_tools.ngc import timing  # noqa: E402
+from ngc_tools.formats.canonical import read_commands  # noqa: E402
+from ngc_tools.job.figures import duration, micrometres  # noqa: E402
+from ngc_tools.job.moves import Arc, arc_points, of_canonical  # noqa: E402
+from ngc_tools.ngc.timing import timed  # noqa: E402
 
 EXAMPLES = TOOLS.parent / "examples"
 NAMES = ("bolts", "bores", "face", "first", "mill", "parameters", "percent", "pocket", "ring")
@@ -109,7 +109,7 @@ class Plot(InFolder):
 
     def test_times_in_parts(self) -> None:
         """Moves that don't fit in one program, by bytes or by pulses, have the same times."""
-        steps = list(of_canonical(parse((EXAMPLES / "pocket.txt").read_bytes())))
+        steps = list(of_canonical(read_commands((EXAMPLES / "pocket.txt").read_bytes())))
         whole = timed(ngc(), "first.toml", steps)
         for name, most in (("MOST_PROGRAM", 300), ("MOST_PULSES", 30_000)):
             with mock.patch.object(timing, name, most):

@@ -9,8 +9,8 @@ sys.path.insert(0, str(Path(__file__).resolve().parent))
 
 from session_support import InFolder  # noqa: E402
 
-from ngc_tools.causes import cause  # noqa: E402
-from ngc_tools.progress import Link, Listener, NoAnswer, Report  # noqa: E402
+from ngc_tools.files import cause  # noqa: E402
+from ngc_tools.player.progress import Link, Listener, NoAnswer, Report  # noqa: E402
 
 REPORT = Report(3, 203, True, "0.002000 0.000000 -1.000000", "/a b/axis")
 TEXT = b"carried 3 received 203 waits reference 0.002000 0.000000 -1.000000 out /a b/axis"

@@ -12,10 +12,10 @@ sys.path.insert(0, str(Path(__file__).resolve().parent))
 from session_support import FIRST, InFolder, ngc, told  # noqa: E402
 from test_device import DATA, stored  # noqa: E402
 
-from ngc_tools.console import Console  # noqa: E402
-from ngc_tools.out import parse  # noqa: E402
-from ngc_tools.position import Position  # noqa: E402
-from ngc_tools.rehearse_main import main  # noqa: E402
+from ngc_tools.ngc.console import Console  # noqa: E402
+from ngc_tools.formats.out import read_line  # noqa: E402
+from ngc_tools.formats.position import Position  # noqa: E402
+from ngc_tools.cli.rehearse import main  # noqa: E402
 
 HOLE = """G21 G90 G17 G94
 T1 M6
@@ -166,7 +166,7 @@ class Rehearsals(InFolder):
         self.session("", "reference 0.7 0 0", "resume", "tick 3000", "mdi S500 M3", "tick 20", "mdi G91", "tick 5",
                      "mdi G0 X1 Y-1", "tick 2000", "mdi G90 G0 X2", "tick 400", "hold", "status", "continue",
                      lines=700 + 1 + 2000 + 2 + 1000 + 900)
-        whole = [parse(line, 1) for line in Path("out").read_bytes().splitlines()]
+        whole = [read_line(line, 1) for line in Path("out").read_bytes().splitlines()]
         for lines in (1, 701, 702, 2702, 3704, 4603):
             position = Position((1000, 1000, 1000), (700_000, 0, 0)).take_all(whole[:lines])
             self.assertIn(f"; {position.reference()}\n", self.rehearse("--carried-out", str(lines)))
@@ -175,7 +175,7 @@ class Rehearsals(InFolder):
         """A line typed between two blocks of a program that is held."""
         self.session("G0 X1\nG0 Y1\nG0 X0\nM2\n", "start", "tick 1003", "hold", "mdi G0 Z1", "tick 1100", "continue",
                      lines=3500)
-        whole = [parse(line, 1) for line in Path("out").read_bytes().splitlines()]
+        whole = [read_line(line, 1) for line in Path("out").read_bytes().splitlines()]
         for lines in (1001, 2000, 2001, 3500):
             position = Position((1000, 1000, 1000)).take_all(whole[:lines])
             self.assertIn(f"; {position.reference()}\n", self.rehearse("--carried-out", str(lines)))

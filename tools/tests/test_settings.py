@@ -7,8 +7,8 @@ sys.path.insert(0, str(Path(__file__).resolve().parent))
 
 from session_support import FIRST, InFolder, ngc  # noqa: E402
 
-from ngc_tools import settings_report  # noqa: E402
-from ngc_tools.settings import BadSettings, Settings  # noqa: E402
+from ngc_tools.ngc import settings_report  # noqa: E402
+from ngc_tools.formats.settings import BadSettings, Settings  # noqa: E402
 
 MILL = Path(__file__).resolve().parents[2] / "examples" / "mill.toml"
 

@@ -10,8 +10,8 @@ sys.path.insert(0, str(Path(__file__).resolve().parent))
 
 from session_support import TOOLS, InFolder, ngc, told  # noqa: E402
 
-from ngc_tools.console import Console  # noqa: E402
-from ngc_tools.split_main import main  # noqa: E402
+from ngc_tools.ngc.console import Console  # noqa: E402
+from ngc_tools.cli.split import main  # noqa: E402
 
 EXAMPLES = TOOLS.parent / "examples"
 

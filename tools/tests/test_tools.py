@@ -75,7 +75,7 @@ class Tools(InFolder):
 
     def test_imports(self) -> None:
         """Python's standard library alone."""
-        paths = [*TOOLS.glob("ngc-*"), *TOOLS.glob("ngc_tools/*.py"), *TOOLS.glob("posts/*.py")]
+        paths = [*TOOLS.glob("ngc-*"), *TOOLS.glob("ngc_tools/**/*.py"), *TOOLS.glob("posts/*.py")]
         self.assertGreater(len(paths), 40)
         for path in paths:
             others = imported(path) - {*sys.stdlib_module_names, "ngc_tools"}

@@ -4,21 +4,21 @@
     read_device.py DEVICE     DEVICE is the file that `ngc format` made, or a disk that is used as one; it is only read
 
 Status 0 where it stands for something; 1 where it isn't a device (J2) or a damaged one (J3), of which all is printed that
-was found; 2 where it can't be read, or the words are wrong. It reads by tools/ngc_tools/device.py of the checkout that
+was found; 2 where it can't be read, or the words are wrong. It reads by tools/ngc_tools/formats/device.py of the checkout that
 it lies in."""
 import signal
 import sys
 from pathlib import Path
 
 HERE = Path(__file__).resolve()
-TOOLS = [folder / "tools" for folder in HERE.parents if (folder / "tools" / "ngc_tools" / "device.py").is_file()]
+TOOLS = [folder / "tools" for folder in HERE.parents if (folder / "tools" / "ngc_tools" / "formats" / "device.py").is_file()]
 if not TOOLS:
-    print(f"{HERE}: no folder above it has tools/ngc_tools/device.py, by which it reads: leave it in its checkout",
+    print(f"{HERE}: no folder above it has tools/ngc_tools/formats/device.py, by which it reads: leave it in its checkout",
           file=sys.stderr)
     sys.exit(2)
 sys.path.insert(0, str(TOOLS[0]))
 
-from ngc_tools.device import LOG_END, STATE, Device, NoDevice  # noqa: E402
+from ngc_tools.formats.device import LOG_END, STATE, Device, NoDevice  # noqa: E402
 
 FRESH = {5220: 1_000_000}  # the parameters of a fresh device that aren't 0
 

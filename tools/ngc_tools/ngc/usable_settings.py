@@ -1,0 +1,14 @@
+"""Whether a settings file can be used; `ngc` decides."""
+from pathlib import Path
+
+from ngc_tools.ngc.run import settings_refusal
+from ngc_tools.formats.settings import BadSettings
+
+
+def look_at_settings(ngc: str, path: str | Path) -> None:
+    """Raises OSError if the file can't be read, BadSettings if `ngc` refuses it, CannotRun."""
+    with open(path, "rb") as file:
+        file.read()
+    refused = settings_refusal(ngc, path)
+    if refused:
+        raise BadSettings(f"{path}: {refused.code} {refused.name}")
