@@ -4,25 +4,30 @@ import errno
 import sys
 from pathlib import Path
 
-from ngc_tools.ngc import faults
 from ngc_tools.files import cause
-from ngc_tools.formats.device import MOST_LARGE_PROGRAM, MOST_PROGRAM
+from ngc_tools.formats.device import MOST_LARGE_PROGRAM, MOST_PROGRAM, NoDevice, copied
 from ngc_tools.formats.position import millimetres, nanometres
-from ngc_tools.ngc.run import CannotRun, dry, find_ngc
-from ngc_tools.formats.settings import BadSettings
-from ngc_tools.job.split import CannotPart, LineRefused, Part, LongProgram, compare, parted
+from ngc_tools.formats.settings import BadSettings, Settings
+from ngc_tools.job.parts_compared import compare_dry, compare_run
+from ngc_tools.job.split import CannotPart, LongProgram, Part, parted
+from ngc_tools.ngc import faults
+from ngc_tools.ngc.console import Ended
+from ngc_tools.ngc.run import CannotRun, find_ngc
 from ngc_tools.ngc.usable_settings import look_at_settings
+from ngc_tools.ngc.worlds import DEFAULT, LineRefused, two_worlds
 
 ABOUT = """Part a program that is longer than a device takes (131,072 bytes; 1,048,576 where it is large) into programs
-that are run one after the other. It is parted after traverses (G0) that end above the work: where the machine stands no
+that are run one after the other. It is parted after traverses (G0) that end above the work: where the tool's tip is no
 lower than any point at which a cut begins or ends. Each part but the first begins with the modes in force, and goes to
-that place, Z first; each but the last ends with M2.
+that place in program coordinates, Z first; each but the last ends with M2. So the parts hold over any work offset and
+any tool length.
 
-`ngc dry` does the whole and the parts, and what they do is compared, before anything is written: each motion with its
-feed, tool, spindle and coolant, each dwell, stop and message."""
+Before anything is written, what they do is compared with the whole: with --device by `ngc run` over a copy of it, each
+pulse; else by `ngc dry` at two work offsets and two tool lengths, each motion with its feed, tool, spindle and
+coolant, each dwell, stop and message."""
 
 EXAMPLE = """example:
-  ngc-split part.ngc --settings mill.toml        writes part-1.ngc, part-2.ngc ..
+  ngc-split part.ngc --settings mill.toml --device mill.dev        writes part-1.ngc, part-2.ngc ..
 
 exit status:
   0  the parts are written, or ngc run takes the program as it is
@@ -30,25 +35,35 @@ exit status:
   2  the words are wrong, or a file can't be used"""
 
 
+SYSTEMS = tuple(f"G{system}" for system in (54, 55, 56, 57, 58, 59, 59.1, 59.2, 59.3))
+
+
 def make_parser() -> argparse.ArgumentParser:
     """The words of the command line."""
-    words = argparse.ArgumentParser("ngc-split", description=ABOUT, epilog=EXAMPLE,
-                                    formatter_class=argparse.RawDescriptionHelpFormatter)
-    words.add_argument("program", metavar="PROGRAM", help="the program, as ngc accepts it (ngc-adapt)")
-    words.add_argument("--settings", metavar="FILE", help="the machine's settings, for the dry runs")
-    words.add_argument("--output", "-o", metavar="PREFIX", help="the parts' names are PREFIX-1.ngc and so on")
-    words.add_argument("--above", metavar="Z", help="part it at this machine Z or above, in millimetres")
-    size = words.add_mutually_exclusive_group()
+    parser = argparse.ArgumentParser("ngc-split", description=ABOUT, epilog=EXAMPLE,
+                                     formatter_class=argparse.RawDescriptionHelpFormatter)
+    parser.add_argument("program", metavar="PROGRAM", help="the program, as ngc accepts it (ngc-adapt)")
+    parser.add_argument("--settings", metavar="FILE", help="the machine's settings")
+    parser.add_argument("--device", metavar="DEVICE", help="compare by `ngc run` over a copy of this device")
+    parser.add_argument("--system", metavar="G54", default="G54", choices=SYSTEMS,
+                        help="the work offset of a program that names none: G54 to G59, G59.1 to G59.3")
+    parser.add_argument("--output", "-o", metavar="PREFIX", help="the parts' names are PREFIX-1.ngc and so on")
+    parser.add_argument("--above", metavar="Z", help="part it at this program Z or above, in millimetres")
+    size = parser.add_mutually_exclusive_group()
     size.add_argument("--large", action="store_true", help="the device is large: a part has at most 1,048,576 bytes")
     size.add_argument("--limit", metavar="BYTES", type=int, help="bytes of a part at most; without it 131,072")
-    words.add_argument("--force", action="store_true", help="write over files that are there")
-    words.add_argument("--ngc", metavar="PATH", help="the program ngc; without it the one beside this tool, or on PATH")
-    return words
+    parser.add_argument("--force", action="store_true", help="write over files that are there")
+    parser.add_argument("--ngc", metavar="PATH",
+                        help="the program ngc; without it the one beside this tool, or on PATH")
+    return parser
 
 
 def main(arguments: list[str] | None = None) -> int:
     """Parts a program, and returns the exit status; without arguments those of the command line count."""
-    args = make_parser().parse_args(arguments)
+    parser = make_parser()
+    args = parser.parse_args(arguments)
+    if args.device and not args.settings:
+        parser.error("--device goes with --settings")
     try:
         return write_parts(args)
     except CannotPart as error:
@@ -57,9 +72,11 @@ def main(arguments: list[str] | None = None) -> int:
     except LineRefused as error:
         print(f"{args.program}:{error.refused.line}: {error}\n  {faults.cure(error.refused.code, [])}", file=sys.stderr)
         return 1
+    except NoDevice as error:
+        print(f"{args.device}: not a device: {error}", file=sys.stderr)
     except OSError as error:
         print(cause(error), file=sys.stderr)
-    except (BadSettings, CannotRun, ValueError) as error:
+    except (BadSettings, CannotRun, Ended, ValueError) as error:
         print(error, file=sys.stderr)
     return 2
 
@@ -70,25 +87,35 @@ def write_parts(args: argparse.Namespace) -> int:
     ngc = find_ngc(args.ngc)
     if args.settings:
         look_at_settings(ngc, args.settings)
+    image = copied(args.device) if args.device else None
     above = nanometres(args.above) if args.above is not None else None
     text = Path(args.program).read_bytes()
     limit = args.limit or (MOST_LARGE_PROGRAM if args.large else MOST_PROGRAM)
-
-    def ask(asked: bytes) -> tuple[int, bytes]:
-        return dry(ngc, asked, args.settings)
-
-    program = LongProgram.read(text)
-    places, whole = program.places(ask, above)
+    program = LongProgram.read(text, args.system)
+    worlds = two_worlds(ngc, Settings.read(args.settings) if args.settings else DEFAULT)
+    places = program.places(worlds, above)
     if len(text) <= limit:
         print(f"{args.program}: {len(text):,} bytes: ngc run takes it as it is")
         return 0
     parts = parted(program, places, limit, _plain(Path(args.program).name))
-    try:
-        compare(whole, parts, ask)
-    except LineRefused as error:
-        raise CannotPart(f"ngc refuses line {error.refused.line} of a part: {error}") from None
+    whole = program.first_part(program.lines)
+    compared = compared_by(args, ngc, image, whole, parts) if image else ""
+    if not compared:
+        compare_dry(whole, parts, worlds)
+        compared = "ngc dry at two work offsets and two tool lengths. Clear a G92 of the device first, by G92.1"
     _write(args, parts)
+    if program.left_open:
+        print(f"named in part 1, since the program leaves it open: {' '.join(program.left_open.values())}")
+    print(f"{len(parts)} parts do what the whole does, by {compared}")
     return 0
+
+
+def compared_by(args: argparse.Namespace, ngc: str, image: bytes, whole: bytes, parts: list[Part]) -> str:
+    """What compared the parts over the device, in words; nothing if the whole is longer than any device takes."""
+    if len(whole) > MOST_LARGE_PROGRAM:
+        return ""
+    pulses = compare_run(ngc, args.settings, image, whole, parts)
+    return f"ngc run over a copy of {args.device}: {pulses:,} pulses and waits"
 
 
 def _plain(name: str) -> str:
@@ -108,6 +135,5 @@ def _write(args: argparse.Namespace, parts: list[Part]) -> None:
         where = "from where the machine stands"
         if part.place:
             x, y, z = map(millimetres, part.place.at)
-            where = f"from X {x} Y {y} Z {z}"
+            where = f"from X {x} Y {y} Z {z} of the program"
         print(f"{path}: lines {part.begin + 1} to {part.end}, {len(part.text):,} bytes, {where}")
-    print(f"{len(parts)} parts do what the whole does, by ngc dry")

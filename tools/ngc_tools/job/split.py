@@ -1,102 +1,48 @@
-"""A long program in parts. Where it may be parted, and whether the parts do what the whole does, is taken from what
-`ngc dry` prints of it."""
+"""A long program in parts. Where it may be parted is taken from what `ngc dry` prints of it over two work offsets and
+two tool lengths, so that it holds over any."""
 import re
 from bisect import bisect_right
-from collections.abc import Callable, Iterable, Iterator
 from dataclasses import dataclass, field, replace
 from itertools import accumulate
 
-from ngc_tools.job.cam import CamLine
-from ngc_tools.formats.canonical import MOTIONS, Command, read_commands
-from ngc_tools.job.moves import Point
+from ngc_tools.formats.canonical import MOTIONS, Command
 from ngc_tools.formats.position import millimetres
-from ngc_tools.ngc.run import Refusal, refusal
+from ngc_tools.job.cam import CamLine
+from ngc_tools.job.in_force import InForce
+from ngc_tools.job.moves import Point
+from ngc_tools.ngc.worlds import LineRefused, World, after_percent
 
 LONGEST_LINE = 230  # bytes: a mark still fits in
 
-Ask = Callable[[bytes], tuple[int, bytes]]
-"""Does a dry run of a text: the exit status, and canonical text."""
-
 _MARK = "ngc-split place "
 _MARKED = re.compile(_MARK + "([0-9]+)")
-_FRESH = "G17 G21 G40 G49 G54 G80 G90 G94 G98"
-_GROUPS = ((90, 91), (93, 94), (98, 99), (61, 61.1, 64), (54, 55, 56, 57, 58, 59, 59.1, 59.2, 59.3), (43, 49))
+# what a fresh controller has; the tool length stays as it is where the program names none
+_FRESH = "G17 G21 G40 G54 G80 G90 G94 G98"
+_PLANES, _UNITS, _SYSTEMS = (17, 18, 19), (20, 21), (54, 55, 56, 57, 58, 59, 59.1, 59.2, 59.3)
+_GROUPS = {"plane": _PLANES, "unit": _UNITS, "distance": (90, 91), "feed mode": (93, 94), "retract": (98, 99),
+           "path": (61, 61.1, 64), "system": _SYSTEMS, "length": (43, 49)}
+_LEFT_OPEN = {"system": "G54", "plane": "G17", "unit": "G21", "distance": "G90", "feed mode": "G94", "retract": "G98"}
+_OFFSETS = ("system", "length")
 _COMMENT = re.compile(rb"\([^()]*\)")
 _AXIS = re.compile(rb"[XYZxyz]")
 _MOTION = re.compile(rb"[Gg][ \t]*0*([0-3]|8[0-9])(?![0-9.])")
+_CYCLE = re.compile(rb"[Gg][ \t]*8[ \t]*[1-9]")
 _PLAIN = (b"0", b"1", b"2", b"3")
 _MODAL = re.compile(rb"[GgMm][ \t]*0*[ \t]*[1-9][ \t]*[0-9]")
-_COMPARED = (*MOTIONS, "DWELL", "PROGRAM_STOP", "OPTIONAL_PROGRAM_STOP", "PALLET_SHUTTLE", "MESSAGE", "COMMENT")
 
 
 class CannotPart(Exception):
     """The program can't be parted; the text says why."""
 
 
-class LineRefused(Exception):
-    """`ngc dry` refuses a line of the program, or of a part."""
-
-    def __init__(self, refused: Refusal) -> None:
-        super().__init__(f"{refused.code} {refused.name}")
-        self.refused = refused
-
-
-@dataclass(frozen=True, slots=True)
-class Outputs:
-    """What canonical text says is in force: the plane, the unit, the feed in millionths of a millimetre a minute,
-    `inverse` in millionths, 0 for none, the spindle's command, its speed in millionths, mist, flood, the tool that is
-    selected and the one in the spindle, 0 for none, and the tool length in force in nm."""
-
-    plane: str = "XY"
-    unit: str = "MM"
-    feed: int = 0
-    inverse: int = 0
-    spindle: str = "STOP_SPINDLE_TURNING"
-    speed: int = 0
-    mist: bool = False
-    flood: bool = False
-    selected: int = 0
-    tool: int = 0
-    length: int = 0
-
-    def after(self, command: Command) -> "Outputs":
-        """What is in force after a command."""
-        match command.name:
-            case "SELECT_PLANE":
-                return replace(self, plane=str(command.args[0]))
-            case "USE_LENGTH_UNITS":
-                return replace(self, unit=str(command.args[0]))
-            case "SET_FEED_RATE":
-                return replace(self, feed=int(command.args[0]))
-            case "INVERSE_TIME":
-                return replace(self, inverse=int(command.args[0]))
-            case "SET_SPINDLE_SPEED":
-                return replace(self, speed=int(command.args[0]))
-            case "SELECT_TOOL":
-                return replace(self, selected=int(command.args[0]))
-            case "CHANGE_TOOL":
-                return replace(self, tool=int(command.args[0]), spindle="STOP_SPINDLE_TURNING")
-            case "USE_TOOL_LENGTH_OFFSET":
-                return replace(self, length=int(command.args[0]))
-            case "MIST_ON" | "MIST_OFF":
-                return replace(self, mist=command.name == "MIST_ON")
-            case "FLOOD_ON" | "FLOOD_OFF":
-                return replace(self, flood=command.name == "FLOOD_ON")
-            case "START_SPINDLE_CLOCKWISE" | "START_SPINDLE_COUNTERCLOCKWISE" | "STOP_SPINDLE_TURNING":
-                return replace(self, spindle=command.name)
-            case name if name in MOTIONS:
-                return replace(self, inverse=0) if self.inverse else self
-        return self
-
-
 @dataclass(frozen=True, slots=True)
 class Place:
     """A place between two lines at which the tool stands above the work after a traverse: the line that comes next,
-    from 0, where the machine stands in nm, and what is in force."""
+    from 0, where the tool's tip is in program coordinates in nm, and what else is in force."""
 
     line: int
     at: Point
-    outputs: Outputs
+    in_force: InForce
 
 
 @dataclass(slots=True)
@@ -111,78 +57,112 @@ class Part:
 
 @dataclass(slots=True)
 class LongProgram:
-    """A program's lines, each with its end; for each the modes that words before it name, and whether a part can begin
-    with it."""
+    """A program's lines, each with its end; for each the modes that words before it name, by their group, and whether a
+    part can begin with it. `left_open` are words for the groups that it doesn't name before its first move, that of a
+    cycle's retract only if it has cycles."""
 
     lines: list[bytes]
-    modes: list[dict[int, str]] = field(default_factory=list)
+    modes: list[dict[str, str]] = field(default_factory=list)
     can_begin: list[bool] = field(default_factory=list)
+    left_open: dict[str, str] = field(default_factory=dict)
 
     @staticmethod
-    def read(text: bytes) -> "LongProgram":
-        """Reads a text; the last line gets a newline if it has none."""
+    def read(text: bytes, system: str = "G54") -> "LongProgram":
+        """Reads a text; the last line gets a newline if it has none. `system` is the work offset of a program that
+        names none before its first move."""
         lines = [line + b"\n" for line in text.split(b"\n")]
         if lines[-1] == b"\n":
             lines.pop()
-        program = LongProgram(lines)
-        now: dict[int, str] = {}
-        traverse = False
+        program = LongProgram(lines, left_open=_LEFT_OPEN | {"system": system})
+        now: dict[str, str] = {}
+        traverse = moves = False
         for line in lines:
             program.modes.append(now)
             now = _modes_after(now, line)
             begins, traverse = _after_traverse(traverse, line)
             program.can_begin.append(begins)
+            if not moves:
+                program.left_open = {group: word for group, word in program.left_open.items() if group not in now}
+                moves = bool(_AXIS.search(_COMMENT.sub(b"", line)))
+        if not any(_CYCLE.search(_COMMENT.sub(b"", line)) for line in lines):
+            program.left_open.pop("retract", None)
         return program
 
     @property
     def is_percent(self) -> bool:
         """Whether a percent sign is its first line."""
-        first = next((line for line in self.lines if line.strip()), b"")
-        return first.strip() == b"%"
+        return after_percent(b"".join(self.lines)) > 0
 
-    def places(self, ask: Ask, above: int | None) -> tuple[list[Place], list[Command]]:
-        """Where it may be parted, and its canonical text. Raises LineRefused, CannotPart.
+    def places(self, worlds: tuple[World, ...], above: int | None) -> list[Place]:
+        """Where it may be parted: at the same program coordinates in each world. Raises LineRefused, CannotRun.
 
-        `above` is the least machine Z of a place in nm; without it the tool's tip is no lower than the highest point at
-        which a cut begins or ends."""
-        commands = _dry(ask, b"".join(self.lines))
-        highest = _highest_cut(commands)
+        `above` is the least program Z of a place in nm; without it the tool's tip is no lower than the highest point at
+        which a cut begins or ends, each in program coordinates."""
+        found = [self._places(world, above) for world in worlds]
+        return [place for line, place in found[0].items() if all(other.get(line) == place for other in found)]
+
+    def _places(self, world: World, above: int | None) -> dict[int, Place]:
+        """The places over the offsets of one world, by the line that comes next."""
         marked = [line.rstrip(b"\r\n") + f" ({_MARK}{number})\n".encode() if begins else line
                   for number, (line, begins) in enumerate(zip(self.lines, self.can_begin, strict=True))]
-        found, at, outputs, last = [], (0, 0, 0), Outputs(), ""
-        for command in _dry(ask, b"".join(marked)):
+        head, commands = self.dry(world, marked)
+        free = above if above is not None else _highest_cut(head, commands)
+        found: dict[int, Place] = {}
+        in_force, at, last = _after(InForce(), head), (0, 0, 0), ""
+        for command in commands:
             match = _MARKED.fullmatch(str(command.args[0])) if command.name == "COMMENT" else None
-            free = at[2] >= above if above is not None else at[2] - outputs.length >= highest
-            if match and free and last == "STRAIGHT_TRAVERSE":
-                found.append(Place(int(match[1]), at, outputs))
-            outputs = outputs.after(command)
+            tip = in_force.to_program(at)
+            if match and last == "STRAIGHT_TRAVERSE" and tip[2] >= free:
+                line = int(match[1])
+                found[line] = Place(line, tip, in_force.without_offsets())
+            in_force = in_force.after(command)
             if command.name in MOTIONS:
                 at, last = command.point, command.name
-        return found, commands
+        return found
+
+    def dry(self, world: World, lines: list[bytes]) -> tuple[list[Command], list[Command]]:
+        """Does a dry run of all lines, with words for what they leave open. Raises LineRefused, CannotRun, OSError."""
+        try:
+            return world.dry(self.first_part(lines))
+        except LineRefused as error:
+            more = bool(self.left_open) and error.refused.line > self.is_percent
+            raise LineRefused(replace(error.refused, line=error.refused.line - more)) from None
+
+    def first_part(self, lines: list[bytes]) -> bytes:
+        """The program's beginning, with words for what it leaves open."""
+        text = b"".join(lines)
+        if not self.left_open:
+            return text
+        at = after_percent(text)
+        return text[:at] + f"{' '.join(self.left_open.values())}\n".encode() + text[at:]
 
     def part(self, begin: Place | None, end: int, named: str) -> Part:
         """The part from a place on, the program's beginning if it is None, to before line `end`."""
         first = begin.line if begin else 0
-        head = self._head(begin, named) if begin else b""
         last = b"" if end == len(self.lines) else b"M2\n"
-        return Part(first, end, head + b"".join(self.lines[first:end]) + last, begin)
+        lines = self.lines[first:end]
+        text = self._head(begin, named) + b"".join(lines) if begin else self.first_part(lines)
+        return Part(first, end, text + last, begin)
 
     def _head(self, place: Place, named: str) -> bytes:
         """The modes that are in force at a place, and the way there: Z first."""
-        now, modes = place.outputs, self.modes[place.line]
+        now, modes = place.in_force, self.modes[place.line]
         x, y, z = map(millimetres, place.at)
+        offsets = [modes.get("system", self.left_open.get("system", "")), modes.get("length", "")]
         said = ["%"] if self.is_percent else []
         said.append(_FRESH)
         said += [f"T{now.tool} M6"] if now.tool else []
         said += [f"T{now.selected}"] if now.selected != now.tool else []
-        said += [f"G53 G0 Z{z}", f"G53 G0 X{x} Y{y}"]
+        said += [" ".join(filter(None, offsets))] if any(offsets) else []
+        said += [f"G0 Z{z}", f"G0 X{x} Y{y}"]
         said.append(f"S{millimetres(now.speed)}" + {"STOP_SPINDLE_TURNING": "", "START_SPINDLE_CLOCKWISE": " M3",
                                                     "START_SPINDLE_COUNTERCLOCKWISE": " M4"}[now.spindle])
         said += ["M7"] if now.mist else []
         said += ["M8"] if now.flood else []
         said.append(f"F{millimetres(now.feed)}")
         unit, plane = {"MM": "G21", "INCHES": "G20"}[now.unit], {"XY": "G17", "XZ": "G18", "YZ": "G19"}[now.plane]
-        said.append(" ".join([plane, unit, *modes.values()]))
+        others = [word for group, word in modes.items() if group not in ("plane", "unit", *_OFFSETS)]
+        said.append(" ".join([plane, unit, *others]))
         said.append(f"({named}, from line {place.line + 1} on)")
         return ("\n".join(said) + "\n").encode("latin-1")
 
@@ -216,58 +196,21 @@ def _too_long(program: LongProgram, places: list[Place], first: int, limit: int)
             f" with its head and end a part has at most {limit:,}")
 
 
-def compare(whole: list[Command], parts: list[Part], ask: Ask) -> None:
-    """Does dry runs of the parts, and compares what they do, one after the other, with the whole.
-
-    Raises CannotPart if they differ, LineRefused if a line of a part is refused."""
-    each = [_acts(commands, part.place) for part, commands in ((part, _dry(ask, part.text)) for part in parts)]
-    wanted = list(_acts(whole, None))
-    found = [act for acts in each for act in acts]
-    if found == wanted:
-        return
-    place = next((n for n, (a, b) in enumerate(zip(wanted, found)) if a != b), min(len(wanted), len(found)))
-    what = wanted[place][0].name if place < len(wanted) else "the end"
-    raise CannotPart(f"the parts don't do what the whole does, from its motion or stop {place + 1} on, {what}: does it"
-                     " set parameters, origins or G92?")
-
-
-def _acts(commands: Iterable[Command], place: Place | None) -> Iterator[tuple[Command, Outputs]]:
-    """What the commands do, each with what is in force then. Of a part that begins at a place its head is passed over,
-    which has to end there. Raises CannotPart."""
-    outputs, at = Outputs(), (0, 0, 0)
-    in_head = place is not None
+def _after(in_force: InForce, commands: list[Command]) -> InForce:
     for command in commands:
-        outputs_then, outputs = outputs, outputs.after(command)
-        if in_head:
-            at = command.point if command.name in MOTIONS else at
-            if command.name == "COMMENT":
-                in_head = False
-                if at != place.at or replace(outputs, inverse=0) != replace(place.outputs, inverse=0):
-                    raise CannotPart(f"a part's head doesn't bring about what is in force before line {place.line + 1}")
-        elif command.name in _COMPARED:
-            yield command, outputs_then
+        in_force = in_force.after(command)
+    return in_force
 
 
-def _dry(ask: Ask, text: bytes) -> list[Command]:
-    """Canonical text of a program that runs to its end. Raises LineRefused, CannotRun."""
-    status, said = ask(text)
-    refused = refusal(status, said)
-    if refused:
-        raise LineRefused(refused)
-    return read_commands(said)
-
-
-def _highest_cut(commands: list[Command]) -> int:
-    """The greatest Z in nm of the tool's tip, machine Z less the tool length in force, at which a cut begins or ends;
-    0 if there is none."""
-    at, length, found = 0, 0, []
+def _highest_cut(head: list[Command], commands: list[Command]) -> int:
+    """The greatest program Z in nm of the tool's tip at which a cut begins or ends; 0 if there is none."""
+    in_force, at, found = _after(InForce(), head), (0, 0, 0), []
     for command in commands:
-        if command.name == "USE_TOOL_LENGTH_OFFSET":
-            length = int(command.args[0])
-        elif command.name in MOTIONS:
+        if command.name in MOTIONS:
             if command.name != "STRAIGHT_TRAVERSE":
-                found += [max(at, command.point[2]) - length]
-            at = command.point[2]
+                found += [in_force.to_program(point)[2] for point in (at, command.point)]
+            at = command.point
+        in_force = in_force.after(command)
     return max(found, default=0)
 
 
@@ -283,17 +226,17 @@ def _after_traverse(before: bool, line: bytes) -> tuple[bool, bool]:
     return begins, motions[-1] == b"0" if motions else before
 
 
-def _modes_after(now: dict[int, str], line: bytes) -> dict[int, str]:
+def _modes_after(now: dict[str, str], line: bytes) -> dict[str, str]:
     """The modes by words, one of each group, after a line."""
     if not _MODAL.search(line):
         return now
     then = dict(now)
     cut = CamLine.cut(line.rstrip(b"\r\n").decode("latin-1"))
-    for group, codes in enumerate(_GROUPS):
+    for group, codes in _GROUPS.items():
         word = cut.find("G", *codes)
         if word:
             length = cut.find("H")
             then[group] = f"G{word.value.normalize():f}" + (f" {length.text}" if word.value == 43 and length else "")
     if word := cut.find("M", 48, 49):
-        then[len(_GROUPS)] = f"M{word.value.normalize():f}"
+        then["overrides"] = f"M{word.value.normalize():f}"
     return then
