@@ -35,6 +35,15 @@ class Settings:
         """The rate of one step of this axis each `period_us`, rounded down: no move of the axis alone is faster."""
         return 60_000_000 * self.step_nm[axis] // self.period_us
 
+    def text(self) -> str:
+        """The settings as a file has them."""
+        values = ((key, getattr(self, key)) for key in KEYS)
+        return "".join(f"{key} = {list(value) if isinstance(value, tuple) else value}\n" for key, value in values)
+
+
+DEFAULT = Settings((1000,) * 3, (-1_000_000_000,) * 3, (1_000_000_000,) * 3, 6_000_000_000, 50, (50_000_000,))
+"""The settings with which `ngc dry` runs without a file (docs/SETTINGS.md)."""
+
 
 def read_table(path: str | Path) -> dict[str, Any]:
     """The keys of the file and their values. Raises BadSettings if it isn't TOML, or OSError."""
