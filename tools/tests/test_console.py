@@ -41,6 +41,16 @@ class Consoles(InFolder):
         self.assertEqual((status.half, status.segment, status.known, status.does), ("mdi", 0, False, "idle"))
         self.assertEqual(console.quit(), 0)
 
+    def test_one_line(self) -> None:
+        """A command with a newline in it would be two, so it isn't given at all."""
+        self.device()
+        console = Console(ngc(), "mill.dev", "first.toml", "pulses")
+        for command in ("mdi G0 X1\ntick 100", b"mdi M5\n"):
+            with self.assertRaises(ValueError):
+                console.ask(command)
+        self.assertEqual(console.status().does, "idle")
+        self.assertEqual(console.quit(), 0)
+
     def test_refused_at_the_start(self) -> None:
         """What `ngc` says before it ends is told."""
         self.device()

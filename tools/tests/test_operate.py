@@ -19,6 +19,9 @@ from session_support import TOOLS, InFolder, Terminal, ngc, told  # noqa: E402
 from ngc_tools.ngc import faults  # noqa: E402
 from ngc_tools.formats.lines import Program  # noqa: E402
 from ngc_tools.operator.operator import HELP, REFUSALS, explained  # noqa: E402
+from ngc_tools.ngc.console import Console  # noqa: E402
+from ngc_tools.operator.face import MESSAGE, REFUSED, SAID, WARNING, WHERE, UnderWay  # noqa: E402
+from ngc_tools.operator.operator import Operator  # noqa: E402
 from ngc_tools.cli.operate import main  # noqa: E402
 from ngc_tools.player.progress import Listener, Report  # noqa: E402
 
@@ -274,6 +277,69 @@ ngc> """)
         self.assertIn(f"refused K5 Broken: {REFUSALS['K5']}\n", done.stdout)
         self.assertEqual((done.stderr, done.returncode), (
             "ngc-operate: ngc ended with status 2: the device or OUT failed in this session\n", 2))
+
+
+class ListFace:
+    """A face that keeps what it is told; its answers are given before."""
+
+    def __init__(self, *answers: str) -> None:
+        self.said: list[tuple[str, str]] = []
+        self.views: list[UnderWay | None] = []
+        self.asked: list[str] = []
+        self.answers = list(answers)
+
+    def say(self, text: str, kind: str = SAID) -> None:
+        """Keeps it."""
+        self.said.append((kind, text))
+
+    def once(self, text: str, kind: str = WARNING) -> None:
+        """Keeps it, once."""
+        if (kind, text) not in self.said:
+            self.say(text, kind)
+
+    def live(self, view: UnderWay | None) -> None:
+        """Keeps it."""
+        self.views.append(view)
+
+    def moved(self, report: Report) -> None:
+        """There is no player."""
+
+    def ask(self, question: str) -> str:
+        """The next answer."""
+        self.asked.append(question)
+        return self.answers.pop(0) if self.answers else ""
+
+    def interrupted(self) -> bool:
+        """Nobody holds."""
+        return False
+
+
+class Faces(InFolder):
+    """The operator's core by itself."""
+
+    def test_no_screen(self) -> None:
+        """It knows no terminal: nothing of the package takes anything from the command lines."""
+        for path in (TOOLS / "ngc_tools" / "operator").glob("*.py"):
+            self.assertNotRegex(path.read_text(), r"ngc_tools\.cli|\bprint\(|\binput\(|sys\.std", path)
+
+    def test_face(self) -> None:
+        """A session with a face that is a list: each thing is said with its kind; a program comes as bytes."""
+        self.device()
+        face, console = ListFace(), Console(ngc(), "mill.dev", "first.toml", "out")
+        operator = Operator(console, "mill.dev", (1000, 1000, 1000), face, None)
+        self.assertTrue(operator.load("a name", b"G21 G90\nG0 X0.1\n(MSG, hello)\nM2\n"))
+        self.assertFalse(operator.load("long", bytes(131_073)))
+        operator.do("run")
+        kinds = [kind for kind, _ in face.said]
+        self.assertEqual(kinds, [SAID, REFUSED, MESSAGE, WHERE])
+        self.assertEqual(face.said[0][1], "done 1: a name, 32 bytes, 4 lines")
+        self.assertEqual(face.said[2][1], "message, line 3: hello")
+        self.assertIn("line 2: G0 X0.1", [str(view) for view in face.views])
+        self.assertIsNone(face.views[-1])
+        status, report = operator.look()
+        self.assertEqual((status.at[0], status.does, report), ("0.100000", "idle", None))
+        self.assertEqual(operator.stored().program, b"G21 G90\nG0 X0.1\n(MSG, hello)\nM2\n")
+        self.assertEqual(console.quit(), 0)
 
 
 class FakePlayer:

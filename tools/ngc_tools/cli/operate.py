@@ -106,7 +106,7 @@ def session(ngc: str, args: argparse.Namespace, meter: Meter | None, pipe: int |
         if pipe is not None:
             os.close(pipe)
         operator.begin(said)
-        converse(operator)
+        converse(operator, screen)
     except BaseException:
         if console.child.poll() is None:
             console.kill()
@@ -117,11 +117,11 @@ def session(ngc: str, args: argparse.Namespace, meter: Meter | None, pipe: int |
     return 0 if status == 0 else 2
 
 
-def converse(operator: Operator) -> None:
+def converse(operator: Operator, screen: Screen) -> None:
     """Reads what a person types until the session is over."""
     while not operator.over:
         try:
-            line = operator.screen.prompt("ngc> ")
+            line = screen.prompt("ngc> ")
         except EOFError:
             print()
             operator.leaves_half()

@@ -6,9 +6,12 @@ import signal
 import sys
 import time
 
+from ngc_tools.operator.face import SAID, WARNING, UnderWay
+from ngc_tools.player.progress import Report
+
 
 class Screen:
-    """Standard input and output. The live line is shown on a terminal that can clear one."""
+    """A face: standard input and output. The live line is shown on a terminal that can clear one."""
 
     def __init__(self) -> None:
         self.is_terminal = sys.stdin.isatty() and sys.stdout.isatty()
@@ -20,26 +23,31 @@ class Screen:
         self._said: set[str] = set()
         signal.signal(signal.SIGINT, self._note)
 
-    def say(self, text: str) -> None:
+    def say(self, text: str, kind: str = SAID) -> None:  # noqa: ARG002  of each kind alike
         """Shows lines."""
-        self.clear()
+        self._clear()
         print(text, flush=True)
 
-    def once(self, text: str) -> None:
+    def once(self, text: str, kind: str = WARNING) -> None:
         """Shows lines that nobody wants to see again in this piece of work."""
         if text not in self._said:
             self._said.add(text)
-            self.say(text)
+            self.say(text, kind)
 
-    def live(self, text: str) -> None:
+    def live(self, view: UnderWay | None) -> None:
         """Shows what is under way, ten times a second at most, in the place of what was shown so before."""
-        if self.can_clear and time.monotonic() > self._shown + 0.1:
+        if view is None:
+            self._clear()
+        elif self.can_clear and time.monotonic() > self._shown + 0.1:
             width = max(20, shutil.get_terminal_size().columns - 1)
-            print("\r\033[K" + text[:width], end="", flush=True)
+            print("\r\033[K" + str(view)[:width], end="", flush=True)
             self._live = True
             self._shown = time.monotonic()
 
-    def clear(self) -> None:
+    def moved(self, report: Report) -> None:
+        """A terminal shows where the motors are with what is under way."""
+
+    def _clear(self) -> None:
         """Takes the live line away."""
         if self._live:
             print("\r\033[K", end="", flush=True)
@@ -48,7 +56,7 @@ class Screen:
     def prompt(self, text: str) -> str:
         """What a person types, without its newline. From then on Enter and Ctrl-C ask to hold, until the next prompt.
         Raises EOFError at the end of the input, KeyboardInterrupt for Ctrl-C in it."""
-        self.clear()
+        self._clear()
         self._prompts = True
         try:
             return input(text)

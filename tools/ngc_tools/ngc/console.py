@@ -61,8 +61,11 @@ class Console:
 
     def ask(self, command: str | bytes) -> list[str]:
         """Gives a command (without its newline) and returns its replies: those of `tick N` up to `ticks K` or to a
-        refusal of the command itself, else one. Raises Ended if `ngc` ends before that."""
+        refusal of the command itself, else one. Raises Ended if `ngc` ends before that, ValueError for a command that
+        would be two."""
         text = command.encode() if isinstance(command, str) else command
+        if b"\n" in text:
+            raise ValueError("a command is one line")
         self._send(text + b"\n")
         return self._replies(text.startswith(b"tick "))
 

@@ -1,0 +1,51 @@
+"""Where people see a session and are asked. The operator's core knows no screen: it speaks to a face."""
+from dataclasses import dataclass
+from typing import Protocol
+
+from ngc_tools.ngc.console import Status
+from ngc_tools.player.progress import Report
+
+SAID, WHERE, MESSAGE, REFUSED, WARNING = "said", "where", "message", "refused", "warning"
+"""The kinds of what is said: an answer; what the machine does, which a face may show all the time anyway; a message of
+the program; a refusal; what is dangerous or failed."""
+
+
+def axes(at: list[str] | tuple[str, ...]) -> str:
+    """A point for people, of numbers in millimetres."""
+    return " ".join(f"{letter} {number}" for letter, number in zip("XYZ", at, strict=True))
+
+
+@dataclass(frozen=True, slots=True)
+class UnderWay:
+    """What is shown while something runs: the line that is being done, the status, and where the player said last that
+    the motors are, as `1.000000 0.000000 0.000000`, or nothing."""
+
+    line: str
+    status: Status
+    motors: str
+
+    def __str__(self) -> str:
+        """In one line, of any length."""
+        return self.line + (f"  {axes(self.motors.split())}" if self.motors else "")
+
+
+class Face(Protocol):
+    """A terminal (`cli.terminal.Screen`) is one."""
+
+    def say(self, text: str, kind: str = SAID) -> None:
+        """Shows lines, of one of the kinds."""
+
+    def once(self, text: str, kind: str = WARNING) -> None:
+        """Shows lines that nobody wants to see again in this piece of work."""
+
+    def live(self, view: UnderWay | None) -> None:
+        """Shows what is under way, after each piece of work; None: nothing is under way any more."""
+
+    def moved(self, report: Report) -> None:
+        """Is told each report of the player."""
+
+    def ask(self, question: str) -> str:
+        """What a person answers; nothing if nobody does."""
+
+    def interrupted(self) -> bool:
+        """Whether somebody wants to hold since the last command was given."""

@@ -1,0 +1,87 @@
+"""What the parts of a person's session share: `ngc`, its device, the player, the face, and what is under way."""
+import re
+from dataclasses import dataclass, field
+from pathlib import Path
+
+from ngc_tools.formats.device import Device, NoDevice
+from ngc_tools.formats.lines import Program
+from ngc_tools.ngc.console import Console, Status
+from ngc_tools.operator.face import REFUSED, WARNING, Face, axes
+from ngc_tools.operator.meter import Meter
+from ngc_tools.operator.sentences import explained
+from ngc_tools.player.progress import NoAnswer, Report
+
+
+def place(status: Status) -> str:
+    """The point of a status, for people."""
+    return axes(status.at)
+
+
+class Nothing:
+    """What is shown of a device that can't be read."""
+
+    program = b""
+    slot = 0
+
+
+@dataclass(slots=True)
+class Session:
+    """`step_nm` is the settings' size of one step of X, Y, Z; `own` a line of the operator's that is under way. The
+    messages of the lines before the place `told` are shown; `delete` and `optional` are the switches as they were set.
+    `motors` is where the player said last that they are; `gone` says that it stopped to answer."""
+
+    console: Console
+    device: str | Path
+    step_nm: tuple[int, int, int]
+    face: Face
+    meter: Meter | None
+    program: Program = field(default_factory=lambda: Program(b""))
+    told: int = 0
+    delete: bool = False
+    optional: bool = False
+    own: str = ""
+    motors: str = ""
+    gone: bool = False
+
+    def stored(self) -> Device | Nothing:
+        """What the device holds, which `ngc` has synced."""
+        try:
+            return Device.read(self.device)
+        except (OSError, NoDevice):
+            return Nothing()
+
+    def report(self) -> Report | None:
+        """How far the player is; None if there is none, or it doesn't answer, which is said."""
+        try:
+            report = self.meter.link.ask() if self.meter else None
+        except NoAnswer as error:
+            self.face.say(str(error), WARNING)
+            return None
+        if report:
+            self.face.moved(report)
+        return report
+
+    def line(self, status: Status) -> str:
+        """The program's line at the place."""
+        return f"line {self.program.number(status.place)}: {self.program.line(status.place)}"
+
+    def half(self, status: Status) -> str:
+        """The block that is half-done or under way."""
+        if status.half == "mdi":
+            return f"segment {status.segment} of {f'your line {self.own}' if self.own else 'a line of yours'}"
+        if not self.program.text:
+            return f"segment {status.segment} of a line of the program"
+        return f"segment {status.segment} of {self.line(status)}"
+
+    def taken(self, reply: str) -> bool:
+        """Whether a command was taken; shows a refusal."""
+        return not self.is_refusal(reply)
+
+    def is_refusal(self, reply: str, status: Status | None = None) -> bool:
+        """Shows a refusal, that of a program's line with the line."""
+        if not reply.startswith("refused"):
+            return False
+        of_line = status is not None and re.match(r"refused [EBCYX]\d", reply)
+        where = f"{self.line(status)}\n  " if of_line else ""
+        self.face.say(where + explained(reply), REFUSED)
+        return True

@@ -1,0 +1,107 @@
+"""The work of a session: ticks, in small counts, until there is nothing to do or somebody wants to hold."""
+import time
+from dataclasses import dataclass
+
+from ngc_tools.ngc.console import Status
+from ngc_tools.operator.face import MESSAGE, WARNING, WHERE, UnderWay
+from ngc_tools.operator.session import Session
+from ngc_tools.player.progress import NoAnswer, Report
+
+ENDS = ("idle", "stopped", "held", "refused")
+FIRST_TICKS, MOST_TICKS = 20, 1000
+
+
+@dataclass
+class Chunk:
+    """How many ticks are given at once if nothing is metered: enough for one command to last about 50 ms."""
+
+    ticks: int = FIRST_TICKS
+
+    def lasted(self, seconds: float) -> None:
+        """Fits it to how long the last command took."""
+        if seconds < 0.025:
+            self.ticks = min(MOST_TICKS, 2 * self.ticks)
+        elif seconds > 0.06:
+            self.ticks = max(1, self.ticks // 2)
+
+
+class Work:
+    """Gives the ticks of a session."""
+
+    def __init__(self, session: Session) -> None:
+        self.session = session
+        self.chunk = Chunk()
+
+    def go(self) -> str | None:
+        """Gives ticks until there is nothing to do, or somebody wants to hold.
+
+        It returns what ended them: idle, stopped, held or refused; None for a wish to hold, or a player that is gone.
+        After all but a refusal it waits until the motors are through."""
+        ended = self._ticks()
+        self.session.face.live(None)
+        if ended in ("idle", "stopped", "held"):
+            self.await_motors()
+        return ended
+
+    def _ticks(self) -> str | None:
+        session = self.session
+        while count := self.room():
+            begun = time.monotonic()
+            replies = session.console.ask(f"tick {count}")
+            self.chunk.lasted(time.monotonic() - begun)
+            status = session.console.status()
+            ended = [reply.split()[0] for reply in replies if reply.split()[0] in ENDS]
+            self._show_messages(status)
+            for reply in replies:
+                session.is_refusal(reply, status)
+            if ended:
+                return ended[0]
+            session.face.live(self._under_way(status))
+            if session.face.interrupted():
+                return None
+        return None
+
+    def room(self) -> int:
+        """How many ticks may be given now; 0 if somebody wants to hold, or the player is gone."""
+        session = self.session
+        if not session.meter:
+            return 0 if session.face.interrupted() else self.chunk.ticks
+        try:
+            return min(session.meter.room(self._goes_on), MOST_TICKS)
+        except NoAnswer as error:
+            session.gone = True
+            session.face.say(f"{error}; nothing more is handed out. Quit, and start a player and this again", WARNING)
+            return 0
+
+    def await_motors(self) -> bool:
+        """Waits until the player has carried out what was handed out; False if somebody wants to hold before that,
+        or the player is gone."""
+        session = self.session
+        try:
+            if not session.meter or session.meter.drained(self._goes_on):
+                return True
+            session.face.say("the player isn't through with its lines yet", WARNING)
+        except NoAnswer as error:
+            session.face.say(str(error), WARNING)
+        return False
+
+    def _goes_on(self, report: Report) -> bool:
+        face = self.session.face
+        self.session.motors = report.at
+        face.moved(report)
+        if report.waits:
+            face.once("the player waits for a tool: press Enter there once it is in; or hold here, and then: go", WHERE)
+        return not face.interrupted()
+
+    def _show_messages(self, status: Status) -> None:
+        """Shows the messages of the lines that the place has passed."""
+        session = self.session
+        end = status.place if status.place >= session.told else len(session.program.text)
+        for number, message in session.program.messages(session.told, end, session.delete):
+            session.face.say(f"message, line {number}: {message}", MESSAGE)
+        session.told = status.place
+
+    def _under_way(self, status: Status) -> UnderWay:
+        """What is being done."""
+        own = self.session.own
+        return UnderWay(f"your line: {own}" if own else self.session.line(status), status, self.session.motors)
