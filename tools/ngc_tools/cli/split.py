@@ -7,14 +7,14 @@ from pathlib import Path
 from ngc_tools.files import cause
 from ngc_tools.formats.device import MOST_LARGE_PROGRAM, MOST_PROGRAM, NoDevice, copied
 from ngc_tools.formats.position import millimetres, nanometres
-from ngc_tools.formats.settings import BadSettings, Settings
+from ngc_tools.formats.settings import DEFAULT, BadSettings, Settings
 from ngc_tools.job.parts_compared import compare_dry, compare_run
 from ngc_tools.job.split import CannotPart, LongProgram, Part, parted
 from ngc_tools.ngc import faults
 from ngc_tools.ngc.console import Ended
 from ngc_tools.ngc.run import CannotRun, find_ngc
 from ngc_tools.ngc.usable_settings import look_at_settings
-from ngc_tools.ngc.worlds import DEFAULT, LineRefused, two_worlds
+from ngc_tools.ngc.worlds import LineRefused, two_worlds
 
 ABOUT = """Part a program that is longer than a device takes (131,072 bytes; 1,048,576 where it is large) into programs
 that are run one after the other. It is parted after traverses (G0) that end above the work: where the tool's tip is no

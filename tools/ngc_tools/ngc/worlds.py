@@ -6,9 +6,6 @@ from ngc_tools.formats.canonical import Command, read_commands
 from ngc_tools.formats.settings import Settings
 from ngc_tools.ngc.run import Refusal, dry, refusal
 
-DEFAULT = Settings((1000,) * 3, (-10**9,) * 3, (10**9,) * 3, 6 * 10**9, 50, (50_000_000,))
-"""The settings of a dry run without a file, as docs/SETTINGS.md has them."""
-
 _WIDEST_NM = 10**10  # the travel of no machine ends before
 _SYSTEMS = range(1, 10)
 _BEGIN = "ngc begins here"
@@ -39,7 +36,7 @@ class World:
         said = self.head + (_OTHER_MODES if in_other_modes else "") + f"({_BEGIN})\n"
         at = after_percent(text)
         with tempfile.NamedTemporaryFile("w", prefix="ngc-settings-", suffix=".toml") as file:
-            file.write(toml(self.settings))
+            file.write(self.settings.text())
             file.flush()
             status, canonical = dry(self.ngc, text[:at] + said.encode() + text[at:], file.name)
         refused = refusal(status, canonical)
@@ -70,10 +67,3 @@ def after_percent(text: bytes) -> int:
             return begin if line.strip() == b"%" else 0
     return 0
 
-
-def toml(settings: Settings) -> str:
-    """The text of a settings file."""
-    return "".join(f"{key} = {list(value) if isinstance(value, tuple) else value}\n" for key, value in (
-        ("step_nm", settings.step_nm), ("low_nm", settings.low_nm), ("high_nm", settings.high_nm),
-        ("traverse_nm_per_min", settings.traverse_nm_per_min), ("period_us", settings.period_us),
-        ("tools_nm", settings.tools_nm)))
