@@ -1,15 +1,36 @@
-"""The settings of a machine, as docs/SETTINGS.md has them. Whether a file is valid `ngc` decides."""
+"""The settings of a machine, as docs/SETTINGS.md has them."""
+import json
+import re
 import tomllib
 from dataclasses import dataclass
 from pathlib import Path
 from typing import Any
 
+from ngc_tools.formats.device import SLOTS
+from ngc_tools.formats.text import shown
+
 KEYS = ("step_nm", "low_nm", "high_nm", "traverse_nm_per_min", "period_us", "tools_nm")
 AXES = "XYZ"
 
+LIMITS = {
+    "step_nm": "three whole numbers of nanometres, 10 to 1,000,000",
+    "low_nm": "three whole numbers of nanometres, -10,000,000,000 to 0",
+    "high_nm": "three whole numbers of nanometres, 0 to 10,000,000,000",
+    "traverse_nm_per_min": "a whole number of nanometres a minute, 1 to 100,000,000,000",
+    "period_us": "a whole number of microseconds, 1 to 1,000,000",
+    "tools_nm": "an array of at most 128 whole numbers of nanometres, 0 to 1,000,000,000",
+}
+_RANGES = {
+    "step_nm": range(10, 10**6 + 1), "low_nm": range(-10**10, 1), "high_nm": range(10**10 + 1),
+    "traverse_nm_per_min": range(1, 10**11 + 1), "period_us": range(1, 10**6 + 1), "tools_nm": range(10**9 + 1),
+}
+_THREE = ("step_nm", "low_nm", "high_nm")
+_ONE = ("traverse_nm_per_min", "period_us")
+_BARE = re.compile("[A-Za-z0-9_-]+")
+
 
 class BadSettings(ValueError):
-    """A settings file that can't be used; the text names the path, and the key if one is to blame."""
+    """A settings file that can't be used; the text names the path, and the keys if some are to blame."""
 
 
 @dataclass(frozen=True, slots=True)
@@ -25,11 +46,10 @@ class Settings:
 
     @staticmethod
     def read(path: str | Path) -> "Settings":
-        """Reads the file. Raises BadSettings, or OSError if it can't be read. Limits aren't looked at."""
+        """Reads the file. Raises BadSettings if it isn't one that `ngc` takes, or OSError if it can't be read."""
         table = read_table(path)
-        step, low, high = (_triple(path, table, key) for key in ("step_nm", "low_nm", "high_nm"))
-        traverse, period = (_whole(path, table, key) for key in ("traverse_nm_per_min", "period_us"))
-        return Settings(step, low, high, traverse, period, _wholes(path, table, "tools_nm"))
+        check_table(path, table)
+        return Settings(**{key: tuple(value) if isinstance(value, list) else value for key, value in table.items()})
 
     def fastest_nm_per_min(self, axis: int) -> int:
         """The rate of one step of this axis each `period_us`, rounded down: no move of the axis alone is faster."""
@@ -37,8 +57,7 @@ class Settings:
 
     def text(self) -> str:
         """The settings as a file has them."""
-        values = ((key, getattr(self, key)) for key in KEYS)
-        return "".join(f"{key} = {list(value) if isinstance(value, tuple) else value}\n" for key, value in values)
+        return "".join(f"{toml_line(key, getattr(self, key))}\n" for key in KEYS)
 
 
 DEFAULT = Settings((1000,) * 3, (-1_000_000_000,) * 3, (1_000_000_000,) * 3, 6_000_000_000, 50, (50_000_000,))
@@ -53,32 +72,59 @@ def read_table(path: str | Path) -> dict[str, Any]:
         return tomllib.loads(text.removeprefix(b"\xef\xbb\xbf").decode("utf-8"))
     except UnicodeDecodeError as error:
         raise BadSettings(f"{path}: not UTF-8: byte {error.start} can't stand there") from None
-    except tomllib.TOMLDecodeError as error:
+    except RecursionError:
+        raise BadSettings(f"{path}: not TOML that ngc takes: nested too deeply") from None
+    except ValueError as error:  # of a number with thousands of digits too, not of TOML alone
         raise BadSettings(f"{path}: not TOML: {error}") from None
 
 
-def _value(path: str | Path, table: dict[str, Any], key: str) -> Any:
-    if key not in table:
-        raise BadSettings(f"{path}: {key} is missing")
-    return table[key]
+def check_table(path: str | Path, table: dict[str, Any]) -> None:
+    """Raises BadSettings, with the key and its limits, if the file's table is none that `ngc` takes: S2 to S6 of
+    docs/SETTINGS.md, in that order."""
+    for key in KEYS:
+        if key not in table:
+            raise BadSettings(f"{path}: {key} is missing (S2): {LIMITS[key]}")
+    for key in table:
+        if key not in KEYS:
+            raise BadSettings(f"{path}: {shown(toml_key(key))} isn't one of the six keys (S3)")
+    for code, is_right in (("S4", _is_of_type), ("S5", _is_within), ("S6", _is_short)):
+        for key in KEYS:
+            if not is_right(key, table[key]):
+                raise BadSettings(f"{path}: {shown(toml_line(key, table[key]))} ({code}): it takes {LIMITS[key]}")
 
 
-def _whole(path: str | Path, table: dict[str, Any], key: str) -> int:
-    value = _value(path, table, key)
-    if type(value) is not int:
-        raise BadSettings(f"{path}: {key} isn't a whole number: {value}")
-    return value
+def _is_of_type(key: str, value: Any) -> bool:
+    if key in _ONE:
+        return type(value) is int
+    return (isinstance(value, list) and all(type(number) is int for number in value)
+            and (key not in _THREE or len(value) == len(AXES)))
 
 
-def _wholes(path: str | Path, table: dict[str, Any], key: str) -> tuple[int, ...]:
-    value = _value(path, table, key)
-    if not isinstance(value, list) or any(type(number) is not int for number in value):
-        raise BadSettings(f"{path}: {key} isn't an array of whole numbers: {value}")
-    return tuple(value)
+def _is_within(key: str, value: Any) -> bool:
+    return all(number in _RANGES[key] for number in (value if isinstance(value, list) else [value]))
 
 
-def _triple(path: str | Path, table: dict[str, Any], key: str) -> tuple[int, int, int]:
-    value = _wholes(path, table, key)
-    if len(value) != 3:
-        raise BadSettings(f"{path}: {key} isn't three whole numbers, of X, Y and Z: {list(value)}")
-    return value[0], value[1], value[2]
+def _is_short(key: str, value: Any) -> bool:
+    return key != "tools_nm" or len(value) <= SLOTS
+
+
+def toml_line(key: str, value: Any) -> str:
+    """A key and its value as a line of TOML, without its newline."""
+    return f"{toml_key(key)} = {_toml(value)}"
+
+
+def toml_key(key: str) -> str:
+    """A key as TOML."""
+    return key if _BARE.fullmatch(key) else _toml(key)
+
+
+def _toml(value: Any) -> str:
+    if isinstance(value, bool):
+        return "true" if value else "false"
+    if isinstance(value, (list, tuple)):
+        return f"[{', '.join(map(_toml, value))}]"
+    if isinstance(value, dict):
+        return "{" + ", ".join(toml_line(key, of) for key, of in value.items()) + "}"
+    if isinstance(value, str):
+        return json.dumps(value, ensure_ascii=False).replace("\x7f", "\\u007f")
+    return str(value)

@@ -1,26 +1,16 @@
 """Settings as a person reads them, and which key a fault of their file means. `ngc` decides what is valid: each key is
 tried beside five good ones."""
-import json
 import tempfile
+from dataclasses import asdict
 from pathlib import Path
 from typing import Any
 
+from ngc_tools.formats.settings import (AXES, DEFAULT, KEYS, LIMITS, BadSettings, Settings, read_table, toml_key,
+                                        toml_line)
+from ngc_tools.formats.text import shown
 from ngc_tools.ngc.run import Refusal, settings_refusal
-from ngc_tools.formats.settings import AXES, KEYS, BadSettings, Settings, read_table
 
-GOOD: dict[str, Any] = {
-    "step_nm": [1000, 1000, 1000], "low_nm": [-1_000_000_000] * 3, "high_nm": [1_000_000_000] * 3,
-    "traverse_nm_per_min": 6_000_000_000, "period_us": 50, "tools_nm": [50_000_000],
-}
-
-LIMITS = {
-    "step_nm": "three whole numbers of nanometres, 10 to 1,000,000",
-    "low_nm": "three whole numbers of nanometres, -10,000,000,000 to 0",
-    "high_nm": "three whole numbers of nanometres, 0 to 10,000,000,000",
-    "traverse_nm_per_min": "a whole number of nanometres a minute, 1 to 100,000,000,000",
-    "period_us": "a whole number of microseconds, 1 to 1,000,000",
-    "tools_nm": "an array of at most 128 whole numbers of nanometres, 0 to 1,000,000,000",
-}
+GOOD: dict[str, Any] = asdict(DEFAULT)
 
 SENTENCES = {
     "S1": "the text isn't TOML",
@@ -43,10 +33,10 @@ def fault_lines(ngc: str, path: str | Path, refused: Refusal) -> list[str]:
     if refused.code == "S2":
         said += [f"    {key} is missing: {LIMITS[key]}" for key in KEYS if key not in table]
     elif refused.code == "S3":
-        said += [f"    {_place(lines, key)}{key} isn't one of the six keys{_meant(key)}" for key in table
-                 if key not in KEYS]
+        said += [f"    {_place(lines, key)}{shown(toml_key(key))} isn't one of the six keys{_meant(key)}"
+                 for key in table if key not in KEYS]
     else:
-        said += [f"    {_place(lines, key)}{key} = {_toml(table[key])} ({fault.code}): it takes {LIMITS[key]}"
+        said += [f"    {_place(lines, key)}{shown(toml_line(key, table[key]))} ({fault.code}): it takes {LIMITS[key]}"
                  for key in KEYS if key in table and (fault := _tried(ngc, key, table[key]))]
     return said
 
@@ -54,20 +44,9 @@ def fault_lines(ngc: str, path: str | Path, refused: Refusal) -> list[str]:
 def _tried(ngc: str, key: str, value: Any) -> Refusal | None:
     """The fault of this value of the key beside five good ones."""
     with tempfile.NamedTemporaryFile("w", prefix="ngc-settings-", suffix=".toml", encoding="utf-8") as file:
-        file.writelines(f"{name} = {_toml(value if name == key else good)}\n" for name, good in GOOD.items())
+        file.writelines(f"{toml_line(name, value if name == key else good)}\n" for name, good in GOOD.items())
         file.flush()
         return settings_refusal(ngc, file.name)
-
-
-def _toml(value: Any) -> str:
-    """A value as TOML."""
-    if isinstance(value, bool):
-        return "true" if value else "false"
-    if isinstance(value, list):
-        return f"[{', '.join(map(_toml, value))}]"
-    if isinstance(value, dict):
-        return "{" + ", ".join(f"{json.dumps(key)} = {_toml(of)}" for key, of in value.items()) + "}"
-    return json.dumps(value) if isinstance(value, str) else str(value)
 
 
 def _place(lines: list[str], key: str) -> str:
