@@ -195,7 +195,7 @@ tool 3    moves 2.000 s   waits 0.001 s   in all 2.001 s
         )
         for words, said in cases:
             done = self.plot(*words)
-            self.assertEqual((done.stdout, done.stderr, done.returncode), ("", said + "\n", 2))
+            self.assertEqual((done.stdout, done.stderr, done.returncode), ("", f"ngc-plot: {said}\n", 2))
 
     def test_other_programs(self) -> None:
         """A program in the place of `ngc` that makes no device, or hands out nothing."""
@@ -205,7 +205,8 @@ tool 3    moves 2.000 s   waits 0.001 s   in all 2.001 s
             Path("other").write_text(f"#!/bin/sh\n{script}\n")
             Path("other").chmod(0o755)
             done = self.tool("ngc-plot", "--ngc", "./other", "t.txt", "--settings", "first.toml")
-            self.assertEqual((done.stdout, done.stderr.removeprefix("./"), done.returncode), ("", said + "\n", 2))
+            self.assertEqual((done.stdout, done.returncode), ("", 2))
+            self.assertEqual(done.stderr.replace("./", ""), f"ngc-plot: {said}\n")
 
 
 class Geometry(unittest.TestCase):

@@ -4,11 +4,14 @@ from dataclasses import dataclass
 from pathlib import Path
 from typing import Any
 
+from ngc_tools.failure import Failure
+from ngc_tools.files import read
+
 KEYS = ("step_nm", "low_nm", "high_nm", "traverse_nm_per_min", "period_us", "tools_nm")
 AXES = "XYZ"
 
 
-class BadSettings(ValueError):
+class BadSettings(Failure, ValueError):
     """A settings file that can't be used; the text names the path, and the key if one is to blame."""
 
 
@@ -47,8 +50,7 @@ DEFAULT = Settings((1000,) * 3, (-1_000_000_000,) * 3, (1_000_000_000,) * 3, 6_0
 
 def read_table(path: str | Path) -> dict[str, Any]:
     """The keys of the file and their values. Raises BadSettings if it isn't TOML, or OSError."""
-    with open(path, "rb") as file:
-        text = file.read()
+    text = read(path)
     try:
         return tomllib.loads(text.removeprefix(b"\xef\xbb\xbf").decode("utf-8"))
     except UnicodeDecodeError as error:
