@@ -16,10 +16,9 @@ MOST = 2**30  # bytes that are read of a file: of /dev/zero there is no end
 _BEGIN = 65_536  # bytes that tell what a file is
 _MARK = b"RS274NGC"  # of a device's header, docs/DEVICE.md
 _SECTOR = 512
-_SETTINGS = re.compile(rb"""^[ \t]*["']?(?:step_nm|low_nm|high_nm|traverse_nm_per_min|period_us|tools_nm)["']?[ \t]*=""",
-                       re.MULTILINE)
-_OUT = re.compile(rb"(?:P (?:-1|0|1) (?:-1|0|1) (?:-1|0|1) [0-9]+|D [0-9]+|S [012] [0-9]+\.[0-9]{6} [01] [01] [0-9]+ [0-9]+)"
-                  rb"(?:\n|\Z)")
+_KEY = rb"(?:step_nm|low_nm|high_nm|traverse_nm_per_min|period_us|tools_nm)"
+_SETTINGS = re.compile(rb"""^[ \t]*["']?""" + _KEY + rb"""["']?[ \t]*=""", re.MULTILINE)
+_OUT = re.compile(rb"(?:P (?:(?:-1|0|1) ){3}[0-9]+|D [0-9]+|S [012] [0-9]+\.[0-9]{6}(?: [0-9]+){4})(?:\n|\Z)")
 _RECORD = re.compile(rb"out .*\nlines [0-9]")
 
 
@@ -66,9 +65,9 @@ def kind(path: str | Path) -> str | None:
 
 
 def write_new(path: str | Path, data: bytes, inputs: Iterable[str | Path | None], force: bool = False) -> None:
-    """Writes a file whole or not at all: beside its place, synced, and renamed. A file that is there is written over with
-    `force` alone, and one of `inputs`, a device, settings, an OUT, a record or what is no file never. To /dev/null and
-    to standard output's own name it is written at once.
+    """Writes a file whole or not at all: beside its place, synced, and renamed. A file that is there is written over
+    with `force` alone; one of `inputs`, a device, settings, an OUT, a record, and what is no file, never. To /dev/null
+    and to standard output's own name it is written at once.
 
     Raises NotWritten, or OSError with the path."""
     if _is_open_output(path):

@@ -54,8 +54,8 @@ def raised(error: BaseException) -> tuple[int, str, str]:
 
 def script(body: str, **options: object) -> subprocess.CompletedProcess[str]:
     """A tool with this body in a process of its own."""
-    return subprocess.run([sys.executable, "-c", SCRIPT.format(body)], text=True, capture_output="stdout" not in options,
-                          timeout=60, **options)
+    words = [sys.executable, "-c", SCRIPT.format(body)]
+    return subprocess.run(words, text=True, capture_output="stdout" not in options, timeout=60, **options)
 
 
 class Ends(unittest.TestCase):

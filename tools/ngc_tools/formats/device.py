@@ -80,7 +80,7 @@ class NoDevice(Failure, ValueError):
 
     def said(self) -> str:
         """The text for people, with the path before it."""
-        return f"{self.of}: not a device: {self}"
+        return f"{self.of}: not a device: {self}" if self.of else str(self)
 
 
 class Held(OSError):

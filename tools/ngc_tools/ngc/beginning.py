@@ -70,8 +70,7 @@ class Beginning:
         try:
             return Beginning.of(Device(_image(path)))
         except NoDevice as error:
-            error.of = str(path)
-            raise
+            raise NoDevice(f"{path}: not a device: {error}") from None
 
     @staticmethod
     def of(device: Device) -> "Beginning":
