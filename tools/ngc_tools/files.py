@@ -16,9 +16,10 @@ MOST = 2**30  # bytes that are read of a file: of /dev/zero there is no end
 _BEGIN = 65_536  # bytes that tell what a file is
 _MARK = b"RS274NGC"  # of a device's header, docs/DEVICE.md
 _SECTOR = 512
-_KEY = rb"(?:step_nm|low_nm|high_nm|traverse_nm_per_min|period_us|tools_nm)"
-_SETTINGS = re.compile(rb"""^[ \t]*["']?""" + _KEY + rb"""["']?[ \t]*=""", re.MULTILINE)
-_OUT = re.compile(rb"(?:P (?:(?:-1|0|1) ){3}[0-9]+|D [0-9]+|S [012] [0-9]+\.[0-9]{6}(?: [0-9]+){4})(?:\n|\Z)")
+_SETTINGS = re.compile(rb"""^[ \t]*["']?(?:step_nm|low_nm|high_nm|traverse_nm_per_min|period_us|tools_nm)["']?[ \t]*=""",
+                       re.MULTILINE)
+_OUT = re.compile(rb"(?:P (?:-1|0|1) (?:-1|0|1) (?:-1|0|1) [0-9]+|D [0-9]+|S [012] [0-9]+\.[0-9]{6} [01] [01] [0-9]+ [0-9]+)"
+                  rb"(?:\n|\Z)")
 _RECORD = re.compile(rb"out .*\nlines [0-9]")
 
 
@@ -65,9 +66,9 @@ def kind(path: str | Path) -> str | None:
 
 
 def write_new(path: str | Path, data: bytes, inputs: Iterable[str | Path | None], force: bool = False) -> None:
-    """Writes a file whole or not at all: beside its place, synced, and renamed. A file that is there is written over
-    with `force` alone; one of `inputs`, a device, settings, an OUT, a record, and what is no file, never. To /dev/null
-    and to standard output's own name it is written at once.
+    """Writes a file whole or not at all: beside its place, synced, and renamed. A file that is there is written over with
+    `force` alone, and one of `inputs`, a device, settings, an OUT, a record or what is no file never. To /dev/null and
+    to standard output's own name it is written at once.
 
     Raises NotWritten, or OSError with the path."""
     if _is_open_output(path):
@@ -76,19 +77,14 @@ def write_new(path: str | Path, data: bytes, inputs: Iterable[str | Path | None]
             sys.stdout.buffer.write(data)
             sys.stdout.flush()
     elif not _is_null(path):
-        _refuse(path, inputs, force)
+        look_before_write(path, inputs, force)
         _replace(path, data)
 
 
-def look_before_append(path: str | Path, inputs: Iterable[str | Path | None]) -> None:
-    """Raises NotWritten where a file that is there isn't one to append to: one of `inputs`, a device, settings, an OUT,
-    a record; OSError if it can't be read."""
-    if os.path.isfile(path):
-        _refuse_needed(path, inputs)
-
-
-def _refuse(path: str | Path, inputs: Iterable[str | Path | None], force: bool) -> None:
-    """Raises NotWritten where something stands there that isn't written over."""
+def look_before_write(path: str | Path, inputs: Iterable[str | Path | None], force: bool = False) -> None:
+    """Raises NotWritten where something stands there that `write_new` doesn't write over, or OSError."""
+    if _is_null(path) or _is_open_output(path):
+        return
     try:
         mode = os.stat(path).st_mode
     except FileNotFoundError:
@@ -102,6 +98,13 @@ def _refuse(path: str | Path, inputs: Iterable[str | Path | None], force: bool) 
     _refuse_needed(path, inputs)
     if not force:
         raise NotWritten(f"{path}: it is there already; --force writes over it")
+
+
+def look_before_append(path: str | Path, inputs: Iterable[str | Path | None]) -> None:
+    """Raises NotWritten where a file that is there isn't one to append to: one of `inputs`, a device, settings, an OUT,
+    a record; OSError if it can't be read."""
+    if os.path.isfile(path):
+        _refuse_needed(path, inputs)
 
 
 def _refuse_needed(path: str | Path, inputs: Iterable[str | Path | None]) -> None:
@@ -132,12 +135,19 @@ def _is_open_output(path: str | Path) -> bool:
     return os.path.samestat(found, output) and not stat.S_ISREG(found.st_mode)
 
 
+def _place(path: str | Path) -> str:
+    """Where the file itself lies or is to lie, by links too. Raises OSError if a folder on the way isn't there."""
+    folder, name = os.path.split(path)
+    place = os.path.join(os.path.realpath(folder or ".", strict=True), name)
+    return _place(os.path.join(os.path.dirname(place), os.readlink(place))) if os.path.islink(place) else place
+
+
 def _replace(path: str | Path, data: bytes) -> None:
     """Puts new contents in the place of a file, or of none. Its permissions stay; those of a new one are 0640 less what
     the umask takes."""
-    place = os.path.realpath(path)
-    beside = f"{place}.{os.getpid()}.new"
     with naming(path):
+        place = _place(path)
+        beside = f"{place}.{os.getpid()}.new"
         file = os.open(beside, os.O_WRONLY | os.O_CREAT | os.O_EXCL | os.O_CLOEXEC, 0o640)
         try:
             with os.fdopen(file, "wb") as new:

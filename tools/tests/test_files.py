@@ -93,7 +93,8 @@ class Written(InFolder):
         self.assertIn("a terminal or a line to a machine", self.refused("/dev/zero"))
         os.symlink("loop", "loop")
         for path, said in ((".", "Is a directory"), ("loop", "Too many levels of symbolic links"),
-                           ("none/x", "No such file or directory"), ("first.toml/x", "Not a directory")):
+                           ("none/x", "No such file or directory"),
+                           ("none/../first.toml", "No such file or directory"), ("first.toml/x", "Not a directory")):
             with self.assertRaisesRegex(OSError, said) as caught:
                 write_new(path, b"new", [])
             self.assertEqual(caught.exception.filename, path)

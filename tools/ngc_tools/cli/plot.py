@@ -9,6 +9,7 @@ from ngc_tools.job import moves
 from ngc_tools.formats import out
 from ngc_tools.cli.run import new_parser, run
 from ngc_tools.failure import Failure, speaking_of
+from ngc_tools.files import read, write_new
 from ngc_tools.job.picture import picture
 from ngc_tools.formats.position import nanometres
 from ngc_tools.ngc.run import find_ngc, settings_refusal
@@ -46,6 +47,7 @@ def make_parser() -> argparse.ArgumentParser:
     words.add_argument("--at", nargs=3, metavar=("X", "Y", "Z"), help="a cross at this point, in machine millimetres")
     words.add_argument("--from", dest="start", nargs=3, metavar=("X", "Y", "Z"),
                        help="where the machine stood before the first line of an OUT; without it 0 0 0")
+    words.add_argument("--force", action="store_true", help="write over a FILE that is there")
     words.add_argument("--title", help="what stands above the picture; without it the name of INPUT")
     words.add_argument("--ngc", metavar="PATH", help="the program ngc; without it the one beside this tool, or on PATH")
     return words
@@ -61,7 +63,7 @@ def draw(args: argparse.Namespace) -> int:
     at, start = _point(args.at), _point(args.start)
     name = args.input if args.input not in (None, "-") else ""
     of = name or "standard input"
-    text = Path(name).read_bytes() if name else sys.stdin.buffer.read()
+    text = read(name) if name else sys.stdin.buffer.read()
     settings = _settings(args) if args.settings else None
     refused = False
     with speaking_of(of, Unplottable, canonical.BadText, out.BadLine):
@@ -76,7 +78,7 @@ def draw(args: argparse.Namespace) -> int:
         print(text.rstrip(b"\n").rpartition(b"\n")[2].decode("latin-1"), file=sys.stderr)
     title = args.title if args.title is not None else Path(name).name
     said = figures.lines(steps, settings, settings is not None)
-    _write(args.output, picture(steps, title, said, settings, at), said)
+    _write(args, picture(steps, title, said, settings, at), said)
     return 1 if refused else 0
 
 
@@ -110,9 +112,9 @@ def _point(words: list[str] | None) -> moves.Point | None:
     return x, y, z
 
 
-def _write(output: str | None, svg: str, said: list[str]) -> None:
-    if output is None:
+def _write(args: argparse.Namespace, svg: str, said: list[str]) -> None:
+    if args.output is None:
         sys.stdout.buffer.write(svg.encode())
         return
-    Path(output).write_bytes(svg.encode())
+    write_new(args.output, svg.encode(), [args.input, args.settings], args.force)
     print("\n".join(said))

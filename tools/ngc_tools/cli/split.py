@@ -1,10 +1,10 @@
 """The words of `ngc-split`, and what it writes."""
 import argparse
-import errno
 from pathlib import Path
 
 from ngc_tools.cli.run import new_parser, run
 from ngc_tools.failure import Failure, WrongWords, speaking_of
+from ngc_tools.files import look_before_write, read, write_new
 from ngc_tools.formats.device import MOST_LARGE_PROGRAM, MOST_PROGRAM, NoDevice, copied
 from ngc_tools.formats.position import millimetres, nanometres
 from ngc_tools.formats.settings import DEFAULT, Settings
@@ -87,7 +87,7 @@ def write_parts(args: argparse.Namespace) -> int:
         look_at_settings(ngc, args.settings)
     image = copied(args.device) if args.device else None
     above = nanometres(args.above) if args.above is not None else None
-    text = Path(args.program).read_bytes()
+    text = read(args.program)
     limit = args.limit or (MOST_LARGE_PROGRAM if args.large else MOST_PROGRAM)
     program = LongProgram.read(text, args.system)
     worlds = two_worlds(ngc, Settings.read(args.settings) if args.settings else DEFAULT)
@@ -125,11 +125,11 @@ def _write(args: argparse.Namespace, parts: list[Part]) -> None:
     """Writes the parts and says where each begins. Raises OSError."""
     prefix = args.output or str(Path(args.program).with_suffix(""))
     paths = [Path(f"{prefix}-{number}.ngc") for number in range(1, len(parts) + 1)]
+    inputs = [args.program, args.settings, args.device]
     for path in paths:
-        if path.exists() and not args.force:
-            raise FileExistsError(errno.EEXIST, "it is there already; --force writes over it", str(path))
+        look_before_write(path, inputs, args.force)
     for path, part in zip(paths, parts, strict=True):
-        path.write_bytes(part.text)
+        write_new(path, part.text, inputs, args.force)
         where = "from where the machine stands"
         if part.place:
             x, y, z = map(millimetres, part.place.at)
