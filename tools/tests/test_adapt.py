@@ -186,8 +186,8 @@ class Words(InFolder):
         name = str(CAM / "fusion_grbl.nc")
         done = self.tool("ngc-adapt", name, "--ngc", ngc(), "-o", "out.ngc")
         self.assertEqual((done.returncode, done.stdout), (2, ""))
-        self.assertEqual(done.stderr, f"{name}: line 6: G28 G91 Z0.: name the machine Z that the tool is lifted to:"
-                                      " --lift Z\n")
+        self.assertEqual(done.stderr, f"ngc-adapt: {name}: line 6: G28 G91 Z0.: name the machine Z that the tool is"
+                                      " lifted to: --lift Z\n")
         done = self.tool("ngc-adapt", name, "--ngc", ngc(), "--lift", "0")
         self.assertIn("line 25: G28 G91 X0. Y0.: name the machine X and Y", done.stderr)
         self.assertFalse(Path("out.ngc").exists())
@@ -234,17 +234,17 @@ class Words(InFolder):
     def test_files(self) -> None:
         """What can't be used is named."""
         done = self.tool("ngc-adapt", "none.nc", "--ngc", ngc())
-        self.assertEqual((done.returncode, done.stderr), (2, "none.nc: No such file or directory\n"))
+        self.assertEqual((done.returncode, done.stderr), (2, "ngc-adapt: none.nc: No such file or directory\n"))
         Path("part.nc").write_text("M2\n")
         done = self.tool("ngc-adapt", "part.nc", "--ngc", ngc(), "-o", "none/out.ngc")
-        self.assertEqual((done.returncode, done.stderr), (2, "none/out.ngc: No such file or directory\n"))
+        self.assertEqual((done.returncode, done.stderr), (2, "ngc-adapt: none/out.ngc: No such file or directory\n"))
         done = self.tool("ngc-adapt", "part.nc", "--ngc", ngc(), "--lift", "1e3")
         self.assertEqual(done.returncode, 2)
         Path("first.toml").write_text("period_us = 1\n")
         done = self.tool("ngc-adapt", "part.nc", "--ngc", ngc(), "--settings", "first.toml")
-        self.assertEqual((done.returncode, done.stderr), (2, "first.toml: S2 MissingKey\n"))
+        self.assertEqual((done.returncode, done.stderr), (2, "ngc-adapt: first.toml: S2 MissingKey\n"))
         done = self.tool("ngc-adapt", "part.nc", "--settings", "none.toml", "--ngc", ngc())
-        self.assertEqual((done.returncode, done.stderr), (2, "none.toml: No such file or directory\n"))
+        self.assertEqual((done.returncode, done.stderr), (2, "ngc-adapt: none.toml: No such file or directory\n"))
 
 
 if __name__ == "__main__":

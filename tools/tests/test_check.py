@@ -133,18 +133,18 @@ p.ngc: 1 refusal, no warnings
 p.ngc: 1 refusal, no warnings
 """ + AFTER))
         self.assertEqual(self.check("F1\r\nM2\r")[1].splitlines()[:6], [
-            "p.ngc:2: E1 Unreadable", "    M2\ufffd", "      ^", "    the line isn't in the grammar",
-            "    mend: end the last line with a newline", "    goes on without \ufffd"])
+            "p.ngc:2: E1 Unreadable", "    M2\\r", "      ^^", "    the line isn't in the grammar",
+            "    mend: end the last line with a newline", "    goes on without \\r"])
         self.assertEqual(self.check(b"\xef\xbb\xbfF1\r\nM2\r\n")[1].splitlines()[:5], [
-            "p.ngc:1: E1 Unreadable", "    \ufffdF1", "    ^", "    the line isn't in the grammar",
+            "p.ngc:1: E1 Unreadable", "    \\ufeffF1", "    ^^^^^^", "    the line isn't in the grammar",
             "    mend: save the file without a byte order mark"])
         self.assertEqual(self.check(b"")[1].splitlines()[0], "p.ngc:1: X3 NoProgramEnd")
 
     def test_columns(self) -> None:
-        """A tab and letters of two bytes take one column each; no control code reaches the terminal."""
+        """A tab and letters of two bytes take one column each, and a control code is escaped."""
         self.assertEqual(self.check(HEAD + "\tG1 (\u00e4\u00f6) X1\x1b Y1\nM2\n")[1].splitlines()[1:3], [
-            "     G1 (\u00e4\u00f6) X1\ufffd Y1",
-            "               ^"])
+            "     G1 (\u00e4\u00f6) X1\\x1b Y1",
+            "               ^^^^"])
 
     def test_long_line(self) -> None:
         """Of a line that is too long each comment that would do is marked."""
@@ -312,15 +312,15 @@ class Words(InFolder):
         """No `ngc`, no program, a folder, settings that are refused."""
         Path("p.ngc").write_text("M2\n")
         Path("bad.toml").write_text("")
-        self.assertEqual(self.failed("p.ngc", "--ngc", "none"), "none: not a program that can be run")
-        self.assertEqual(self.failed("none.ngc", "--ngc", ngc()), "none.ngc: No such file or directory")
-        self.assertEqual(self.failed(".", "--ngc", ngc()), ".: Is a directory")
+        self.assertEqual(self.failed("p.ngc", "--ngc", "none"), "ngc-check: none: not a program that can be run")
+        self.assertEqual(self.failed("none.ngc", "--ngc", ngc()), "ngc-check: none.ngc: No such file or directory")
+        self.assertEqual(self.failed(".", "--ngc", ngc()), "ngc-check: .: Is a directory")
         self.assertEqual(self.failed("p.ngc", "--ngc", ngc(), "--settings", "none.toml"),
-                         "none.toml: No such file or directory")
+                         "ngc-check: none.toml: No such file or directory")
         self.assertEqual(self.failed("p.ngc", "--ngc", ngc(), "--settings", "bad.toml"), "    tools_nm is missing: an"
                          " array of at most 128 whole numbers of nanometres, 0 to 1,000,000,000")
         self.assertEqual(self.failed("p.ngc", "--ngc", sys.executable),
-                         "ngc dry ended with status 2, and says nothing")
+                         "ngc-check: ngc dry ended with status 2, and says nothing")
         self.assertEqual(self.failed("p.ngc", "--ngc", sys.executable, "--settings", "first.toml"),
-                         "ngc dry ended with status 2, and names no fault of first.toml")
+                         "ngc-check: ngc dry ended with status 2, and names no fault of first.toml")
 

@@ -194,11 +194,12 @@ class Tools(Documents):
         self.same_options("ngc-check", text, synopsis + only)
         shutil.copy(CAM / "freecad_linuxcnc.ngc", "part.ngc")
         self.assertEqual(self.shell(check, status=1), said)
-        report, wrong = report[:report.index("mill.toml")], report[report.index("mill.toml"):]
+        report, wrong = report.split("ngc-check: mill.toml")
         self.assertEqual(self.shell(first), report)
         self.assertIn("6,000 mm/min", self.shell(only.replace("FILE", "first.toml")))
         Path("mill.toml").write_text(Path("mill.toml").read_text().replace("period_us = 40", "period_us = 50.0"))
-        self.assertEqual(self.shell(only.replace("FILE", "mill.toml") + " 2>&1", status=2), wrong)
+        error = self.shell(only.replace("FILE", "mill.toml") + " 2>&1", status=2)
+        self.assertEqual(error, "ngc-check: mill.toml" + wrong)
 
     def test_plot(self) -> None:
         """A pipe, and a picture beside an example with its figures."""

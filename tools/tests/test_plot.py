@@ -64,7 +64,7 @@ class Plot(InFolder):
 
     def figures(self, *words: str) -> list[str]:
         """What it says beside the picture."""
-        done = self.plot(*words, "--output", "x.svg")
+        done = self.plot(*words, "--output", "x.svg", "--force")
         self.assertEqual((done.stderr, done.returncode), ("", 0))
         return done.stdout.splitlines()
 
@@ -178,6 +178,7 @@ tool 3    moves 2.000 s   waits 0.001 s   in all 2.001 s
         Path("small.toml").write_text(FIRST.replace("[1000000000, 1000000000, 1000000000]", "[0, 0, 0]"))
         Path("t.txt").write_text(TEXT)
         Path("out").write_text("P 1 0 0 50\n")
+        Path("old.svg").write_text("<svg/>")
         Path("short").write_text("P 1 0 0 50\nP 1 0 0 49\n")
         cases = (
             (("none.txt",), "none.txt: No such file or directory"),
@@ -192,10 +193,15 @@ tool 3    moves 2.000 s   waits 0.001 s   in all 2.001 s
             (("first.toml",), "first.toml: line 1: not a command of canonical text: step_nm = [1000, 1000, 1000]"),
             (("t.txt", "--at", "1", "2", "x"), "not a number of millimetres with at most six decimals: x"),
             (("t.txt", "--output", "none/x.svg"), "none/x.svg: No such file or directory"),
+            (("t.txt", "--output", "out"), "out: it is an OUT, which isn't written over; name another file"),
+            (("t.txt", "--output", "none.txt/../t.txt"), "none.txt/../t.txt: No such file or directory"),
+            (("t.txt", "--output", "./t.txt", "--force"),
+             "./t.txt: it is what is read here, and isn't written over; name another file"),
+            (("t.txt", "--output", "old.svg"), "old.svg: it is there already; --force writes over it"),
         )
         for words, said in cases:
             done = self.plot(*words)
-            self.assertEqual((done.stdout, done.stderr, done.returncode), ("", said + "\n", 2))
+            self.assertEqual((done.stdout, done.stderr, done.returncode), ("", f"ngc-plot: {said}\n", 2))
 
     def test_other_programs(self) -> None:
         """A program in the place of `ngc` that makes no device, or hands out nothing."""
@@ -205,7 +211,8 @@ tool 3    moves 2.000 s   waits 0.001 s   in all 2.001 s
             Path("other").write_text(f"#!/bin/sh\n{script}\n")
             Path("other").chmod(0o755)
             done = self.tool("ngc-plot", "--ngc", "./other", "t.txt", "--settings", "first.toml")
-            self.assertEqual((done.stdout, done.stderr.removeprefix("./"), done.returncode), ("", said + "\n", 2))
+            self.assertEqual((done.stdout, done.returncode), ("", 2))
+            self.assertEqual(done.stderr.replace("./", ""), f"ngc-plot: {said}\n")
 
 
 class Geometry(unittest.TestCase):

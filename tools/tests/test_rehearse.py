@@ -185,7 +185,8 @@ class Rehearsals(InFolder):
         self.session("G91\n" + "G0 X0.002\n" * 700 + "M2\n", cut=False)
         Path("before.dev").write_bytes(Path("mill.dev").read_bytes())
         self.session("", "start", lines=1301)
-        self.assertEqual(self.refused(1, "--carried-out", "1290"), "mill.dev: the session handed out fewer lines\n")
+        self.assertEqual(self.refused(1, "--carried-out", "1290"),
+                         "ngc-rehearse: mill.dev: the session handed out fewer lines\n")
         said = self.rehearse("--carried-out", "1290", "--before", "before.dev")
         self.assertIn("the motors were in line 646 of 702: G0 X0.002\nsegment 0, line 2 of its 2; reference 1.290000",
                       said)
@@ -196,8 +197,9 @@ class Rehearsals(InFolder):
         self.session("G91 G0 Z0.003 F60\nG81 X0.001 Z-0.001 R-0.001 L400\nM2\n", cut=False)
         Path("before.dev").write_bytes(Path("mill.dev").read_bytes())
         self.session("", "start", lines=1500)
-        self.assertEqual(self.refused(1, "--carried-out", "3"), "mill.dev: the log begins within a block: it was full;"
-                                                                " name a copy of before by --before COPY\n")
+        self.assertEqual(self.refused(1, "--carried-out", "3"),
+                         "ngc-rehearse: mill.dev: the log begins within a block: it was full;"
+                         " name a copy of before by --before COPY\n")
         self.assertIn("the motors were in line 2 of 3: G81 X0.001 Z-0.001 R-0.001 L400\n",
                       self.rehearse("--carried-out", "1499", "--before", "before.dev"))
 
@@ -213,14 +215,15 @@ NEVER CUT: 400 lines from there up to the end of what was handed out
 no block is half-done: resume has nothing to do
 there is no program
 """)
-        self.assertEqual(self.refused(1, "--carried-out", "1001"), "mill.dev: the session handed out fewer lines\n")
+        self.assertEqual(self.refused(1, "--carried-out", "1001"),
+                         "ngc-rehearse: mill.dev: the session handed out fewer lines\n")
 
     def test_nothing_handed_out(self) -> None:
         """A session that moved nothing."""
         self.session("", "mdi G91", "tick 5", cut=False)
         self.assertEqual(self.refused(1, "--carried-out", "1"),
-                         "mill.dev: the log tells of nothing that was handed out since the device was written anew;"
-                         " name a copy of before by --before COPY\n")
+                         "ngc-rehearse: mill.dev: the log tells of nothing that was handed out since the device was"
+                         " written anew; name a copy of before by --before COPY\n")
 
     def test_block_delete(self) -> None:
         """Whether lines with a slash were left out isn't on the device; the log tells it."""
@@ -272,28 +275,29 @@ there is no program
     def test_refused(self) -> None:
         """Each refusal, by `ngc` and of the files."""
         self.hole(OUT + 100)
-        self.assertEqual(self.refused(1, "0", "0", "2000"), "mill.dev: reference 0 0 2000: refused X2 OutsideTravel\n")
+        self.assertEqual(self.refused(1, "0", "0", "2000"),
+                         "ngc-rehearse: mill.dev: reference 0 0 2000: refused X2 OutsideTravel\n")
         self.assertIn("N is at least 1", self.refused(1, "--carried-out", "0"))
         self.assertIn("three numbers, or none", self.refused(2, "1", "2"))
         self.assertIn("goes with --carried-out", self.refused(2, "--before", "mill.dev"))
         self.assertEqual(self.refused(2, "--carried-out", "5", "--before", "none.dev"),
-                         "none.dev: No such file or directory\n")
+                         "ngc-rehearse: none.dev: No such file or directory\n")
         Path("first.toml").write_text(FIRST.replace("high_nm = [1000000000", "high_nm = [1500000"))
-        self.assertEqual(self.refused(1, "1", "2", "5"), "mill.dev: resume: refused X2 OutsideTravel\n")
+        self.assertEqual(self.refused(1, "1", "2", "5"), "ngc-rehearse: mill.dev: resume: refused X2 OutsideTravel\n")
         Path("first.toml").write_text(FIRST.replace("period_us = 50", "period_us = 0"))
-        self.assertEqual(self.refused(2), "first.toml: S5 OutOfLimits\n")
+        self.assertEqual(self.refused(2), "ngc-rehearse: first.toml: S5 OutOfLimits\n")
         Path("first.toml").write_text(FIRST)
         with open("mill.dev", "rb") as file:
             fcntl.flock(file, fcntl.LOCK_EX)
-            self.assertEqual(self.refused(2), "mill.dev: a session holds the device: end it by quit\n")
+            self.assertEqual(self.refused(2), "ngc-rehearse: mill.dev: a session holds the device: end it by quit\n")
         Path("mill.dev").write_bytes(bytes(1710 * 512))
         self.assertIn("mill.dev: not a device: it isn't formatted", self.refused(2))
         Path("mill.dev").unlink()
-        self.assertEqual(self.refused(2), "mill.dev: No such file or directory\n")
+        self.assertEqual(self.refused(2), "ngc-rehearse: mill.dev: No such file or directory\n")
         Path("mill.dev").mkdir()
-        self.assertEqual(self.refused(2), "mill.dev: Is a directory\n")
+        self.assertEqual(self.refused(2), "ngc-rehearse: mill.dev: Is a directory\n")
         Path("first.toml").unlink()
-        self.assertEqual(self.refused(2), "first.toml: No such file or directory\n")
+        self.assertEqual(self.refused(2), "ngc-rehearse: first.toml: No such file or directory\n")
 
     def test_large(self) -> None:
         """A large device is copied whole: a program that stands past 131,072 bytes goes on there."""
@@ -316,7 +320,7 @@ there is no program
         image[512 * 88 + 152] = 9
         Path("mill.dev").write_bytes(image)
         self.assertEqual(self.refused(2), "mill.dev: damaged: sector 88: spindle 9\n"
-                                          "mill.dev: ngc ended with status 2: refused J3 Damaged\n")
+                                          "ngc-rehearse: mill.dev: ngc ended with status 2: refused J3 Damaged\n")
 
     def test_line_refused(self) -> None:
         """A line that is refused later in the job is told, with status 1."""

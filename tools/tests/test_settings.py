@@ -167,10 +167,10 @@ bad.toml: S5 OutOfLimits: a number is beyond its limits
         }
         for text, said in cases.items():
             Path("bad.toml").write_text(text)
-            self.assertEqual(self.only("bad.toml"), (2, "", said))
+            self.assertEqual(self.only("bad.toml"), (2, "", f"ngc-check: {said}"))
         Path("bad.toml").write_text(FIRST.replace("[50000000]", str([1] * 129)))
         self.assertEqual(self.only("bad.toml")[2].splitlines()[0],
-                         "bad.toml: S6 TooManyTools: there are more than 128 tool lengths")
+                         "ngc-check: bad.toml: S6 TooManyTools: there are more than 128 tool lengths")
 
     def test_each_tool_names_the_key(self) -> None:
         """The key and its limits, of a value that `ngc` alone calls S5 OutOfLimits."""
@@ -188,7 +188,7 @@ bad.toml: S5 OutOfLimits: a number is beyond its limits
 
     def test_no_file(self) -> None:
         """Where `ngc` says nothing, the path and the cause."""
-        self.assertEqual(self.only("none.toml"), (2, "", "none.toml: No such file or directory\n"))
+        self.assertEqual(self.only("none.toml"), (2, "", "ngc-check: none.toml: No such file or directory\n"))
 
     def test_limits_are_those_of_the_page(self) -> None:
         """The limits that are said stand in docs/SETTINGS.md's table."""

@@ -238,25 +238,26 @@ class Splits(InFolder):
                 ("G0 X0", "X[1/#1]", "ngc refuses line 10 of a part: E5 BadArithmetic")):
             text = f"{MODES}#1=1\n{before}\nG0 X1 Y0 Z5\n{comments}G1 Z-1 F60\nG0 {after} Z5\nM2\n"
             said = self.split(text, "--above", "1", limit=len(text) - 1, status=1)
-            self.assertEqual(said, f"part.ngc: {wanted}\n")
+            self.assertEqual(said, f"ngc-split: part.ngc: {wanted}\n")
 
     def test_refused(self) -> None:
         """A line that `ngc` refuses is told; a short program needs no parts; files aren't written over."""
-        self.assertTrue(self.split("G21\nG41 D1\nM2\n", limit=10, status=1).startswith("part.ngc:2: B3 LeftOutCode\n"))
+        self.assertTrue(self.split("G21\nG41 D1\nM2\n", limit=10, status=1).startswith(
+            "ngc-split: part.ngc:2: B3 LeftOutCode\n"))
         self.assertEqual(self.split("M2\n", limit=10), "part.ngc: 3 bytes: ngc run takes it as it is\n")
         self.split(PART, limit=LIMIT)
         done = self.tool("ngc-split", "part.ngc", "--limit", str(LIMIT), "--ngc", ngc())
         self.assertEqual((done.returncode, done.stderr),
-                         (2, "part-1.ngc: it is there already; --force writes over it\n"))
+                         (2, "ngc-split: part-1.ngc: it is there already; --force writes over it\n"))
         done = self.tool("ngc-split", "part.ngc", "--limit", str(LIMIT), "--ngc", ngc(), "-o", "none/a")
-        self.assertEqual((done.returncode, done.stderr), (2, "none/a-1.ngc: No such file or directory\n"))
+        self.assertEqual((done.returncode, done.stderr), (2, "ngc-split: none/a-1.ngc: No such file or directory\n"))
         self.assertEqual(self.tool("ngc-split", "none.ngc", "--ngc", ngc()).stderr,
-                         "none.ngc: No such file or directory\n")
+                         "ngc-split: none.ngc: No such file or directory\n")
         Path("first.toml").write_text("period_us = 1\n")
         done = self.tool("ngc-split", "part.ngc", "--settings", "first.toml", "--ngc", ngc())
-        self.assertEqual((done.returncode, done.stderr), (2, "first.toml: S2 MissingKey\n"))
+        self.assertEqual((done.returncode, done.stderr), (2, "ngc-split: first.toml: S2 MissingKey\n"))
         done = self.tool("ngc-split", "part.ngc", "--settings", "none.toml", "--ngc", ngc())
-        self.assertEqual((done.returncode, done.stderr), (2, "none.toml: No such file or directory\n"))
+        self.assertEqual((done.returncode, done.stderr), (2, "ngc-split: none.toml: No such file or directory\n"))
 
 
 if __name__ == "__main__":

@@ -65,13 +65,12 @@ class Tools(InFolder):
         shutil.copytree(TOOLS, "tools", ignore=shutil.ignore_patterns("tests", "__pycache__"))
         os.symlink(ngc(), "tools/ngc")
         for name, words in WORDS.items():
-            prefix = "ngc-operate: " if name == "ngc-operate" else ""
-            self.assertEqual(self.run_tool(name, *words), (2, "", prefix + NOT_FOUND), name)
+            self.assertEqual(self.run_tool(name, *words), (2, "", f"{name}: {NOT_FOUND}"), name)
             on_path = self.run_tool(name, *words, path=str(self.folder / "bin"))
             self.assertEqual(on_path[0], 0, on_path)
             self.assertEqual(self.run_tool(name, *words, tools=self.folder / "tools"), on_path, name)
             self.assertEqual(self.run_tool(name, *words, "--ngc", "first.toml"),
-                             (2, "", f"{prefix}first.toml: not a program that can be run\n"), name)
+                             (2, "", f"{name}: first.toml: not a program that can be run\n"), name)
 
     def test_imports(self) -> None:
         """Python's standard library alone."""

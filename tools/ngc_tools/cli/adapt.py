@@ -6,11 +6,11 @@ from pathlib import Path
 
 from ngc_tools.ngc import faults
 from ngc_tools.job.cam import CamLine, Missing, Places, rewritten
-from ngc_tools.files import cause
+from ngc_tools.cli.run import new_parser, run
+from ngc_tools.failure import Failure
 from ngc_tools.formats.position import nanometres
 from ngc_tools.job.radius_arcs import centred
-from ngc_tools.ngc.run import CannotRun, dry, find_ngc, refusal
-from ngc_tools.formats.settings import BadSettings
+from ngc_tools.ngc.run import dry, find_ngc, refusal
 from ngc_tools.ngc.usable_settings import look_at_settings
 
 ABOUT = """Write a CAM system's text as `ngc` accepts it, and list each line that is changed.
@@ -34,8 +34,7 @@ _ASKS = {"lift": ("--lift Z", "the machine Z that the tool is lifted to"),
 
 def make_parser() -> argparse.ArgumentParser:
     """The words of the command line."""
-    words = argparse.ArgumentParser("ngc-adapt", description=ABOUT, epilog=EXAMPLE,
-                                    formatter_class=argparse.RawDescriptionHelpFormatter)
+    words = new_parser("ngc-adapt", ABOUT, EXAMPLE)
     words.add_argument("program", metavar="PROGRAM", help="the CAM system's text; - is standard input")
     words.add_argument("--output", "-o", metavar="FILE", help="write the text here, and the list to standard output")
     words.add_argument("--lift", metavar="Z", help="what G28 and G30 of Z alone become: G53 G0 Z, a machine coordinate"
@@ -48,17 +47,16 @@ def make_parser() -> argparse.ArgumentParser:
 
 def main(arguments: list[str] | None = None) -> int:
     """Adapts a program, and returns the exit status; without arguments those of the command line count."""
-    args = make_parser().parse_args(arguments)
+    return run(make_parser(), work, arguments)
+
+
+def work(args: argparse.Namespace) -> int:
+    """Adapts a program. Raises what `adapt` raises; of a height or a place that is missing, which option names it."""
     try:
         return adapt(args)
     except Missing as error:
         option, what = _ASKS[error.what]
-        print(f"{args.program}: {error}: name {what}: {option}", file=sys.stderr)
-    except OSError as error:
-        print(cause(error), file=sys.stderr)
-    except (BadSettings, CannotRun, ValueError) as error:
-        print(error, file=sys.stderr)
-    return 2
+        raise Failure(f"{args.program}: {error}: name {what}: {option}") from None
 
 
 def adapt(args: argparse.Namespace) -> int:

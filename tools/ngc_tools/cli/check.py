@@ -1,18 +1,18 @@
 """The words of `ngc-check`, and what it says."""
 import argparse
-import os
-import sys
 import textwrap
 from collections import Counter
 from pathlib import Path
 
 from ngc_tools.ngc import faults
 from ngc_tools.ngc import settings_report
-from ngc_tools.files import cause
+from ngc_tools.cli.run import new_parser, run
+from ngc_tools.failure import WrongWords
 from ngc_tools.job.dangers import dangers
 from ngc_tools.job.refused import Finding, Lines, Piece, find_all
-from ngc_tools.ngc.run import CannotRun, Refusal, dry, find_ngc, refusal, settings_refusal
+from ngc_tools.ngc.run import Refusal, dry, find_ngc, refusal, settings_refusal
 from ngc_tools.formats.settings import BadSettings, Settings
+from ngc_tools.formats.text import shown
 
 ABOUT = """Say of each line of PROGRAM that `ngc` refuses what is wrong with it, and warn of what is valid and
 dangerous.
@@ -38,8 +38,7 @@ LIKE = 10  # warnings of one kind that are shown
 
 def make_parser() -> argparse.ArgumentParser:
     """The words of the command line."""
-    parser = argparse.ArgumentParser("ngc-check", description=ABOUT, epilog=EXAMPLE,
-                                    formatter_class=argparse.RawDescriptionHelpFormatter)
+    parser = new_parser("ngc-check", ABOUT, EXAMPLE)
     parser.add_argument("program", metavar="PROGRAM", nargs="?", help="the file of the program")
     parser.add_argument("--settings", metavar="FILE", help="the machine's settings; without it the default ones hold")
     parser.add_argument("--settings-only", action="store_true", help="check the settings, and no program")
@@ -51,33 +50,21 @@ def make_parser() -> argparse.ArgumentParser:
     return parser
 
 
-def main() -> int:
-    """Checks, and returns the exit status."""
-    for stream in (sys.stdout, sys.stderr):
-        stream.reconfigure(errors="backslashreplace")
-    parser = make_parser()
-    args = parser.parse_args()
+def main(arguments: list[str] | None = None) -> int:
+    """Checks, and returns the exit status; without arguments those of the command line count."""
+    return run(make_parser(), work, arguments)
+
+
+def work(args: argparse.Namespace) -> int:
+    """Checks the settings or a program. Raises WrongWords, OSError, BadSettings, CannotRun."""
     if args.settings_only and (args.program or not args.settings):
-        parser.error("--settings-only takes --settings FILE and no program")
+        raise WrongWords("--settings-only takes --settings FILE and no program")
     if not args.settings_only and not args.program:
-        parser.error("name the file of a program")
-    try:
-        ngc = find_ngc(args.ngc)
-        if args.settings and (refused := _settings_refused(ngc, args.settings)):
-            print("\n".join(settings_report.fault_lines(ngc, args.settings, refused)), file=sys.stderr)
-            return 2
-        status = say_settings(args.settings) if args.settings_only else check(ngc, args)
-        sys.stdout.flush()
-        return status
-    except BrokenPipeError:
-        os.dup2(os.open(os.devnull, os.O_WRONLY), sys.stdout.fileno())  # nobody reads any more
-    except OSError as error:
-        print(cause(error), file=sys.stderr)
-    except (BadSettings, CannotRun) as error:
-        print(error, file=sys.stderr)
-    except KeyboardInterrupt:
-        print("stopped", file=sys.stderr)
-    return 2
+        raise WrongWords("name the file of a program")
+    ngc = find_ngc(args.ngc)
+    if args.settings and (refused := _settings_refused(ngc, args.settings)):
+        raise BadSettings("\n".join(settings_report.fault_lines(ngc, args.settings, refused)))
+    return say_settings(args.settings) if args.settings_only else check(ngc, args)
 
 
 def _settings_refused(ngc: str, path: str) -> Refusal | None:
@@ -141,7 +128,7 @@ class Listing:
         self.count += 1
         fault = finding.refusal
         self.lines.add(fault.line)
-        print(f"{self.path}:{fault.line}: {fault.code} {fault.name}")
+        print(f"{shown(self.path)}:{fault.line}: {fault.code} {fault.name}")
         if finding.text.strip():
             print(f"    {shown(finding.text)}".rstrip())
         if finding.marks:
@@ -182,12 +169,6 @@ def _goes_on(finding: Finding) -> str:
 
 def _count(number: int, what: str) -> str:
     return f"{number} {what}{'' if number == 1 else 's'}" if number else f"no {what}s"
-
-
-def shown(text: bytes) -> str:
-    """Bytes of a line as a terminal may show them: a tab is a blank, and U+FFFD stands for what isn't printable."""
-    return "".join(letter if letter.isprintable() else " " if letter == "\t" else "\ufffd"
-                   for letter in text.decode("utf-8", "replace"))
 
 
 def wrapped(text: str) -> str:

@@ -10,15 +10,16 @@ try:
 except ImportError:
     pass
 
-from ngc_tools.files import cause
+from ngc_tools.cli.run import new_parser, run
+from ngc_tools.failure import Failure
 from ngc_tools.ngc.before_start import CannotBegin, look
 from ngc_tools.ngc.console import Console, Ended
 from ngc_tools.operator.meter import LIMIT, Meter, check_limit
 from ngc_tools.operator.operator import Operator, explained
-from ngc_tools.player.progress import Link, NoAnswer
+from ngc_tools.player.progress import Link
 from ngc_tools.ngc.run import find_ngc
 from ngc_tools.cli.terminal import Screen
-from ngc_tools.formats.settings import BadSettings, Settings
+from ngc_tools.formats.settings import Settings
 
 ABOUT = """A console for people over `ngc run`: programs by name, G-code as typed, Enter or Ctrl-C holds.
 
@@ -40,8 +41,7 @@ exit status:
 
 def make_parser() -> argparse.ArgumentParser:
     """The words that it takes."""
-    parser = argparse.ArgumentParser("ngc-operate", description=ABOUT, epilog=EXAMPLE,
-                                     formatter_class=argparse.RawDescriptionHelpFormatter)
+    parser = new_parser("ngc-operate", ABOUT, EXAMPLE)
     parser.add_argument("device", metavar="DEVICE", help="the device, as `ngc format` made it")
     parser.add_argument("settings", metavar="SETTINGS", help="the machine's settings, in TOML")
     parser.add_argument("out", metavar="OUT", help="where pulses go: a named pipe with a player, a file, a serial line")
@@ -54,19 +54,18 @@ def make_parser() -> argparse.ArgumentParser:
 
 def main(arguments: list[str] | None = None) -> int:
     """Runs it, and returns the exit status."""
-    args = make_parser().parse_args(arguments)
+    return run(make_parser(), work, arguments)
+
+
+def work(args: argparse.Namespace) -> int:
+    """Looks at what is given, and does the session. Raises CannotBegin, NoAnswer, BadSettings, ValueError, OSError."""
+    ngc = find_ngc(args.ngc)
+    meter = metered(args)
+    pipe = look(args.device, args.settings, args.out)
     try:
-        ngc = find_ngc(args.ngc)
-        meter = metered(args)
-        pipe = look(args.device, args.settings, args.out)
         return session(ngc, args, meter, pipe)
-    except (CannotBegin, NoAnswer, BadSettings, ValueError) as error:
-        print(f"ngc-operate: {error}", file=sys.stderr)
-    except OSError as error:
-        print(f"ngc-operate: {cause(error)}", file=sys.stderr)
     except Ended as ended:
-        print("ngc-operate: " + told(ended), file=sys.stderr)
-    return 2
+        raise Failure(told(ended)) from None
 
 
 def metered(args: argparse.Namespace) -> Meter | None:

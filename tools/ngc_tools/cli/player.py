@@ -5,13 +5,13 @@ import sys
 import threading
 from contextlib import ExitStack
 
-from ngc_tools.files import cause
+from ngc_tools.cli.run import new_parser, run
 from ngc_tools.formats.out import BadLine
 from ngc_tools.player.player import PIPE_BYTES, Pins, Player, Source, Stopped, begin, save_wakeups
 from ngc_tools.formats.position import nanometres
 from ngc_tools.player.progress import Listener
-from ngc_tools.formats.record import BadRecord, Keeper
-from ngc_tools.formats.settings import BadSettings, Settings
+from ngc_tools.formats.record import Keeper
+from ngc_tools.formats.settings import Settings
 
 ABOUT = """Carry out the lines of OUT, each in its time, and keep in POSITION what was carried out.
 
@@ -31,8 +31,7 @@ exit status:
 
 def make_parser() -> argparse.ArgumentParser:
     """The words that it takes."""
-    parser = argparse.ArgumentParser("ngc-player", description=ABOUT, epilog=EXAMPLE,
-                                     formatter_class=argparse.RawDescriptionHelpFormatter)
+    parser = new_parser("ngc-player", ABOUT, EXAMPLE)
     parser.add_argument("out", metavar="OUT", help="a file, or a named pipe: it waits until `ngc run` opens the pipe")
     parser.add_argument("settings", metavar="SETTINGS", help="the machine's settings, as `ngc run` has them")
     parser.add_argument("position", metavar="POSITION", help="the record; it is made where there is none, and then the"
@@ -54,26 +53,24 @@ def make_parser() -> argparse.ArgumentParser:
 
 def main(arguments: list[str] | None = None) -> int:
     """Runs it, and returns the exit status."""
-    args = make_parser().parse_args(arguments)
-    try:
-        at_nm = tuple(map(nanometres, args.at)) if args.at else None
-        settings = Settings.read(args.settings)
-        begun, position = begin(args.position, args.out, settings.step_nm, at_nm, args.anew)
-        source = Source(args.out, begun, args.pipe, args.follow)
-        if source.pipe_bytes >= 2 * max(args.pipe, PIPE_BYTES):
-            print(f"{args.out}: the pipe stays at {source.pipe_bytes:,} bytes", file=sys.stderr)
-        player = Player(source, position, begun, Pins(args.pins), settings.period_us)
-        with ExitStack() as stack:
-            if args.progress:
-                player.listener = Listener(args.progress)
-                stack.callback(player.listener.close)
-            player.keeper = Keeper(args.position, begun)
-            return play(player, args)
-    except (BadSettings, BadRecord, ValueError) as error:
-        print(f"ngc-player: {error}", file=sys.stderr)
-    except OSError as error:
-        print(f"ngc-player: {cause(error)}", file=sys.stderr)
-    return 2
+    return run(make_parser(), work, arguments)
+
+
+def work(args: argparse.Namespace) -> int:
+    """Opens what is named, and plays. Raises BadSettings, BadRecord, ValueError, OSError."""
+    at_nm = tuple(map(nanometres, args.at)) if args.at else None
+    settings = Settings.read(args.settings)
+    begun, position = begin(args.position, args.out, settings.step_nm, at_nm, args.anew)
+    source = Source(args.out, begun, args.pipe, args.follow)
+    if source.pipe_bytes >= 2 * max(args.pipe, PIPE_BYTES):
+        print(f"{args.out}: the pipe stays at {source.pipe_bytes:,} bytes", file=sys.stderr)
+    player = Player(source, position, begun, Pins(args.pins), settings.period_us)
+    with ExitStack() as stack:
+        if args.progress:
+            player.listener = Listener(args.progress)
+            stack.callback(player.listener.close)
+        player.keeper = Keeper(args.position, begun)
+        return play(player, args)
 
 
 def play(player: Player, args: argparse.Namespace) -> int:

@@ -1,7 +1,5 @@
 """The words of `ngc-plot`, and what it draws."""
 import argparse
-import os
-import subprocess
 import sys
 from pathlib import Path
 
@@ -9,12 +7,14 @@ from ngc_tools.formats import canonical
 from ngc_tools.job import figures
 from ngc_tools.job import moves
 from ngc_tools.formats import out
-from ngc_tools.files import cause
+from ngc_tools.cli.run import new_parser, run
+from ngc_tools.failure import Failure, speaking_of
+from ngc_tools.files import read, write_new
 from ngc_tools.job.picture import picture
 from ngc_tools.formats.position import nanometres
-from ngc_tools.ngc.run import CannotRun, find_ngc, settings_refusal
+from ngc_tools.ngc.run import find_ngc, settings_refusal
 from ngc_tools.formats.settings import BadSettings, Settings
-from ngc_tools.ngc.timing import NotTimed, timed
+from ngc_tools.ngc.timing import timed
 
 ABOUT = """Draw a job as SVG: from above, from the front and from the side, traverses dashed, depth as shade.
 
@@ -34,71 +34,61 @@ exit status:
   2  the words are wrong, a file can't be used, or ngc didn't hand out the moves"""
 
 
-class Unplottable(ValueError):
+class Unplottable(Failure):
     """A text that can't be drawn; it says why."""
 
 
 def make_parser() -> argparse.ArgumentParser:
     """The words of the command line."""
-    words = argparse.ArgumentParser("ngc-plot", description=ABOUT, epilog=EXAMPLE,
-                                    formatter_class=argparse.RawDescriptionHelpFormatter)
+    words = new_parser("ngc-plot", ABOUT, EXAMPLE)
     words.add_argument("input", metavar="INPUT", nargs="?", help="canonical text, or an OUT; - or none: standard input")
     words.add_argument("--settings", metavar="FILE", help="the machine's settings: exact times, the travel as a frame")
     words.add_argument("--output", "-o", metavar="FILE", help="write the SVG here, and the figures to standard output")
     words.add_argument("--at", nargs=3, metavar=("X", "Y", "Z"), help="a cross at this point, in machine millimetres")
     words.add_argument("--from", dest="start", nargs=3, metavar=("X", "Y", "Z"),
                        help="where the machine stood before the first line of an OUT; without it 0 0 0")
+    words.add_argument("--force", action="store_true", help="write over a FILE that is there")
     words.add_argument("--title", help="what stands above the picture; without it the name of INPUT")
     words.add_argument("--ngc", metavar="PATH", help="the program ngc; without it the one beside this tool, or on PATH")
     return words
 
 
-def main() -> int:
-    """Draws, and returns the exit status."""
-    sys.stderr.reconfigure(errors="backslashreplace")
-    args = make_parser().parse_args()
-    try:
-        status = draw(args)
-        sys.stdout.flush()
-        return status
-    except BrokenPipeError:
-        os.dup2(os.open(os.devnull, os.O_WRONLY), sys.stdout.fileno())  # nobody reads any more
-    except (Unplottable, canonical.BadText, out.BadLine) as error:
-        print(f"{args.input or 'standard input'}: {error}", file=sys.stderr)
-    except subprocess.CalledProcessError as error:
-        print(f"{error.cmd[0]} {error.cmd[1]}: status {error.returncode}", file=sys.stderr)
-    except OSError as error:
-        print(cause(error), file=sys.stderr)
-    except (BadSettings, CannotRun, NotTimed, ValueError) as error:
-        print(error, file=sys.stderr)
-    return 2
+def main(arguments: list[str] | None = None) -> int:
+    """Draws, and returns the exit status; without arguments those of the command line count."""
+    return run(make_parser(), draw, arguments)
 
 
 def draw(args: argparse.Namespace) -> int:
-    """Reads the input, draws it, writes the SVG. Raises OSError, ValueError and the errors of the parts."""
+    """Reads the input, draws it, writes the SVG. Raises OSError and the failures of the parts."""
     at, start = _point(args.at), _point(args.start)
     name = args.input if args.input not in (None, "-") else ""
-    text = Path(name).read_bytes() if name else sys.stdin.buffer.read()
+    of = name or "standard input"
+    text = read(name) if name else sys.stdin.buffer.read()
     settings = _settings(args) if args.settings else None
     refused = False
-    if is_out(text):
-        if settings is None:
-            raise Unplottable("an OUT counts steps; name their settings by --settings FILE")
-        steps, exact = moves.of_out(text, settings, start or (0, 0, 0)), True
-        if not text.endswith(b"\n"):
-            print(f"{name or 'standard input'}: the part of a line at its end isn't drawn", file=sys.stderr)
-    else:
-        commands = canonical.read_commands(text)
-        refused = bool(commands) and commands[-1].name == "REFUSED"
-        if refused:
-            print(text.rstrip(b"\n").rpartition(b"\n")[2].decode("latin-1"), file=sys.stderr)
-        steps, exact = list(moves.of_canonical(commands)), settings is not None
-        if exact:
-            steps = timed(find_ngc(args.ngc), args.settings, steps)
+    with speaking_of(of, Unplottable, canonical.BadText, out.BadLine):
+        if is_out(text):
+            steps = _steps_of_out(text, settings, start or (0, 0, 0), of)
+        else:
+            commands = canonical.read_commands(text)
+            refused = bool(commands) and commands[-1].name == "REFUSED"
+            steps = list(moves.of_canonical(commands))
+            steps = timed(find_ngc(args.ngc), args.settings, steps) if settings else steps
+    if refused:
+        print(text.rstrip(b"\n").rpartition(b"\n")[2].decode("latin-1"), file=sys.stderr)
     title = args.title if args.title is not None else Path(name).name
-    said = figures.lines(steps, settings, exact)
-    _write(args.output, picture(steps, title, said, settings, at), said)
+    said = figures.lines(steps, settings, settings is not None)
+    _write(args, picture(steps, title, said, settings, at), said)
     return 1 if refused else 0
+
+
+def _steps_of_out(text: bytes, settings: Settings | None, start: moves.Point, of: str) -> list[moves.Step]:
+    """The steps of an OUT. Raises Unplottable, BadLine."""
+    if settings is None:
+        raise Unplottable("an OUT counts steps; name their settings by --settings FILE")
+    if not text.endswith(b"\n"):
+        print(f"{of}: the part of a line at its end isn't drawn", file=sys.stderr)
+    return moves.of_out(text, settings, start)
 
 
 def is_out(text: bytes) -> bool:
@@ -122,9 +112,9 @@ def _point(words: list[str] | None) -> moves.Point | None:
     return x, y, z
 
 
-def _write(output: str | None, svg: str, said: list[str]) -> None:
-    if output is None:
+def _write(args: argparse.Namespace, svg: str, said: list[str]) -> None:
+    if args.output is None:
         sys.stdout.buffer.write(svg.encode())
         return
-    Path(output).write_bytes(svg.encode())
+    write_new(args.output, svg.encode(), [args.input, args.settings], args.force)
     print("\n".join(said))

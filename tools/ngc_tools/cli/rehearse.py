@@ -3,15 +3,15 @@ import argparse
 import sys
 
 from ngc_tools.ngc.carried import CannotTell, Found, Replay, Run, runs
-from ngc_tools.files import cause
+from ngc_tools.cli.run import new_parser, run
+from ngc_tools.failure import WrongWords, speaking_of
+from ngc_tools.formats.device import Device, NoDevice, copied
 from ngc_tools.ngc.console import Ended
 from ngc_tools.ngc.copies import CommandRefused
-from ngc_tools.formats.device import Device, NoDevice, copied
-from ngc_tools.formats.lines import Program, shown
-from ngc_tools.formats.out import BadLine
+from ngc_tools.formats.lines import Program
+from ngc_tools.formats.text import shown_line
 from ngc_tools.operator.rehearsal import Rehearsal
-from ngc_tools.ngc.run import CannotRun, find_ngc
-from ngc_tools.formats.settings import BadSettings
+from ngc_tools.ngc.run import find_ngc
 from ngc_tools.ngc.usable_settings import look_at_settings
 
 ABOUT = """What `resume` would do, before anything moves: `ngc run` does it over a copy of the device. It says which
@@ -33,8 +33,7 @@ exit status:
 
 def make_parser() -> argparse.ArgumentParser:
     """The words of the command line."""
-    parser = argparse.ArgumentParser("ngc-rehearse", description=ABOUT, epilog=EXAMPLE,
-                                    formatter_class=argparse.RawDescriptionHelpFormatter)
+    parser = new_parser("ngc-rehearse", ABOUT, EXAMPLE)
     parser.add_argument("device", metavar="DEVICE", help="the device, as the session left it")
     parser.add_argument("settings", metavar="SETTINGS", help="the machine's settings")
     parser.add_argument("at", metavar="X Y Z", nargs="*", help="where the machine stands, in machine millimetres")
@@ -51,24 +50,17 @@ def make_parser() -> argparse.ArgumentParser:
 
 def main(arguments: list[str] | None = None) -> int:
     """Rehearses, and returns the exit status; without arguments those of the command line count."""
-    parser = make_parser()
-    args = parser.parse_args(arguments)
+    return run(make_parser(), work, arguments)
+
+
+def work(args: argparse.Namespace) -> int:
+    """Looks at the words, and rehearses. Raises WrongWords and the errors of the parts."""
     if len(args.at) not in (0, 3):
-        parser.error("X Y Z are three numbers, or none")
+        raise WrongWords("X Y Z are three numbers, or none")
     if args.before and args.carried_out is None:
-        parser.error("--before COPY goes with --carried-out N")
-    try:
+        raise WrongWords("--before COPY goes with --carried-out N")
+    with speaking_of(args.device, CommandRefused, CannotTell, NoDevice, Ended):
         return rehearse(args)
-    except (CommandRefused, CannotTell) as error:
-        print(f"{args.device}: {error}", file=sys.stderr)
-        return 1
-    except NoDevice as error:
-        print(f"{args.device}: not a device: {error}", file=sys.stderr)
-    except OSError as error:
-        print(cause(error), file=sys.stderr)
-    except (BadSettings, CannotRun, Ended, BadLine) as error:
-        print(f"{args.device}: {error}" if isinstance(error, Ended) else error, file=sys.stderr)
-    return 2
 
 
 def rehearse(args: argparse.Namespace) -> int:
@@ -114,7 +106,7 @@ def _said(found: Found, lines: int, since: Device, device: Device) -> list[str]:
     what = f"line {program.number(state.place)} of {program.count}" if state.half == 1 else "a line of the operator's"
     segment = f"segment {state.segment}" if state.opened == 1 else f"the approach to segment {state.segment}"
     said = [f"{lines} lines carried out, counted from {entries} entries on",
-            f"the motors were in {what}: {shown(state.half_text)}",
+            f"the motors were in {what}: {shown_line(state.half_text)}",
             f"{segment}, line {found.pulse} of its {found.pulses}; {found.position.reference()}"]
     if found.left:
         said.append(f"NEVER CUT: {found.left} lines from there up to {_end(device)}")

@@ -1,18 +1,17 @@
 """The words of `ngc-split`, and what it writes."""
 import argparse
-import errno
-import sys
 from pathlib import Path
 
-from ngc_tools.files import cause
+from ngc_tools.cli.run import new_parser, run
+from ngc_tools.failure import Failure, WrongWords, speaking_of
+from ngc_tools.files import look_before_write, read, write_new
 from ngc_tools.formats.device import MOST_LARGE_PROGRAM, MOST_PROGRAM, NoDevice, copied
 from ngc_tools.formats.position import millimetres, nanometres
-from ngc_tools.formats.settings import DEFAULT, BadSettings, Settings
+from ngc_tools.formats.settings import DEFAULT, Settings
 from ngc_tools.job.parts_compared import compare_dry, compare_run
 from ngc_tools.job.split import CannotPart, LongProgram, Part, parted
 from ngc_tools.ngc import faults
-from ngc_tools.ngc.console import Ended
-from ngc_tools.ngc.run import CannotRun, find_ngc
+from ngc_tools.ngc.run import find_ngc
 from ngc_tools.ngc.usable_settings import look_at_settings
 from ngc_tools.ngc.worlds import LineRefused, two_worlds
 
@@ -38,10 +37,15 @@ exit status:
 SYSTEMS = tuple(f"G{system}" for system in (54, 55, 56, 57, 58, 59, 59.1, 59.2, 59.3))
 
 
+class Refused(Failure):
+    """A line of the program is refused; the text names it, and says what to write in its place."""
+
+    exit_status = 1
+
+
 def make_parser() -> argparse.ArgumentParser:
     """The words of the command line."""
-    parser = argparse.ArgumentParser("ngc-split", description=ABOUT, epilog=EXAMPLE,
-                                     formatter_class=argparse.RawDescriptionHelpFormatter)
+    parser = new_parser("ngc-split", ABOUT, EXAMPLE)
     parser.add_argument("program", metavar="PROGRAM", help="the program, as ngc accepts it (ngc-adapt)")
     parser.add_argument("--settings", metavar="FILE", help="the machine's settings")
     parser.add_argument("--device", metavar="DEVICE", help="compare by `ngc run` over a copy of this device")
@@ -60,25 +64,19 @@ def make_parser() -> argparse.ArgumentParser:
 
 def main(arguments: list[str] | None = None) -> int:
     """Parts a program, and returns the exit status; without arguments those of the command line count."""
-    parser = make_parser()
-    args = parser.parse_args(arguments)
+    return run(make_parser(), work, arguments)
+
+
+def work(args: argparse.Namespace) -> int:
+    """Parts a program. Raises what `write_parts` raises; of a refused line, what to write in its place."""
     if args.device and not args.settings:
-        parser.error("--device goes with --settings")
+        raise WrongWords("--device goes with --settings")
     try:
-        return write_parts(args)
-    except CannotPart as error:
-        print(f"{args.program}: {error}", file=sys.stderr)
-        return 1
+        with speaking_of(args.program, CannotPart), speaking_of(args.device or "", NoDevice):
+            return write_parts(args)
     except LineRefused as error:
-        print(f"{args.program}:{error.refused.line}: {error}\n  {faults.cure(error.refused.code, [])}", file=sys.stderr)
-        return 1
-    except NoDevice as error:
-        print(f"{args.device}: not a device: {error}", file=sys.stderr)
-    except OSError as error:
-        print(cause(error), file=sys.stderr)
-    except (BadSettings, CannotRun, Ended, ValueError) as error:
-        print(error, file=sys.stderr)
-    return 2
+        cure = faults.cure(error.refused.code, [])
+        raise Refused(f"{args.program}:{error.refused.line}: {error}\n  {cure}") from None
 
 
 def write_parts(args: argparse.Namespace) -> int:
@@ -89,7 +87,7 @@ def write_parts(args: argparse.Namespace) -> int:
         look_at_settings(ngc, args.settings)
     image = copied(args.device) if args.device else None
     above = nanometres(args.above) if args.above is not None else None
-    text = Path(args.program).read_bytes()
+    text = read(args.program)
     limit = args.limit or (MOST_LARGE_PROGRAM if args.large else MOST_PROGRAM)
     program = LongProgram.read(text, args.system)
     worlds = two_worlds(ngc, Settings.read(args.settings) if args.settings else DEFAULT)
@@ -127,11 +125,11 @@ def _write(args: argparse.Namespace, parts: list[Part]) -> None:
     """Writes the parts and says where each begins. Raises OSError."""
     prefix = args.output or str(Path(args.program).with_suffix(""))
     paths = [Path(f"{prefix}-{number}.ngc") for number in range(1, len(parts) + 1)]
+    inputs = [args.program, args.settings, args.device]
     for path in paths:
-        if path.exists() and not args.force:
-            raise FileExistsError(errno.EEXIST, "it is there already; --force writes over it", str(path))
+        look_before_write(path, inputs, args.force)
     for path, part in zip(paths, parts, strict=True):
-        path.write_bytes(part.text)
+        write_new(path, part.text, inputs, args.force)
         where = "from where the machine stands"
         if part.place:
             x, y, z = map(millimetres, part.place.at)

@@ -2,6 +2,9 @@
 import re
 from dataclasses import dataclass
 
+from ngc_tools.failure import Failure
+from ngc_tools.formats.text import shown
+
 _NUMBER = r"-?[0-9]+\.[0-9]{6}"
 _POINT = rf"{_NUMBER}, {_NUMBER}, {_NUMBER}"
 _SHAPES = {
@@ -22,12 +25,12 @@ _REFUSED = re.compile(r"REFUSED line ([0-9]+): ([A-Z][0-9]+) ([A-Za-z0-9]+)")
 MOTIONS = ("STRAIGHT_TRAVERSE", "STRAIGHT_FEED", "ARC_FEED")
 
 
-class BadText(ValueError):
+class BadText(Failure, ValueError):
     """A line that isn't one of canonical text; `number` counts from 1."""
 
     def __init__(self, number: int, line: str) -> None:
-        shown = line[:60].encode("ascii", "backslashreplace").decode()
-        super().__init__(f"line {number}: not a command of canonical text: {shown}")
+        begin = shown(line[:60].encode("latin-1", "replace"))
+        super().__init__(f"line {number}: not a command of canonical text: {begin}")
         self.number = number
 
 

@@ -5,6 +5,9 @@ import struct
 from dataclasses import dataclass
 from pathlib import Path
 
+from ngc_tools.failure import Failure
+from ngc_tools.files import naming
+
 SECTOR = 512
 SIZE = SECTOR * 1710  # bytes of the sectors that a device needs
 LARGE_SIZE = SECTOR * 5806  # bytes from which on it is large
@@ -72,8 +75,12 @@ STATE = {
 """The fields of a state by their names in `State`, in the order of the page."""
 
 
-class NoDevice(ValueError):
+class NoDevice(Failure, ValueError):
     """Bytes that are no device (J2 of `ngc run`); the text says why."""
+
+    def said(self) -> str:
+        """The text for people, with the path before it."""
+        return f"{self.of}: not a device: {self}" if self.of else str(self)
 
 
 class Held(OSError):
@@ -210,8 +217,9 @@ class Device:
     @staticmethod
     def read(path: str | Path) -> "Device":
         """Reads the file, whether a session holds it or not. Raises NoDevice or OSError."""
-        with open(path, "rb") as file:
-            return Device(file.read(LARGE_SIZE))
+        with naming(path), open(path, "rb") as file:
+            image = file.read(LARGE_SIZE)
+        return Device(image)
 
     @property
     def selected(self) -> int:

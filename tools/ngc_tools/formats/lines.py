@@ -2,6 +2,8 @@
 import re
 from dataclasses import dataclass
 
+from ngc_tools.formats.text import shown, shown_line
+
 _COMMENT = re.compile(rb"\(([^()]*)\)")
 _MESSAGE = re.compile(rb"[ \t]*M[ \t]*S[ \t]*G[ \t]*,(.*)", re.IGNORECASE | re.DOTALL)
 
@@ -23,7 +25,7 @@ class Program:
 
     def line(self, place: int) -> str:
         """The line that begins at byte `place`, as people can read it."""
-        return shown(self.text[place:].split(b"\n", 1)[0])
+        return shown_line(self.text[place:].split(b"\n", 1)[0])
 
     def messages(self, start: int, end: int, delete: bool) -> list[tuple[int, str]]:
         """The messages of the lines between two places, with the numbers of their lines. `delete`: those that begin
@@ -35,9 +37,3 @@ class Program:
             if match and not (delete and line.lstrip(b" \t").startswith(b"/")):
                 found.append((number, shown(match[1]).strip()))
         return found
-
-
-def shown(line: bytes) -> str:
-    """A line of a program on a terminal: other bytes than printable ASCII are escaped."""
-    text = line.rstrip(b"\r").replace(b"\t", b" ").decode("utf-8", "backslashreplace")
-    return "".join(sign if sign.isprintable() else sign.encode("unicode_escape").decode() for sign in text)

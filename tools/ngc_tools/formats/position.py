@@ -1,6 +1,7 @@
 """Where the machine stands by the lines of OUT: whole steps, counted from a point in machine millimetres."""
 from collections.abc import Iterable, Sequence
 
+from ngc_tools.failure import BadNumber
 from ngc_tools.formats.out import Line, Pulse
 
 
@@ -10,10 +11,10 @@ def millimetres(nm: int) -> str:
 
 
 def nanometres(text: str) -> int:
-    """Millimetres with at most six decimals, as `7.21`, in nanometres. Raises ValueError for anything else."""
+    """Millimetres with at most six decimals, as `7.21`, in nanometres. Raises BadNumber for anything else."""
     whole, point, decimals = text.strip().removeprefix("-").removeprefix("+").partition(".")
     if not (whole + decimals).isdecimal() or not (whole + decimals).isascii() or len(decimals) > 6:
-        raise ValueError(f"not a number of millimetres with at most six decimals: {text}")
+        raise BadNumber(f"not a number of millimetres with at most six decimals: {text}")
     size = int(whole or "0") * 10**6 + int(decimals.ljust(6, "0"))
     return -size if text.strip().startswith("-") else size
 

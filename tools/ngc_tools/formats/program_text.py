@@ -1,13 +1,15 @@
 """The text of a program, as its bytes are meant: in which encoding they are, and where its lines end."""
 from dataclasses import dataclass
 
+from ngc_tools.failure import Failure
+
 _UTF_8_MARK = b"\xef\xbb\xbf"
 _UTF_16_MARKS = {b"\xff\xfe": "utf-16-le", b"\xfe\xff": "utf-16-be"}
 _WINDOWS = {code: bytes([code]).decode("cp1252", "ignore") or chr(code) for code in range(0x80, 0xa0)}
 _DOS_END = "\x1a"
 
 
-class NotText(ValueError):
+class NotText(Failure, ValueError):
     """The bytes begin as UTF-16 and aren't UTF-16."""
 
 

@@ -6,6 +6,7 @@ import time
 from dataclasses import dataclass, replace
 from pathlib import Path
 
+from ngc_tools.failure import Failure
 from ngc_tools.files import naming
 from ngc_tools.formats.out import OFF, BadLine, Switch, read_line
 from ngc_tools.formats.position import millimetres, nanometres
@@ -13,7 +14,7 @@ from ngc_tools.formats.position import millimetres, nanometres
 SIZE = 512  # bytes: a disk writes them whole or not at all
 
 
-class BadRecord(ValueError):
+class BadRecord(Failure, ValueError):
     """A file that is no record; the text names it and says why."""
 
 

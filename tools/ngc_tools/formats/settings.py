@@ -6,6 +6,8 @@ from dataclasses import dataclass
 from pathlib import Path
 from typing import Any
 
+from ngc_tools.failure import Failure
+from ngc_tools.files import read
 from ngc_tools.formats.device import SLOTS
 from ngc_tools.formats.text import shown
 
@@ -29,7 +31,7 @@ _ONE = ("traverse_nm_per_min", "period_us")
 _BARE = re.compile("[A-Za-z0-9_-]+")
 
 
-class BadSettings(ValueError):
+class BadSettings(Failure, ValueError):
     """A settings file that can't be used; the text names the path, and the keys if some are to blame."""
 
 
@@ -66,8 +68,7 @@ DEFAULT = Settings((1000,) * 3, (-1_000_000_000,) * 3, (1_000_000_000,) * 3, 6_0
 
 def read_table(path: str | Path) -> dict[str, Any]:
     """The keys of the file and their values. Raises BadSettings if it isn't TOML, or OSError."""
-    with open(path, "rb") as file:
-        text = file.read()
+    text = read(path)
     try:
         return tomllib.loads(text.removeprefix(b"\xef\xbb\xbf").decode("utf-8"))
     except UnicodeDecodeError as error:

@@ -7,6 +7,8 @@ from collections.abc import Callable
 from dataclasses import dataclass, field
 from decimal import Decimal, InvalidOperation
 
+from ngc_tools.failure import Failure
+
 _PIECE = re.compile(
     r"(?P<comment>\((?:[^()]|\([^()]*\))*\))|(?P<rest>;.*)"
     r"|(?P<letter>[A-Za-z])[ \t]*(?P<value>[-+]?[0-9. \t]*[0-9.]|\[[^;()]*?\](?![^\[;()]*\])|#[ \t]*[0-9.]+)"
@@ -131,7 +133,7 @@ class Places:
     park: tuple[str, str] | None = None
 
 
-class Missing(Exception):
+class Missing(Failure):
     """A height or a place is needed for a line; `what` is `lift` or `park`."""
 
     def __init__(self, what: str, number: int, text: str) -> None:

@@ -5,6 +5,7 @@ from bisect import bisect_right
 from dataclasses import dataclass, field, replace
 from itertools import accumulate
 
+from ngc_tools.failure import Failure
 from ngc_tools.formats.canonical import MOTIONS, Command
 from ngc_tools.formats.position import millimetres
 from ngc_tools.job.cam import CamLine
@@ -31,8 +32,10 @@ _PLAIN = (b"0", b"1", b"2", b"3")
 _MODAL = re.compile(rb"[GgMm][ \t]*0*[ \t]*[1-9][ \t]*[0-9]")
 
 
-class CannotPart(Exception):
+class CannotPart(Failure):
     """The program can't be parted; the text says why."""
+
+    exit_status = 1
 
 
 @dataclass(frozen=True, slots=True)

@@ -6,10 +6,11 @@ import stat
 import termios
 from pathlib import Path
 
+from ngc_tools.failure import Failure
 from ngc_tools.formats.device import SIZE
 
 
-class CannotBegin(Exception):
+class CannotBegin(Failure):
     """Why a session can't begin; the text names the path, says the cause and what to do."""
 
 

@@ -10,6 +10,7 @@ from dataclasses import dataclass, replace
 from io import RawIOBase
 from pathlib import Path
 
+from ngc_tools.failure import Failure
 from ngc_tools.files import naming
 from ngc_tools.formats.canonical import Command, read_commands
 from ngc_tools.formats.device import LARGE_SIZE, SLOTS, Device, Held, NoDevice, State
@@ -28,7 +29,7 @@ _KEPT = (5161, 5162, 5163, 5181, 5182, 5183, 5211, 5212, 5213,
 """The parameters that `load` keeps, but 5220."""
 
 
-class CannotSetUp(Exception):
+class CannotSetUp(Failure):
     """A dry run can't begin there; the text says with what it can't, and why."""
 
 
@@ -184,8 +185,9 @@ def _with_tools(settings: str | Path | None, tools_nm: tuple[int, ...] | None) -
         return
     found = DEFAULT if settings is None else Settings.read(settings)
     with tempfile.NamedTemporaryFile("w", prefix="ngc-settings-", suffix=".toml", encoding="utf-8") as file:
-        file.write(replace(found, tools_nm=tools_nm).text())
-        file.flush()
+        with naming(file.name):
+            file.write(replace(found, tools_nm=tools_nm).text())
+            file.flush()
         yield file.name
 
 

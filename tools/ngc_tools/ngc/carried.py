@@ -3,6 +3,7 @@ from collections.abc import Callable, Iterator
 from dataclasses import dataclass, replace
 from pathlib import Path
 
+from ngc_tools.failure import Failure
 from ngc_tools.ngc.console import Status
 from ngc_tools.ngc.copies import Copy, CommandRefused, first
 from ngc_tools.formats.device import Device, State
@@ -12,8 +13,10 @@ Key = tuple[int, int]
 """What grows from segment to segment: the entries, and the number of the segment that is open, from 1, 0 for none."""
 
 
-class CannotTell(Exception):
+class CannotTell(Failure):
     """Where the motors were can't be told; the text says why."""
+
+    exit_status = 1
 
 
 class OtherMoves(CannotTell):

@@ -6,13 +6,15 @@ from collections.abc import Callable
 from dataclasses import dataclass
 from pathlib import Path
 
+from ngc_tools.failure import Failure
+
 _STATUS = re.compile(
     r"status entries (\d+) place (\d+) at (\S+) (\S+) (\S+) (known|unknown)"
     r" half (?:(none)|(program|mdi) (\d+)) (idle|running|stopped|held|broken)"
 )
 
 
-class Ended(Exception):
+class Ended(Failure):
     """`ngc` has ended. `status` is its exit status, below 0 for a signal; `replies` what it wrote before that."""
 
     def __init__(self, status: int, replies: list[str]) -> None:

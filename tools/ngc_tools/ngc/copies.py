@@ -5,6 +5,7 @@ from dataclasses import dataclass, field
 from pathlib import Path
 from types import TracebackType
 
+from ngc_tools.failure import Failure
 from ngc_tools.ngc.console import Console, Status
 from ngc_tools.formats.device import Device
 from ngc_tools.formats.out import Dwell, Pulse, Switch, read_line
@@ -18,8 +19,10 @@ _SEARCHED = 1000  # ticks that are gone through one by one
 _COMMANDS = 100  # that are given at once: so few that the replies' pipe isn't waited for
 
 
-class CommandRefused(Exception):
+class CommandRefused(Failure):
     """`ngc run` refused a command, or a line of the program: the reply, and the status after it."""
+
+    exit_status = 1
 
     def __init__(self, asked: str, reply: str, status: Status) -> None:
         super().__init__(f"{asked}: {reply}")

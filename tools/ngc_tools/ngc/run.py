@@ -8,6 +8,9 @@ import tempfile
 from dataclasses import dataclass
 from pathlib import Path
 
+from ngc_tools.failure import Failure
+from ngc_tools.files import naming
+
 _REFUSED = re.compile(r"REFUSED line ([0-9]+): ([A-Z][0-9]+) ([A-Za-z0-9]+)")
 _SETTINGS_REFUSED = re.compile(r"refused ([A-Z][0-9]+) ([A-Za-z0-9]+)")
 
@@ -21,7 +24,7 @@ class Refusal:
     name: str
 
 
-class CannotRun(Exception):
+class CannotRun(Failure):
     """`ngc` didn't do a dry run: its words, a file or the settings are refused, or it is out of memory."""
 
 
@@ -45,8 +48,9 @@ def dry(ngc: str | Path, program: bytes | str | Path, settings: str | Path | Non
     Raises OSError if `ngc` can't be started or the text can't be kept in a file."""
     if isinstance(program, bytes):
         with tempfile.NamedTemporaryFile(prefix="ngc-dry-", suffix=".ngc") as file:
-            file.write(program)
-            file.flush()
+            with naming(file.name):
+                file.write(program)
+                file.flush()
             return dry(ngc, file.name, settings, block_delete)
     words = [str(ngc), "dry", str(program)]
     words += ["--settings", str(settings)] if settings is not None else []

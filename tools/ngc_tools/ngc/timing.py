@@ -5,6 +5,7 @@ from collections.abc import Iterator
 from dataclasses import replace
 from pathlib import Path
 
+from ngc_tools.failure import Failure
 from ngc_tools.ngc.console import Console, Ended
 from ngc_tools.formats.device import MOST_PROGRAM
 from ngc_tools.job.moves import PLANES, TRAVERSE, Move, Step
@@ -17,7 +18,7 @@ _HEAD = "G17 G21 G40 G49 G54 G80 G90 G94\n"
 _MARK = "G4 P0\n"  # a line `D 0` of OUT: a move ends here
 
 
-class NotTimed(Exception):
+class NotTimed(Failure):
     """`ngc run` didn't hand out the moves; it says why."""
 
 
@@ -31,7 +32,9 @@ def timed(ngc: str, settings: str | Path, steps: list[Step]) -> list[Step]:
     shared = "/dev/shm" if Path("/dev/shm").is_dir() else None  # a sync costs nothing there
     with tempfile.TemporaryDirectory(prefix="ngc-times-", dir=shared) as name:
         folder = Path(name)
-        subprocess.run([ngc, "format", str(folder / "device")], check=True, capture_output=True)
+        done = subprocess.run([ngc, "format", str(folder / "device")], check=False, capture_output=True)
+        if done.returncode:
+            raise NotTimed(f"{ngc} format: status {done.returncode}")
         console = Console(ngc, folder / "device", settings, folder / "out")
         try:
             for program in _programs(moves, Settings.read(settings)):

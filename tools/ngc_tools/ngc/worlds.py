@@ -2,6 +2,8 @@
 import tempfile
 from dataclasses import dataclass, replace
 
+from ngc_tools.failure import Failure
+from ngc_tools.files import naming
 from ngc_tools.formats.canonical import Command, read_commands
 from ngc_tools.formats.settings import Settings
 from ngc_tools.ngc.run import Refusal, dry, refusal
@@ -13,8 +15,10 @@ _BEGIN = "ngc begins here"
 _OTHER_MODES = "G18 G20 G91 G93 G55 G99\n"
 
 
-class LineRefused(Exception):
+class LineRefused(Failure):
     """`ngc dry` refuses a line of a program."""
+
+    exit_status = 1
 
     def __init__(self, refused: Refusal) -> None:
         super().__init__(f"{refused.code} {refused.name}")
@@ -36,8 +40,9 @@ class World:
         said = self.head + (_OTHER_MODES if in_other_modes else "") + f"({_BEGIN})\n"
         at = after_percent(text)
         with tempfile.NamedTemporaryFile("w", prefix="ngc-settings-", suffix=".toml") as file:
-            file.write(self.settings.text())
-            file.flush()
+            with naming(file.name):
+                file.write(self.settings.text())
+                file.flush()
             status, canonical = dry(self.ngc, text[:at] + said.encode() + text[at:], file.name)
         refused = refusal(status, canonical)
         if refused:

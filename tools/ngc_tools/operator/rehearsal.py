@@ -6,10 +6,11 @@ from ngc_tools.ngc.copies import Copy, CommandRefused, Tally, first
 from ngc_tools.formats.device import Device
 from ngc_tools.job.figures import duration
 from ngc_tools.job.figures import millimetres as rounded
-from ngc_tools.formats.lines import Program, shown
+from ngc_tools.formats.lines import Program
 from ngc_tools.job.moves import distance
 from ngc_tools.formats.out import Switch
 from ngc_tools.formats.position import nanometres
+from ngc_tools.formats.text import shown_line
 
 _TURNS = ("stands", "clockwise", "counter-clockwise")
 
@@ -52,7 +53,7 @@ class Rehearsal:
     def _resumed(self) -> list[str]:
         state, program = self._device.state, Program(self._device.program)
         what = f"line {program.number(state.place)} of {program.count}" if state.half == 1 else "the operator's line"
-        said = [f"half-done: {what}: {shown(state.half_text)}"]
+        said = [f"half-done: {what}: {shown_line(state.half_text)}"]
         commands = self._commands()
         entries = state.entries + len(commands) - 1  # a reference is one
 

@@ -12,12 +12,13 @@ import time
 from dataclasses import dataclass
 from pathlib import Path
 
+from ngc_tools.failure import Failure
 from ngc_tools.files import naming
 
 _REPORT = re.compile(r"carried (\d+) received (\d+) (works|waits) reference (\S+ \S+ \S+) out (.*)", re.DOTALL)
 
 
-class NoAnswer(Exception):
+class NoAnswer(Failure):
     """The player is gone, or didn't answer in time; the text names the socket."""
 
 
