@@ -5,14 +5,15 @@ from pathlib import Path
 
 sys.path.insert(0, str(Path(__file__).resolve().parent))
 
-from session_support import FIRST, InFolder, ngc  # noqa: E402
+from session_support import FIRST, InFolder, ngc, told  # noqa: E402
 
+from ngc_tools.cli.check import main as check_main  # noqa: E402
 from ngc_tools.formats.canonical import read_commands  # noqa: E402
-from ngc_tools.job.dangers import by_line  # noqa: E402
+from ngc_tools.job.printed import by_line  # noqa: E402
 from ngc_tools.job.refused import Lines, find_all  # noqa: E402
 from ngc_tools.ngc.run import Refusal, dry, refusal  # noqa: E402
 
-HEAD = "G17 G21 G90 G98\nF600\n"
+HEAD = "G17 G21 G90 G98\nF600 M3\n"
 UNUSED = """    a word H, I, J, K, L, P, Q or R that nothing takes. H is taken by G43 alone; I, J and K as
     offsets of an arc in the plane after the line; L by G10 and cycles; P by G4, G10, G82, G86 and
     G89; Q by G83; R by cycles and arcs (R with an arc is B11)
@@ -28,9 +29,9 @@ class Check(InFolder):
     def check(self, program: str | bytes, *words: str) -> tuple[int, str]:
         """Status and standard output for a program, p.ngc."""
         Path("p.ngc").write_bytes(program.encode() if isinstance(program, str) else program)
-        done = self.tool("ngc-check", "p.ngc", "--ngc", ngc(), *words)
-        self.assertEqual(done.stderr, "")
-        return done.returncode, done.stdout
+        status, said, error = told(check_main, "p.ngc", "--ngc", ngc(), *words)
+        self.assertEqual(error, "")
+        return status, said
 
     def test_nothing(self) -> None:
         """A program of which nothing is to be said."""
@@ -167,15 +168,103 @@ p.ngc: 1 refusal, no warnings
         self.assertEqual(self.check(HEAD + "/Q1\nM2\n", "--block-delete")[0], 0)
 
 
-class Warnings(InFolder):
-    """What is valid and dangerous."""
+class Refused(Check):
+    """What is said of single faults."""
+
+    def said(self, program: str | bytes, *words: str) -> list[str]:
+        """What is printed of a program, without blanks before it."""
+        return [line.strip() for line in self.check(program, *words)[1].splitlines()]
+
+    def test_travel(self) -> None:
+        """The axis, how far it goes and where the travel ends, of a move, of a cycle, of G28's point between."""
+        for line, said in {
+            "G0 X1000.5": "X goes to 1,000.5 mm of the machine, and the travel ends at 1,000 (high_nm of the settings)",
+            "G0 X1 Z-1000.000001":
+                "Z goes to -1,000.000001 mm of the machine, and the travel ends at -1,000 (low_nm of the settings)",
+            "G81 X1 Y-2000 Z-1 R1":
+                "Y goes to -2,000 mm of the machine, and the travel ends at -1,000 (low_nm of the settings)",
+            "G28 Y1001": "Y goes to 1,001 mm of the machine, and the travel ends at 1,000 (high_nm of the settings)",
+            "G0 Y20000": "a move goes beyond 10,000 mm of the machine, and no travel reaches as far",
+            "G10 L2 P1 X999\nG0 X2":
+                "X goes to 1,001 mm of the machine, and the travel ends at 1,000 (high_nm of the settings)",
+        }.items():
+            found = self.said(HEAD + line + "\nM2\n")
+            self.assertIn(said, " ".join(found), line)
+            self.assertIn("The work zero is taken to be at machine 0: --origin X Y Z or --device DEVICE says where it"
+                          " is", " ".join(found))
+
+    def test_travel_of_arcs(self) -> None:
+        """The point of an arc that lies farthest; none that it doesn't pass."""
+        low = FIRST.replace("-1000000000, -1000000000, -1000000000", "-6000000, -5000000, 0")
+        Path("low.toml").write_text(low.replace("1000000000, 1000000000, 1000000000", "6000000, 5000000, 9000000"))
+        for arc, said in {
+            "G3 X-5 I-5": "", "G2 X-5 I-5": "", "G3 X-5 Y1 I-5 J0.5": "Y passes 5.524938 mm",
+            "G2 X5 I1": "X passes 7 mm", "G2 X4 Y1 I-1 J0": "", "G3 X4 Y1 I-1 J0": "", "G3 X3 Y2 I-2 J0": "",
+            "G3 X5 Y2 J1": "", "G3 X5 Y3 J1.5": "X passes 6.5 mm", "G2 X5 Y3 J1.5": "",
+            "G18 G2 X4 Z-1 I-1": "Z goes to -1 mm", "G18 G3 X4 Z1 I-1": "Z passes -1 mm",
+        }.items():
+            found = " ".join(self.said(HEAD + f"G0 X5\n{arc} F100\nM2\n", "--settings", "low.toml"))
+            self.assertIn(said or "no refusals", found, arc)
+
+    def test_placed(self) -> None:
+        """From an origin a program runs that doesn't run from machine 0."""
+        Path("mill.toml").write_text(FIRST.replace("1000000000, 1000000000, 1000000000", "1000000000, 1000000000, 0"))
+        program = HEAD + "G0 X0 Y0 Z15\nG1 Z-1\nM2\n"
+        words = ("--settings", "mill.toml")
+        self.assertIn("Z goes to 15 mm of the machine, and the travel ends at 0", " ".join(self.said(program, *words)))
+        self.assertEqual(self.check(program, *words, "--origin", "0", "0", "-60"),
+                         (0, "p.ngc: no refusals, no warnings\n"))
+        found = " ".join(self.said(program, *words, "--origin", "0", "0", "-10"))
+        self.assertIn("Z goes to 5 mm of the machine, and the travel ends at 0", found)
+        self.assertNotIn("work zero", found)
+
+    def test_sign(self) -> None:
+        """A sign before a parameter is said, and the word is left out with it."""
+        found = self.said(HEAD + "G0 X-#1 Y2\nG0 X-[1+1] Y1\nM2\n")
+        self.assertEqual(found[1:3], ["G0 X-#1 Y2", "^^^^"])
+        self.assertIn("mend: write [0-#1] in the place of -#1: a sign stands before a number alone", found)
+        self.assertEqual([line for line in found if line.startswith("goes on")],
+                         ["goes on without X-#1", "goes on without X-[1+1]"])
+
+    def test_encodings(self) -> None:
+        """UTF-16 and lines that end in carriage returns are read as what they are; UTF-8 is shown so."""
+        mend = ["mend: ngc-adapt writes it as ngc reads it. What follows is said of that text"]
+        text = HEAD + "G0 X1 (\u00fc)\nQ1\nM2\n"
+        fault = ["p.ngc:4: B12 UnusedWord", "Q1", "^^"]
+        utf_16 = "the text is UTF-16, and ngc reads none of its lines"
+        for data, why in ((b"\xff\xfe" + text.encode("utf-16-le"), utf_16),
+                          (b"\xfe\xff" + text.encode("utf-16-be"), utf_16),
+                          (text.replace("\n", "\r").encode(),
+                           "the lines end in carriage returns alone, and ngc takes them for one line")):
+            self.assertEqual(self.said(data)[:5], [f"p.ngc: {why}", *mend, *fault])
+        self.assertEqual(self.check(("\ufeff" + HEAD + "M2\n").encode("utf-16-le")), (1, """\
+p.ngc: the text is UTF-16, and ngc reads none of its lines
+    mend: ngc-adapt writes it as ngc reads it. What follows is said of that text
+p.ngc: 1 refusal, no warnings
+"""))
+        self.assertEqual(self.said((HEAD + "G0 X1 \u00fc\nM2\n").encode())[1:3], ["G0 X1 \u00fc", "^"])
+
+    def test_control_characters(self) -> None:
+        """None reaches the terminal, also not by the line after `mend:`."""
+        for line in (b"G0 X1 \x1b[2J", b";\x9b31m\x1b[2K", b"(\xc2\x9b) U1 O\x1b1", b"G71\x07G91.1",
+                     b"\xe2\x80\xae M2"):
+            said = self.check(HEAD.encode() + line + b"\nM2\n")[1]
+            self.assertEqual([letter for letter in said if not letter.isprintable() and letter != "\n"], [], line)
+
+
+class Warned(InFolder):
+    """Programs that aren't refused."""
 
     def warnings(self, program: str, *words: str) -> list[str]:
         """The warnings of a program that isn't refused, each without its path and without the line's text."""
         Path("p.ngc").write_text(program)
-        done = self.tool("ngc-check", "p.ngc", "--ngc", ngc(), *words)
-        self.assertEqual((done.stderr, done.returncode), ("", 0))
-        return [line.removeprefix("p.ngc:") for line in done.stdout.splitlines()[:-1] if not line.startswith(" ")]
+        status, said, error = told(check_main, "p.ngc", "--ngc", ngc(), *words)
+        self.assertEqual((error, status), ("", 0))
+        return [line.removeprefix("p.ngc:") for line in said.splitlines()[:-1] if not line.startswith(" ")]
+
+
+class Warnings(Warned):
+    """What is valid and dangerous."""
 
     def test_homes(self) -> None:
         """G28 and G30, not in a comment, not G28 of 280, not where block delete leaves the line's words out."""
@@ -208,20 +297,21 @@ class Warnings(InFolder):
     def test_deep(self) -> None:
         """A traverse below the last cut; not one that stays above it, nor one that rises from below."""
         self.assertEqual(self.warnings(HEAD + "G1 Z-1\nG0 Z5\nG0 Z-1\nG0 X1 Z-1.5\nZ-1.2\nM2\n"), [
-            "6: warning: a traverse down to Z -1.500, below the last cut, whose lowest point is Z -1.000"])
+            "6: warning: a traverse down to Z -1.500, below the last cut, whose lowest point is Z -1.000: nothing has"
+            " cut the way free"])
 
     def test_modes(self) -> None:
         """Modes that a program relies on and doesn't set, each at the first line that another one changes."""
         said = "the dry run begins with {}, ngc run goes on with what the last block left; write {} before it"
         unit, distance = said.format("G21", "G20 or G21"), said.format("G90", "G90 or G91")
         plane, cycles = said.format("G17", "G17, G18 or G19"), said.format("G98", "G98 or G99")
-        self.assertEqual(self.warnings("F600\nG0 X0\nG2 X10 I5\nG81 Z-1 R1\nM2\n"), [
+        self.assertEqual(self.warnings("F600 M3\nG0 X0 Y0 Z0\nG2 X10 I5\nG81 Z-1 R1\nM2\n"), [
             f"1: warning: relies on the unit: {unit}",
             f"2: warning: relies on the distance mode: {distance}",
             f"3: warning: relies on the plane: {plane}"])
-        self.assertEqual(self.warnings("G21 G90 G17\nF600\nG0 Z5\nG81 X0 Z-1 R1\nM2\n"), [
+        self.assertEqual(self.warnings("G21 G90 G17\nF600 M3\nG0 Z5\nG81 X0 Z-1 R1\nM2\n"), [
             f"4: warning: relies on the way that cycles end: {cycles}"])
-        self.assertEqual(self.warnings("%\nG21 F600 G90 G17\nG1 X1\nM2\n%\n"), [
+        self.assertEqual(self.warnings("%\nG21 F600 G90 G17\nM3 G1 X1 Y0 Z0\nM2\n%\n"), [
             f"2: warning: relies on the unit: {unit}, on a line of its own: F is read in the unit before that of its"
             " line"])
 
@@ -244,7 +334,7 @@ class Warnings(InFolder):
         self.assertEqual(self.warnings(program + "\n"),
                          [" warning: 131,073 bytes: ngc run takes at most 131,072 of a program, 1,048,576 on a large"
                           " device (J5)"])
-        program += "\n" * (1_048_576 - len(program))
+        program += ("(" + "x" * 125 + ")\n") * 7168
         self.assertEqual(self.warnings(program, "--large"), [])
         self.assertEqual(self.warnings(program + "\n", "--large"), [
             " warning: 1,048,577 bytes: ngc run takes at most 1,048,576 of a program on a large device (J5)"])
@@ -254,6 +344,170 @@ class Warnings(InFolder):
         said = self.warnings(HEAD + "G4 P31\n" * 12 + "M2\n")
         self.assertEqual(said[9:], ["12: warning: a dwell of 31.000 s: P is in seconds",
                                     " 2 more warnings as those of line 3"])
+
+
+class Cutting(Warned):
+    """The spindle, the feed, the tool and its length."""
+
+    def test_spindle(self) -> None:
+        """The first cut of each stretch in which it stands; not a feed up, nor one after M4."""
+        stopped = "warning: it cuts with the spindle stopped, which breaks the tool: "
+        program = "G17 G21 G90\nF600\nG1 Z5\nG0 X0 Y0\nG1 Z-1\nX5\nM4\nX0\nM5\nX5\nX0\nM3 S1\nX5\nT1 M6\nX0\nM30\n"
+        self.assertEqual(self.warnings(program), [
+            f"5: {stopped}no M3 or M4 comes before it", f"10: {stopped}line 9 stops it",
+            f"15: {stopped}line 14 stops it, as a tool change does"])
+
+    def test_feed(self) -> None:
+        """A step of 0.001 mm each 50 us is 1,200 mm a minute, along a diagonal the square root of two times as much;
+        of an arc no axis is faster. Without settings nothing is known of it."""
+        program = HEAD + "G0 X0 Y0 Z1\nG1 Z0 F1200\nX1 Y1 F1697\nX0 F90000\nY0\nX1 Y1 F1698\nG2 X3 I1 F1201\nM2\n"
+        said = "warning: a feed of {} mm/min is capped at {} by period_us of the settings: is F right?"
+        self.assertEqual(self.warnings(program, "--settings", "first.toml"), [
+            f"6: {said.format('90,000', '1,200')}", f"8: {said.format('1,698', '1,697')}",
+            f"9: {said.format('1,201', '1,200')}"])
+        self.assertEqual(self.warnings(program), [])
+
+    def test_feed_is_capped_by_ngc(self) -> None:
+        """The periods of `ngc run` at F1698 and at F90000 are the same."""
+        self.device()
+        self.run_ngc("mdi G1 X1 Y1 F1698\ntick 5000\nmdi G1 X0 Y0 F90000\ntick 5000\n")
+        self.assertEqual(set(Path("out").read_text().splitlines()), {"P 1 1 0 50", "P -1 -1 0 50"})
+
+    def test_length(self) -> None:
+        """H isn't T at the cut; a tool change after G43; not G43 before the tool is in."""
+        Path("two.toml").write_text(FIRST.replace("[50000000]", "[50000000, 60000000, 1]"))
+        head = HEAD + "T1 M6\nM3\n"
+        self.assertEqual(self.warnings(head + "G43 H3 (H1)\nG0 X0 Y0 Z9\nG1 Z-1\nM2\n", "--settings", "two.toml"), [
+            "5: warning: H3 takes the length of slot 3, and tool 1 is in the spindle at the cut of line 7: it cuts too"
+            " deep, or in the air"])
+        self.assertEqual(self.warnings(head + "G43 H1\nG0 X0 Y0 Z9\nM0\nG17 G21 G90 G98 T2 M6\nM3\nG1 Z-1\nM2\n",
+                                       "--settings", "two.toml"), [
+            "5: warning: H1 takes the length of slot 1, and tool 2 is in the spindle at the cut of line 10: it cuts too"
+            " deep, or in the air"])
+        self.assertEqual(self.warnings(head + "#1=2\nG43 H#1\nG0 X0 Y0 Z99\nG1 Z-1\nM2\n", "--settings", "two.toml"), [
+            "8: warning: tool 1 cuts with a length of 60.000 mm, and slot 1 has 50.000: it cuts too deep, or in the"
+            " air"])
+        self.assertEqual(self.warnings(HEAD + "G43 H2\nT2 M6\nM3\nG0 X0 Y0 Z9\nG1 Z-1\nG49\nX1\nM2\n",
+                                       "--settings", "two.toml"), [])
+
+    def test_tool_change(self) -> None:
+        """One tool for another without a stop, once; not the first tool, nor where the program stops."""
+        Path("two.toml").write_text(FIRST.replace("[50000000]", "[0, 0]"))
+        words = ("--settings", "two.toml")
+        program = "G21 G17 G90 G94 G54\nT1 M6\nS8000 M3\nG0 X10\nT2 M6\nS3000 M3\nG0 X0\nT1 M6\nG0 X5\nM30\n"
+        self.assertEqual(self.warnings(program, *words), [
+            "5: warning: tool 2 takes the place of tool 1, and the program doesn't stop for it: the reader of OUT has"
+            " to wait until it is in, or the old tool goes on cutting"])
+        for stop in ("T2 M6\nM0", "M0\nT2 M6", "M60 T2 M6", "T1 M6"):
+            self.assertEqual(self.warnings(f"T1 M6\nG90 G21 G0 X10\n{stop}\nG90 G21\nG0 X0\nM30\n", *words), [])
+
+
+class Heights(Warned):
+    """Traverses that may go through the work."""
+
+    SIDEWAYS = ("warning: a traverse sideways at Z {}, as deep as the cut of line {}: it breaks the tool unless the way"
+                " is cut free already")
+
+    def test_sideways(self) -> None:
+        """At the depth of a cut, and below the shallowest one; not above it, nor straight up."""
+        program = "G0 X0 Y0 Z5\nG1 Z-1\nG0 X5\nG1 Z-3\nG0 X1 Z5\nX0\nZ-2\nY4\nG0 Z5\nM2\n"
+        self.assertEqual(self.warnings(HEAD + program), [
+            f"5: {self.SIDEWAYS.format('-1.000', 4)}", f"7: {self.SIDEWAYS.format('-3.000', 4)}",
+            f"10: {self.SIDEWAYS.format('-2.000', 4)}"])
+        program = "G0 X0 Y0 Z5\nG1 Z2\nZ-3\nX9\nZ4\nG0 X0 Z5\nX1 Z-2.999\nG81 X3 Z-4 R-2\nM2\n"
+        self.assertEqual(self.warnings(HEAD + program), [])
+
+    def test_tip(self) -> None:
+        """The heights are those of the tip: a longer tool isn't deeper. What is said are program coordinates."""
+        Path("two.toml").write_text(FIRST.replace("[50000000]", "[50000000, 10000000]"))
+        program = (HEAD + "G10 L2 P1 Z20\nT1 M6\nM3\nG43 H1\nG0 X0 Y0 Z5\nG1 Z-1\nG0 Z5\nM0\n" + HEAD
+                   + "T2 M6\nM3\nG43 H2\nG0 Z5\nX5\nX0 Z-1\nM2\n")
+        self.assertEqual(self.warnings(program, "--settings", "two.toml"), [
+            f"18: {self.SIDEWAYS.format('-1.000', 8)}"])
+
+    def test_machine_coordinates(self) -> None:
+        """Where the work zero isn't known, nobody knows how high G53 and G28 go; with --origin it is known."""
+        program = HEAD + "G0 X0 Y0 Z5\nG1 Z2\nG0 Z5\nG53 G0 Z0\nX9\nG0 Z5\nM2\n"
+        self.assertEqual(self.warnings(program), [])
+        self.assertEqual(self.warnings(program, "--origin", "0", "0", "-60"), [])
+        self.assertEqual(self.warnings(program, "--origin", "0", "0", "-1"), [
+            "6: warning: a traverse down to Z 1.000, below the last cut, whose lowest point is Z 2.000: nothing has cut"
+            " the way free", f"7: {self.SIDEWAYS.format('1.000', 4)}"])
+
+    def test_first(self) -> None:
+        """Down below the work zero before a cut; not to above it, nor in machine coordinates."""
+        self.assertEqual(self.warnings(HEAD + "G0 X1 Y1\nG0 Z-5\nG1 Z-6\nM2\n"), [
+            "4: warning: the first move in Z is a traverse down to Z -5.000, below the work zero: nothing says that it"
+            " is free there"])
+        self.assertEqual(self.warnings(HEAD + "G0 Z5\nX1 Y1\nZ-1\nG1 X9\nM2\n"), [
+            "5: warning: a traverse down to Z -1.000, below the work zero, before anything is cut: it breaks the tool"
+            " where the work stands"])
+        for program in ("G0 Z5\nX1 Y1\nZ-1\nG1 Z-3\n", "G53 G0 Z-5\nG0 X1 Y1 Z5\nG1 Z-1\n", "G0 X1 Y1 Z0\nG1 Z-1\n"):
+            self.assertEqual(self.warnings(HEAD + program + "M2\n"), [])
+        self.assertEqual(self.warnings(HEAD + "G0 Z5\nX1 Y1\nG1 Z-1\nM2\n", "--origin", "0", "0", "-60"), [])
+
+
+class Reliance(Warned):
+    """What an operator, or the run before, leaves."""
+
+    STOP = ("warning: after this stop it relies on {}, from line {} on: what is typed at the stop, as G91 to lift the"
+            " tool, stays in force; write the modes again after it")
+
+    def test_stops(self) -> None:
+        """Modes that aren't named again after M0, M1 or M60; a motion by G53 doesn't mind."""
+        for stop in ("M0", "M1", "M60"):
+            self.assertEqual(self.warnings(HEAD + f"G0 X1 Y0 Z5\n{stop}\nG0 X2\nG81 Z-1 R1\nM2\n"), [
+                f"4: {self.STOP.format('the unit, the distance mode, the plane and the way that cycles end', 5)}"])
+        self.assertEqual(self.warnings(HEAD + "G0 X1 Y0 Z5\nM0\nG21\nG90 G0 X2\nM2\n"), [])
+        self.assertEqual(self.warnings("G21 G90 G17 G54 G94\nG0 X10 Y10\nM0\nG0 X20 Y20\nM3 G1 X25 F600\nM2\n")[:1],
+                         [f"3: {self.STOP.format('the unit and the distance mode', 4)}"])
+
+    def test_place(self) -> None:
+        """A cut from where the machine stands, if the program ends elsewhere; not if it ends where it began."""
+        said = ("{}: warning: it cuts where the machine stands at the start, by G91, by G92 or since no word before it"
+                " names an axis, and it ends {} away from there: a second run cuts elsewhere")
+        self.assertEqual(self.warnings(HEAD + "G92 X0 Y0 Z0\nG1 X5\nG0 Z9\nY2\nM2\n"),
+                         [said.format(4, "X 5.000 Y 2.000 Z 9.000")])
+        self.assertEqual(self.warnings(HEAD + "G91\nG1 X5\nG0 Z5\nX-5\nY1\nZ-5\nM2\n"), [said.format(4, "Y 1.000")])
+        self.assertEqual(self.warnings(HEAD + "G0 X1 Z1\nG1 X9\nY5\nM2\n"), [said.format(4, "Y 5.000")])
+        for program in ("G91\nG1 X5\nG0 Z5\nX-5\nZ-5\n", "G0 Z1\nX1 Y1\nG92 X0\nG1 X5\n"):
+            self.assertEqual(self.warnings(HEAD + program + "M2\n"), [])
+
+
+class FromDevice(Warned):
+    """Checked from a device's state, and from an origin."""
+
+    def test_g92(self) -> None:
+        """An offset on the device that the program's end drops; none that the program drops first."""
+        self.device()
+        self.run_ngc("mdi G0 X50 Y50\ntick 100000\nmdi G92 X0 Y0\ntick 9\n")
+        program = "G21 G90 G17 G54 G94 M3\nG0 X10 Y10\nG1 Z-15 F300\nG0 Z0\nG0 X0 Y0\nM30\n"
+        self.assertEqual(self.warnings(program, "--device", "mill.dev"), [
+            "6: warning: the program's end drops the G92 offset X 50.000 Y 50.000 Z 0.000 that is in force on the"
+            " device: a second run cuts that far away. Set the origin in its place, by G10 L2 P1"])
+        self.assertEqual(self.warnings("G92.1\n" + program, "--device", "mill.dev"), [])
+        self.assertEqual(self.warnings(program), [])
+
+    def test_modes_and_notes(self) -> None:
+        """What the device has in force, and that it has a half-done block."""
+        self.device()
+        self.run_ngc("mdi G20 G91\ntick 9\nmdi G0 X1\ntick 9\nquit\n")
+        said = self.warnings("G17\nG0 X0.1 Y0 Z0\nM2\n", "--device", "mill.dev")
+        self.assertEqual(said[0], " warning: a block of the device is half-done, and no program can be started before"
+                         " `resume` or `abandon`; the dry run begins with what was in force before that block")
+        self.assertEqual([line.partition(", ngc run")[0] for line in said[1:]], [
+            "2: warning: relies on the unit: the dry run begins with G20",
+            "2: warning: relies on the distance mode: the dry run begins with G91"])
+
+    def test_slots(self) -> None:
+        """Lengths that differ from those of the settings, where the program takes one."""
+        self.device()
+        self.run_ngc("tool 1 62.5\n")
+        words = ("--device", "mill.dev", "--settings", "first.toml")
+        self.assertEqual(self.warnings(HEAD + "G43 H1\nG0 Z5\nM2\n", *words), [
+            " warning: slot 1 has 62.500000 mm on the device, and 50.000000 in the settings: a dry run without --device"
+            " is as much too high or too deep"])
+        self.assertEqual(self.warnings(HEAD + "G0 Z5\nM2\n", *words), [])
 
 
 class ByChance(InFolder):

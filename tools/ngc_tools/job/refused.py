@@ -7,6 +7,7 @@ from concurrent.futures import ThreadPoolExecutor
 from dataclasses import dataclass
 from itertools import combinations
 
+from ngc_tools.ngc.beginning import program_lines
 from ngc_tools.ngc.faults import FAULTS
 from ngc_tools.ngc.run import Refusal
 
@@ -18,7 +19,8 @@ Ask = Callable[[bytes], Refusal | None]
 _PIECE = re.compile(
     rb"\((?:[^()]|\([^()]*\))*\)|\([^()]*$|;.*|[\x80-\xff]+"
     rb"|#[ \t]*(?:[0-9.]+|\[[^;()=]*\])[ \t]*=[ \t]*(?:[-+]?[0-9. \t]*[0-9.]|\[[^;()=]*\]|#[ \t]*[0-9.]+)"
-    rb"|[A-Za-z][ \t]*(?:\[[^;()]*?\](?![^\[;()]*\])|[-+]?[0-9. \t]*[0-9.]|#[ \t]*[0-9.]+)?|.", re.DOTALL)
+    rb"|[A-Za-z][ \t]*(?:[-+]?[ \t]*\[[^;()]*?\](?![^\[;()]*\])|[-+]?[0-9. \t]*[0-9.]|[-+]?[ \t]*#[ \t]*[0-9.]+)?|.",
+    re.DOTALL)
 
 
 # A line is refused by the first fault that holds in this order; E2 is looked at before E1.
@@ -75,9 +77,7 @@ class Lines:
     """The lines of a program, each with its end."""
 
     def __init__(self, text: bytes) -> None:
-        self.all = [line + b"\n" for line in text.split(b"\n")]
-        last = self.all.pop()[:-1]  # what stands after the last newline is a line if it isn't empty
-        self.all += [last] if last else []
+        self.all = program_lines(text)
 
     def body(self, number: int) -> bytes:
         """Line `number`, from 1, without its end."""

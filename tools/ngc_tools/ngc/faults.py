@@ -159,6 +159,7 @@ _CURES = tuple((code, re.compile(word, re.IGNORECASE | re.DOTALL), cure) for cod
     ("E1", ",.*", "write numbers with a point"),
     ("E1", "\r", "end the last line with a newline"),
     ("E1", "\xef\xbb\xbf", "save the file without a byte order mark"),
+    ("E1", r"[A-Z] *- *[#\[].*", "write [0-#1] in the place of -#1: a sign stands before a number alone"),
     ("E1", "[\x80-\xff]+", "leave it out, or put it into a comment"),
     ("B2", r"G *91\.1", "leave it out: I, J and K count from the start of the arc, always"),
     ("B2", r"G *90\.1", "leave it out, and write I, J and K from the start of the arc"),
