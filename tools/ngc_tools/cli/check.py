@@ -135,7 +135,7 @@ class Listing:
             print(f"    {carets(finding.text, finding.marks)}")
         if cause := self._once(faults.sentence(fault.code) or "see docs/LANGUAGE.md"):
             print(wrapped(cause))
-        if advice := self._once(faults.cure(fault.code, finding.words())):
+        if advice := self._once(faults.cure(fault.code, finding.words(), finding.text)):
             print(wrapped(f"mend: {advice}"))
         if finding.text.strip():
             print(f"    goes on {_goes_on(finding)}")
