@@ -290,6 +290,7 @@ class Others(Documents):
         self.assertEqual(self.shell(dry, status=1).splitlines()[-1], "REFUSED line 11: B4 GroupTwice")
         self.assertRegex(self.shell(check, status=1), r"(?s)^part.ngc:11: B4 .*\npart.ngc:12: B2 ")
         shutil.copy(CAM / "fusion_mach3.tap", "part.nc")
+        Path("part.ngc").unlink()
         self.assertIn("+ G53 G0 G91 Z0\n", self.shell(adapt.replace(" Z ", " 0 ")))
         self.assertRegex(self.shell(split), r"^part.ngc: \d+ bytes: ngc run takes it as it is\n$")
         head, end = (blocks(chapters("POST_PROCESSOR.md")[f"The {what} of a program"])[0] for what in ("head", "end"))

@@ -177,7 +177,7 @@ class Listing:
             print(f"    {carets(finding.text, finding.marks)}")
         if cause := self._once(breach or faults.sentence(fault.code) or "see docs/LANGUAGE.md"):
             print(wrapped(cause))
-        advice = faults.cure(fault.code, finding.words())
+        advice = faults.cure(fault.code, finding.words(), finding.text)
         if breach and not is_placed:
             advice += ". The work zero is taken to be at machine 0: --origin X Y Z or --device DEVICE says where it is"
         if advice := self._once(advice):
