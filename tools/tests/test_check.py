@@ -88,8 +88,8 @@ p.ngc:4: B2 UnknownCode
 p.ngc:5: B12 UnusedWord
     G1 X1 Q1 H1
           ^^ ^^
-""" + UNUSED + """    mend: Q1: Q is the peck of G83: write that where pecks are meant; else leave it out; H1: where G43
-    is in force, write G43 beside it; else leave it out
+""" + UNUSED + """    mend: Q1: Q is the peck of G83: write that where pecks are meant; else leave it out; H1: where
+    G43 is in force, write G43 beside it; else leave it out
     goes on without Q1 H1
 p.ngc: 3 refusals, no warnings
 """ + AFTER))
@@ -224,7 +224,7 @@ class Refused(Check):
         """A sign before a parameter is said, and the word is left out with it."""
         found = self.said(HEAD + "G0 X-#1 Y2\nG0 X-[1+1] Y1\nM2\n")
         self.assertEqual(found[1:3], ["G0 X-#1 Y2", "^^^^"])
-        self.assertIn("mend: write [0-#1] in the place of -#1: a sign stands before a number alone", found)
+        self.assertIn("mend: write a difference: X-#1 is X[0-#1]", found)
         self.assertEqual([line for line in found if line.startswith("goes on")],
                          ["goes on without X-#1", "goes on without X-[1+1]"])
 
