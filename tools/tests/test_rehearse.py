@@ -285,7 +285,8 @@ there is no program
         Path("first.toml").write_text(FIRST.replace("high_nm = [1000000000", "high_nm = [1500000"))
         self.assertEqual(self.refused(1, "1", "2", "5"), "ngc-rehearse: mill.dev: resume: refused X2 OutsideTravel\n")
         Path("first.toml").write_text(FIRST.replace("period_us = 50", "period_us = 0"))
-        self.assertEqual(self.refused(2), "ngc-rehearse: first.toml: S5 OutOfLimits\n")
+        self.assertIn("ngc-rehearse: first.toml: S5 OutOfLimits: a number is beyond its limits\n    line 5: period_us = 0",
+                      self.refused(2))
         Path("first.toml").write_text(FIRST)
         with open("mill.dev", "rb") as file:
             fcntl.flock(file, fcntl.LOCK_EX)
