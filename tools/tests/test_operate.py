@@ -438,6 +438,54 @@ class AtTerminal(InFolder):
         terminal.read_to(b"never")
         self.assertEqual(terminal.status(), 0)
 
+    def test_signals(self) -> None:
+        """A terminal that is closed, and a kill, hold what is under way, tell the player, and end with status 2."""
+        words = operate("mill.dev", "first.toml", "axis", "--player", "progress")
+        for number, typed in ((signal.SIGTERM, b"G1 F60 X3\n"), (signal.SIGHUP, b"")):
+            self.player.lazy, self.player.words = bool(typed), []
+            terminal = Terminal(str(TOOLS / "ngc-operate"), *words)
+            terminal.read_to(PROMPT)
+            if typed:
+                terminal.send(typed)
+                self.wait_for("it waits for the player", lambda: self.player.most_behind > 90)
+            os.kill(terminal.pid, number)
+            shown = terminal.read_to(b"never").decode()
+            self.assertEqual(terminal.status(), 2)
+            self.assertEqual(self.player.words, [b"end"])
+            stays = "held; segment 0 of your line G1 F60 X3 stays half-done" if typed else "idle; segment 0 of a line of yours stays half-done"
+            self.assertTrue(shown.endswith(f"ngc-operate: {number.name} came: {stays}\r\n"), shown)
+
+    def test_closed_terminal(self) -> None:
+        """Where the terminal itself is gone nothing is left behind that holds the device."""
+        words = operate("mill.dev", "first.toml", "axis", "--player", "progress")
+        terminal = Terminal(str(TOOLS / "ngc-operate"), *words)
+        terminal.read_to(PROMPT)
+        self.player.lazy = True
+        terminal.send(b"G1 F60 X3\n")
+        self.wait_for("it waits for the player", lambda: self.player.most_behind > 90)
+        os.close(terminal.file)
+        self.assertEqual(os.waitstatus_to_exitcode(os.waitpid(terminal.pid, 0)[1]), 2)
+        self.assertEqual(self.player.words, [b"end"])
+        self.assertIn("half mdi 0", self.run_ngc("status\n", "after")[0])
+
+    def test_narrow(self) -> None:
+        """At a terminal of 40 columns no line is wider, the live one neither."""
+        words = operate("mill.dev", "first.toml", "axis", "--player", "progress")
+        terminal = Terminal(str(TOOLS / "ngc-operate"), *words, kind="xterm", columns=40)
+        shown = terminal.read_to(PROMPT)
+        Path("part.ngc").write_text("G21 G90 (a long comment, so that the line is too long)\nG1 X9 Y0.5 Z0.5 F60 (and one more)\nM2\n")
+        for typed in (b"help\n", b"load part.ngc\n"):
+            terminal.send(typed)
+            shown += terminal.read_to(PROMPT)
+        self.player.lazy = True
+        terminal.send(b"run\n")
+        shown += terminal.read_to(b"line 2: G1 X9 Y..  X0.000 Y0.000 Z0.000")
+        terminal.send(b"\n")
+        shown += terminal.read_to(PROMPT)
+        lines = re.split(r"[\r\n]+", re.sub(r"\x1b\[[?0-9;]*[A-Za-z]", "", shown.decode()))
+        self.assertGreater(len(lines), 40)
+        self.assertEqual([line for line in lines if len(line) > 40], [])
+
     def test_tool_change(self) -> None:
         """A player that waits for a tool is told of; a hold, and go."""
         words = operate("mill.dev", "first.toml", "axis", "--player", "progress")
@@ -541,7 +589,7 @@ class AtTerminal(InFolder):
                          " that. Ctrl-C three times ends ngc, as a loss of power would\r\n")
         said = terminal.send_to_end(b"\x03").decode()
         self.assertTrue(said.startswith("^C^C^C"), said)
-        self.assertTrue(said.endswith("ngc-operate: ended; a block that was under way is half-done\r\n"), said)
+        self.assertIn("ngc-operate: ended; a block that was under way is half-done\r\n", said)
         self.assertEqual(terminal.status(), 2)
 
     def test_serial_line(self) -> None:

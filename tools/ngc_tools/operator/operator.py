@@ -4,7 +4,6 @@ One core for whatever shows it, a `Face`."""
 import difflib
 import os
 from collections.abc import Callable
-from dataclasses import dataclass
 from pathlib import Path
 
 from ngc_tools.formats.device import Device
@@ -23,32 +22,11 @@ from ngc_tools.operator.places import Places, stops_outputs
 from ngc_tools.operator.rehearsing import rehearse
 from ngc_tools.operator.sentences import HELP, NOT_MOVED, SWITCHED, TAKEN_UP
 from ngc_tools.operator.session import Nothing, Session, place
+from ngc_tools.operator.typed import ANYWAY, Typed
 from ngc_tools.operator.work import Work
 from ngc_tools.player.progress import NoAnswer, Report
 
 PLAIN = ("hold", "abandon", "tool", "optional", "delete")
-ANYWAY = "anyway"
-
-
-@dataclass(frozen=True, slots=True)
-class Typed:
-    """A `line` that a person typed: the word it begins with, in small letters, what stands after it, and whether it is
-    asked for whatever the player says, by `anyway` before or after it, which is taken away."""
-
-    line: str
-    word: str
-    rest: str
-    anyway: bool
-
-    @staticmethod
-    def read(typed: str) -> "Typed":
-        """Parts a line."""
-        line, words = typed.strip(), typed.lower().split()
-        anyway = len(words) > 1 and ANYWAY in (words[0], words[-1])
-        if anyway:
-            line = (line[len(ANYWAY):] if words[0] == ANYWAY else line[:-len(ANYWAY)]).strip()
-        word, *_ = line.split() or [""]
-        return Typed(line, word.lower(), line[len(word):].strip(), anyway)
 
 
 class Operator:
