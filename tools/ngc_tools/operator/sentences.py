@@ -2,6 +2,27 @@
 from ngc_tools.ngc import faults
 from ngc_tools.ngc.settings_report import SENTENCES
 
+HELP = """\
+load FILE          try a program by a dry run, and store it
+run                start it, or go on with it
+G0 X1 ..           a line of G-code of your own
+restore            put back what lines of your own left in force
+hold               Enter or Ctrl-C while something runs
+where              machine and work, the line, the times, the motors
+continue           go on with what was held or stopped
+reference X Y Z    the machine stands there, in mm
+reference player   the machine stands where the player says
+tool N LENGTH      a tool's length, in mm
+rehearse           what resume would do, or start; nothing moves
+resume, abandon    take a half-done block up, give it up
+anyway             after run, resume and others, before a line: do it
+                   whatever the player says
+go                 tells the player that the tool is in
+optional on, off   stop at M1
+delete on, off     leave out lines with a slash
+quit               end; Ctrl-D too
+help               this"""
+
 # docs/SESSION.md, Faults
 REFUSALS = {
     "J1": "the device or OUT failed, or another process holds the device",
@@ -25,9 +46,7 @@ Z isn't lifted first."""
 SWITCHED = """\
 The outputs are switched, and nothing has moved. Does the spindle turn, is the right tool in, is the straight way free?
 yes goes on, anything else holds: """
-NOT_MOVED = """\
-nothing has moved. continue goes on; after quit the block is still half-done.
-Spindle and coolant stay as they are: stop them yourself"""
+NOT_MOVED = "nothing has moved. continue goes on; after quit the block is still half-done"
 
 
 def explained(refusal: str) -> str:
