@@ -11,6 +11,7 @@ from ngc_tools.failure import WrongWords
 from ngc_tools.job.dangers import dangers
 from ngc_tools.job.refused import Finding, Lines, Piece, find_all
 from ngc_tools.ngc.run import Refusal, dry, find_ngc, refusal, settings_refusal
+from ngc_tools.formats.device import MOST_LARGE_PROGRAM
 from ngc_tools.formats.settings import BadSettings, Settings
 from ngc_tools.formats.text import shown
 
@@ -43,7 +44,8 @@ def make_parser() -> argparse.ArgumentParser:
     parser.add_argument("--settings", metavar="FILE", help="the machine's settings; without it the default ones hold")
     parser.add_argument("--settings-only", action="store_true", help="check the settings, and no program")
     parser.add_argument("--block-delete", action="store_true", help="leave out the lines that begin with a slash")
-    parser.add_argument("--large", action="store_true", help="the device is large: a program may have 1,048,576 bytes")
+    parser.add_argument("--large", action="store_true",
+                        help=f"the device is large: a program may have {MOST_LARGE_PROGRAM:,} bytes")
     parser.add_argument("--most", metavar="N", type=int, default=0, help="stop after N refusals; else all are found")
     parser.add_argument("--ngc", metavar="PATH",
                         help="the program ngc; without it the one beside this tool, or on PATH")
