@@ -27,7 +27,8 @@ CHAPTERS = {
     "TOOLS.md": ("ngc-player: carry out OUT", "ngc-operate: a console for people",
                  "After a loss of power, with these two", "The plug is pulled",
                  "ngc-check: each refused line, and what is dangerous", "ngc-plot: a picture, extents, times",
-                 "ngc-rehearse: what a resume would do", "ngc-adapt: CAM text as ngc accepts it",
+                 "ngc-rehearse: what a resume would do", "ngc-device: what a device stands for",
+                 "ngc-adapt: CAM text as ngc accepts it",
                  "ngc-split: a program above the device's limit"),
     "RECOVERY.md": ("A half-done block",), "POST_PROCESSOR.md": ("",), "OUTPUT.md": (),
     "SESSION.md": ("The device", "A first session"),
@@ -221,6 +222,16 @@ class Tools(Documents):
         self.run_ngc(f"load {len(HOLE)}\n{HOLE}start\n" + f"tick {OUT + 100}\n")
         self.assertEqual(self.shell(resume), said)
         self.assertTrue(self.shell(carried).startswith(where + "\n" + said[:said.index("the approach")]))
+
+    def test_device(self) -> None:
+        """The half-done block that docs/DEVICE.md speaks of first."""
+        text, ((command, _),) = self.chapter("TOOLS.md", "ngc-device")
+        self.same_options("ngc-device", text, command)
+        self.device()
+        self.run_ngc("mdi G0 X0.002\ntick 2\n")
+        said = self.shell(command.replace("DEVICE", "mill.dev"))
+        self.assertIn("half-done block: 2\n", said)
+        self.assertIn("its text: G0 X0.002\n", said)
 
     def test_adapt(self) -> None:
         """The list of what is changed."""

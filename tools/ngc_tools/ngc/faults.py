@@ -2,6 +2,8 @@
 import re
 from dataclasses import dataclass
 
+from ngc_tools.formats.device import MOST_LARGE_PROGRAM, MOST_PROGRAM, SLOTS
+
 
 @dataclass(frozen=True, slots=True)
 class Fault:
@@ -152,6 +154,33 @@ FAULTS = (
           "end the program with M30, and close it with a line % alone"),
 )
 _BY_CODE = {fault.code: fault for fault in FAULTS}
+
+SESSION = {
+    "J1": "the device or OUT failed, or another process holds the device",
+    "J2": "the file is too short for a device, or holds none: ngc format DEVICE",
+    "J3": "the device was formatted, and what it holds is in no state that a controller writes",
+    "J4": "the device has counted as far as it can: ngc format DEVICE",
+    "J5": f"a program has at most {MOST_PROGRAM:,} bytes, on a large device {MOST_LARGE_PROGRAM:,} (ngc grow DEVICE"
+          " makes it one)",
+    "K1": "a block is under way or half-done, the program runs, or it is held",
+    "K2": "no program is loaded, or nothing waits: load FILE, run",
+    "K3": "it isn't known where the machine stands: reference X Y Z",
+    "K4": "no block is half-done",
+    "K5": "the device or OUT failed in this session: quit, remove the cause, start again",
+    "M1": "out of memory",
+    "U1": "not a command, or a number of it isn't in range: help",
+}
+"""The faults of a session that aren't of a line (docs/SESSION.md), as an operator is told them."""
+
+SETTINGS = {
+    "S1": "the text isn't TOML",
+    "S2": "a key is missing",
+    "S3": "there is another key",
+    "S4": "a value isn't of its type",
+    "S5": "a number is beyond its limits",
+    "S6": f"there are more than {SLOTS} tool lengths",
+}
+"""The faults of a settings file (docs/SETTINGS.md)."""
 
 
 @dataclass(frozen=True, slots=True)
