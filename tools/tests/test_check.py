@@ -88,8 +88,8 @@ p.ngc:4: B2 UnknownCode
 p.ngc:5: B12 UnusedWord
     G1 X1 Q1 H1
           ^^ ^^
-""" + UNUSED + """    mend: Q1: Q is the peck of G83: write that where pecks are meant; else leave it out; H1: where G43
-    is in force, write G43 beside it; else leave it out
+""" + UNUSED + """    mend: Q1: Q is the peck of G83: write that where pecks are meant; else leave it out; H1: where
+    G43 is in force, write G43 beside it; else leave it out
     goes on without Q1 H1
 p.ngc: 3 refusals, no warnings
 """ + AFTER))
