@@ -39,11 +39,12 @@ FAULTS = (
           "write the letter once; two lines where both are meant"),
     Fault("B2", "UnknownCode",
           "a G or M value isn't a code of the tables above",
-          "see what it means where the program was written for, and let the post-processor do without it; without the "
-          "code alone, axis words beside it would be a move"),
+          "see what it means where the program was written for, and let the post-processor do without it; don't leave "
+          "out the code alone: axis words beside it would be a move"),
     Fault("B3", "LeftOutCode",
           "a code that is left out, or a word A, B, C or D",
-          "let the CAM system do it with plain moves; without the code alone, axis words beside it would be a move"),
+          "let the CAM system do it with plain moves; don't leave out the code alone: axis words beside it would be a "
+          "move"),
     Fault("B4", "GroupTwice",
           "two words of one G group or of one M group, those left out among them",
           "write the one that is meant, or each on a line of its own; G0 beside G80, without an axis, does nothing: "
@@ -202,8 +203,8 @@ class Cure:
 _HOME = r"G *0*(28|30)(?![0-9.])"
 _MEASURED = ("leave the whole line out, and those that use what it measured: the operator gives tool lengths, by the "
              "command tool")
-_CYCLE = ("it is a cycle that isn't there: switch it off in the post-processor; by hand leave out this line and those "
-          "after it up to G80")
+_CYCLE = ("there is no such cycle: switch it off in the post-processor; by hand leave out this line and those after it "
+          "up to G80")
 _ALL_AXES = ("beside G28 and G30 don't leave it out alone: without an axis all three go home. Write G53 G0 and the "
              "machine coordinates that are meant in place of the line")
 # A text never makes a move or sets an origin that the line didn't mean. Of several that fit a word the first counts.
@@ -231,21 +232,21 @@ CURES = tuple(Cure(*row) for row in (
     ("B2", "G *71", "", "write G21"),
     ("B2", r"G *0*(5|5\.[123]|8)", "", "it is a spline or a look ahead: switch it off in the post-processor, which "
      "then writes G1, G2 and G3"),
-    ("B2", "G *1[56]", "", "G16 makes angles of coordinates up to G15: let the post-processor write X and Y, and "
-     "neither code"),
+    ("B2", "G *1[56]", "", "from G16 to G15 coordinates are a radius and an angle: let the post-processor write X and "
+     "Y, and neither code"),
     ("B2", r"G *(28|30)\.1", "", "leave the whole line out: parameters 5161 to 5163 hold the home of G28, 5181 to 5183 "
      "that of G30"),
     ("B2", r"G *3[17](\.[0-9])?", "", _MEASURED),
     ("B2", r"G *43\.1", "", "give the length to a slot, by the command tool, and write G43 with H of that slot in "
      "place of G43.1 and its axis words"),
-    ("B2", r"G *5[01](\.1)?", "", "G51 scales or mirrors all coordinates up to G50: let the post-processor write them "
-     "so, and neither code"),
+    ("B2", r"G *5[01](\.1)?", "", "from G51 to G50 coordinates are scaled or mirrored: let the post-processor write "
+     "them so, and neither code"),
     ("B2", "G *52", "", "G52 moves the work zero for the lines after it: let the post-processor add that to their "
      "coordinates; leave the whole line out only where it is 0 on each axis"),
     ("B2", r"G *(54\.1|154)", "", "there are nine systems, G54 to G59.3: in place of it and its P write one to which "
      "the operator gives the same origin"),
     ("B2", "G *6[567]", "", "it calls a macro: write out what that does in place of the line"),
-    ("B2", "G *6[89]", "", "G68 turns all coordinates up to G69: let the post-processor write them so, and neither "
+    ("B2", "G *6[89]", "", "from G68 to G69 coordinates are turned: let the post-processor write them so, and neither "
      "code"),
     ("B2", "G *73", "", "write G83 with the same words; between pecks it lifts to R"),
     ("B2", r"G *(7[45678]|84\.[0-9])", "", _CYCLE),
@@ -281,11 +282,11 @@ CURES = tuple(Cure(*row) for row in (
      "leave it out"),
     ("B12", "Q.*", "", "Q is the peck of G83: write that where pecks are meant; else leave it out"),
     ("B12", "R.*", "", "R beside a straight line rounds the corner: let the post-processor write that as an arc"),
-    ("B15", ".*", r"G *10.*L *20|L *20.*G *10", "L20 makes these the coordinates of the point where the tool stands: "
-     "let the operator set that zero before the program, and leave the whole line out; or write L2 with the machine "
-     "coordinates of the origin"),
-    ("B15", ".*", r"(G *10.*)L *1[0123]?(?![0-9])", "leave the whole line out: the operator gives tool lengths, by the "
-     "command tool"),
+    ("B15", ".*", r"^(?=.*G *10(?![0-9.]))(?=.*L *20(?![0-9.]))", "L20 makes these the coordinates of the point where "
+     "the tool stands: let the operator set that zero before the program, and leave the whole line out; or write L2 "
+     "with the machine coordinates of the origin"),
+    ("B15", ".*", r"^(?=.*G *10(?![0-9.]))(?=.*L *1[0123]?(?![0-9.]))", "leave the whole line out: the operator gives "
+     "tool lengths, by the command tool"),
     ("B15", ".*", r"L *0+(?![.0-9])", "it drills nothing, and keeps the words of the cycle: leave the whole line out, "
      "and write the cycle with them on the next line with X or Y"),
     ("B17", ".*", r"X *[0-9.#\[]", "X is the seconds there: write them as P, in place of X: G4 X1.5 is G4 P1.5"),
