@@ -13,7 +13,7 @@ from pathlib import Path
 
 sys.path.insert(0, str(Path(__file__).resolve().parent))
 
-from player_support import SOURCES, InC, PlayerTest, Sanitized, built, preloaded, record  # noqa: E402
+from player_support import SOURCES, InC, InProcess, PlayerTest, Sanitized, built, preloaded, record  # noqa: E402
 from session_support import PATIENCE_S  # noqa: E402
 
 from ngc_tools.cli.player import live  # noqa: E402
@@ -276,8 +276,7 @@ class Playing:
         first.wait()
         self.assertEqual(self.refused("--progress", "other", *second[2:]), "other: it is there, and is no socket")
         self.assertEqual(Path("other").read_text(), LINES)
-        command = [*self.command(), "--untimed", "--no-ask-tool", *second]
-        self.assertEqual(subprocess.run(command, capture_output=True).returncode, 0)
+        self.assertEqual(self.run_player("--untimed", "--no-ask-tool", *second).returncode, 0)
 
     def test_record_fails(self) -> None:
         """Where the record can't be written any more it stops, in the midst of a wait too."""
@@ -329,10 +328,10 @@ class Playing:
             self.assertEqual((done.returncode, done.stderr.partition(": ")[0]), said, text)
 
 
-class Python(Playing, PlayerTest):
+class Python(Playing, InProcess, PlayerTest):
     """tools/ngc-player."""
 
-    chances = 3
+    chances = 60
 
     def test_live(self) -> None:
         """It shows the line and the position while it works."""
@@ -432,7 +431,7 @@ int pins_off(void) {
     return 0;
 }
 """)
-        program = built("-O2", pins=self.folder / "mine.c")
+        program = built("-O0", pins=self.folder / "mine.c")
         Path("out").write_text("S 1 5.000000 0 0 0 0\nP 1 0 0 50\n")
         words = ["-u", "out", "first.toml", "position"]
         done = subprocess.run([program, *words], capture_output=True, text=True)

@@ -111,6 +111,10 @@ class Player:
         """What is carried out now; `why` is what has stopped it."""
         return Record(self.out, self.lines, self.size, self.outputs, self.position.nm, None, why)
 
+    def close(self) -> None:
+        """Lets go of what it has of the system."""
+        os.close(self._wake)
+
     def is_on(self) -> bool:
         """Whether spindle or coolant is on."""
         return self.outputs != stopped(self.outputs)
