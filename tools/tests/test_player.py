@@ -138,8 +138,9 @@ class Playing:
         self.play("--untimed")
         os.rename("out", "old")
         Path("out").write_text(long)
-        another = ("out: another file than the one whose first 100 lines are carried out, though it begins with the same"
-                   " lines; --anew begins with its first line, --restored goes on after line 100, where it is a copy")
+        another = ("out: another file than the one whose first 100 lines are carried out, though it begins with the"
+                   " same lines; --anew begins with its first line, --restored goes on after line 100, where it is a"
+                   " copy")
         self.assertEqual(self.refused("out", "first.toml", "position"), another)
         other = "out: not the file whose first 100 lines are carried out; --anew begins with its first line"
         for text in (short[11:], "D 1000000\n" * 120, long.replace("1 0", "0 1"), ""):
@@ -160,7 +161,8 @@ class Playing:
         with open("other", "a") as file:
             file.write("P 0 1 0 50\n")
         done = self.play("--untimed", "other", "first.toml", "position")
-        self.assertEqual((done.returncode, done.stderr), (0, f"other: it was {self.folder}/out: goes on after line 8\n"))
+        self.assertEqual((done.returncode, done.stderr),
+                         (0, f"other: it was {self.folder}/out: goes on after line 8\n"))
         self.assertEqual(done.stdout.splitlines()[-1], "reference 0.002000 0.000000 -0.001000")
 
     def test_older_record(self) -> None:
@@ -392,8 +394,8 @@ class C(Playing, InC, PlayerTest):
 
     def test_its_own_words(self) -> None:
         """What it says of words that aren't its own."""
-        usage = ("usage: player [-u] [-n] [-r] [-t] [-a X Y Z] [-o SECONDS] [-b BYTES] [-s SOCKET] [-p PINS] OUT SETTINGS"
-                 " POSITION")
+        usage = ("usage: player [-u] [-n] [-r] [-t] [-a X Y Z] [-o SECONDS] [-b BYTES] [-s SOCKET] [-p PINS] OUT"
+                 " SETTINGS POSITION")
         Path("out").write_text(LINES)
         for words in (("out", "first.toml"), ("out", "first.toml", "position", "more"), ("-x",), ("-a", "1", "2")):
             self.assertEqual(self.refused(*words), usage)

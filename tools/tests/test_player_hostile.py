@@ -13,7 +13,8 @@ from session_support import FIRST, ngc  # noqa: E402
 NO_LINE = "not a line of OUT: "
 # What stands in a line of OUT, and what is said of it.
 LINES = (
-    ("", NO_LINE + "''"), ("P", NO_LINE + "'P'"), ("P 1 0 0", NO_LINE + "'P 1 0 0'"), ("P 1 0 0 ", NO_LINE + "'P 1 0 0 '"),
+    ("", NO_LINE + "''"), ("P", NO_LINE + "'P'"), ("P 1 0 0", NO_LINE + "'P 1 0 0'"),
+    ("P 1 0 0 ", NO_LINE + "'P 1 0 0 '"),
     ("P 1 0 0 50 ", NO_LINE + "'P 1 0 0 50 '"), (" P 1 0 0 50", NO_LINE + "' P 1 0 0 50'"),
     ("P 1  0 0 50", NO_LINE + "'P 1  0 0 50'"), ("P 2 0 0 50", NO_LINE + "'P 2 0 0 50'"),
     ("P -0 0 0 50", NO_LINE + "'P -0 0 0 50'"), ("P +1 0 0 50", NO_LINE + "'P +1 0 0 50'"),
@@ -34,12 +35,14 @@ LINES = (
     ("S 0 0.0000000 0 0 0 0", NO_LINE + "'S 0 0.0000000 0 0 0 0'"),
     ("S 0 00.000000 0 0 0 0", NO_LINE + "'S 0 00.000000 0 0 0 0'"),
     ("S 0 10000000.000000 0 0 0 0", NO_LINE + "'S 0 10000000.000000 0 0 0 0'"),
-    ("S 0 0.000000 2 0 0 0", NO_LINE + "'S 0 0.000000 2 0 0 0'"), ("S 0 0.000000 0 0 0", NO_LINE + "'S 0 0.000000 0 0 0'"),
+    ("S 0 0.000000 2 0 0 0", NO_LINE + "'S 0 0.000000 2 0 0 0'"),
+    ("S 0 0.000000 0 0 0", NO_LINE + "'S 0 0.000000 0 0 0'"),
     ("S 0 0.000000 0 0 1000 0", NO_LINE + "'S 0 0.000000 0 0 1000 0'"),
     ("S 0 0.000000 0 0 0 01", NO_LINE + "'S 0 0.000000 0 0 0 01'"),
     ("S 0 0.000000 0 0 129 0", "a slot above 128: S 0 0.000000 0 0 129 0"),
     ("S 0 0.000000 0 0 0 999", "a slot above 128: S 0 0.000000 0 0 0 999"),
-    ("x\xff\x1b[2J", NO_LINE + r"'x\xff\x1b[2J'"), ("y" * 61, f"{NO_LINE}'{'y' * 60}...'"), ("z" * 5000, f"{NO_LINE}'{'z' * 60}...'"),
+    ("x\xff\x1b[2J", NO_LINE + r"'x\xff\x1b[2J'"), ("y" * 61, f"{NO_LINE}'{'y' * 60}...'"),
+    ("z" * 5000, f"{NO_LINE}'{'z' * 60}...'"),
     ("off", NO_LINE + "'off'"),
 )
 RIGHT = ("out /o", "lines 2", "bytes 22", "outputs S 1 1000.000000 0 0 2 2", "reference 1.000000 -0.500000 0.000000",
@@ -71,24 +74,30 @@ RECORDS = (
     (with_line(4, "outputs S 1 0.000000 0 0 2 129"), "line 4 isn't 'outputs S ..'"),
     (with_line(4, "outputs P 1 0 0 50"), "line 4 isn't 'outputs S ..'"),
     (with_line(4, "outputs S 1 1000.000000 0 0 2"), "line 4 isn't 'outputs S ..'"),
-    (with_line(5, ""), "line 5 isn't 'reference X Y Z'"), (with_line(5, "reference 1 2"), "line 5 isn't 'reference X Y Z'"),
+    (with_line(5, ""), "line 5 isn't 'reference X Y Z'"),
+    (with_line(5, "reference 1 2"), "line 5 isn't 'reference X Y Z'"),
     (with_line(5, "reference 1 2 3 4"), "line 5 isn't 'reference X Y Z'"),
     (with_line(5, "reference  1 2 3"), "line 5 isn't 'reference X Y Z'"),
     (with_line(5, "reference 1 2 3 "), "line 5 isn't 'reference X Y Z'"),
-    (with_line(5, "reference 1.0000001 2 3"), NO_NUMBER + "1.0000001"), (with_line(5, "reference 1 1e3 3"), NO_NUMBER + "1e3"),
+    (with_line(5, "reference 1.0000001 2 3"), NO_NUMBER + "1.0000001"),
+    (with_line(5, "reference 1 1e3 3"), NO_NUMBER + "1e3"),
     (with_line(5, "reference 1 2 ."), NO_NUMBER + "."), (with_line(5, "reference - 2 3"), NO_NUMBER + "-"),
     (with_line(5, "reference 1,5 2 3"), NO_NUMBER + "1,5"), (with_line(5, "reference --1 2 3"), NO_NUMBER + "--1"),
     (with_line(5, "reference 1.2.3 2 3"), NO_NUMBER + "1.2.3"), (with_line(5, "reference nan 2 3"), NO_NUMBER + "nan"),
     (with_line(5, "reference 9999999999999 2 3"), NO_NUMBER + "9999999999999"),
     (with_line(5, "reference 99999999999999999999.5 2 3"), NO_NUMBER + "99999999999999999999.5"),
     (with_line(5, "reference 1\x1b[2J 2 3"), NO_NUMBER + r"1\x1b[2J"),
-    (with_line(6, "file 12 0"), "line 6 is no line of a record"), (with_line(6, "file 12 0 3A392A21"), "line 6 is no line of a record"),
+    (with_line(6, "file 12 0"), "line 6 is no line of a record"),
+    (with_line(6, "file 12 0 3A392A21"), "line 6 is no line of a record"),
     (with_line(6, "file 12 0 3a392a211"), "line 6 is no line of a record"),
     (with_line(6, "file -1 0 3a392a21"), "line 6 is no line of a record"),
-    (with_line(6, "more"), "line 6 is no line of a record"), (with_line(6, "stopped Line"), "line 6 is no line of a record"),
-    (sector(*RIGHT, "stopped"), "line 7 is no line of a record"), (sector(*RIGHT, RIGHT[5]), "line 7 is no line of a record"),
+    (with_line(6, "more"), "line 6 is no line of a record"),
+    (with_line(6, "stopped Line"), "line 6 is no line of a record"),
+    (sector(*RIGHT, "stopped"), "line 7 is no line of a record"),
+    (sector(*RIGHT, RIGHT[5]), "line 7 is no line of a record"),
     (sector(*RIGHT, "stopped line", "more"), "line 8 is no line of a record"),
-    (sector(*RIGHT)[:-2] + b"x\n", "line 7 is no line of a record"), (sector(*RIGHT)[:-2] + b"\n\n", "line 7 is no line of a record"),
+    (sector(*RIGHT)[:-2] + b"x\n", "line 7 is no line of a record"),
+    (sector(*RIGHT)[:-2] + b"\n\n", "line 7 is no line of a record"),
 )
 # Millimetres of a record, and where the machine stands then, with steps of 1 um.
 PLACES = (
@@ -97,33 +106,32 @@ PLACES = (
     ("0.000499 0.0005 -0.0005", "0.000000 0.001000 -0.001000"),
     ("999999999999.999999 -999999999999 0", "1000000000000.000000 -999999999999.000000 0.000000"),
 )
+THREE = "it takes three whole numbers of nanometres, "
+MICROSECONDS = "a whole number of microseconds, 1 to 1,000,000"
+A_MINUTE = "it takes a whole number of nanometres a minute, 1 to 100,000,000,000"
+# A change of the settings, and what is said of it.
 SETTINGS = (
-    ("period_us = 50", "period_us = 0", "bad.toml: period_us = 0 (S5): it takes a whole number of microseconds, 1 to"
-                                        " 1,000,000"),
-    ("period_us = 50", "period_us = 1000001", "bad.toml: period_us = 1000001 (S5): it takes a whole number of microseconds,"
-                                              " 1 to 1,000,000"),
-    ("period_us = 50\n", "", "bad.toml: period_us is missing (S2): a whole number of microseconds, 1 to 1,000,000"),
-    ("period_us = 50\n", "period_us = 50\nmore = 1\n", "bad.toml: more isn't one of the six keys (S3)"),
-    ("[1000, 1000, 1000]", "[1000, 9, 1000]", "bad.toml: step_nm = [1000, 9, 1000] (S5): it takes three whole numbers of"
-                                              " nanometres, 10 to 1,000,000"),
-    ("[1000, 1000, 1000]", "[1000, 1000]", "bad.toml: step_nm = [1000, 1000] (S4): it takes three whole numbers of"
-                                           " nanometres, 10 to 1,000,000"),
-    ("[1000, 1000, 1000]", "1000", "bad.toml: step_nm = 1000 (S4): it takes three whole numbers of nanometres, 10 to"
-                                   " 1,000,000"),
-    ("= 6000000000\n", "= 0\n", "bad.toml: traverse_nm_per_min = 0 (S5): it takes a whole number of nanometres a minute, 1"
-                                " to 100,000,000,000"),
-    ("= 6000000000\n", "= [1]\n", "bad.toml: traverse_nm_per_min = [1] (S4): it takes a whole number of nanometres a minute,"
-                                  " 1 to 100,000,000,000"),
-    ("low_nm = [-1000000000,", "low_nm = [1,", "bad.toml: low_nm = [1, -1000000000, -1000000000] (S5): it takes three whole"
-                                               " numbers of nanometres, -10,000,000,000 to 0"),
-    ("[50000000]", "[-1]", "bad.toml: tools_nm = [-1] (S5): it takes an array of at most 128 whole numbers of nanometres, 0"
-                           " to 1,000,000,000"),
+    ("period_us = 50", "period_us = 0", f"period_us = 0 (S5): it takes {MICROSECONDS}"),
+    ("period_us = 50", "period_us = 1000001", f"period_us = 1000001 (S5): it takes {MICROSECONDS}"),
+    ("period_us = 50\n", "", f"period_us is missing (S2): {MICROSECONDS}"),
+    ("period_us = 50\n", "period_us = 50\nmore = 1\n", "more isn't one of the six keys (S3)"),
+    ("[1000, 1000, 1000]", "[1000, 9, 1000]", f"step_nm = [1000, 9, 1000] (S5): {THREE}10 to 1,000,000"),
+    ("[1000, 1000, 1000]", "[1000, 1000]", f"step_nm = [1000, 1000] (S4): {THREE}10 to 1,000,000"),
+    ("[1000, 1000, 1000]", "1000", f"step_nm = 1000 (S4): {THREE}10 to 1,000,000"),
+    ("= 6000000000\n", "= 0\n", f"traverse_nm_per_min = 0 (S5): {A_MINUTE}"),
+    ("= 6000000000\n", "= [1]\n", f"traverse_nm_per_min = [1] (S4): {A_MINUTE}"),
+    ("low_nm = [-1000000000,", "low_nm = [1,",
+     f"low_nm = [1, -1000000000, -1000000000] (S5): {THREE}-10,000,000,000 to 0"),
+    ("[50000000]", "[-1]",
+     "tools_nm = [-1] (S5): it takes an array of at most 128 whole numbers of nanometres, 0 to 1,000,000,000"),
 )
 # Settings that aren't TOML, or not in the form that the player in C takes, and whether `ngc` takes them.
 OTHER_SETTINGS = (
-    ("period_us = 50\nperiod_us = 50", False), ("period_us = 050", False), ("period_us = 5__0", False), ("period_us = 50 x", False),
+    ("period_us = 50\nperiod_us = 50", False), ("period_us = 050", False), ("period_us = 5__0", False),
+    ("period_us = 50 x", False),
     ("period_us = _50", False), ("period_us = fast", False), ("period_us = 50.0", False), ("period_us 50", False),
-    ("period_us = 50\r", True), ("period_us = 50\rx", False), ("period_us = 50 # \x01", False), ("period_us = 50 # \udcff", False),
+    ("period_us = 50\r", True), ("period_us = 50\rx", False), ("period_us = 50 # \x01", False),
+    ("period_us = 50 # \udcff", False),
     ("period_us = 99999999999999999999", False), ("period_us = ", False), ("period_us = [50", False),
     ("period_us = 5_0 # µs", True), ("period_us = +50", True), ("\tperiod_us\t=\t50\r\n# more\r", True),
 )
@@ -137,7 +145,8 @@ class Hostile:
         for line, said in LINES:
             for name in ("pins", "position"):
                 Path(name).unlink(missing_ok=True)
-            Path("out").write_text(f"S 1 5.000000 1 1 0 0\nP 1 0 0 50\n{line}\nP 1 0 0 50\n", encoding="latin-1", newline="")
+            text = f"S 1 5.000000 1 1 0 0\nP 1 0 0 50\n{line}\nP 1 0 0 50\n"
+            Path("out").write_text(text, encoding="latin-1", newline="")
             done = self.play("--untimed")
             self.assertEqual((done.returncode, done.stderr), (1, f"out:3: {said}; stopped, spindle and coolant off\n"))
             self.assertEqual(Path("pins").read_text(), "S 1 5.000000 1 1 0 0\nP 1 0 0 50\noff\n", line)
@@ -150,8 +159,8 @@ class Hostile:
         Path("out").write_text("P 1 0 0 50\n")
         for text, said in RECORDS:
             Path("position").write_bytes(text)
-            self.assertEqual(self.refused("out", "first.toml", "position"), f"position: not a record of ngc-player: {said};"
-                             " remove it, and tell by --at where the machine stands", text)
+            self.assertEqual(self.refused("out", "first.toml", "position"), "position: not a record of ngc-player: "
+                             f"{said}; remove it, and tell by --at where the machine stands", text)
             self.assertEqual(Path("position").read_bytes(), text)
         self.assertIn("not a record of ngc-player: it has ", self.refused("out", "first.toml", "/dev/null"))
 
@@ -174,9 +183,9 @@ class Hostile:
         for old, new, said in SETTINGS:
             self.assertIn(old, FIRST)
             Path("bad.toml").write_text(FIRST.replace(old, new))
-            self.assertEqual(self.refused("out", "bad.toml", "position"), said)
+            self.assertEqual(self.refused("out", "bad.toml", "position"), f"bad.toml: {said}")
         Path("bad.toml").write_text(FIRST.replace("[50000000]", str([0] * 129)))
-        self.assertRegex(self.refused("out", "bad.toml", "position"), r"^bad.toml: tools_nm = \[0, .*\(S6\): it takes an ar")
+        self.assertRegex(self.refused("out", "bad.toml", "position"), r"^bad.toml: tools_nm = \[0, .*\(S6\): it takes")
         Path("program").write_text("M2\n")
         for text, is_taken in OTHER_SETTINGS:
             Path("bad.toml").write_text(FIRST.replace("period_us = 50", text), errors="surrogateescape", newline="")
@@ -195,7 +204,8 @@ class Hostile:
                 (("none", "first.toml", "position"), f"none: {gone}"),
                 (("folder", "first.toml", "position"), "folder: Is a directory"),
                 (("/dev/null", "first.toml", "position"), "/dev/null: neither a file nor a named pipe"),
-                (("out", "none", "position"), f"none: {gone}"), (("out", "folder", "position"), "folder: Is a directory"),
+                (("out", "none", "position"), f"none: {gone}"),
+                (("out", "folder", "position"), "folder: Is a directory"),
                 (("out", "first.toml", "folder"), "folder: Is a directory"),
                 (("out", "first.toml", "out"), f"out: {no_record}"),
                 (("out", "first.toml", "none/position"), f"none/position: {gone}"),
@@ -203,7 +213,8 @@ class Hostile:
                 (("--pins", "folder", "out", "first.toml", "position"), "folder: Is a directory"),
                 (("--progress", "none/progress", "out", "first.toml", "position"), f"none/progress: {gone}"),
                 (("--progress", "folder", "out", "first.toml", "position"), "folder: it is there, and is no socket"),
-                (("--progress", "p" * 200, "out", "first.toml", "position"), f"{'p' * 200}: too long a path for a socket")):
+                (("--progress", "p" * 200, "out", "first.toml", "position"),
+                 f"{'p' * 200}: too long a path for a socket")):
             self.assertRegex(self.refused(*words), f"^{wanted}$", words)
         self.assertFalse(os.path.exists("position"))
 
@@ -222,7 +233,7 @@ class Hostile:
         self.assertFalse(os.path.exists("position"))
 
     def test_pins(self) -> None:
-        """The pins are appended to nothing else than pins: no device, settings, OUT, record or program is written to."""
+        """The pins are appended to pins alone: no device, settings, OUT, record or program is written to."""
         self.device()
         Path("out").write_text("P 1 0 0 50\n")
         self.play("--untimed")

@@ -143,7 +143,8 @@ class Sessions:
         """Who can't be answered, or asks something else, does no harm."""
         child, link, pipe = self.session()
         with socket.socket(socket.AF_UNIX, socket.SOCK_DGRAM) as nameless:
-            for text in (b"progress 1", b"", b"progress", b"progress x", b"at", b"at 1 2", b"at 1 2 x", b"\0" * 64, b"go"):
+            for text in (b"progress 1", b"", b"progress", b"progress x", b"at", b"at 1 2", b"at 1 2 x", b"\0" * 64,
+                         b"go"):
                 nameless.sendto(text, "progress")
         self.assertEqual(link.ask(), Report(0, 0, False, "0.000000 0.000000 0.000000", f"{self.folder}/out"))
         os.write(pipe, b"P 1 0 0 50\n")
@@ -255,16 +256,16 @@ class Sessions:
         Path("out").write_bytes(ON + b"P 1 0 0 50\nD 300000\n")
         begun = time.monotonic()
         done = self.play()
-        self.assertEqual((done.returncode, done.stderr), (0, "out: ended with spindle or coolant on; spindle and coolant"
-                                                             " off\n"))
+        self.assertEqual((done.returncode, done.stderr),
+                         (0, "out: ended with spindle or coolant on; spindle and coolant off\n"))
         self.assertGreater(time.monotonic() - begun, 0.3)
         self.assertEqual(record(), f"lines 3\nbytes 41\n{OFF_RECORD}")
 
     def test_begins_with_outputs_off(self) -> None:
         """What a record of before a loss of power says of spindle and coolant isn't true any more; the tool is."""
         os.mkfifo("out")
-        Path("position").write_bytes(sector(f"out {self.folder}/out", "lines 7", "bytes 77", "outputs S 1 5.000000 0 1 4 3",
-                                            "reference 1.000000 0.000000 0.000000"))
+        Path("position").write_bytes(sector(f"out {self.folder}/out", "lines 7", "bytes 77",
+                                            "outputs S 1 5.000000 0 1 4 3", "reference 1.000000 0.000000 0.000000"))
         self.begin("--progress", "progress", "out", "first.toml", "position")
         report = self.linked().ask()
         self.assertEqual(report.outputs, Switch(0, 5_000_000, False, False, 4, 3))

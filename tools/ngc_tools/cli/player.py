@@ -6,7 +6,6 @@ import signal
 import sys
 import threading
 from contextlib import ExitStack, suppress
-from dataclasses import replace
 
 from ngc_tools.cli.run import new_parser, run
 from ngc_tools.formats.out import BadLine
@@ -119,7 +118,7 @@ def prepared(args: argparse.Namespace, stack: ExitStack) -> Player:
         listener = Listener(args.progress)
         stack.callback(listener.close)
         player.answers = Answers(listener, player)
-    player.keeper = Keeper(file, player.standing(), lambda record: replace(record, mark=source.mark(record.size)))
+    player.keeper = Keeper(file, player.standing)
     return player
 
 

@@ -77,8 +77,8 @@ class Record:
         try:
             return _read(text)
         except ValueError as error:
-            raise BadRecord(f"{path}: not a record of ngc-player: {error}; remove it, and tell by --at where the machine"
-                            " stands") from None
+            raise BadRecord(f"{path}: not a record of ngc-player: {error}; remove it, and tell by --at where the"
+                            " machine stands") from None
 
     @staticmethod
     def read(path: str) -> "Record":
