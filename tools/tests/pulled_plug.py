@@ -247,11 +247,11 @@ class Session:
     def _start_player(self) -> int:
         words = [self.fifo, self.folder / "settings.toml", self.record]
         if self.options.player:
-            given = ["-b", self.options.pipe, "-s", self.socket, "-p", self.log, *words]
+            given = ["-t", "-b", self.options.pipe, "-s", self.socket, "-p", self.log, *words]
             command = [str(word) for word in (self.options.player, *given)]
             quiet = [(os.POSIX_SPAWN_OPEN, 1, os.devnull, os.O_WRONLY, 0)]
             return os.posix_spawn(command[0], command, os.environ, file_actions=quiet)
-        given = [*words, "--pipe", self.options.pipe, "--progress", self.socket, "--pins", self.log]
+        given = [*words, "--no-ask-tool", "--pipe", self.options.pipe, "--progress", self.socket, "--pins", self.log]
         child = os.fork()
         if child == 0:
             try:
@@ -299,6 +299,7 @@ class Session:
                 self.timer.join()
             self.drain()
             self.console.status()
+            self.link.end()
         except (Ended, NoAnswer):
             self.kill()
             return False
@@ -385,7 +386,7 @@ def main() -> int:
     parser.add_argument("--ahead", type=int, default=100)
     parser.add_argument("--unmetered", action="store_true")
     parser.add_argument("--pipe", type=int, default=4096)
-    parser.add_argument("--player", help="the player of tools/player.c, in place of ngc-player")
+    parser.add_argument("--player", help="the player of tools/player, in place of ngc-player")
     parser.add_argument("--longest", type=float, default=0.3, help="a cut comes after so many seconds at most")
     given = parser.parse_args()
     options = Options(given.ngc, None if given.unmetered else given.ahead, given.pipe, given.player, given.longest)

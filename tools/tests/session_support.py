@@ -1,10 +1,13 @@
 """What tests share: the paths of `ngc` and of the tools, a folder, the settings of docs/SESSION.md's first session."""
+import fcntl
 import os
 import pty
 import select
+import struct
 import subprocess
 import sys
 import tempfile
+import termios
 import time
 import unittest
 from collections.abc import Callable
@@ -96,10 +99,11 @@ class InFolder(unittest.TestCase):
 class Terminal:
     """A program on a pseudo-terminal."""
 
-    def __init__(self, *words: str, kind: str = "dumb") -> None:
-        """Starts it; a terminal of the kind `dumb` can't clear lines."""
+    def __init__(self, *words: str, kind: str = "dumb", columns: int = 0) -> None:
+        """Starts it; a terminal of the kind `dumb` can't clear lines. One of 0 columns doesn't say how wide it is."""
         self.pid, self.file = pty.fork()
         if self.pid == 0:
+            fcntl.ioctl(0, termios.TIOCSWINSZ, struct.pack("HHHH", 24, columns, 0, 0))
             os.environ.update(TERM=kind, PYTHONUNBUFFERED="1", INPUTRC="/dev/null")
             os.execv(sys.executable, [sys.executable, *words])
 

@@ -38,8 +38,6 @@ class Headers(InFolder):
 
     def test_headers(self) -> None:
         """What is refused and marked, and what is warned of."""
-        names = sorted(path.name for path in CAM.iterdir() if path.suffix != ".expected")
-        self.assertEqual(names, sorted(SAID))
         for name, (refused, warned) in SAID.items():
             done = self.tool("ngc-check", str(CAM / name), "--ngc", ngc())
             self.assertEqual((done.stderr, done.returncode), ("", 1 if refused else 0))

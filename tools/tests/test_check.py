@@ -64,7 +64,7 @@ p.ngc:6: B12 UnusedWord
 p.ngc:7: B12 UnusedWord
     G64 P0.01 (fine)
         ^^^^^
-    mend: leave it out: G4, G10, G82, G86 and G89 alone take P; G64 has no tolerance
+    mend: leave it out: there is no blending, so no tolerance of it
     goes on without P0.01
 p.ngc: 5 refusals, no warnings
 """ + AFTER))
@@ -76,7 +76,8 @@ p.ngc: 5 refusals, no warnings
     G0G80X0
     ^^^^^
     two words of one G group or of one M group, those left out among them
-    mend: leave one of the two out (G0 beside G80 does nothing), or put it on a line of its own
+    mend: write the one that is meant, or each on a line of its own; G0 beside G80, without an axis,
+    does nothing: leave it out
     goes on without G80
 p.ngc:4: B2 UnknownCode
     G71G91.1
@@ -87,7 +88,8 @@ p.ngc:4: B2 UnknownCode
 p.ngc:5: B12 UnusedWord
     G1 X1 Q1 H1
           ^^ ^^
-""" + UNUSED + """    mend: write G43 beside it, or leave it out
+""" + UNUSED + """    mend: Q1: Q is the peck of G83: write that where pecks are meant; else leave it out; H1: where
+    G43 is in force, write G43 beside it; else leave it out
     goes on without Q1 H1
 p.ngc: 3 refusals, no warnings
 """ + AFTER))
@@ -222,7 +224,7 @@ class Refused(Check):
         """A sign before a parameter is said, and the word is left out with it."""
         found = self.said(HEAD + "G0 X-#1 Y2\nG0 X-[1+1] Y1\nM2\n")
         self.assertEqual(found[1:3], ["G0 X-#1 Y2", "^^^^"])
-        self.assertIn("mend: write [0-#1] in the place of -#1: a sign stands before a number alone", found)
+        self.assertIn("mend: write a difference: X-#1 is X[0-#1]", found)
         self.assertEqual([line for line in found if line.startswith("goes on")],
                          ["goes on without X-#1", "goes on without X-[1+1]"])
 

@@ -27,7 +27,8 @@ CHAPTERS = {
     "TOOLS.md": ("ngc-player: carry out OUT", "ngc-operate: a console for people",
                  "After a loss of power, with these two", "The plug is pulled",
                  "ngc-check: each refused line, and what is dangerous", "ngc-plot: a picture, extents, times",
-                 "ngc-rehearse: what a resume would do", "ngc-adapt: CAM text as ngc accepts it",
+                 "ngc-rehearse: what a resume would do", "ngc-device: what a device stands for",
+                 "ngc-adapt: CAM text as ngc accepts it",
                  "ngc-split: a program above the device's limit"),
     "RECOVERY.md": ("A half-done block",), "POST_PROCESSOR.md": ("",), "OUTPUT.md": (),
     "SESSION.md": ("The device", "A first session"),
@@ -222,6 +223,16 @@ class Tools(Documents):
         self.assertEqual(self.shell(resume), said)
         self.assertTrue(self.shell(carried).startswith(where + "\n" + said[:said.index("the approach")]))
 
+    def test_device(self) -> None:
+        """The half-done block that docs/DEVICE.md speaks of first."""
+        text, ((command, _),) = self.chapter("TOOLS.md", "ngc-device")
+        self.same_options("ngc-device", text, command)
+        self.device()
+        self.run_ngc("mdi G0 X0.002\ntick 2\n")
+        said = self.shell(command.replace("DEVICE", "mill.dev"))
+        self.assertIn("half-done block: 2\n", said)
+        self.assertIn("its text: G0 X0.002\n", said)
+
     def test_adapt(self) -> None:
         """The list of what is changed."""
         text, ((synopsis, _), (adapt, said)) = self.chapter("TOOLS.md", "ngc-adapt")
@@ -290,6 +301,7 @@ class Others(Documents):
         self.assertEqual(self.shell(dry, status=1).splitlines()[-1], "REFUSED line 11: B4 GroupTwice")
         self.assertRegex(self.shell(check, status=1), r"(?s)^part.ngc:11: B4 .*\npart.ngc:12: B2 ")
         shutil.copy(CAM / "fusion_mach3.tap", "part.nc")
+        Path("part.ngc").unlink()
         self.assertIn("+ G53 G0 G91 Z0\n", self.shell(adapt.replace(" Z ", " 0 ")))
         self.assertRegex(self.shell(split), r"^part.ngc: \d+ bytes: ngc run takes it as it is\n$")
         head, end = (blocks(chapters("POST_PROCESSOR.md")[f"The {what} of a program"])[0] for what in ("head", "end"))

@@ -75,7 +75,7 @@ class Examples(InFolder):
         for name in NAMES:
             path = EXAMPLES / f"{name}.ngc"
             words, size = (str(path), "--settings", "coarse.toml"), len(path.read_bytes())
-            self.assertEqual(self.called(adapt, *words, "--output", "x.ngc"), "no line is changed\n")
+            self.assertEqual(self.called(adapt, *words, "--output", "x.ngc", "--force"), "no line is changed\n")
             self.assertEqual(Path("x.ngc").read_bytes(), path.read_bytes(), name)
             self.assertEqual(self.called(split, *words), f"{path}: {size:,} bytes: ngc run takes it as it is\n")
 

@@ -38,7 +38,7 @@ class Faults(unittest.TestCase):
                                  ("E1", b"\xef\xbb\xbf", "save the file without a byte order mark"),
                                  ("B2", b"G91.1", "leave it out: I, J and K count from the start of the arc, always"),
                                  ("B2", b"G71 ", "write G21"),
-                                 ("B2", b"G50", "leave the code out, or write one that the tables of LANGUAGE.md have"),
+                                 ("B2", b"G61.2", faults.fault("B2").cure),
                                  ("X9", b"", "look it up in docs/LANGUAGE.md")):
             self.assertEqual(faults.cure(code, [word]), said)
         self.assertEqual(faults.cure("B2", [b"G71", b"G91.1"]),

@@ -1,5 +1,6 @@
 """ngc-rehearse: what it says, by hand; where the motors were, compared with OUT itself; what it refuses."""
 import fcntl
+import signal
 import subprocess
 import sys
 import tempfile
@@ -77,6 +78,17 @@ from there to the end: 0.025 s; X 0.000 to 0.500   Y 0.000 to 0.000   Z 0.000 to
 """
 
 
+def _parent(folder: Path) -> str:
+    """The process whose `ngc run` works in a folder, by its arguments; nothing if there is none."""
+    for process in Path("/proc").glob("[0-9]*"):
+        try:
+            if str(folder).encode() in (process / "cmdline").read_bytes():
+                return (process / "stat").read_text().rpartition(")")[2].split()[1]
+        except OSError:
+            continue
+    return ""
+
+
 class Rehearsals(InFolder):
     """Sessions that are cut, and what is said of their devices."""
 
@@ -131,6 +143,25 @@ class Rehearsals(InFolder):
         """From a hole's bottom, with the machine beside it."""
         self.hole(OUT + 100)
         self.assertEqual(self.rehearse("2", "-6", "5"), RESUMED)
+
+    def test_broken_off(self) -> None:
+        """Ctrl-C and a kill in the midst leave no folder behind."""
+        self.session("G21 G90 F60000\n" + "G1 X900\nG1 X-900\n" * 20 + "M2\n", "start", cut=False)
+        for number in (signal.SIGINT, signal.SIGTERM, signal.SIGHUP):
+            before = set(Path("/dev/shm").glob("ngc-rehearse-*"))
+            child = self.start("ngc-rehearse", "mill.dev", "first.toml", "--ngc", ngc())
+            found: list[Path] = []
+
+            def begun() -> bool:
+                found[:] = [path for path in Path("/dev/shm").glob("ngc-rehearse-*") if path not in before
+                            and f"/{child.pid}/" in f"/{_parent(path)}/"]
+                return bool(found)
+
+            self.wait_for("it rehearses", begun)
+            child.send_signal(number)
+            child.communicate()
+            self.assertNotEqual(child.returncode, 0)
+            self.assertEqual([path for path in found if path.exists()], [])
 
     def test_without_a_point(self) -> None:
         """Where the segment begins is said also where nobody says where the machine stands."""
@@ -285,7 +316,8 @@ there is no program
         Path("first.toml").write_text(FIRST.replace("high_nm = [1000000000", "high_nm = [1500000"))
         self.assertEqual(self.refused(1, "1", "2", "5"), "ngc-rehearse: mill.dev: resume: refused X2 OutsideTravel\n")
         Path("first.toml").write_text(FIRST.replace("period_us = 50", "period_us = 0"))
-        self.assertEqual(self.refused(2), "ngc-rehearse: first.toml: S5 OutOfLimits\n")
+        self.assertIn("ngc-rehearse: first.toml: S5 OutOfLimits: a number is beyond its limits\n    line 5: period_us = 0",
+                      self.refused(2))
         Path("first.toml").write_text(FIRST)
         with open("mill.dev", "rb") as file:
             fcntl.flock(file, fcntl.LOCK_EX)

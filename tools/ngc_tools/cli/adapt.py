@@ -1,24 +1,33 @@
 """The words of `ngc-adapt`, and what it writes."""
 import argparse
 import sys
-from collections.abc import Callable
-from pathlib import Path
+from collections.abc import Callable, Iterator, Sequence
+from dataclasses import replace
 
-from ngc_tools.ngc import faults
-from ngc_tools.job.cam import CamLine, Missing, Places, rewritten
+from ngc_tools import files
+from ngc_tools.cli.beginning import add_beginning, chosen_beginning
 from ngc_tools.cli.run import new_parser, run
-from ngc_tools.failure import Failure
+from ngc_tools.failure import BadNumber, Failure, WrongWords, speaking_of
+from ngc_tools.formats.device import SLOTS
 from ngc_tools.formats.position import nanometres
+from ngc_tools.formats.program_text import NotText, ProgramText
+from ngc_tools.formats.text import shown
+from ngc_tools.job.cam import rewritten, whole_text
+from ngc_tools.job.cam_homes import Answers, Missing
+from ngc_tools.job.cam_line import CamLine
+from ngc_tools.job.cam_program import SharedSlot
 from ngc_tools.job.radius_arcs import centred
-from ngc_tools.ngc.run import dry, find_ngc, refusal
+from ngc_tools.job.refused import Lines, find_all
+from ngc_tools.ngc import faults
+from ngc_tools.ngc.run import Refusal, find_ngc, refusal
 from ngc_tools.ngc.usable_settings import look_at_settings
 
 ABOUT = """Write a CAM system's text as `ngc` accepts it, and list each line that is changed.
 
-Comments after ; stand in ( ); a program's number O1000 becomes a comment; G91.1, P of G64, an offset of 0 outside of
-the plane, and G0 beside G80 are left out; G70 and G71 become G20 and G21; arcs by radius get their centre, where
-`ngc dry` says that they begin and end; G28 and G30 of Z alone under G91 become G53 G0 Z of a height that you name.
-All other words stay as they are, and each line stays a line. `ngc dry` decides of what comes out."""
+Comments, program and block numbers, units, G91.1, tolerances, arcs by radius, full circles without an end, G0 and G1
+without an axis, words of a rotary axis that stays at 0, tool numbers above 128, G28 and G30 of Z or of X and Y under
+G91, and a missing M2: each is written as `ngc` takes it, with the same motions. docs/TOOLS.md has the table. All other
+words stay as they are, and each line stays a line. `ngc dry` decides of what comes out."""
 
 EXAMPLE = """example:
   ngc-adapt part.nc --lift 0 --settings mill.toml --output part.ngc
@@ -26,118 +35,162 @@ EXAMPLE = """example:
 exit status:
   0  ngc accepts what is written
   1  it is written, and ngc refuses a line of it
-  2  the words are wrong, a file can't be used, or a height is needed; nothing is written"""
+  2  the words are wrong, a file can't be used, or a height, a place or a slot is needed; nothing is written"""
 
-_ASKS = {"lift": ("--lift Z", "the machine Z that the tool is lifted to"),
-         "park": ("--park X Y", "the machine X and Y that the table is brought to")}
+_MOST = 10  # refused lines that are told
 
 
 def make_parser() -> argparse.ArgumentParser:
     """The words of the command line."""
-    words = new_parser("ngc-adapt", ABOUT, EXAMPLE)
-    words.add_argument("program", metavar="PROGRAM", help="the CAM system's text; - is standard input")
-    words.add_argument("--output", "-o", metavar="FILE", help="write the text here, and the list to standard output")
-    words.add_argument("--lift", metavar="Z", help="what G28 and G30 of Z alone become: G53 G0 Z, a machine coordinate"
-                                                   " in the program's unit; at a terminal you are asked for it")
-    words.add_argument("--park", metavar=("X", "Y"), nargs=2, help="the same of X and Y alone: G53 G0 X Y")
-    words.add_argument("--settings", metavar="FILE", help="the machine's settings, for the dry run")
-    words.add_argument("--ngc", metavar="PATH", help="the program ngc; without it the one beside this tool, or on PATH")
-    return words
+    parser = new_parser("ngc-adapt", ABOUT, EXAMPLE)
+    parser.add_argument("program", metavar="PROGRAM", help="the CAM system's text; - is standard input")
+    parser.add_argument("--output", "-o", metavar="FILE", help="write the text here, and the list to standard output")
+    parser.add_argument("--force", action="store_true", help="write over FILE if it is there")
+    parser.add_argument("--lift", metavar="Z", help="what G28 and G30 of Z alone become: G53 G0 Z, a machine coordinate"
+                                                    " in millimetres; at a terminal you are asked for it")
+    parser.add_argument("--park", metavar=("X", "Y"), nargs=2, help="the same of X and Y alone: G53 G0 X Y")
+    parser.add_argument("--tool", metavar="NUMBER=SLOT", action="append", default=[],
+                        help=f"T and H of this NUMBER become those of SLOT, 1 to {SLOTS}; may be given several times")
+    parser.add_argument("--settings", metavar="FILE", help="the machine's settings, for the dry run")
+    add_beginning(parser)
+    parser.add_argument("--ngc", metavar="PATH",
+                        help="the program ngc; without it the one beside this tool, or on PATH")
+    return parser
 
 
 def main(arguments: list[str] | None = None) -> int:
     """Adapts a program, and returns the exit status; without arguments those of the command line count."""
-    return run(make_parser(), work, arguments)
-
-
-def work(args: argparse.Namespace) -> int:
-    """Adapts a program. Raises what `adapt` raises; of a height or a place that is missing, which option names it."""
-    try:
-        return adapt(args)
-    except Missing as error:
-        option, what = _ASKS[error.what]
-        raise Failure(f"{args.program}: {error}: name {what}: {option}") from None
+    return run(make_parser(), adapt, arguments)
 
 
 def adapt(args: argparse.Namespace) -> int:
-    """Reads, rewrites, writes and asks `ngc`. Raises OSError, Missing, ValueError, BadSettings, CannotRun."""
-    ngc = find_ngc(args.ngc)
+    """Reads, rewrites, writes and asks `ngc`. Raises OSError and Failures."""
+    ngc, answers = find_ngc(args.ngc), given(args)
     if args.settings:
         look_at_settings(ngc, args.settings)
-    for number in [args.lift, *(args.park or ())]:
-        if number is not None:
-            nanometres(number)
-    old = sys.stdin.buffer.read() if args.program == "-" else Path(args.program).read_bytes()
-    listed = sys.stdout if args.output else sys.stderr
-
-    def warn(number: int, error: str) -> None:
-        print(f"line {number}: WARNING: {error}", file=listed)
-
-    texts, ends, said = cut_lines(old)
-    lines = _rewritten(args, texts, warn)
-    centred(lines, lambda text: dry(ngc, text, args.settings))
-    new = "".join(line.text + end for line, end in zip(lines, ends, strict=True)).encode("latin-1")
+    inputs = (args.program, args.settings, args.device)
     if args.output:
-        Path(args.output).write_bytes(new)
+        files.look_before_write(args.output, inputs, args.force)
+    begin, text = chosen_beginning(args), _read(args.program)
+    lines, warnings = _rewritten(args.program, text, answers)
+    centred(lines, lambda asked: begin.dry(ngc, asked, args.settings))
+    new, said = whole_text(lines, text)
+    _write(args, new.encode(), inputs)
+    changed = [*said, *changes(text.lines, lines)] or ["no line is changed"]
+    print("\n".join([*warnings, *changed]), file=sys.stdout if args.output else sys.stderr)
+    refused = list(told(new.encode(), args.output or "the text",
+                        lambda asked: refusal(*begin.dry(ngc, asked, args.settings))))
+    print("\n".join(refused), file=sys.stderr, end="\n" if refused else "")
+    return 1 if refused else 0
+
+
+def _read(program: str) -> ProgramText:
+    """The text of a file, or of standard input. Raises OSError, NotText."""
+    data = sys.stdin.buffer.read() if program == "-" else files.read(program)
+    with speaking_of("standard input" if program == "-" else program, NotText):
+        return ProgramText.read(data)
+
+
+def _write(args: argparse.Namespace, data: bytes, inputs: Sequence[str | None]) -> None:
+    """Writes the text to the file that is named, else to standard output. Raises OSError, NotWritten."""
+    if args.output:
+        files.write_new(args.output, data, inputs, args.force)
     else:
-        sys.stdout.buffer.write(new)
+        sys.stdout.buffer.write(data)
         sys.stdout.flush()
-    print("\n".join([*said, *changes(texts, lines)]), file=listed)
-    refused = refusal(*dry(ngc, new, args.settings))
-    if refused is None:
-        return 0
-    text = lines[refused.line - 1].text if refused.line <= len(lines) else "(the end)"
-    print(f"{args.program}:{refused.line}: {refused.code} {refused.name}: {text.strip()}", file=sys.stderr)
-    print(f"  {faults.cure(refused.code, [])}", file=sys.stderr)
-    return 1
 
 
-def cut_lines(text: bytes) -> tuple[list[str], list[str], list[str]]:
-    """The lines of a text without their ends, their ends, and what is said of a change of the text as a whole."""
-    said = []
-    if text.startswith(b"\xef\xbb\xbf"):
-        text = text[3:]
-        said.append("line 1: the byte order mark before it is left out")
-    if text and not text.endswith(b"\n"):
-        text += b"\n"
-        said.append("a newline is put at the end")
-    ends = [("\r\n" if line.endswith(b"\r") else "\n") for line in text.split(b"\n")[:-1]]
-    return [line.removesuffix(b"\r").decode("latin-1") for line in text.split(b"\n")[:-1]], ends, said
+def given(args: argparse.Namespace) -> Answers:
+    """What the command line says of heights, places and slots. Raises BadNumber, WrongWords."""
+    x_y = [nanometres(word) for word in args.park or ()]
+    slots: dict[int, int] = {}
+    for word in args.tool:
+        number, _, slot = word.partition("=")
+        if not _is_count(number) or int(number) in slots:
+            raise WrongWords(f"--tool {word}: write NUMBER=SLOT, as 201=1, and each number once")
+        slots[int(number)] = slot_number(slot)
+    return Answers(None if args.lift is None else nanometres(args.lift), (x_y[0], x_y[1]) if x_y else None, slots)
 
 
-def _rewritten(args: argparse.Namespace, texts: list[str], warn: Callable[[int, str], None]) -> list[CamLine]:
-    """The lines as they are to be written; a person at a terminal is asked for what is missing."""
-    places = Places(args.lift, tuple(args.park) if args.park else None)
+def slot_number(word: str) -> int:
+    """A slot. Raises BadNumber."""
+    if not _is_count(word) or not 1 <= int(word) <= SLOTS:
+        raise BadNumber(f"a slot is a whole number from 1 to {SLOTS}, not {word}")
+    return int(word)
+
+
+def _is_count(word: str) -> bool:
+    return word.isascii() and word.isdecimal() and len(word) < 10
+
+
+def _rewritten(program: str, text: ProgramText, answers: Answers) -> tuple[list[CamLine], list[str]]:
+    """The lines as they are to be written, and warnings; a person at a terminal is asked for what is missing. Raises
+    Failures."""
     while True:
-        warnings: list[tuple[int, str]] = []
+        warnings: list[str] = []
+
+        def warn(number: int, why: str) -> None:
+            warnings.append(f"line {number}: WARNING: {why}")
+
         try:
-            lines = rewritten(texts, places, lambda number, error: warnings.append((number, error)))
+            with speaking_of(program, SharedSlot):
+                return rewritten(text.lines, answers, warn), warnings
         except Missing as error:
-            if args.program == "-" or not sys.stdin.isatty():
-                raise
-            places = _ask(error, places)
-            continue
-        for warning in warnings:
-            warn(*warning)
-        return lines
+            option, what = asked_for(error)
+            if program == "-" or not sys.stdin.isatty():
+                raise Failure(f"{program}: {error.said()}: name {what}: {option}") from None
+            answers = _ask(f"{program}: {error.said()}", error, answers)
 
 
-def _ask(error: Missing, places: Places) -> Places:
-    """Asks at the terminal. Raises Missing if there is no answer, ValueError if it isn't a number."""
-    print(f"{error}\n{_ASKS[error.what][1]}, in the program's unit: ", end="", file=sys.stderr, flush=True)
+def asked_for(missing: Missing) -> tuple[str, str]:
+    """The option that says what is missing, and what that is."""
+    if missing.what == "lift":
+        return "--lift Z", "the machine Z that the tool is lifted to, in millimetres"
+    if missing.what == "park":
+        return "--park X Y", "the machine X and Y that the table is brought to, in millimetres"
+    return f"--tool {missing.tool}=SLOT", f"the slot of tool {missing.tool}, 1 to {SLOTS}"
+
+
+def _ask(line: str, missing: Missing, answers: Answers) -> Answers:
+    """Asks at the terminal. Raises Failure if there is no answer, or another one than is needed."""
+    option, what = asked_for(missing)
+    print(f"{shown(line)}\n{what}: ", end="", file=sys.stderr, flush=True)
     words = sys.stdin.readline().split()
-    if len(words) != (1 if error.what == "lift" else 2):
-        raise error
-    for word in words:
-        nanometres(word)
-    return Places(words[0], places.park) if error.what == "lift" else Places(places.lift, (words[0], words[1]))
+    if len(words) != (2 if missing.what == "park" else 1):
+        raise Failure(f"{line}: name {what}: {option}")
+    if missing.what == "tool":
+        return replace(answers, slots={**answers.slots, missing.tool: slot_number(words[0])})
+    if missing.what == "lift":
+        return replace(answers, lift_nm=nanometres(words[0]))
+    return replace(answers, park_nm=(nanometres(words[0]), nanometres(words[1])))
 
 
-def changes(texts: list[str], lines: list[CamLine]) -> list[str]:
+def changes(texts: Sequence[str], lines: list[CamLine]) -> list[str]:
     """Each changed line: its number, why, what it was, what it is."""
     said = []
     for number, (text, line) in enumerate(zip(texts, lines, strict=True), 1):
         if line.text != text:
             reasons = "; ".join(dict.fromkeys(line.reasons))
-            said += [f"line {number}: {reasons}", f"  - {text}", f"  + {line.text}"]
-    return said or ["no line is changed"]
+            said += [shown(row) for row in (f"line {number}: {reasons}", f"  - {text}", f"  + {line.text}")]
+    return said
+
+
+def told(new: bytes, path: str, ask: Callable[[bytes], Refusal | None]) -> Iterator[str]:
+    """The refused lines of what is written: where, which fault, the line, what to write; and what lists them all."""
+    lines: set[int] = set()
+    cures: set[str] = set()
+    for finding in find_all(Lines(new), ask):
+        fault = finding.refusal
+        if fault.line in lines:
+            continue  # a fault that shows once another one's word is left out
+        if len(lines) == _MOST:
+            yield f"and more: ngc-check {path} lists each"
+            return
+        lines.add(fault.line)
+        yield f"{path}:{fault.line}: {fault.code} {fault.name}: {shown(finding.text).strip() or '(the end)'}"
+        cure = faults.cure(fault.code, finding.words(), finding.text)
+        if cure not in cures:
+            yield f"    mend: {shown(cure)}"
+        cures.add(cure)
+    if lines:
+        yield f"Mend these, and check again: ngc-check {path}"

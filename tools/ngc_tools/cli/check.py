@@ -7,6 +7,7 @@ from ngc_tools import files
 from ngc_tools.cli.beginning import add_beginning, chosen_beginning
 from ngc_tools.cli.run import new_parser, run
 from ngc_tools.failure import WrongWords
+from ngc_tools.formats.device import MOST_LARGE_PROGRAM
 from ngc_tools.formats.program_text import ProgramText
 from ngc_tools.formats.settings import DEFAULT, Settings
 from ngc_tools.formats.text import shown
@@ -50,7 +51,8 @@ def make_parser() -> argparse.ArgumentParser:
     add_beginning(parser)
     parser.add_argument("--settings-only", action="store_true", help="check the settings, and no program")
     parser.add_argument("--block-delete", action="store_true", help="leave out the lines that begin with a slash")
-    parser.add_argument("--large", action="store_true", help="the device is large: a program may have 1,048,576 bytes")
+    parser.add_argument("--large", action="store_true",
+                        help=f"the device is large: a program may have {MOST_LARGE_PROGRAM:,} bytes")
     parser.add_argument("--most", metavar="N", type=int, default=0, help="stop after N refusals; else all are found")
     parser.add_argument("--ngc", metavar="PATH",
                         help="the program ngc; without it the one beside this tool, or on PATH")
@@ -177,7 +179,7 @@ class Listing:
             print(f"    {carets(finding.text, finding.marks)}")
         if cause := self._once(breach or faults.sentence(fault.code) or "see docs/LANGUAGE.md"):
             print(wrapped(cause))
-        advice = faults.cure(fault.code, finding.words())
+        advice = faults.cure(fault.code, finding.words(), finding.text)
         if breach and not is_placed:
             advice += ". The work zero is taken to be at machine 0: --origin X Y Z or --device DEVICE says where it is"
         if advice := self._once(advice):

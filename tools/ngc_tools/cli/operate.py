@@ -4,6 +4,7 @@ import fcntl
 import os
 import stat
 import sys
+from contextlib import closing
 
 try:
     import readline  # noqa: F401  history and editing for input()
@@ -15,10 +16,12 @@ from ngc_tools.failure import Failure
 from ngc_tools.ngc.before_start import CannotBegin, look
 from ngc_tools.ngc.console import Console, Ended
 from ngc_tools.operator.meter import LIMIT, Meter, check_limit
-from ngc_tools.operator.operator import Operator, explained
+from ngc_tools.operator.operator import Operator
+from ngc_tools.operator.sentences import explained
 from ngc_tools.player.progress import Link
 from ngc_tools.ngc.run import find_ngc
-from ngc_tools.cli.terminal import Screen
+from ngc_tools.cli.terminal import AskedToEnd, Screen
+from ngc_tools.formats.device import Device, NoDevice
 from ngc_tools.formats.settings import Settings
 
 ABOUT = """A console for people over `ngc run`: programs by name, G-code as typed, Enter or Ctrl-C holds.
@@ -96,37 +99,61 @@ def bound(args: argparse.Namespace, meter: Meter | None, pipe: int | None) -> st
 
 def session(ngc: str, args: argparse.Namespace, meter: Meter | None, pipe: int | None) -> int:
     """From the start of `ngc` to its end. Raises Ended if it ends by itself."""
-    screen = Screen()
-    console = Console(ngc, args.device, args.settings, args.out, Patience(screen))
-    try:
-        console.status()
-        operator = Operator(console, args.device, Settings.read(args.settings).step_nm, screen, meter)
-        said = bound(args, meter, pipe)
-        if pipe is not None:
-            os.close(pipe)
-        operator.begin(said)
-        converse(operator, screen)
-    except BaseException:
-        if console.child.poll() is None:
-            console.kill()
-        raise
-    status = console.quit()
+    found = as_found(args.device)
+    with closing(Screen()) as screen:
+        console = Console(ngc, args.device, args.settings, args.out, Patience(screen))
+        try:
+            console.status()
+            operator = Operator(console, screen, meter)
+            said = bound(args, meter, pipe)
+            if pipe is not None:
+                os.close(pipe)
+            cause = talk(operator, screen, said, found)
+            operator.ending.tell_player()
+        except BaseException:
+            if console.child.poll() is None:
+                console.kill()
+            raise
+        status = console.quit()
     if status:
-        print(f"ngc-operate: ngc ended with status {status}: the device or OUT failed in this session", file=sys.stderr)
-    return 0 if status == 0 else 2
+        cause = f"ngc ended with status {status}: the device or OUT failed in this session"
+    if cause:
+        print(f"ngc-operate: {cause}", file=sys.stderr)
+    return 2 if cause else 0
+
+
+def as_found(path: str) -> Device | None:
+    """The device as it stands before `ngc` is started, which writes its log anew."""
+    try:
+        return Device.read(path)
+    except (OSError, NoDevice):
+        return None
+
+
+def talk(operator: Operator, screen: Screen, said: str, found: Device | None) -> str:
+    """Begins, and does what a person types. Where something else ended the session, all is held, and it says what."""
+    try:
+        operator.begin(said, found)
+        converse(operator, screen)
+    except AskedToEnd as why:
+        reply = operator.console.ask("hold")[0]
+        status = operator.console.status()
+        stays = f"; {operator.session.half(status)} stays half-done" if status.half != "none" else ""
+        return f"{why}: {reply}{stays}"
+    return ""
 
 
 def converse(operator: Operator, screen: Screen) -> None:
-    """Reads what a person types until the session is over."""
+    """Reads what a person types until the session is over. Raises AskedToEnd."""
     while not operator.over:
         try:
             line = screen.prompt("ngc> ")
         except EOFError:
-            print()
-            operator.leaves_half()
+            screen.say("")
+            operator.ending.say()
             return
         except KeyboardInterrupt:
-            print("\nnothing runs; quit ends the session")
+            screen.say("\nnothing runs; quit ends the session")
             continue
         operator.do(line)
 
@@ -142,8 +169,8 @@ class Patience:
         if seconds > 2:
             self.screen.once("ngc waits until the reader of OUT takes lines; a hold is heeded after that. Ctrl-C three"
                              " times ends ngc, as a loss of power would")
-            if self.screen.asked_to_hold >= 3:
-                raise CannotBegin("ended; a block that was under way is half-done")
+            if self.screen.asked_to_hold >= 3 or self.screen.ending:
+                raise CannotBegin(f"{self.screen.ending or 'ended'}; a block that was under way is half-done")
 
 
 def told(ended: Ended) -> str:

@@ -1,17 +1,25 @@
 """The words of `ngc-player`, and what it says."""
 import argparse
+import os
+import re
 import signal
 import sys
 import threading
-from contextlib import ExitStack
+from contextlib import ExitStack, suppress
+from dataclasses import replace
 
 from ngc_tools.cli.run import new_parser, run
 from ngc_tools.formats.out import BadLine
-from ngc_tools.player.player import PIPE_BYTES, Pins, Player, Source, Stopped, begin, save_wakeups
-from ngc_tools.formats.position import nanometres
-from ngc_tools.player.progress import Listener
-from ngc_tools.formats.record import Keeper
+from ngc_tools.formats.position import Position, millimetres
+from ngc_tools.formats.record import check_path, machine_nm
 from ngc_tools.formats.settings import Settings
+from ngc_tools.player.answers import Answers
+from ngc_tools.player.keeper import Keeper, RecordFile
+from ngc_tools.player.person import Person, say
+from ngc_tools.player.pins import Pins
+from ngc_tools.player.player import Manner, Player, Stopped, save_wakeups
+from ngc_tools.player.progress import Listener
+from ngc_tools.player.source import PIPE_BYTES, Source, where_to_begin
 
 ABOUT = """Carry out the lines of OUT, each in its time, and keep in POSITION what was carried out.
 
@@ -24,9 +32,27 @@ EXAMPLE = """example:
   (in another terminal) ngc-operate mill.dev mill.toml axis --player progress
 
 exit status:
-  0  OUT ended, and all of its lines are carried out
-  1  it stopped: at a line that isn't one of OUT, at a part of a line, or by Ctrl-C; spindle and coolant are off
+  0  OUT ended, and all of its lines are carried out; spindle and coolant are off
+  1  it stopped: at a line that isn't one of OUT, at a part of a line, by Ctrl-C, or since the console is gone; spindle
+     and coolant are off
   2  the words are wrong, or a file can't be used"""
+
+_SECONDS = re.compile(r"([0-9]{1,4})(?:\.([0-9]{1,6}))?")
+
+
+def seconds(text: str) -> int:
+    """Seconds, as `2.5`, in microseconds. Raises ArgumentTypeError."""
+    match = _SECONDS.fullmatch(text)
+    if match is None or int(match[1]) > 3600:
+        raise argparse.ArgumentTypeError(f"not a number of seconds from 0 to 3600: {text}")
+    return int(match[1]) * 10**6 + int((match[2] or "").ljust(6, "0"))
+
+
+def pipe_size(text: str) -> int:
+    """The bytes of a pipe. Raises ArgumentTypeError."""
+    if not re.fullmatch("[0-9]{1,7}", text) or not 1 <= int(text) <= 1048576:
+        raise argparse.ArgumentTypeError(f"not a number of bytes from 1 to 1048576: {text}")
+    return int(text)
 
 
 def make_parser() -> argparse.ArgumentParser:
@@ -38,11 +64,15 @@ def make_parser() -> argparse.ArgumentParser:
                         " machine stands at 0")
     parser.add_argument("--at", nargs=3, metavar=("X", "Y", "Z"), help="where the machine stands, in machine mm")
     parser.add_argument("--anew", action="store_true", help="begin with a file's first line, not where POSITION ends")
+    parser.add_argument("--restored", action="store_true", help="OUT is a copy of the file of which POSITION speaks")
     parser.add_argument("--follow", action="store_true", help="wait for more at a file's end, until Ctrl-C")
-    parser.add_argument("--ask-tool", action="store_true", help="at a tool change wait until somebody presses Enter")
-    parser.add_argument("--spindle", type=float, default=0, metavar="SECONDS",
+    parser.add_argument("--no-ask-tool", action="store_true", help="don't wait for a person at a tool change, as the"
+                        " pins change the tool")
+    parser.add_argument("--spindle", type=seconds, default="0", metavar="SECONDS",
                         help="wait so long after a switch that starts, stops or turns the spindle the other way")
-    parser.add_argument("--pipe", type=int, default=PIPE_BYTES, metavar="BYTES",
+    parser.add_argument("--off-after", type=seconds, default="10", metavar="SECONDS", help="how long spindle and"
+                        " coolant stay on once the console is gone (default 10)")
+    parser.add_argument("--pipe", type=pipe_size, default=PIPE_BYTES, metavar="BYTES",
                         help=f"make the pipe as small as this (default {PIPE_BYTES:,})")
     parser.add_argument("--progress", metavar="SOCKET", help="tell there how far it is, to whoever asks")
     parser.add_argument("--pins", metavar="FILE", help="append there each line as it is carried out")
@@ -57,43 +87,61 @@ def main(arguments: list[str] | None = None) -> int:
 
 
 def work(args: argparse.Namespace) -> int:
-    """Opens what is named, and plays. Raises BadSettings, BadRecord, ValueError, OSError."""
-    at_nm = tuple(map(nanometres, args.at)) if args.at else None
-    settings = Settings.read(args.settings)
-    begun, position = begin(args.position, args.out, settings.step_nm, at_nm, args.anew)
-    source = Source(args.out, begun, args.pipe, args.follow)
-    if source.pipe_bytes >= 2 * max(args.pipe, PIPE_BYTES):
-        print(f"{args.out}: the pipe stays at {source.pipe_bytes:,} bytes", file=sys.stderr)
-    player = Player(source, position, begun, Pins(args.pins), settings.period_us)
+    """Opens what is named, and plays. Raises Failure or OSError."""
     with ExitStack() as stack:
-        if args.progress:
-            player.listener = Listener(args.progress)
-            stack.callback(player.listener.close)
-        player.keeper = Keeper(args.position, begun)
-        return play(player, args)
+        return play(prepared(args, stack), args)
+
+
+def prepared(args: argparse.Namespace, stack: ExitStack) -> Player:
+    """The player, with its record and its socket, which `stack` lets go. Raises OSError or ValueError."""
+    at_nm = tuple(map(machine_nm, args.at)) if args.at else None
+    settings = Settings.read(args.settings)
+    source = Source(args.out, args.pipe, args.follow)
+    check_path(os.path.realpath(args.out))
+    file = RecordFile(args.position)
+    stack.callback(file.close)
+    begun, notice = where_to_begin(file.read(), source, args.anew, args.restored)
+    if notice:
+        say(f"{args.out}: {notice}")
+    if source.pipe_bytes >= 2 * max(args.pipe, PIPE_BYTES):
+        say(f"{args.out}: the pipe stays at {source.pipe_bytes:,} bytes")
+    source.skip(begun)
+    position = Position(settings.step_nm, begun.at_nm if at_nm is None else at_nm)
+    pins = Pins(args.pins, (args.out, args.settings, args.position))
+    manner = Manner(settings.period_us, not args.untimed, args.spindle, args.off_after,
+                    None if args.no_ask_tool else Person(sys.stdin))
+    player = Player(source, position, begun, pins, manner)
+    if args.progress:
+        listener = Listener(args.progress)
+        stack.callback(listener.close)
+        player.answers = Answers(listener, player)
+    player.keeper = Keeper(file, player.standing(), lambda record: replace(record, mark=source.mark(record.size)))
+    return player
 
 
 def play(player: Player, args: argparse.Namespace) -> int:
     """Plays OUT to its end, and tells what was done."""
-    player.timed = not args.untimed
-    player.spindle_us = round(args.spindle * 1_000_000)
-    player.asks = sys.stdin if args.ask_tool else None
     _heed_signals(player)
     save_wakeups()
     over = threading.Event()
     if args.live or sys.stderr.isatty():
         threading.Thread(target=_show, args=(player, over), daemon=True).start()
+    if player.answers:
+        player.answers.start()
     status = 0
     try:
-        player.run()
+        if player.run():
+            say(f"{args.out}: ended with spindle or coolant on; spindle and coolant off")
     except BadLine as error:
-        print(f"{args.out}:{error.number}: {error.cause}; stopped, spindle and coolant off", file=sys.stderr)
+        say(f"{args.out}:{error.number}: {error.cause}; stopped, spindle and coolant off")
         status = 1
-    except Stopped:
-        print(f"{args.out}: stopped after line {player.lines}, spindle and coolant off", file=sys.stderr)
+    except Stopped as error:
+        say(f"{args.out}: {error}; spindle and coolant off")
         status = 1
     finally:
         over.set()
+        if player.answers:
+            player.answers.close()
         player.keeper.close()
     tell(player, args.out)
     return status
@@ -104,7 +152,7 @@ def tell(player: Player, out: str) -> None:
     counts, schedule = player.counts, player.schedule
     total = counts.pulses + counts.waits + counts.switches
     print(f"{out}: {total} lines carried out, {counts.pulses} pulses, {counts.waits} waits, {counts.switches} switches")
-    if player.timed:
+    if player.manner.timed:
         print(f"late at most {schedule.latest_ns / 1000:.0f} us, slower by {schedule.slower_ns / 1e6:.1f} ms in all;"
               f" the record was behind by at most {player.keeper.worst_ms:.0f} ms")
     print(player.position.reference())
@@ -114,12 +162,32 @@ def _heed_signals(player: Player) -> None:
     def stop(*_: object) -> None:
         player.stopping = True
 
-    for number in (signal.SIGINT, signal.SIGTERM, signal.SIGHUP):
+    for number in (signal.SIGINT, signal.SIGTERM, signal.SIGHUP, signal.SIGQUIT):
         signal.signal(number, stop)
 
 
 def _show(player: Player, over: threading.Event) -> None:
     """Shows the live position, ten times a second."""
+    shown = ""
     while not over.wait(0.1):
-        print(f"\rline {player.lines}: {player.position}   ", end="", file=sys.stderr, flush=True)
-    print(file=sys.stderr)
+        line = live(player.lines, player.position.nm, _columns())
+        with suppress(OSError, ValueError):
+            print("\r" + line.ljust(len(shown)), end="", file=sys.stderr, flush=True)
+        shown = line
+    say("")
+
+
+def live(lines: int, at_nm: tuple[int, int, int], columns: int) -> str:
+    """The line and the position in less than so many columns."""
+    exact = f"line {lines}: {' '.join(map(millimetres, at_nm))}"
+    if len(exact) < columns:
+        return exact
+    return f"{lines}: {' '.join(millimetres(nm)[:-3] for nm in at_nm)}"[:columns - 1]
+
+
+def _columns() -> int:
+    """How wide the terminal is."""
+    try:
+        return os.get_terminal_size(sys.stderr.fileno()).columns or 80
+    except OSError:
+        return 80

@@ -29,11 +29,17 @@ def run(parser: argparse.ArgumentParser, work: Work, arguments: list[str] | None
     Whatever is closed, pressed or given, a tool ends here, without a traceback: its text goes to standard error as
     `PROG: TEXT`. Of an error of its own it says `internal error`, and the traceback where NGC_DEBUG is set."""
     _open_streams()
+    status = ending = 0
     try:
         with _heeding():
             status = _ended(parser, work, arguments)
     except KeyboardInterrupt:
         status = _say(f"{parser.prog}: stopped")
+    except _Killed as killed:
+        ending = killed.number
+    if ending:  # what the work held is given back by now
+        signal.signal(ending, signal.SIG_DFL)
+        signal.raise_signal(ending)
     return _flushed(parser.prog, status)
 
 
@@ -126,9 +132,6 @@ def _heeding() -> Iterator[None]:
                 with suppress(ValueError):  # signals come to the main thread alone
                     before[number] = signal.signal(number, handler)
         yield
-    except _Killed as killed:
-        signal.signal(killed.number, signal.SIG_DFL)
-        signal.raise_signal(killed.number)
     finally:
         for number, handler in before.items():
             if signal.getsignal(number) in (heeded[number], signal.SIG_IGN):

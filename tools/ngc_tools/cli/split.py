@@ -15,11 +15,11 @@ from ngc_tools.ngc.run import find_ngc
 from ngc_tools.ngc.usable_settings import look_at_settings
 from ngc_tools.ngc.worlds import LineRefused, two_worlds
 
-ABOUT = """Part a program that is longer than a device takes (131,072 bytes; 1,048,576 where it is large) into programs
-that are run one after the other. It is parted after traverses (G0) that end above the work: where the tool's tip is no
-lower than any point at which a cut begins or ends. Each part but the first begins with the modes in force, and goes to
-that place in program coordinates, Z first; each but the last ends with M2. So the parts hold over any work offset and
-any tool length.
+ABOUT = f"""Part a program that is longer than a device takes ({MOST_PROGRAM:,} bytes; {MOST_LARGE_PROGRAM:,} where it
+is large) into programs that are run one after the other. It is parted after traverses (G0) that end above the work: where
+the tool's tip is no lower than any point at which a cut begins or ends. Each part but the first begins with the modes
+in force, and goes to that place in program coordinates, Z first; each but the last ends with M2. So the parts hold over
+any work offset and any tool length.
 
 Before anything is written, what they do is compared with the whole: with --device by `ngc run` over a copy of it, each
 pulse; else by `ngc dry` at two work offsets and two tool lengths, each motion with its feed, tool, spindle and
@@ -54,8 +54,10 @@ def make_parser() -> argparse.ArgumentParser:
     parser.add_argument("--output", "-o", metavar="PREFIX", help="the parts' names are PREFIX-1.ngc and so on")
     parser.add_argument("--above", metavar="Z", help="part it at this program Z or above, in millimetres")
     size = parser.add_mutually_exclusive_group()
-    size.add_argument("--large", action="store_true", help="the device is large: a part has at most 1,048,576 bytes")
-    size.add_argument("--limit", metavar="BYTES", type=int, help="bytes of a part at most; without it 131,072")
+    size.add_argument("--large", action="store_true",
+                      help=f"the device is large: a part has at most {MOST_LARGE_PROGRAM:,} bytes")
+    size.add_argument("--limit", metavar="BYTES", type=int,
+                      help=f"bytes of a part at most; without it {MOST_PROGRAM:,}")
     parser.add_argument("--force", action="store_true", help="write over files that are there")
     parser.add_argument("--ngc", metavar="PATH",
                         help="the program ngc; without it the one beside this tool, or on PATH")

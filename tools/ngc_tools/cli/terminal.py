@@ -4,29 +4,48 @@ import select
 import shutil
 import signal
 import sys
+import textwrap
 import time
+from types import FrameType
 
+from ngc_tools.formats.text import shown
 from ngc_tools.operator.face import SAID, WARNING, UnderWay
 from ngc_tools.player.progress import Report
 
+_ENDING = (signal.SIGTERM, signal.SIGHUP)
+
+
+class AskedToEnd(Exception):
+    """A signal asks the session to end, or the terminal is gone; the text says which."""
+
 
 class Screen:
-    """A face: standard input and output. The live line is shown on a terminal that can clear one."""
+    """A face: standard input and output. The live line is shown on a terminal that can clear one. `ending` says why the
+    session has to end, if it has to: from then on nothing is asked and nothing is shown."""
 
     def __init__(self) -> None:
+        """Takes the signals, until `close`."""
         self.is_terminal = sys.stdin.isatty() and sys.stdout.isatty()
         self.can_clear = self.is_terminal and os.environ.get("TERM", "dumb") != "dumb"
         self.asked_to_hold = 0
+        self.ending = ""
         self._prompts = False
         self._live = False
         self._shown = 0.0
         self._said: set[str] = set()
-        signal.signal(signal.SIGINT, self._note)
+        self._before = {number: signal.signal(number, self._end) for number in _ENDING}
+        self._before[signal.SIGINT] = signal.signal(signal.SIGINT, self._note)
+
+    def close(self) -> None:
+        """Gives the signals back."""
+        for number, handler in self._before.items():
+            signal.signal(number, handler)
 
     def say(self, text: str, kind: str = SAID) -> None:  # noqa: ARG002  of each kind alike
-        """Shows lines."""
+        """Shows lines; at a terminal none is longer than it is wide."""
         self._clear()
-        print(text, flush=True)
+        width = _width() if self.is_terminal else 0
+        self._print("\n".join(_wrapped(shown(line), width) for line in text.split("\n")) + "\n")
 
     def once(self, text: str, kind: str = WARNING) -> None:
         """Shows lines that nobody wants to see again in this piece of work."""
@@ -39,8 +58,8 @@ class Screen:
         if view is None:
             self._clear()
         elif self.can_clear and time.monotonic() > self._shown + 0.1:
-            width = max(20, shutil.get_terminal_size().columns - 1)
-            print("\r\033[K" + str(view)[:width], end="", flush=True)
+            width = max(20, (_width() or shutil.get_terminal_size().columns) - 1)
+            self._print("\r\033[K" + shown(view.fitted(width)))
             self._live = True
             self._shown = time.monotonic()
 
@@ -50,16 +69,32 @@ class Screen:
     def _clear(self) -> None:
         """Takes the live line away."""
         if self._live:
-            print("\r\033[K", end="", flush=True)
+            self._print("\r\033[K")
             self._live = False
+
+    def _print(self, text: str) -> None:
+        """Shows text as it is. Where nobody can see it any more, the session has to end."""
+        if self.ending:
+            return
+        try:
+            print(text, end="", flush=True)
+        except OSError as error:
+            self._asked(f"nobody reads what is shown: {error.strerror}")
 
     def prompt(self, text: str) -> str:
         """What a person types, without its newline. From then on Enter and Ctrl-C ask to hold, until the next prompt.
-        Raises EOFError at the end of the input, KeyboardInterrupt for Ctrl-C in it."""
+        Raises EOFError at the end of the input, KeyboardInterrupt for Ctrl-C in it, AskedToEnd."""
         self._clear()
+        if self.ending:
+            raise AskedToEnd(self.ending)
+        width = _width() if self.is_terminal else 0
+        *lines, last = _wrapped(text.rstrip(" "), width).split("\n")
+        self._print("".join(line + "\n" for line in lines))
         self._prompts = True
         try:
-            return input(text)
+            return input(last + " " * (len(text) - len(text.rstrip(" "))))
+        except OSError as error:
+            raise AskedToEnd(f"the terminal is gone: {error.strerror}") from None
         finally:
             self._prompts = False
             self.asked_to_hold = 0
@@ -67,22 +102,51 @@ class Screen:
             self._said.clear()
 
     def ask(self, question: str) -> str:
-        """What a person answers; nothing at the end of the input, or for Ctrl-C."""
+        """What a person answers; nothing at the end of the input, or for Ctrl-C. Raises AskedToEnd."""
         try:
             return self.prompt(question)
         except (EOFError, KeyboardInterrupt):
-            print()
+            self._print("\n")
             return ""
 
     def interrupted(self) -> bool:
-        """Whether Enter or Ctrl-C was pressed since the last prompt."""
-        if self.is_terminal and select.select([sys.stdin], [], [], 0)[0]:
-            os.read(sys.stdin.fileno(), 4096)
+        """Whether Enter or Ctrl-C was pressed since the last prompt, or the session has to end."""
+        if self.is_terminal and not self.ending and select.select([sys.stdin], [], [], 0)[0]:
+            try:
+                os.read(sys.stdin.fileno(), 4096)
+            except OSError as error:
+                self._asked(f"the terminal is gone: {error.strerror}")
             self.asked_to_hold += 1
-        return self.asked_to_hold > 0
+        return self.asked_to_hold > 0 or self.ending != ""
 
-    def _note(self, *_: object) -> None:
+    def _note(self, _number: int, _frame: FrameType | None) -> None:
         """Ctrl-C: raises at a prompt, else asks to hold."""
         if self._prompts:
             raise KeyboardInterrupt
         self.asked_to_hold += 1
+
+    def _end(self, number: int, _frame: FrameType | None) -> None:
+        """A signal that ends a session: raises at a prompt, else asks to hold first."""
+        self._asked(f"{signal.Signals(number).name} came")
+        if self._prompts:
+            raise AskedToEnd(self.ending)
+
+    def _asked(self, why: str) -> None:
+        self.ending = self.ending or why
+
+
+def _width() -> int:
+    """How many characters a line of the terminal has; 0 if it doesn't say it."""
+    try:
+        return os.get_terminal_size(sys.stdout.fileno()).columns
+    except (OSError, ValueError):
+        return 0
+
+
+def _wrapped(line: str, width: int) -> str:
+    """A line in lines of at most this width, parted between words; those after the first are indented."""
+    if not width or len(line) <= width:
+        return line
+    indent = line[:len(line) - len(line.lstrip())]
+    return "\n".join(textwrap.wrap(line, max(width, 20), subsequent_indent=indent + "  ", break_on_hyphens=False,
+                                   replace_whitespace=False, drop_whitespace=True, expand_tabs=False))

@@ -2,8 +2,9 @@
 import fcntl
 import os
 import struct
-from dataclasses import dataclass
+from dataclasses import dataclass, field, fields
 from pathlib import Path
+from typing import Any
 
 from ngc_tools.failure import Failure
 from ngc_tools.files import naming
@@ -39,40 +40,9 @@ class Field:
     label: str
 
 
-STATE = {
-    "entries": Field(0, "Q", _COUNTERS, "entry count"),
-    "place": Field(8, "Q", range(MOST_LARGE_PROGRAM + 1), "place"),
-    "point_nm": Field(16, "3q", _SIGNED, "machine point, nm"),
-    "feed_nm_per_min": Field(40, "Q", _COUNTS, "feed, nm per minute"),
-    "speed": Field(48, "Q", _COUNTS, "spindle speed, millionths"),
-    "g92_nm": Field(56, "3q", _SIGNED, "G92 offset, nm"),
-    "origin_nm": Field(80, "3q", _SIGNED, "origin in force, nm"),
-    "tool_length_nm": Field(104, "q", _SIGNED, "tool length in force, nm"),
-    "kept_rzpq": Field(112, "4q", _SIGNED, "kept R, Z, P, Q"),
-    "motion": Field(144, "B", (0, 1, 2, 3, 80, 81, 82, 83, 85, 86, 89), "motion mode"),
-    "plane": Field(145, "B", (17, 18, 19), "plane"),
-    "distance": Field(146, "B", (90, 91), "distance mode"),
-    "feed_mode": Field(147, "B", (93, 94), "feed mode"),
-    "unit": Field(148, "B", (20, 21), "unit"),
-    "retract": Field(149, "B", (98, 99), "retract mode"),
-    "system": Field(150, "B", range(1, 10), "coordinate system"),
-    "path_mode": Field(151, "B", (0, 1, 2), "path mode"),
-    "spindle": Field(152, "B", (0, 1, 2), "spindle"),
-    "mist": Field(153, "B", (0, 1), "mist"),
-    "flood": Field(154, "B", (0, 1), "flood"),
-    "overrides": Field(155, "B", (0, 1), "overrides allowed"),
-    "point_known": Field(156, "B", (0, 1), "machine point known"),
-    "kept": Field(157, "B", range(16), "which of R, Z, P, Q are kept"),
-    "selected": Field(158, "H", range(SLOTS + 1), "selected slot"),
-    "slot": Field(160, "H", range(SLOTS + 1), "slot in the spindle"),
-    "half": Field(162, "B", (0, 1, 2), "half-done block"),
-    "opened": Field(163, "B", (0, 1, 2), "what of it is open"),
-    "half_known": Field(164, "B", (0, 1), "its point known"),
-    "half_bytes": Field(166, "H", range(257), "bytes of its text"),
-    "segment": Field(168, "Q", range(2**64), "its segment"),
-    "half_point_nm": Field(176, "3q", _SIGNED, "its point, nm"),
-}
-"""The fields of a state by their names in `State`, in the order of the page."""
+def _stored(byte: int, kind: str, limits: Limits, label: str) -> Any:
+    """The place of one of the numbers of `State`."""
+    return field(metadata={"field": Field(byte, kind, limits, label)})
 
 
 class NoDevice(Failure, ValueError):
@@ -105,45 +75,45 @@ class State:
     operator; the names after it speak of that block: `opened` is 0 nothing, 1 its segment, 2 its approach; its text is
     `half_text`."""
 
-    entries: int
-    place: int
-    point_nm: tuple[int, int, int]
-    feed_nm_per_min: int
-    speed: int
-    g92_nm: tuple[int, int, int]
-    origin_nm: tuple[int, int, int]
-    tool_length_nm: int
-    kept_rzpq: tuple[int, int, int, int]
-    motion: int
-    plane: int
-    distance: int
-    feed_mode: int
-    unit: int
-    retract: int
-    system: int
-    path_mode: int
-    spindle: int
-    mist: int
-    flood: int
-    overrides: int
-    point_known: int
-    kept: int
-    selected: int
-    slot: int
-    half: int
-    opened: int
-    half_known: int
-    half_bytes: int
-    segment: int
-    half_point_nm: tuple[int, int, int]
+    entries: int = _stored(0, "Q", _COUNTERS, "entry count")
+    place: int = _stored(8, "Q", range(MOST_LARGE_PROGRAM + 1), "place")
+    point_nm: tuple[int, int, int] = _stored(16, "3q", _SIGNED, "machine point, nm")
+    feed_nm_per_min: int = _stored(40, "Q", _COUNTS, "feed, nm per minute")
+    speed: int = _stored(48, "Q", _COUNTS, "spindle speed, millionths")
+    g92_nm: tuple[int, int, int] = _stored(56, "3q", _SIGNED, "G92 offset, nm")
+    origin_nm: tuple[int, int, int] = _stored(80, "3q", _SIGNED, "origin in force, nm")
+    tool_length_nm: int = _stored(104, "q", _SIGNED, "tool length in force, nm")
+    kept_rzpq: tuple[int, int, int, int] = _stored(112, "4q", _SIGNED, "kept R, Z, P, Q")
+    motion: int = _stored(144, "B", (0, 1, 2, 3, 80, 81, 82, 83, 85, 86, 89), "motion mode")
+    plane: int = _stored(145, "B", (17, 18, 19), "plane")
+    distance: int = _stored(146, "B", (90, 91), "distance mode")
+    feed_mode: int = _stored(147, "B", (93, 94), "feed mode")
+    unit: int = _stored(148, "B", (20, 21), "unit")
+    retract: int = _stored(149, "B", (98, 99), "retract mode")
+    system: int = _stored(150, "B", range(1, 10), "coordinate system")
+    path_mode: int = _stored(151, "B", (0, 1, 2), "path mode")
+    spindle: int = _stored(152, "B", (0, 1, 2), "spindle")
+    mist: int = _stored(153, "B", (0, 1), "mist")
+    flood: int = _stored(154, "B", (0, 1), "flood")
+    overrides: int = _stored(155, "B", (0, 1), "overrides allowed")
+    point_known: int = _stored(156, "B", (0, 1), "machine point known")
+    kept: int = _stored(157, "B", range(16), "which of R, Z, P, Q are kept")
+    selected: int = _stored(158, "H", range(SLOTS + 1), "selected slot")
+    slot: int = _stored(160, "H", range(SLOTS + 1), "slot in the spindle")
+    half: int = _stored(162, "B", (0, 1, 2), "half-done block")
+    opened: int = _stored(163, "B", (0, 1, 2), "what of it is open")
+    half_known: int = _stored(164, "B", (0, 1), "its point known")
+    half_bytes: int = _stored(166, "H", range(257), "bytes of its text")
+    segment: int = _stored(168, "Q", range(2**64), "its segment")
+    half_point_nm: tuple[int, int, int] = _stored(176, "3q", _SIGNED, "its point, nm")
     half_text: bytes
 
     @staticmethod
     def read(image: bytes, byte: int) -> "State":
         """The state field that begins at a byte of an image. Limits aren't looked at."""
         values = {}
-        for name, field in STATE.items():
-            found = struct.unpack_from("<" + field.kind, image, byte + field.byte)
+        for name, stored in STATE.items():
+            found = struct.unpack_from("<" + stored.kind, image, byte + stored.byte)
             values[name] = found if len(found) > 1 else found[0]
         text = image[byte + 200:byte + 456][:values["half_bytes"]] if values["half"] else b""
         return State(**values, half_text=text)
@@ -163,13 +133,17 @@ class State:
         unread = () if self.half else names[names.index("half_bytes"):]
         if not self.half_known:
             unread += ("half_point_nm",)
-        found = [self.said(name) for name, field in STATE.items()
-                 if name not in unread and any(number not in field.limits for number in self.numbers(name))]
+        found = [self.said(name) for name, stored in STATE.items()
+                 if name not in unread and any(number not in stored.limits for number in self.numbers(name))]
         if length < self.place <= MOST_LARGE_PROGRAM:
             found.append(f"{self.said('place')} of {length} bytes")
         if (self.opened or self.half_known) and not self.half or self.opened and self.half_known:
             found.append(self.said("half", "opened", "half_known"))
         return found
+
+
+STATE: dict[str, Field] = {each.name: each.metadata["field"] for each in fields(State) if each.metadata}
+"""The fields of a state by their names in `State`, in the order of the page."""
 
 
 @dataclass(frozen=True, slots=True)

@@ -94,7 +94,7 @@ def read_line(line: bytes | str, number: int, least_period_us: int = 1) -> Line:
         speed = int(match[2]) * 10**6 + int(match[3])
         found = Switch(int(match[1]), speed, match[4] == b"1", match[5] == b"1", int(match[6]), int(match[7]))
     if found is None:
-        raise BadLine(number, f"not a line of OUT: {_quoted(text)}")
+        raise BadLine(number, f"not a line of OUT: {quoted(text)}")
     _in_range(found, number, least_period_us)
     return found
 
@@ -110,6 +110,6 @@ def _in_range(line: Line, number: int, least_period_us: int) -> None:
         raise BadLine(number, f"a period of {line.period_us} us, and period_us of the settings is {least_period_us}")
 
 
-def _quoted(text: bytes) -> str:
+def quoted(text: bytes) -> str:
     """The line in quotes, its end left out if it is long."""
     return f"'{shown(text[:60])}{'...' if len(text) > 60 else ''}'"

@@ -1,17 +1,27 @@
-"""The record that a player keeps of what it carried out: one sector, overwritten in place and synced."""
-import fcntl
-import os
-import threading
-import time
+"""The record of what a player carried out: one sector of text, as docs/TOOLS.md has it."""
+import re
 from dataclasses import dataclass, replace
-from pathlib import Path
 
-from ngc_tools.failure import Failure
-from ngc_tools.files import naming
-from ngc_tools.formats.out import OFF, BadLine, Switch, read_line
-from ngc_tools.formats.position import millimetres, nanometres
+from ngc_tools.failure import BadNumber, Failure
+from ngc_tools.formats.out import OFF, Switch, read_line
+from ngc_tools.formats.position import millimetres
 
 SIZE = 512  # bytes: a disk writes them whole or not at all
+LONGEST_PATH = 255  # bytes: with it the greatest numbers have room
+
+_COUNT = r"0|[1-9][0-9]{0,17}"
+_NUMBER = r"0|[1-9][0-9]{0,18}"
+_SLOT = "(?:[0-9]|[1-9][0-9]|1[01][0-9]|12[0-8])"
+_MILLIMETRES = re.compile(r"([+-]?)([0-9]{0,12})(?:\.([0-9]{0,6}))?")
+_LINES = (
+    ("out PATH", re.compile(r"out ([^\n\0]+)")),
+    ("lines N", re.compile(rf"lines ({_COUNT})")),
+    ("bytes N", re.compile(rf"bytes ({_COUNT})")),
+    ("outputs S ..", re.compile(rf"outputs (S [012] (?:0|[1-9][0-9]{{0,6}})\.[0-9]{{6}} [01] [01] {_SLOT} {_SLOT})")),
+    ("reference X Y Z", re.compile(r"reference ([^ ]+ [^ ]+ [^ ]+)")),
+)
+_FILE = re.compile(rf"file ({_NUMBER}) ({_NUMBER}) ([0-9a-f]{{8}})")
+_STOPPED = re.compile(r"stopped ([a-z]+)")
 
 
 class BadRecord(Failure, ValueError):
@@ -19,18 +29,35 @@ class BadRecord(Failure, ValueError):
 
 
 @dataclass(frozen=True, slots=True)
+class FileMark:
+    """What tells OUT apart from another file of its name: its inode, when it was made (0 if the file system doesn't
+    say), and `digest`, the CRC-32 of the last 4,096 bytes that were carried out."""
+
+    inode: int
+    born_ns: int
+    digest: int
+
+    def __str__(self) -> str:
+        return f"{self.inode} {self.born_ns} {self.digest:08x}"
+
+
+@dataclass(frozen=True, slots=True)
 class Record:
     """The first `lines` lines of `out`, its first `size` bytes, are carried out. `outputs` are as the last switch left
-    them, and the machine stands at `at_nm`."""
+    them, and the machine stands at `at_nm`. `mark` is that of a file, as a pipe has none. `stopped` is what ended the
+    player before OUT's end, in a word."""
 
     out: str
     lines: int = 0
     size: int = 0
     outputs: Switch = OFF
     at_nm: tuple[int, int, int] = (0, 0, 0)
+    mark: FileMark | None = None
+    stopped: str = ""
 
     def text(self) -> bytes:
-        """What stands in the file, 512 bytes. Raises BadRecord if the path of OUT is too long for it."""
+        """What stands in the file, 512 bytes. Raises BadRecord if the path of OUT can't stand in it."""
+        check_path(self.out)
         lines = [
             f"out {self.out}",
             f"lines {self.lines}",
@@ -38,110 +65,79 @@ class Record:
             f"outputs {self.outputs}",
             "reference " + " ".join(map(millimetres, self.at_nm)),
         ]
-        text = ("\n".join(lines) + "\n").encode("utf-8", "surrogateescape")
-        if len(text) > SIZE - 1:
-            raise BadRecord(f"{self.out}: too long a path for a record of {SIZE} bytes")
-        return text.ljust(SIZE - 1) + b"\n"
+        if self.mark:
+            lines.append(f"file {self.mark}")
+        if self.stopped:
+            lines.append(f"stopped {self.stopped}")
+        return ("\n".join(lines) + "\n").encode("utf-8", "surrogateescape").ljust(SIZE - 1) + b"\n"
 
     @staticmethod
-    def read(path: str | Path) -> "Record":
-        """Reads a record. Raises BadRecord, or OSError."""
-        with open(path, "rb") as file:
-            text = file.read(SIZE + 1).decode("utf-8", "surrogateescape")
+    def of_text(text: bytes, path: str) -> "Record":
+        """Reads a record, the bytes of the file `path`. Raises BadRecord."""
         try:
-            out, lines, size, outputs, reference, *rest = text.split("\n")
-            words = [_after(line, word) for line, word in
-                     ((out, "out"), (lines, "lines"), (size, "bytes"), (outputs, "outputs"), (reference, "reference"))]
-            switch = read_line(words[3], 4)
-            x, y, z = map(nanometres, words[4].split(" "))
-            if len(text.encode("utf-8", "surrogateescape")) != SIZE or "".join(rest).strip():
-                raise ValueError(f"it has other lines, or not {SIZE} bytes")
-            if not isinstance(switch, Switch):
-                raise ValueError("no outputs")
-            return Record(words[0], int(words[1]), int(words[2]), switch, (x, y, z))
-        except (ValueError, BadLine) as error:
-            raise BadRecord(f"{path}: not a record of ngc-player: {error}") from None
+            return _read(text)
+        except ValueError as error:
+            raise BadRecord(f"{path}: not a record of ngc-player: {error}; remove it, and tell by --at where the machine"
+                            " stands") from None
+
+    @staticmethod
+    def read(path: str) -> "Record":
+        """Reads the file `path`. Raises BadRecord, or OSError."""
+        with open(path, "rb") as file:
+            return Record.of_text(file.read(SIZE + 1), str(path))
 
 
-def _after(line: str, word: str) -> str:
-    """What stands after the word and a blank."""
-    if not line.startswith(word + " "):
-        raise ValueError(f"no line '{word} ..'")
-    return line[len(word) + 1:]
+def check_path(out: str) -> None:
+    """Raises BadRecord if a path of OUT can't stand in a record."""
+    size = len(out.encode("utf-8", "surrogateescape"))
+    if size > LONGEST_PATH:
+        raise BadRecord(f"{out}: too long a path for a record: it has {size} bytes, and at most {LONGEST_PATH} fit")
+    if "\n" in out:
+        raise BadRecord(f"{out}: a path with a line's end in it can't stand in a record")
+
+
+def _read(text: bytes) -> Record:
+    """Raises ValueError, which says what is wrong."""
+    if len(text) != SIZE:
+        raise ValueError(f"it has {'more' if len(text) > SIZE else len(text)} bytes, and a record has {SIZE}")
+    lines = text.decode("utf-8", "surrogateescape").split("\n")
+    found = []
+    for number, (form, pattern) in enumerate(_LINES):
+        match = pattern.fullmatch(lines[number]) if number < len(lines) else None
+        if match is None:
+            raise ValueError(f"line {number + 1} isn't '{form}'")
+        found.append(match[1])
+    mark, stopped_by, rest = _optional(lines[len(_LINES):])
+    if len(rest) != 2 or rest[0].strip(" ") or rest[1]:
+        raise ValueError(f"line {len(lines) - len(rest) + 1} is no line of a record")
+    x, y, z = map(machine_nm, found[4].split(" "))
+    outputs = read_line(found[3], 4)
+    assert isinstance(outputs, Switch)
+    return Record(found[0], int(found[1]), int(found[2]), outputs, (x, y, z), mark, stopped_by)
+
+
+def _optional(lines: list[str]) -> tuple[FileMark | None, str, list[str]]:
+    """The lines that a record may have after its five, and what is left."""
+    mark, stopped_by = None, ""
+    if lines and (match := _FILE.fullmatch(lines[0])):
+        mark = FileMark(int(match[1]), int(match[2]), int(match[3], 16))
+        lines = lines[1:]
+    if lines and (match := _STOPPED.fullmatch(lines[0])):
+        stopped_by = match[1]
+        lines = lines[1:]
+    return mark, stopped_by, lines
+
+
+def machine_nm(text: str) -> int:
+    """A machine coordinate in millimetres, of at most twelve digits and six decimals, in nanometres. Raises BadNumber
+    for anything else."""
+    match = _MILLIMETRES.fullmatch(text)
+    if match is None or not match[2] + (match[3] or ""):
+        raise BadNumber(f"not a number of millimetres with at most six decimals: {text}")
+    size = int(match[2] or 0) * 10**6 + int((match[3] or "").ljust(6, "0"))
+    return -size if match[1] == "-" else size
 
 
 def stopped(outputs: Switch) -> Switch:
     """The same outputs with spindle and coolant off."""
     return replace(outputs, spindle=0, mist=False, flood=False)
-
-
-class Keeper:
-    """Keeps a record on the disk, in a thread of its own, so that a sync delays no pulse.
-
-    `worst_ms` is how old the record on the disk was at most while something newer was there."""
-
-    def __init__(self, path: str | Path, first: Record, every_ms: int = 20) -> None:
-        """Writes the first record, and syncs it and its folder; holds the file by the system's lock. Raises OSError,
-        also if another player holds it, or BadRecord."""
-        self.path = path
-        self.now = first
-        self.worst_ms = 0.0
-        self.failed: OSError | None = None
-        self._every = every_ms / 1000
-        self._end = threading.Event()
-        self._file = os.open(path, os.O_RDWR | os.O_CREAT | os.O_CLOEXEC, 0o644)
-        self._kept: Record | None = None
-        try:
-            fcntl.flock(self._file, fcntl.LOCK_EX | fcntl.LOCK_NB)
-        except BlockingIOError as error:
-            raise OSError(error.errno, "another player keeps it", str(path)) from None
-        self._keep()
-        with naming(path):
-            os.ftruncate(self._file, SIZE)
-            os.fsync(self._file)
-            _sync_folder(Path(path).parent)
-        self._thread = threading.Thread(target=self._work, daemon=True)
-        self._thread.start()
-
-    def close(self) -> None:
-        """Syncs the last record. Raises OSError if a write or a sync failed."""
-        self._end.set()
-        self._thread.join()
-        try:
-            if self.failed:
-                raise self.failed
-            self._keep()
-        finally:
-            os.close(self._file)
-
-    def _work(self) -> None:
-        current = time.monotonic()
-        while not self._end.wait(self._every):
-            taken = time.monotonic()
-            stale = self.now is self._kept
-            try:
-                self._keep()
-            except OSError as error:
-                self.failed = error
-                return
-            if not stale:
-                self.worst_ms = max(self.worst_ms, (time.monotonic() - current) * 1000)
-            current = taken
-
-    def _keep(self) -> None:
-        record = self.now
-        if record is self._kept:
-            return
-        with naming(self.path):
-            os.pwrite(self._file, record.text(), 0)
-            os.fdatasync(self._file)
-        self._kept = record
-
-
-def _sync_folder(folder: Path) -> None:
-    """Makes a new file's name lasting."""
-    file = os.open(folder, os.O_RDONLY | os.O_DIRECTORY)
-    try:
-        os.fsync(file)
-    finally:
-        os.close(file)

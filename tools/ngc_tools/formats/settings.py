@@ -8,24 +8,24 @@ from typing import Any
 
 from ngc_tools.failure import Failure
 from ngc_tools.files import read
-from ngc_tools.formats.device import SLOTS
+from ngc_tools.formats.device import LENGTHS, SLOTS
 from ngc_tools.formats.text import shown
 
 KEYS = ("step_nm", "low_nm", "high_nm", "traverse_nm_per_min", "period_us", "tools_nm")
 AXES = "XYZ"
 
-LIMITS = {
-    "step_nm": "three whole numbers of nanometres, 10 to 1,000,000",
-    "low_nm": "three whole numbers of nanometres, -10,000,000,000 to 0",
-    "high_nm": "three whole numbers of nanometres, 0 to 10,000,000,000",
-    "traverse_nm_per_min": "a whole number of nanometres a minute, 1 to 100,000,000,000",
-    "period_us": "a whole number of microseconds, 1 to 1,000,000",
-    "tools_nm": "an array of at most 128 whole numbers of nanometres, 0 to 1,000,000,000",
-}
 _RANGES = {
     "step_nm": range(10, 10**6 + 1), "low_nm": range(-10**10, 1), "high_nm": range(10**10 + 1),
-    "traverse_nm_per_min": range(1, 10**11 + 1), "period_us": range(1, 10**6 + 1), "tools_nm": range(10**9 + 1),
+    "traverse_nm_per_min": range(1, 10**11 + 1), "period_us": range(1, 10**6 + 1), "tools_nm": LENGTHS,
 }
+_TAKES = {
+    "step_nm": "three whole numbers of nanometres", "low_nm": "three whole numbers of nanometres",
+    "high_nm": "three whole numbers of nanometres", "traverse_nm_per_min": "a whole number of nanometres a minute",
+    "period_us": "a whole number of microseconds",
+    "tools_nm": f"an array of at most {SLOTS} whole numbers of nanometres",
+}
+LIMITS = {key: f"{what}, {_RANGES[key][0]:,} to {_RANGES[key][-1]:,}" for key, what in _TAKES.items()}
+"""What each key takes, for people."""
 _THREE = ("step_nm", "low_nm", "high_nm")
 _ONE = ("traverse_nm_per_min", "period_us")
 _BARE = re.compile("[A-Za-z0-9_-]+")

@@ -6,7 +6,8 @@ from dataclasses import dataclass
 from decimal import Decimal
 from math import isqrt
 
-from ngc_tools.job.cam import MOTIONS, CamLine, Modes
+from ngc_tools.job.cam_line import CamLine
+from ngc_tools.job.cam_modes import MOTIONS, TAKERS, Modes
 from ngc_tools.formats.canonical import MOTIONS as MOVES
 from ngc_tools.formats.canonical import Command, read_commands
 from ngc_tools.job.moves import PLANES, Point
@@ -53,12 +54,12 @@ def _asked(lines: list[CamLine]) -> tuple[bytes, dict[int, bool]]:
         if radius and radius.value is not None and axes and modes.motion in (2, 3):
             arcs[number] = modes.motion == 2
             text = _straight(line) + f" ({_MARK}{number})"
-        elif axes and modes.motion in (2, 3) and not line.find("G", *MOTIONS, 10, 28, 30, 92):
+        elif axes and modes.motion in (2, 3) and not line.find("G", *MOTIONS, *TAKERS):
             other = CamLine.cut(text)
             other.begin(f"G{modes.motion}", "")
             text = other.text
         texts.append(text)
-    return ("\n".join(texts) + "\n").encode("latin-1"), arcs
+    return ("\n".join(texts) + "\n").encode(), arcs
 
 
 def _straight(line: CamLine) -> str:

@@ -48,7 +48,7 @@ class Status:
 
 
 class Console:
-    """A session of `ngc run`. It hides no reply and gives no command by itself.
+    """A session of `ngc run` over a device, with settings. It hides no reply and gives no command by itself.
 
     `waiting` is called about every 0.2 s while a reply doesn't come, with the seconds waited so far."""
 
@@ -56,7 +56,8 @@ class Console:
                  waiting: Callable[[float], None] | None = None) -> None:
         """Starts it, in a process group of its own, so that Ctrl-C at the terminal doesn't end it. Raises OSError if
         `ngc` can't be started."""
-        words = [str(ngc), "run", str(device), str(settings), str(out)]
+        self.ngc, self.device, self.settings = str(ngc), str(device), str(settings)
+        words = [self.ngc, "run", self.device, self.settings, str(out)]
         self.child = subprocess.Popen(words, stdin=subprocess.PIPE, stdout=subprocess.PIPE, process_group=0)
         self.waiting = waiting
         self._rest = b""

@@ -1,6 +1,7 @@
 """Copies of a device, over which `ngc run` does what it would do over the device itself."""
 import tempfile
 from collections.abc import Callable
+from contextlib import ExitStack
 from dataclasses import dataclass, field
 from pathlib import Path
 from types import TracebackType
@@ -27,6 +28,15 @@ class CommandRefused(Failure):
     def __init__(self, asked: str, reply: str, status: Status) -> None:
         super().__init__(f"{asked}: {reply}")
         self.asked, self.reply, self.status = asked, reply, status
+
+
+class Interrupted(Exception):
+    """Somebody wants no more of it."""
+
+
+def never() -> bool:
+    """Nobody breaks it off."""
+    return False
 
 
 @dataclass(slots=True)
@@ -91,30 +101,36 @@ class Copy:
     places after the lines at which the program waited for `continue`, which is given; `idle` says that nothing is left
     to do. `tally` counts the lines if `counted` is set."""
 
-    def __init__(self, ngc: str, settings: str | Path, image: bytes, commands: list[str],
-                 counted: bool = False) -> None:
-        """Begins it and gives the commands. Raises Refused, Ended of the console, OSError, BadSettings."""
+    def __init__(self, ngc: str, settings: str | Path, image: bytes, commands: list[str], counted: bool = False,
+                 interrupted: Callable[[], bool] = never) -> None:
+        """Begins it and gives the commands; it is broken off where `interrupted` says so. Raises CommandRefused, Ended
+        of the console, OSError, BadSettings."""
         shared = "/dev/shm" if Path("/dev/shm").is_dir() else None  # a sync costs nothing there
-        self._folder = tempfile.TemporaryDirectory(prefix="ngc-rehearse-", dir=shared)
-        folder = Path(self._folder.name)
-        self._device, self._out = folder / "device", folder / "out"
-        self._device.write_bytes(image)
         self._settings = Settings.read(settings)
+        self._interrupted = interrupted
         self.ticks = self.lines = 0
         self.stops: list[int] = []
         self.idle = False
-        self.console = _Console(ngc, self._device, settings, self._out)
-        try:
-            for command in commands:
-                reply = self.console.ask(command.encode("latin-1"))[0]
-                if reply.startswith("refused"):
-                    raise CommandRefused(command, reply, self.console.status())
-            self.start = self.console.status()
-        except BaseException:
-            self.close()
-            raise
-        at = [nanometres(number) for number in self.start.at]
-        self.tally = Tally(Position(self._settings.step_nm, at)) if counted else None
+        self.tally: Tally | None = None
+        with ExitStack() as stack:
+            folder = Path(stack.enter_context(tempfile.TemporaryDirectory(prefix="ngc-rehearse-", dir=shared)))
+            self._device, self._out = folder / "device", folder / "out"
+            self._device.write_bytes(image)
+            self.console = _Console(ngc, self._device, settings, self._out)
+            stack.callback(self.console.kill)
+            self._begin(commands, counted)
+            self._held = stack.pop_all()
+
+    def _begin(self, commands: list[str], counted: bool) -> None:
+        """Gives the first commands."""
+        for command in commands:
+            reply = self.console.ask(command.encode("latin-1"))[0]
+            if reply.startswith("refused"):
+                raise CommandRefused(command, reply, self.console.status())
+        self.start = self.console.status()
+        if counted:
+            at = [nanometres(number) for number in self.start.at]
+            self.tally = Tally(Position(self._settings.step_nm, at))
 
     def __enter__(self) -> "Copy":
         """Begins with the block."""
@@ -127,13 +143,13 @@ class Copy:
 
     def close(self) -> None:
         """Ends it and removes its files."""
-        self.console.kill()
-        self._folder.cleanup()
+        self._held.close()
 
     def go(self, ticks: int) -> None:
         """Makes this number of ticks, fewer if nothing is left to do. Raises Refused if a line of the program is."""
         left = ticks
         while left and not self.idle:
+            self._heed()
             replies = self.console.ask(f"tick {min(left, _AT_ONCE)}")
             left -= self._made(replies)
             self._after(replies)
@@ -146,6 +162,7 @@ class Copy:
         if holds(self.console.status()):
             return before, before
         while not self.idle:
+            self._heed()
             said = []
             for replies, status in self.console.tick_often(ticks, _COMMANDS):
                 self._made(replies)
@@ -154,6 +171,11 @@ class Copy:
                 before, said = self.ticks, said + replies
             self._after(said)
         return before, before
+
+    def _heed(self) -> None:
+        """Raises Interrupted if somebody wants no more of it."""
+        if self._interrupted():
+            raise Interrupted
 
     def _made(self, replies: list[str]) -> int:
         """Counts the ticks of a command."""

@@ -2,6 +2,8 @@
 import re
 from dataclasses import dataclass
 
+from ngc_tools.formats.device import MOST_LARGE_PROGRAM, MOST_PROGRAM, SLOTS
+
 
 @dataclass(frozen=True, slots=True)
 class Fault:
@@ -37,31 +39,36 @@ FAULTS = (
           "write the letter once; two lines where both are meant"),
     Fault("B2", "UnknownCode",
           "a G or M value isn't a code of the tables above",
-          "leave the code out, or write one that the tables of LANGUAGE.md have"),
+          "see what it means where the program was written for, and let the post-processor do without it; don't leave "
+          "out the code alone: axis words beside it would be a move"),
     Fault("B3", "LeftOutCode",
           "a code that is left out, or a word A, B, C or D",
-          "leave it out; let the CAM system do it with plain moves"),
+          "let the CAM system do it with plain moves; don't leave out the code alone: axis words beside it would be a "
+          "move"),
     Fault("B4", "GroupTwice",
           "two words of one G group or of one M group, those left out among them",
-          "leave one of the two out (G0 beside G80 does nothing), or put it on a line of its own"),
+          "write the one that is meant, or each on a line of its own; G0 beside G80, without an axis, does nothing: "
+          "leave it out"),
     Fault("B5", "TooManyM",
           "more than four M words",
           "put some of the M words on a line of their own"),
     Fault("B6", "AxisTakenTwice",
           "a group 1 word other than G80 beside G10, G28, G30 or G92",
-          "leave the G word of the motion out, or put G10, G28, G30 or G92 on a line of its own"),
+          "G10, G28, G30 and G92 take the axis words of the line: leave the G word of the motion out, and write it on "
+          "the next line that moves"),
     Fault("B7", "AxisUnused",
           "X, Y or Z, the motion mode after the line is G80, and none of G10, G28, G30, G92",
-          "write G0 or G1 before the axis words: G80 is in force"),
+          "no motion is in force: name the one that the line is meant to move by; if its words went with a code that "
+          "was left out, leave the whole line out too"),
     Fault("B8", "NoAxis",
           "a G0 or G1 word without X, Y, Z",
-          "leave the G0 or G1 out, or name an axis; F alone is fine"),
+          "leave it out here, and write it on the next line that moves, if that names no motion; F alone is fine"),
     Fault("B9", "NothingToSet",
           "G92 without X, Y, Z",
-          "name the axes and their coordinates: G92 X0 Y0"),
+          "name the axes and coordinates that are meant; where none is, leave the whole line out"),
     Fault("B10", "BadG53",
           "G53 where the motion mode after the line isn't G0 or G1",
-          "write G0 or G1 beside G53: G53 G0 Z0"),
+          "write the motion that is meant beside it, as G53 G0 or G53 G1; without an axis word leave G53 out"),
     Fault("B11", "RadiusArc",
           "R where the line's motion is G2 or G3",
           "write the arc by its centre, I and J in G17 from the start of the arc, in place of R"),
@@ -69,35 +76,37 @@ FAULTS = (
           "a word H, I, J, K, L, P, Q or R that nothing takes. H is taken by G43 alone; I, J and K as offsets of an "
           "arc in the plane after the line; L by G10 and cycles; P by G4, G10, G82, G86 and G89; Q by G83; R by "
           "cycles and arcs (R with an arc is B11)",
-          "leave the word out"),
+          "see what it stands for where the program was written for; leave it out only if the line is meant without "
+          "it"),
     Fault("B13", "Negative",
           "F, S, or P of G4 below 0",
-          "write a number that is 0 or more"),
+          "write a number that is 0 or more; where S below 0 means the other direction, write M4 and S above 0"),
     Fault("B14", "BadSlot",
           "T or H isn't whole, is negative, or is above the slots of the table in force",
-          "name a slot that the table has, or give this one a length: tools_nm of the settings for a dry run, "
-          "the command tool for the machine"),
+          "give this slot a length, and those before it: tools_nm of the settings for a dry run, the command tool for "
+          "the machine; numbers above 128 become slots by ngc-adapt --tool NUMBER=SLOT"),
     Fault("B15", "BadL",
           "G10 whose L is missing or isn't 2; L of a cycle that isn't whole or is below 1",
-          "write L2 beside G10; for a cycle L1 or more, or no L"),
+          "G10 takes L2 alone, and machine coordinates of an origin; a cycle takes L1 or more: see which is meant"),
     Fault("B16", "BadSystem",
           "G10 whose P is missing or isn't whole from 1 to 9",
-          "write P1 to P9 beside G10 L2: P1 is G54"),
+          "write the system that is meant, P1 to P9, of which P1 is G54; P0 is the one in force on some controls, and "
+          "a shift of all on others"),
     Fault("B17", "NoDwell",
           "G4 without P",
-          "write P with seconds: G4 P0.5"),
+          "write how long in seconds, as P, and no other word for it: half a second is G4 P0.5"),
     Fault("B18", "NoH",
           "G43 without H",
-          "write H with the slot: G43 H1"),
+          "write H with the slot of the tool that is in: after T2 M6 that is G43 H2"),
     Fault("B19", "CyclePlane",
           "the motion is a cycle and the plane after the line isn't G17",
-          "write G17 before the cycle"),
+          "cycles drill along Z, in G17: write that before one that is meant so; along X or Y write plain moves"),
     Fault("C1", "NoEnd",
           "an arc without an end coordinate in its plane",
           "write where the arc ends, X or Y in G17; for a full turn the coordinate where it starts"),
     Fault("C2", "NoCentre",
           "an arc without an offset in its plane",
-          "write where the centre is, I or J in G17, counted from the start of the arc"),
+          "write where the centre is, I or J in G17, counted from the start of the arc; a straight line is G1"),
     Fault("C3", "RadiiDiffer",
           "the distances of an arc's start and end from its centre differ by more than 2,000 nm, under G20 "
           "5,080 nm (own)",
@@ -108,25 +117,25 @@ FAULTS = (
           "write the centre where it is, or a straight G1 in place of a tiny arc"),
     Fault("Y1", "NoAxis",
           "a cycle without X, Y, Z",
-          "name X, Y or Z on the line of the cycle"),
+          "write the cycle with its words on the next line that names X or Y"),
     Fault("Y2", "NoZ",
           "no Z on the line of a cycle and none kept",
-          "write Z, the bottom, on the first line of the cycle"),
+          "write Z, the bottom that is meant; another motion before it drops the one that was kept"),
     Fault("Y3", "NoR",
           "no R on the line of a cycle and none kept",
-          "write R, the height where it begins to feed, on the first line of the cycle"),
+          "write R, the height where it begins to feed; another motion before it drops the one that was kept"),
     Fault("Y4", "RBelowZ",
           "R below Z",
           "write an R that is above Z; under G91 Z counts from R"),
     Fault("Y5", "InverseTime",
           "a cycle under G93",
-          "write G94 before the cycle"),
+          "write G94 before the cycle, and F as a length a minute"),
     Fault("Y6", "NegativeP",
           "the P of G82, G86 or G89, or the one kept, is below 0",
           "write the seconds of the dwell as 0 or more"),
     Fault("Y7", "BadQ",
           "G83 with no Q and none kept, or with one that isn't above 0",
-          "write Q, the peck, above 0"),
+          "write Q, the peck, above 0; G81 drills without pecks"),
     Fault("Y8", "SpindleStopped",
           "G86 while the spindle doesn't turn after the line's spindle and tool words",
           "start the spindle before G86, by M3 or M4"),
@@ -147,33 +156,140 @@ FAULTS = (
 )
 _BY_CODE = {fault.code: fault for fault in FAULTS}
 
-# More can be said of some words that CAM systems write: the code, the word that is marked, what to write.
-_CURES = tuple((code, re.compile(word, re.IGNORECASE | re.DOTALL), cure) for code, word, cure in (
-    ("E1", ";.*", "write the comment in ( ), with no ( or ) in it"),
-    ("E1", r"O *[0-9].*", "leave the program's number out; there are no subroutines and no loops"),
-    ("E1", r"[UVW] *[-+0-9.#\[].*", "leave it out: there are three axes, X, Y and Z"),
-    ("E1", r"[()].*", "write a comment with no ( or ) in it, and close it"),
-    ("E1", ":.*", "leave the program's number out"),
-    ("E1", "%.*", "leave it out: a percent sign stands alone on its line, the first one before all other lines"),
-    ("E1", "N.*", "write a block number of 1 to 5 digits, or none"),
-    ("E1", ",.*", "write numbers with a point"),
-    ("E1", "\r", "end the last line with a newline"),
-    ("E1", "\xef\xbb\xbf", "save the file without a byte order mark"),
-    ("E1", r"[A-Z] *- *[#\[].*", "write [0-#1] in the place of -#1: a sign stands before a number alone"),
-    ("E1", "[\x80-\xff]+", "leave it out, or put it into a comment"),
-    ("B2", r"G *91\.1", "leave it out: I, J and K count from the start of the arc, always"),
-    ("B2", r"G *90\.1", "leave it out, and write I, J and K from the start of the arc"),
-    ("B2", r"G *70", "write G20"),
-    ("B2", r"G *71", "write G21"),
-    ("B2", r"G *43\.1", "write G43 with H"),
-    ("B2", r"M *9[789]", "leave it out, there are no subroutines: write out what it calls"),
-    ("B3", r"G *4[12](\.1)?|D.*", "let the CAM system compensate the cutter's radius (in computer)"),
-    ("B3", r"G *38\.2", "leave it out; the operator gives tool lengths, by the command tool"),
-    ("B3", "[ABC].*", "leave it out: there are no rotary axes"),
-    ("B12", "[IJK].*", "leave it out, 0 too: it isn't an offset in the plane of an arc of this line"),
-    ("B12", "P.*", "leave it out: G4, G10, G82, G86 and G89 alone take P; G64 has no tolerance"),
-    ("B12", "H.*", "write G43 beside it, or leave it out"),
-    ("B12", "L.*", "leave it out: G10 and cycles alone take L"),
+SESSION = {
+    "J1": "the device or OUT failed, or another process holds the device",
+    "J2": "the file is too short for a device, or holds none: ngc format DEVICE",
+    "J3": "the device was formatted, and what it holds is in no state that a controller writes",
+    "J4": "the device has counted as far as it can: ngc format DEVICE",
+    "J5": f"a program has at most {MOST_PROGRAM:,} bytes, on a large device {MOST_LARGE_PROGRAM:,} (ngc grow DEVICE"
+          " makes it one)",
+    "K1": "a block is under way or half-done, the program runs, or it is held",
+    "K2": "no program is loaded, or nothing waits: load FILE, run",
+    "K3": "it isn't known where the machine stands: reference X Y Z",
+    "K4": "no block is half-done",
+    "K5": "the device or OUT failed in this session: quit, remove the cause, start again",
+    "M1": "out of memory",
+    "U1": "not a command, or a number of it isn't in range: help",
+}
+"""The faults of a session that aren't of a line (docs/SESSION.md), as an operator is told them."""
+
+SETTINGS = {
+    "S1": "the text isn't TOML",
+    "S2": "a key is missing",
+    "S3": "there is another key",
+    "S4": "a value isn't of its type",
+    "S5": "a number is beyond its limits",
+    "S6": f"there are more than {SLOTS} tool lengths",
+}
+"""The faults of a settings file (docs/SETTINGS.md)."""
+
+
+@dataclass(frozen=True, slots=True)
+class Cure:
+    """What to write where a fault marks a certain word: the fault's code, the word as a pattern of the whole of it, a
+    pattern that is found in the line, and the text."""
+
+    code: str
+    word: str
+    line: str
+    text: str
+
+    def fits(self, code: str, word: str, line: str) -> bool:
+        """Whether it is of this word of this line."""
+        flags = re.IGNORECASE | re.DOTALL
+        return self.code == code and bool(re.fullmatch(self.word, word, flags) and re.search(self.line, line, flags))
+
+
+_HOME = r"G *0*(28|30)(?![0-9.])"
+_MEASURED = ("leave the whole line out, and those that use what it measured: the operator gives tool lengths, by the "
+             "command tool")
+_CYCLE = ("there is no such cycle: switch it off in the post-processor; by hand leave out this line and those after it "
+          "up to G80")
+_ALL_AXES = ("beside G28 and G30 don't leave it out alone: without an axis all three go home. Write G53 G0 and the "
+             "machine coordinates that are meant in place of the line")
+# A text never makes a move or sets an origin that the line didn't mean. Of several that fit a word the first counts.
+CURES = tuple(Cure(*row) for row in (
+    ("E1", ";.*", "", "write the comment in ( ), with no ( or ) in it"),
+    ("E1", "O *[0-9].*", r"^[ \t]*(N *[0-9]+)?[ \t]*O *[0-9]+[ \t]*(\(.*)?$",
+     "leave the program's number out; there are no subroutines and no loops"),
+    ("E1", "O.*", "", "there are no subroutines and no loops: let the post-processor write out what they do"),
+    ("E1", r"[UVW] *[-+0-9.#\[].*", _HOME, _ALL_AXES),
+    ("E1", r"[UVW] *[-+0-9.#\[].*", "", "there are three axes: let the post-processor write for X, Y and Z; U and W of "
+     "a lathe are X and Z from where the tool stands"),
+    ("E1", r"[()].*", "", "write a comment with no ( or ) in it, and close it"),
+    ("E1", ":.*", "", "leave the program's number out"),
+    ("E1", "%.*", "", "leave it out: a percent sign stands alone on its line, the first one before all other lines"),
+    ("E1", "N.*", "", "write a block number of 1 to 5 digits, or none"),
+    ("E1", ",.*", ", *[RCA]", "it rounds or bevels a corner: let the post-processor write that as moves of its own"),
+    ("E1", ",.*", "", "write numbers with a point"),
+    ("E1", r"([A-Z] *)?[-+].*", r"[-+][ \t]*[#\[A-Z]", "write a difference: X-#1 is X[0-#1]"),
+    ("E1", "\r", "", "end the last line with a newline"),
+    ("E1", "\xef\xbb\xbf", "", "save the file without a byte order mark"),
+    ("E1", "[\x80-\xff]+", "", "leave it out, or put it into a comment"),
+    ("B2", r"G *91\.1", "", "leave it out: I, J and K count from the start of the arc, always"),
+    ("B2", r"G *90\.1", "", "let the post-processor count I, J and K from the start of the arc; then leave it out"),
+    ("B2", "G *70", "", "write G20"),
+    ("B2", "G *71", "", "write G21"),
+    ("B2", r"G *0*(5|5\.[123]|8)", "", "it is a spline or a look ahead: switch it off in the post-processor, which "
+     "then writes G1, G2 and G3"),
+    ("B2", "G *1[56]", "", "from G16 to G15 coordinates are a radius and an angle: let the post-processor write X and "
+     "Y, and neither code"),
+    ("B2", r"G *(28|30)\.1", "", "leave the whole line out: parameters 5161 to 5163 hold the home of G28, 5181 to 5183 "
+     "that of G30"),
+    ("B2", r"G *3[17](\.[0-9])?", "", _MEASURED),
+    ("B2", r"G *43\.1", "", "give the length to a slot, by the command tool, and write G43 with H of that slot in "
+     "place of G43.1 and its axis words"),
+    ("B2", r"G *5[01](\.1)?", "", "from G51 to G50 coordinates are scaled or mirrored: let the post-processor write "
+     "them so, and neither code"),
+    ("B2", "G *52", "", "G52 moves the work zero for the lines after it: let the post-processor add that to their "
+     "coordinates; leave the whole line out only where it is 0 on each axis"),
+    ("B2", r"G *(54\.1|154)", "", "there are nine systems, G54 to G59.3: in place of it and its P write one to which "
+     "the operator gives the same origin"),
+    ("B2", "G *6[567]", "", "it calls a macro: write out what that does in place of the line"),
+    ("B2", "G *6[89]", "", "from G68 to G69 coordinates are turned: let the post-processor write them so, and neither "
+     "code"),
+    ("B2", "G *73", "", "write G83 with the same words; between pecks it lifts to R"),
+    ("B2", r"G *(7[45678]|84\.[0-9])", "", _CYCLE),
+    ("B2", "G *95", "", "F is a feed a turn there: write G94, and F times the speed of the spindle"),
+    ("B2", "G *96", "", "S is a cutting speed there: leave G96 out, and write S in revolutions a minute"),
+    ("B2", "G *97", "", "leave it out: S is in revolutions a minute, always"),
+    ("B2", "M *13", "", "write M3 and M8"),
+    ("B2", "M *14", "", "write M4 and M8"),
+    ("B2", "M *9[789]", "", "there are no subroutines: write out what it calls in place of the line; M30 ends the "
+     "program"),
+    ("B2", "M.*", "", "leave it out, and the words that belong to it, if this machine has nothing that it switches"),
+    ("B3", r"G *4[12](\.1)?|D.*", "", "let the CAM system compensate the cutter's radius (in computer)"),
+    ("B3", r"G *38\.2", "", _MEASURED),
+    ("B3", "G *8[478]", "", _CYCLE),
+    ("B3", "[ABC].*", _HOME, _ALL_AXES),
+    ("B3", "[ABC].*", "", "there are no rotary axes: leave it out only where it is 0 in the whole program, as "
+     "ngc-adapt does; else let the post-processor write for three axes"),
+    ("B6", _HOME, "", "all three axes would go home: in place of both G words write G53 G0, with the machine "
+     "coordinates that are meant"),
+    ("B12", r"[IJK] *[-+]?0*\.?0*", "",
+     "leave it out, 0 too: it isn't an offset in the plane of an arc of this line"),
+    ("B12", "K.*", "", "K of a cycle is how often it is done: write L in its place; beside an arc see which plane is "
+     "meant: K belongs to G18 and G19"),
+    ("B12", "[IJ].*", "", "see whether an arc is meant, and in which plane: I belongs to G17 and G18, J to G17 and "
+     "G19"),
+    ("B12", "[PQ].*", "G *64", "leave it out: there is no blending, so no tolerance of it"),
+    ("B12", "P.*", r"G *0*[23](?![0-9.])", "P beside an arc is how many turns it makes: write each as an arc of its "
+     "own"),
+    ("B12", "P.*", "", "G4, G10, G82, G86 and G89 alone take P: a dwell at the bottom is G82; leave it out only if the "
+     "line is meant without it"),
+    ("B12", "H.*", "", "where G43 is in force, write G43 beside it; else leave it out"),
+    ("B12", "L.*", "", "G10 and cycles alone take L: if the line is meant to be done so often, write it so often; else "
+     "leave it out"),
+    ("B12", "Q.*", "", "Q is the peck of G83: write that where pecks are meant; else leave it out"),
+    ("B12", "R.*", "", "R beside a straight line rounds the corner: let the post-processor write that as an arc"),
+    ("B15", ".*", r"^(?=.*G *10(?![0-9.]))(?=.*L *20(?![0-9.]))", "L20 makes these the coordinates of the point where "
+     "the tool stands: let the operator set that zero before the program, and leave the whole line out; or write L2 "
+     "with the machine coordinates of the origin"),
+    ("B15", ".*", r"^(?=.*G *10(?![0-9.]))(?=.*L *1[0123]?(?![0-9.]))", "leave the whole line out: the operator gives "
+     "tool lengths, by the command tool"),
+    ("B15", ".*", r"L *0+(?![.0-9])", "it drills nothing, and keeps the words of the cycle: leave the whole line out, "
+     "and write the cycle with them on the next line with X or Y"),
+    ("B17", ".*", r"X *[0-9.#\[]", "X is the seconds there: write them as P, in place of X: G4 X1.5 is G4 P1.5"),
 ))
 
 
@@ -188,12 +304,14 @@ def sentence(code: str) -> str | None:
     return found.holds if found else None
 
 
-def cure(code: str, marked: list[bytes]) -> str:
-    """What to write in place of the `marked` words, those without which the fault goes away; they may be none."""
+def cure(code: str, marked: list[bytes], line: bytes = b"") -> str:
+    """What to write in place of the `marked` words, those without which the fault goes away; they may be none. `line`
+    is the one that they stand in."""
     said = {}
+    context = (line or b" ".join(marked)).decode("latin-1")
     for word in marked:
         text = word.decode("latin-1").strip(" \t")
-        found = next((cure for of, shape, cure in _CURES if of == code and shape.fullmatch(text)), None)
+        found = next((cure.text for cure in CURES if cure.fits(code, text, context)), None)
         if found and found not in said.values():
             said[text] = found
     if len(said) > 1:

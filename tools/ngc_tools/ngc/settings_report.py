@@ -8,18 +8,12 @@ from typing import Any
 from ngc_tools.formats.settings import (AXES, DEFAULT, KEYS, LIMITS, BadSettings, Settings, read_table, toml_key,
                                         toml_line)
 from ngc_tools.formats.text import shown
+from ngc_tools.ngc import faults
 from ngc_tools.ngc.run import Refusal, settings_refusal
 
 GOOD: dict[str, Any] = asdict(DEFAULT)
 
-SENTENCES = {
-    "S1": "the text isn't TOML",
-    "S2": "a key is missing",
-    "S3": "there is another key",
-    "S4": "a value isn't of its type",
-    "S5": "a number is beyond its limits",
-    "S6": "there are more than 128 tool lengths",
-}
+SENTENCES = faults.SETTINGS
 
 
 def fault_lines(ngc: str, path: str | Path, refused: Refusal) -> list[str]:

@@ -17,16 +17,27 @@ def axes(at: list[str] | tuple[str, ...]) -> str:
 
 @dataclass(frozen=True, slots=True)
 class UnderWay:
-    """What is shown while something runs: the line that is being done, the status, and where the player said last that
-    the motors are, as `1.000000 0.000000 0.000000`, or nothing."""
+    """What is shown while something runs: the line that is being done, the status, where the player said last that the
+    motors are, as `1.000000 0.000000 0.000000`, or nothing, and more, what matters most first."""
 
     line: str
     status: Status
-    motors: str
+    motors: str = ""
+    more: tuple[str, ...] = ()
 
-    def __str__(self) -> str:
-        """In one line, of any length."""
-        return self.line + (f"  {axes(self.motors.split())}" if self.motors else "")
+    def fitted(self, width: int) -> str:
+        """In one line of at most this many characters: the line and where the motors are, cut if they have to be, and
+        as much more as fits."""
+        at = axes(self.motors.split()) if self.motors else ""
+        if at and len(self.line) + 2 + len(at) > width:
+            at = " ".join(f"{letter}{number[:-3]}" for letter, number in zip("XYZ", self.motors.split(), strict=True))
+        room = width - len(at) - 2 if at else width
+        line = self.line if len(self.line) <= room else self.line[:max(0, room - 2)].rstrip() + ".."
+        text = f"{line}  {at}" if at else line
+        for part in self.more:
+            if len(text) + 2 + len(part) <= width:
+                text += f"  {part}"
+        return text[:width]
 
 
 class Face(Protocol):

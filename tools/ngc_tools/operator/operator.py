@@ -8,74 +8,69 @@ from pathlib import Path
 
 from ngc_tools.formats.device import Device
 from ngc_tools.formats.lines import Program
-from ngc_tools.formats.position import Position, nanometres
+from ngc_tools.formats.settings import Settings
 from ngc_tools.ngc.console import Console, Status
-from ngc_tools.operator.face import REFUSED, WARNING, WHERE, Face, axes
+from ngc_tools.operator.beginning import say_beginning
+from ngc_tools.operator.causes import refused, taken
+from ngc_tools.operator.ending import Ending
+from ngc_tools.operator.face import REFUSED, WARNING, WHERE, Face
+from ngc_tools.operator.left import Left, dropped_g92
+from ngc_tools.operator.loading import Loading
+from ngc_tools.operator.look import Look
 from ngc_tools.operator.meter import Meter
-from ngc_tools.operator.sentences import NOT_MOVED, REFUSALS, SWITCHED, TAKEN_UP, explained
+from ngc_tools.operator.places import Places, stops_outputs
+from ngc_tools.operator.rehearsing import rehearse
+from ngc_tools.operator.sentences import HELP, NOT_MOVED, SWITCHED, TAKEN_UP
 from ngc_tools.operator.session import Nothing, Session, place
+from ngc_tools.operator.typed import ANYWAY, Typed
 from ngc_tools.operator.work import Work
 from ngc_tools.player.progress import NoAnswer, Report
 
-__all__ = ["HELP", "REFUSALS", "Operator", "explained"]
-
-HELP = """\
-load FILE          store a program                     run            start it, or go on with it
-G0 X1 ..           a line of G-code of your own        hold           Enter or Ctrl-C while something runs
-where              the machine, the line, the motors   continue       go on with what was held or stopped
-reference X Y Z    the machine stands there, in mm     tool N LENGTH  a tool's length, in mm
-resume, abandon    a half-done block                   go             tells the player that the tool is in
-optional on, off   stop at M1                          delete on, off leave out lines with a slash
-help               this                                quit           Ctrl-D too"""
-
-PLAIN = ("hold", "continue", "abandon", "reference", "tool", "optional", "delete")
-WORDS = ("load", "run", "start", "where", "status", "resume", "go", "help", "?", "quit", "exit", "tick", "mdi", *PLAIN)
+PLAIN = ("hold", "abandon", "tool", "optional", "delete")
 
 
 class Operator:
     """A person's session. It sends no tick that nobody asked for, and hides no refusal."""
 
-    def __init__(self, console: Console, device: str | Path, step_nm: tuple[int, int, int], face: Face,
-                 meter: Meter | None) -> None:
-        """`step_nm` is the settings' size of one step of X, Y, Z."""
+    def __init__(self, console: Console, face: Face, meter: Meter | None) -> None:
+        """Raises BadSettings or OSError if the settings of the console can't be read."""
         self.console, self.face = console, face
-        self.session = Session(console, device, step_nm, face, meter)
+        self.session = Session(console, face, meter, Settings.read(console.settings))
         self.work = Work(self.session)
+        self.places = Places(self.session, self.work)
+        self.left = Left(self.session)
+        self.loading = Loading(self.session)
+        self.ending = Ending(self.session)
         self.over = False
-        self._doings: dict[str, Callable[[str], None]] = {
-            "load": self._load, "run": self._run, "start": self._start, "where": self._where, "status": self._status,
-            "resume": self._resume, "go": self._go, "help": self._help, "?": self._help, "quit": self._quit,
-            "exit": self._quit, "tick": self._tick, "mdi": self._mdi,
+        self._doings: dict[str, Callable[[Typed], None]] = {
+            "load": self._load, "run": self._run, "start": self._start, "continue": self._continue,
+            "where": self._where, "status": self._status, "reference": self._reference, "resume": self._resume,
+            "rehearse": self._rehearse, "restore": self._restore, "go": self._go, "help": self._help, "?": self._help,
+            "quit": self._quit, "exit": self._quit, "tick": self._tick, "mdi": self._typed_mdi,
+            **dict.fromkeys(PLAIN, self._plain),
         }
 
-    def begin(self, bound: str) -> None:
-        """Says what the session begins with."""
-        session = self.session
-        session.program = Program(self.stored().program)
-        if session.program.text:
-            self.face.say(f"stored: a program of {session.program.count} lines")
+    def begin(self, bound: str, found: Device | None = None) -> None:
+        """Says what the session begins with. `found` is the device as it stood before `ngc` was started."""
+        self.session.program = Program(self.stored().program)
         self.face.say(bound)
-        self._where("")
-        session.told = self.console.status().place
-        self._warn_place(self.console.status())
+        say_beginning(self.session, self.places, self.left, found)
+        self.session.told = self.console.status().place
 
     def do(self, line: str) -> None:
         """Does what a person typed. Raises Ended if `ngc` ends."""
-        words = line.split()
-        if not words:
-            return
-        word, rest = words[0].lower(), line.strip()[len(words[0]):].strip()
-        if word in self._doings:
-            self._doings[word](rest)
-        elif word in PLAIN:
-            self._plain(word, rest)
-        else:
-            self._mdi(line.strip())
+        typed = Typed.read(line)
+        if typed.word in self._doings:
+            self._doings[typed.word](typed)
+        elif typed.word:
+            self._mdi(typed.line, typed.anyway)
 
     def load(self, name: str, text: bytes) -> bool:
-        """Stores a program that people call `name`; whether it is taken. Raises Ended."""
+        """Stores a program that people call `name`, once a dry run was looked at; whether it is stored. Raises Ended."""
+        if not self.loading.agreed(name, text):
+            return False
         session, reply = self.session, self.console.load(text)
-        if not session.taken(reply):
+        if refused(session, reply, "load"):
             return False
         session.program, session.told = Program(text), 0
         self.face.say(f"{reply}: {name}, {len(text):,} bytes, {session.program.count} lines")
@@ -90,97 +85,144 @@ class Operator:
         """What the device holds, which `ngc` has synced."""
         return self.session.stored()
 
-    def leaves_half(self) -> bool:
-        """Whether the session's end leaves a block half-done; says it."""
-        status = self.console.status()
-        if status.half != "none":
-            half = self.session.half(status)
-            self.face.say(f"{half} stays half-done: it is taken up or given up in the next session", WARNING)
-        return status.half != "none"
-
     # what a word does
 
-    def _help(self, _: str) -> None:
+    def _help(self, _: Typed) -> None:
         self.face.say(HELP)
 
-    def _tick(self, _: str) -> None:
+    def _tick(self, _: Typed) -> None:
         self.face.say("ticks are given by run, continue, resume and a line of G-code, in small counts")
 
-    def _load(self, name: str) -> None:
-        if not name:
+    def _load(self, typed: Typed) -> None:
+        if not typed.rest:
             self.face.say("load FILE: which file?")
             return
-        path = os.path.expanduser(name)
+        path = os.path.expanduser(typed.rest)
         try:
             text = Path(path).read_bytes()
         except OSError as error:
-            self.face.say(f"{path}: {error.strerror}")
+            self.face.say(f"{path}: {error.strerror}", REFUSED)
             return
         self.load(path, text)
 
-    def _run(self, _: str) -> None:
+    def _run(self, typed: Typed) -> None:
         waits = self.console.status().does in ("stopped", "held")
-        self._go_on("continue" if waits else "start")
+        self._go_on("continue" if waits else "start", typed)
 
-    def _start(self, _: str) -> None:
-        self._go_on("start")
+    def _start(self, typed: Typed) -> None:
+        self._go_on("start", typed)
 
-    def _go_on(self, command: str) -> None:
+    def _continue(self, typed: Typed) -> None:
+        self._go_on("continue", typed)
+
+    def _go_on(self, command: str, typed: Typed) -> None:
+        """Starts the program, or goes on with what waits."""
         status = self.console.status()
-        if command == "start" and not self._place_fits(status):
+        if status.half == "none" and not typed.anyway:
+            if not self.places.agree(status, f"{typed.word} {ANYWAY}") or not self._as_left():
+                return
+        if refused(self.session, self.console.ask(command)[0], command):
             return
-        if self.session.taken(self.console.ask(command)[0]):
-            if command == "start":
-                self.session.told = status.place
-            self._work()
+        if status.half == "none" and (said := dropped_g92(self.session)):
+            self.face.once(said)
+        if command == "start":
+            self.session.told = status.place
+        self.work.timeline = self.loading.timeline(command == "start" and not status.place)
+        if self._work() != "refused" or self.console.status().place != status.place:
+            self.left.forget()
 
-    def _mdi(self, line: str) -> None:
+    def _as_left(self) -> bool:
+        """Whether all is as the program left it, or a person wants to go on all the same."""
+        questions = self.left.questions()
+        for text in questions:
+            self.face.say(text, WARNING)
+        return not questions or self._yes("go on all the same? yes goes on: ")
+
+    def _yes(self, question: str) -> bool:
+        return self.face.ask(question).strip().lower() == "yes"
+
+    def _typed_mdi(self, typed: Typed) -> None:
+        self._mdi(typed.rest, typed.anyway)
+
+    def _mdi(self, line: str, anyway: bool) -> bool:
+        """Does a line of one's own; whether it was taken."""
+        status = self.console.status()
+        compared = status.half == "none" and not anyway and not stops_outputs(line)
+        if compared and not self.places.agree(status, f"{ANYWAY} {line}"):
+            return False
+        self.left.keep()
         reply = self.console.ask(b"mdi " + line.encode("utf-8", "surrogateescape"))[0]
-        if reply == "begun":
-            self.session.own = line
-            self._work()
-            return
-        self.face.say(explained(reply), REFUSED)
+        if refused(self.session, reply, "mdi"):
+            self._near(line)
+            return False
+        self.session.own = line
+        self._work()
+        self.left.tell_modes()
+        return True
+
+    def _near(self, line: str) -> None:
+        """Names the command that is meant, if a line of G-code was none."""
         word = line.split()[0].lower() if line else ""
         if word.isalpha() and len(word) > 1:
-            near = " or ".join(difflib.get_close_matches(word, WORDS, 2))
-            self.face.say(f"nor is {word} a command" + (f": {near}?" if near else "") + " help lists them")
+            near = " or ".join(difflib.get_close_matches(word, self._doings, 2))
+            self.face.say(f"nor is {word} a command; {f'did you mean {near}? ' if near else ''}help lists them")
 
-    def _plain(self, word: str, rest: str) -> None:
-        if word == "reference" and not rest:
-            self._offer_place()
+    def _restore(self, _: Typed) -> None:
+        """Types the lines that put back what was in force before lines of one's own."""
+        if not self.left.differs():
+            self.face.say("all is in force as it was")
             return
-        if word == "continue":
-            self._go_on("continue")
-            return
-        reply = self.console.ask(" ".join([word, *rest.lower().split()]))[0]
-        if self.session.taken(reply):
-            self.face.say(reply)
-            if word in ("delete", "optional"):
-                setattr(self.session, word, rest.lower() == "on")
+        found = self.left.restoring()
+        for line in found.lines:
+            self.face.say(f"restore: {line}")
+            if not self._mdi(line, False):
+                return
+        for text in found.left:
+            self.face.say(f"it can't put back {text}", WARNING)
 
-    def _resume(self, _: str) -> None:
+    def _plain(self, typed: Typed) -> None:
+        if typed.word == "abandon":
+            self.left.keep()
+        reply = self.console.ask(" ".join([typed.word, *typed.rest.lower().split()]))[0]
+        if taken(self.session, reply, f"{typed.word} {typed.rest}".strip()) and typed.word in ("delete", "optional"):
+            setattr(self.session, typed.word, typed.rest.lower() == "on")
+
+    def _reference(self, typed: Typed) -> None:
+        if self.console.status().half == "none":
+            self.left.keep()
+        self.places.reference(typed.rest.lower().split(), typed.anyway)
+
+    def _resume(self, typed: Typed) -> None:
         """Takes a half-done block up: stops after the switch, and asks."""
         status = self.console.status()
+        if status.half != "none" and not typed.anyway and not self.places.agree(status, f"resume {ANYWAY}"):
+            return
         reply = self.console.ask("resume")[0]
-        if not self.session.taken(reply):
+        if refused(self.session, reply, "resume"):
             if reply.startswith("refused K3"):
-                self._offer_place()
+                self.places.offer()
             return
         self.face.say(TAKEN_UP.format(half=self.session.half(status), place=place(status)), WARNING)
-        if not self.work.await_motors() or not self.work.room():
+        if not self._switched():
             self._hold()
-            return
-        if any(map(self.session.is_refusal, self.console.ask("tick 2"))) or not self.work.await_motors():
-            self._hold()
-            return
-        if self.face.ask(SWITCHED).strip().lower() == "yes":
+        elif self._yes(SWITCHED):
             self._work()
         else:
             self._hold()
             self.face.say(NOT_MOVED, WARNING)
+            if left_on := self.ending.left_on():
+                self.face.say(f"on: {left_on}. {self.ending.how_off()}", WARNING)
 
-    def _go(self, _: str) -> None:
+    def _switched(self) -> bool:
+        """Makes the switch of an approach; whether the motors' side has done it too."""
+        if not self.work.await_motors() or not self.work.room():
+            return False
+        return not any(map(self.session.is_refusal, self.console.ask("tick 2"))) and self.work.await_motors()
+
+    def _rehearse(self, typed: Typed) -> None:
+        rehearse(self.session, typed.rest.split())
+
+    def _go(self, _: Typed) -> None:
         if not self.session.meter:
             self.face.say("no player is known: --player SOCKET")
             return
@@ -189,24 +231,38 @@ class Operator:
         except NoAnswer as error:
             self.face.say(str(error), WARNING)
 
-    def _quit(self, _: str) -> None:
-        if self.leaves_half() and self.face.ask("quit? yes ends the session: ").strip().lower() not in ("yes", ""):
+    def _quit(self, _: Typed) -> None:
+        """Ends the session, once a person knows what stays half-done and what stays on."""
+        status = self.console.status()
+        if self.ending.leaves_half(status) and not self._yes("quit? yes ends the session, anything else doesn't: "):
             return
+        if left_on := self.ending.left_on():
+            self._offer_off(status, left_on)
         self.over = True
+
+    def _offer_off(self, status: Status, left_on: str) -> None:
+        """Says what is on, and switches it off if that can be done and is wanted."""
+        if not self.ending.can_switch(status):
+            self.face.say(f"still on: {left_on}. Within a block no M5 is done. {self.ending.how_off()}", WARNING)
+        elif self._yes(f"still on: {left_on}. Switch off? yes does M5 and M9, anything else doesn't: "):
+            for line in ("M5", "M9"):
+                self._mdi(line, True)
 
     # work
 
-    def _work(self) -> None:
-        """Gives ticks until there is nothing to do, or somebody holds, and says what stands then."""
+    def _work(self) -> str | None:
+        """Gives ticks until there is nothing to do, or somebody holds, and says what stands then. Returns what ended
+        them, None for a hold."""
         ended = self.work.go()
         if ended is None:
             self._hold()
-            return
+            return None
         self.session.own = ""
         status = self.console.status()
         if ended == "stopped" and status.half == "none":
             self.face.say(f"stopped; the tool in the spindle is {self.stored().slot or 'none'}. run goes on", WHERE)
-        self._where("")
+        Look(self.session).after_work()
+        return ended
 
     def _hold(self) -> None:
         session, reply = self.session, self.console.ask("hold")[0]
@@ -214,50 +270,13 @@ class Operator:
             ahead = f"up to {session.meter.limit} lines that are handed out" if session.meter else "the lines in OUT"
             reply += f"; {ahead} are still carried out"
         self.face.say(reply)
-        self._where("")
+        Look(session).after_work()
 
     # what is said
 
-    def _where(self, _: str) -> None:
-        session, status = self.session, self.console.status()
-        program = session.program
-        parts = [status.does, place(status)]
-        if not status.known:
-            parts[1] += " (not known)" if status.half == "none" else " before the block"
-        if status.half != "none":
-            parts.append(session.half(status))
-        elif program.text:
-            line, number = program.line(status.place), program.number(status.place)
-            parts.append(f"next line {number} of {program.count}" + (f": {line}" if line else ""))
-        self.face.say("; ".join(parts), WHERE)
-        if report := session.report():
-            self.face.say(f"the motors are at {axes(report.at.split())}, {report.behind} lines behind", WHERE)
+    def _where(self, _: Typed) -> None:
+        Look(self.session).all(self.loading.timeline(False))
 
-    def _status(self, _: str) -> None:
+    def _status(self, typed: Typed) -> None:
         self.face.say(self.console.ask("status")[0])
-        self._where("")
-
-    def _warn_place(self, status: Status) -> None:
-        report = self.session.report()
-        if report and not (status.known and self._same(report, status)):
-            self.face.say(f"the player says: reference {report.at}", WARNING)
-
-    def _place_fits(self, status: Status) -> bool:
-        """Whether the motors are where `ngc` takes them to be; says so if they aren't."""
-        report = self.session.report()
-        if not report or report.behind or not status.known or self._same(report, status):
-            return True
-        self.face.say(f"the motors are at {axes(report.at.split())}, and ngc takes them to be at {place(status)}:"
-                      f" reference {report.at} first", WARNING)
-        return False
-
-    def _same(self, report: Report, status: Status) -> bool:
-        """Whether both say the same place, in whole steps."""
-        places = [Position(self.session.step_nm, [nanometres(number) for number in at]).steps
-                  for at in (report.at.split(), status.at)]
-        return places[0] == places[1]
-
-    def _offer_place(self) -> None:
-        report = self.session.report()
-        said = f"; the player says: reference {report.at}" if report else ""
-        self.face.say("where does the machine stand? reference X Y Z" + said)
+        self._where(typed)

@@ -1,8 +1,9 @@
 """What `resume` would do, or `start` if no block is half-done: said in lines, by `ngc run` over a copy."""
+from collections.abc import Callable
 from dataclasses import dataclass, field
 from pathlib import Path
 
-from ngc_tools.ngc.copies import Copy, CommandRefused, Tally, first
+from ngc_tools.ngc.copies import Copy, CommandRefused, Tally, first, never
 from ngc_tools.formats.device import Device
 from ngc_tools.job.figures import duration
 from ngc_tools.job.figures import millimetres as rounded
@@ -31,14 +32,22 @@ def outputs(switch: Switch) -> str:
 
 @dataclass(slots=True)
 class Rehearsal:
-    """A device's image, and what it is rehearsed with. `at` are the machine millimetres where it stands, or None.
-    `refused` says that a line of the program was."""
+    """A device's image, and what it is rehearsed with. `at` are the machine millimetres where it stands, or None; it is
+    broken off where `interrupted` says so. `refused` says that a line of the program was.
+
+    After `lines` of a half-done block: it `begins` at this point, first these outputs come on, the `approach` goes from
+    a point to a point and lasts so many us, and `rest_us` is the time of all that comes after it."""
 
     ngc: str
     settings: str | Path
     image: bytes
     at: list[str] | None
+    interrupted: Callable[[], bool] = never
     refused: bool = False
+    begins: tuple[str, ...] = ()
+    comes_on: Switch | None = None
+    approach: tuple[tuple[str, ...], tuple[str, ...], int] | None = None
+    rest_us: int = 0
     _device: Device = field(init=False)
 
     def __post_init__(self) -> None:
@@ -46,33 +55,47 @@ class Rehearsal:
         self._device = Device(self.image)
 
     def lines(self) -> list[str]:
-        """What `resume` or `start` would do. Raises Refused, Ended, OSError, BadSettings."""
+        """What `resume` or `start` would do. Raises CommandRefused, Interrupted, Ended, OSError, BadSettings."""
         state = self._device.state
         return self._resumed() if state.half else self._started()
+
+    def count_segments(self) -> int:
+        """How many segments the half-done block has; 0 if the copy's log doesn't tell it. Raises as `lines`."""
+        with self._approached() as copy:
+            entries = copy.console.status().entries
+            while not copy.idle and copy.console.status().entries == entries:
+                copy.go(500)
+            return _segments(copy.device(), entries)
 
     def _resumed(self) -> list[str]:
         state, program = self._device.state, Program(self._device.program)
         what = f"line {program.number(state.place)} of {program.count}" if state.half == 1 else "the operator's line"
         said = [f"half-done: {what}: {shown_line(state.half_text)}"]
-        commands = self._commands()
-        entries = state.entries + len(commands) - 1  # a reference is one
-
-        def make(counted: bool) -> Copy:
-            return Copy(self.ngc, self.settings, self.image, commands, counted)
-
-        with first(make, lambda status: status.entries > entries) as copy:
+        with self._approached() as copy:
             end = copy.console.status()
             begins = f"begins at {point(end.at)}"
             tally, approach = copy.tally, copy.start.at
             switch, us = tally.switches[0], sum(tally.us.values())
             rest, after = self._rest(copy)
-            opened = [record.state.segment for record in after.records
-                      if record.state.opened == 1 and record.state.entries == end.entries]
-            of = f" of {max(opened) + 1}" if opened else ""
+            many = _segments(after, end.entries)
+            of = f" of {many}" if many else ""
+        self.begins, self.comes_on = end.at, switch
+        if self.at is not None or self._known():
+            self.approach = (approach, end.at, us)
         said.append(f"segment {state.segment}{of}, counted from 0: {begins}")
         said.append(f"first comes on: {outputs(switch)}")
         said += self._approach(approach, end.at, us)
         return [*said, *rest]
+
+    def _approached(self) -> Copy:
+        """A copy at the end of the approach."""
+        commands = self._commands()
+        entries = self._device.state.entries + len(commands) - 1  # a reference is one
+
+        def make(counted: bool) -> Copy:
+            return Copy(self.ngc, self.settings, self.image, commands, counted, self.interrupted)
+
+        return first(make, lambda status: status.entries > entries)
 
     def _commands(self) -> list[str]:
         """What takes the block up; if nobody knows where the machine stands, from the point before it."""
@@ -122,9 +145,10 @@ class Rehearsal:
 
     def _figures(self, copy: Copy) -> list[str]:
         tally, program = copy.tally, Program(self._device.program)
+        self.rest_us = sum(tally.us.values())
         low, high = tally.extents
         each = (f"{axis} {rounded(a)} to {rounded(b)}" for axis, a, b in zip("XYZ", low, high, strict=True))
-        said = [f"from there to the end: {duration(sum(tally.us.values()))}; {'   '.join(each)} mm"]
+        said = [f"from there to the end: {duration(self.rest_us)}; {'   '.join(each)} mm"]
         for slot, us in tally.us.items():
             said.append(f"    {f'tool {slot}' if slot else 'no tool'}: {duration(us)}")
         for place in copy.stops:
@@ -152,8 +176,15 @@ class Rehearsal:
         if self.at is None and not self._known():
             return [*said, "it isn't known where the machine stands; name it: X Y Z"]
         commands = [f"reference {' '.join(self.at)}"] if self.at else []
-        with Copy(self.ngc, self.settings, self.image, [*commands, "start"], True) as copy:
+        with Copy(self.ngc, self.settings, self.image, [*commands, "start"], True, self.interrupted) as copy:
             copy.tally.slot = state.slot
             said.append(f"it begins at {point(copy.start.at)}")
             rest, _ = self._rest(copy)
         return [*said, *rest]
+
+
+def _segments(after: Device, entries: int) -> int:
+    """How many segments a block has, by the log of a device right after it; 0 if the log doesn't tell."""
+    opened = [record.state.segment for record in after.records
+              if record.state.opened == 1 and record.state.entries == entries]
+    return max(opened) + 1 if opened else 0

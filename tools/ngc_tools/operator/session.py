@@ -1,10 +1,10 @@
 """What the parts of a person's session share: `ngc`, its device, the player, the face, and what is under way."""
 import re
 from dataclasses import dataclass, field
-from pathlib import Path
 
 from ngc_tools.formats.device import Device, NoDevice
 from ngc_tools.formats.lines import Program
+from ngc_tools.formats.settings import Settings
 from ngc_tools.ngc.console import Console, Status
 from ngc_tools.operator.face import REFUSED, WARNING, Face, axes
 from ngc_tools.operator.meter import Meter
@@ -26,15 +26,14 @@ class Nothing:
 
 @dataclass(slots=True)
 class Session:
-    """`step_nm` is the settings' size of one step of X, Y, Z; `own` a line of the operator's that is under way. The
-    messages of the lines before the place `told` are shown; `delete` and `optional` are the switches as they were set.
-    `motors` is where the player said last that they are; `gone` says that it stopped to answer."""
+    """`own` is a line of the operator's that is under way. The messages of the lines before the place `told` are shown;
+    `delete` and `optional` are the switches as they were set. `motors` is where the player said last that they are;
+    `gone` says that it stopped to answer."""
 
     console: Console
-    device: str | Path
-    step_nm: tuple[int, int, int]
     face: Face
     meter: Meter | None
+    settings: Settings
     program: Program = field(default_factory=lambda: Program(b""))
     told: int = 0
     delete: bool = False
@@ -46,7 +45,7 @@ class Session:
     def stored(self) -> Device | Nothing:
         """What the device holds, which `ngc` has synced."""
         try:
-            return Device.read(self.device)
+            return Device.read(self.console.device)
         except (OSError, NoDevice):
             return Nothing()
 
@@ -72,10 +71,6 @@ class Session:
         if not self.program.text:
             return f"segment {status.segment} of a line of the program"
         return f"segment {status.segment} of {self.line(status)}"
-
-    def taken(self, reply: str) -> bool:
-        """Whether a command was taken; shows a refusal."""
-        return not self.is_refusal(reply)
 
     def is_refusal(self, reply: str, status: Status | None = None) -> bool:
         """Shows a refusal, that of a program's line with the line."""

@@ -1,14 +1,22 @@
 """The work of a session: ticks, in small counts, until there is nothing to do or somebody wants to hold."""
 import time
+from collections.abc import Iterator
 from dataclasses import dataclass
 
 from ngc_tools.ngc.console import Status
 from ngc_tools.operator.face import MESSAGE, WARNING, WHERE, UnderWay
 from ngc_tools.operator.session import Session
+from ngc_tools.operator.timeline import Timeline
 from ngc_tools.player.progress import NoAnswer, Report
 
 ENDS = ("idle", "stopped", "held", "refused")
 FIRST_TICKS, MOST_TICKS = 20, 1000
+
+
+def clock(us: int) -> str:
+    """A time in minutes and seconds, as `1:05`."""
+    seconds = us // 1_000_000
+    return f"{seconds // 60}:{seconds % 60:02d}"
 
 
 @dataclass
@@ -31,12 +39,15 @@ class Work:
     def __init__(self, session: Session) -> None:
         self.session = session
         self.chunk = Chunk()
+        self.timeline: Timeline | None = None  # of the program that runs, if it is known
+        self._shown: tuple[int, str, tuple[str, ...]] = (-1, "", ())  # of a place, its line and what is in force on it
 
     def go(self) -> str | None:
         """Gives ticks until there is nothing to do, or somebody wants to hold.
 
         It returns what ended them: idle, stopped, held or refused; None for a wish to hold, or a player that is gone.
         After all but a refusal it waits until the motors are through."""
+        self.session.gone = False
         ended = self._ticks()
         self.session.face.live(None)
         if ended in ("idle", "stopped", "held"):
@@ -70,7 +81,8 @@ class Work:
             return min(session.meter.room(self._goes_on), MOST_TICKS)
         except NoAnswer as error:
             session.gone = True
-            session.face.say(f"{error}; nothing more is handed out. Quit, and start a player and this again", WARNING)
+            session.face.say(f"{error}; nothing more is handed out. Once it answers again, run goes on; if it is gone, quit,"
+                             " and start a player and this again", WARNING)
             return 0
 
     def await_motors(self) -> bool:
@@ -90,7 +102,9 @@ class Work:
         self.session.motors = report.at
         face.moved(report)
         if report.waits:
-            face.once("the player waits for a tool: press Enter there once it is in; or hold here, and then: go", WHERE)
+            what = f"tool {report.tool} to be put in" if report.tool else "the tool to be taken out"
+            face.once(f"the player waits for {what}: press Enter there once that is done; or hold here, and then: go",
+                      WHERE)
         return not face.interrupted()
 
     def _show_messages(self, status: Status) -> None:
@@ -103,5 +117,21 @@ class Work:
 
     def _under_way(self, status: Status) -> UnderWay:
         """What is being done."""
-        own = self.session.own
-        return UnderWay(f"your line: {own}" if own else self.session.line(status), status, self.session.motors)
+        session = self.session
+        if session.own:
+            return UnderWay(f"your line: {session.own}", status, session.motors)
+        if self._shown[0] != status.place:
+            self._shown = (status.place, session.line(status), tuple(self._more(status)))
+        _, line, more = self._shown
+        return UnderWay(line, status, session.motors, more)
+
+    def _more(self, status: Status) -> Iterator[str]:
+        """What is in force on the program's line, and the times, if they are known."""
+        number = self.session.program.number(status.place)
+        view = self.timeline.view(number) if self.timeline else None
+        if self.timeline is None or view is None:
+            return
+        done, left = (clock(us) for us in self.timeline.times_us(number))
+        yield " ".join(view.short())
+        yield f"about {left} left"
+        yield f"{done} done"

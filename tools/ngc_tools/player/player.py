@@ -1,152 +1,31 @@
 """The reference reader of OUT: carries out each line in its time, and keeps what it carried out."""
 import ctypes
-import fcntl
 import os
 import select
-import stat
-import sys
+import threading
 import time
-from collections import deque
-from dataclasses import dataclass, replace
-from pathlib import Path
-from typing import TextIO
+from dataclasses import dataclass
 
-from ngc_tools.files import naming
-from ngc_tools.formats.out import LONGEST_LINE, BadLine, Line, Pulse, Switch, read_line
+from ngc_tools.formats.out import BadLine, Line, Pulse, Switch, quoted, read_line
 from ngc_tools.formats.position import Position
-from ngc_tools.player.progress import Listener, Report
-from ngc_tools.formats.record import Keeper, Record, stopped
+from ngc_tools.formats.record import Record, stopped
+from ngc_tools.player.answers import Answers
+from ngc_tools.player.keeper import Keeper
+from ngc_tools.player.person import Person, say
+from ngc_tools.player.pins import Pins
+from ngc_tools.player.progress import Report
+from ngc_tools.player.schedule import Schedule
+from ngc_tools.player.source import Source
 
-PIPE_BYTES = 4096
-HAND_BYTES = 64  # read at once
+SLICE_NS = 20_000_000  # how long it sleeps at most before it looks whether it is to stop
 
 
 class Stopped(Exception):
-    """A signal asked the player to stop, or its record can't be written."""
+    """The player stops before OUT's end; the text says why, and `word` is kept in the record."""
 
-
-class Source:
-    """OUT, a file or a named pipe, read in small pieces: what is read and not carried out is lost with the power.
-
-    `received` counts the whole lines that were read, from the first line of OUT on."""
-
-    def __init__(self, path: str | Path, begun: Record, pipe_bytes: int = PIPE_BYTES, follow: bool = False) -> None:
-        """Opens OUT; `begun` says how much of a file was carried out before. Raises OSError, or ValueError if the
-        file isn't the one that the record speaks of."""
-        self.path = str(path)
-        self.file = os.open(path, os.O_RDONLY | os.O_NONBLOCK | os.O_CLOEXEC)
-        self.is_pipe = stat.S_ISFIFO(os.fstat(self.file).st_mode)
-        self.follow = follow
-        self.received = 0
-        self._lines: deque[bytes] = deque()
-        self._part = b""
-        if self.is_pipe:
-            self.pipe_bytes = _resize(self.file, pipe_bytes)
-        else:
-            self._skip(begun)
-
-    def _skip(self, begun: Record) -> None:
-        """Goes to the first line of a file that isn't carried out."""
-        self.pipe_bytes = 0
-        size = os.fstat(self.file).st_size
-        if size < begun.size or begun.size and os.pread(self.file, 1, begun.size - 1) != b"\n":
-            raise ValueError(f"{self.path}: not the file whose first {begun.lines} lines are carried out; --anew begins"
-                             " with its first line")
-        os.lseek(self.file, begun.size, os.SEEK_SET)
-        self.received = begun.lines
-
-    def next(self) -> bytes | None:
-        """The next whole line, without its newline, or None if none is in hand."""
-        return self._lines.popleft() if self._lines else None
-
-    def has_line(self) -> bool:
-        """Whether a whole line is in hand."""
-        return bool(self._lines)
-
-    def part(self) -> bytes:
-        """What came after the last newline."""
-        return self._part
-
-    def read(self, most: int = HAND_BYTES) -> bool:
-        """Reads up to this number of bytes, without waiting; whether there were any."""
-        try:
-            got = os.read(self.file, most)
-        except BlockingIOError:
-            return False
-        if b"\n" in got:
-            *whole, self._part = (self._part + got).split(b"\n")
-            self._lines.extend(whole)
-            self.received += len(whole)
-        else:
-            self._part += got
-        if len(self._part) > LONGEST_LINE:
-            self._lines.append(self._part)  # no line is as long: it is refused when it is met
-            self._part = b""
-        return bool(got)
-
-    def drain(self) -> None:
-        """Reads all that stands in OUT now: of a pipe that is what it can hold, at most."""
-        while self.read(65536):
-            pass
-
-    def is_over(self, ready: int) -> bool:
-        """Whether nothing more comes; `ready` is what poll said of it."""
-        return bool(ready & select.POLLHUP and not ready & select.POLLIN) if self.is_pipe else not self.follow
-
-
-def _resize(pipe: int, size: int) -> int:
-    """Asks for a pipe of this size in bytes; returns how many it has."""
-    try:
-        fcntl.fcntl(pipe, fcntl.F_SETPIPE_SZ, size)
-    except OSError:
-        pass  # it stays as it is, and is told
-    return fcntl.fcntl(pipe, fcntl.F_GETPIPE_SZ)
-
-
-class Pins:
-    """What drives the motors; this one drives none, and writes what it would do to a file, if there is one.
-
-    A machine's own pins set directions, make one step of each axis that moves, and set the outputs."""
-
-    def __init__(self, path: str | Path | None) -> None:
-        """Raises OSError."""
-        self.path = path
-        flags = os.O_WRONLY | os.O_CREAT | os.O_APPEND | os.O_CLOEXEC
-        self.file = os.open(path, flags, 0o644) if path else None
-
-    def set(self, text: bytes) -> None:
-        """Carries out a line, now. Raises OSError."""
-        if self.file is not None:
-            with naming(self.path):
-                os.write(self.file, text + b"\n")
-
-    def off(self) -> None:
-        """Stops spindle and coolant, now."""
-        self.set(b"off")
-
-
-class Schedule:
-    """When each line is due, in nanoseconds of the monotonic clock.
-
-    A line that is late by less than a tenth of its time is made up for; by more, all after it move. So nothing comes
-    sooner after a pulse than nine tenths of its period."""
-
-    def __init__(self) -> None:
-        self.due = time.monotonic_ns()
-        self.latest_ns = 0
-        self.slower_ns = 0
-
-    def pause(self) -> None:
-        """Nothing was there to be carried out: the next line is due now, if not later."""
-        self.due = max(self.due, time.monotonic_ns())
-
-    def begun(self, lasts_us: int) -> None:
-        """A line begins now, and lasts so long."""
-        late = time.monotonic_ns() - self.due
-        self.latest_ns = max(self.latest_ns, late)
-        moved = max(0, late - lasts_us * 100)
-        self.slower_ns += moved
-        self.due += moved + lasts_us * 1000
+    def __init__(self, word: str, text: str) -> None:
+        super().__init__(text)
+        self.word = word
 
 
 @dataclass(slots=True)
@@ -167,150 +46,242 @@ class Counts:
             self.waits += 1
 
 
+@dataclass(frozen=True, slots=True)
+class Manner:
+    """How OUT is carried out: by its times, at which least period, with which waits. `person` says that a tool
+    is in; None leaves tool changes to the pins."""
+
+    least_period_us: int
+    timed: bool = True
+    spindle_us: int = 0  # how long the spindle takes to start, to stop, or to turn the other way
+    off_after_us: int = 10_000_000  # how long spindle and coolant stay on once nobody asks for more
+    person: Person | None = None
+
+
 class Player:
     """Carries out OUT. `lines` counts its lines that are carried out, from its first on."""
 
-    def __init__(self, source: Source, position: Position, begun: Record, pins: Pins, least_period_us: int) -> None:
+    def __init__(self, source: Source, position: Position, begun: Record, pins: Pins, manner: Manner) -> None:
+        """`begun` is what was carried out before. The outputs begin as off, whatever it says."""
         self.source = source
         self.position = position
         self.pins = pins
-        self.least_period_us = least_period_us
-        self.record = begun
-        self.lines, self.size, self.outputs = begun.lines, begun.size, begun.outputs
+        self.manner = manner
+        self.outputs = stopped(begun.outputs)
+        self.out = begun.out
+        self.lines, self.size = begun.lines, begun.size
         self.counts = Counts()
         self.schedule = Schedule()
         self.keeper: Keeper | None = None
-        self.listener: Listener | None = None
-        self.timed = True
-        self.spindle_us = 0  # how long the spindle takes to start, to stop, or to turn the other way
-        self.asks: TextIO | None = None  # where a person says that the tool is in
-        self.waits = False
+        self.answers: Answers | None = None
         self.stopping = False
+        self._lock = threading.Lock()  # of `source`, `position` and `lines`
+        self._tool: int | None = None  # the slot that a person is asked for
+        self._left_ns = 0  # since when nobody writes OUT any more
+        self._wake = os.eventfd(0, os.EFD_NONBLOCK | os.EFD_CLOEXEC)
         self._poll = select.poll()
+        self._poll.register(self._wake, select.POLLIN)
+        if source.is_pipe:
+            self._poll.register(source.file, select.POLLIN)
 
-    def run(self) -> None:
-        """Carries out lines until OUT ends. Raises BadLine at the first line that isn't one, and if OUT ends in a
-        part of a line; Stopped after `stopping` was set or the record failed. Then spindle and coolant are off."""
-        self._listen()
+    def run(self) -> bool:
+        """Carries out lines until OUT ends; whether spindle or coolant was on then. Raises BadLine at the first line that isn't one, and if OUT ends in a part
+        of a line; Stopped where it has to stop before; OSError if the pins fail. Spindle and coolant are off then,
+        however it ends."""
+        why = "failed"
         try:
-            while (text := self._next()) is not None:
-                self._carry_out(text)
-            if self.source.part():
-                part = ascii(self.source.part()[:60].decode("latin-1"))
-                raise BadLine(self.lines + 1, f"OUT ends in a part of a line: {part}")
-        except (BadLine, Stopped):
-            self.pins.off()
-            self.outputs = stopped(self.outputs)
-            self._keep()
+            self._play()
+            if self.is_on() and self.manner.timed:
+                self._wait_until(self.schedule.due)  # the time of the last line
+            why = ""
+            return self.is_on()
+        except Stopped as error:
+            why = error.word
             raise
+        except BadLine:
+            why = "line"
+            raise
+        except OSError:
+            why = "pins"
+            raise
+        finally:
+            self._switch_off(why)
 
-    def _listen(self) -> None:
-        """Says what is waited for while nothing is to be done."""
-        if self.source.is_pipe:
-            self._poll.register(self.source.file, select.POLLIN)
-        if self.listener:
-            self._poll.register(self.listener.socket, select.POLLIN)
+    def standing(self, why: str = "") -> Record:
+        """What is carried out now; `why` is what has stopped it."""
+        return Record(self.out, self.lines, self.size, self.outputs, self.position.nm, None, why)
+
+    def is_on(self) -> bool:
+        """Whether spindle or coolant is on."""
+        return self.outputs != stopped(self.outputs)
+
+    # what the thread that answers calls
+
+    def report(self) -> Report:
+        """How far it is, with the lines that stand in OUT now."""
+        with self._lock:
+            tool = self._tool
+            if self.source.take_all():
+                os.eventfd_write(self._wake, 1)
+            return Report(self.lines, self.source.received, tool is not None, str(self.position), self.out,
+                          self.outputs, tool or 0)
+
+    def stand_at(self, at_nm: tuple[int, int, int]) -> None:
+        """Takes where the machine stands, as after its axes were moved by hand, if nothing is behind."""
+        with self._lock:
+            self.source.take_all()
+            if self.source.received == self.lines:
+                self.position = Position(self.position.step_nm, at_nm)
+                self._keep()
+
+    def go(self) -> None:
+        """The tool is in."""
+        self._tool = None
+
+    # the play
+
+    def _play(self) -> None:
+        while (text := self._next()) is not None:
+            self._carry_out(text)
+        if part := self.source.part():
+            raise BadLine(self.lines + 1, f"OUT ends in a part of a line: {quoted(part)}")
 
     def _next(self) -> bytes | None:
         """The next line, once there is one; None at the end of OUT."""
-        while (text := self.source.next()) is None:
-            if not self.source.read():
-                if not self._await() and not self.source.has_line():
+        while True:
+            with self._lock:
+                text = self.source.next()
+                came = text is None and self.source.read()
+            if text is not None:
+                self._left_ns = 0
+                return text
+            if not came:
+                if self._is_over():
                     return None
                 self.schedule.pause()
-        return text
 
-    def _await(self) -> bool:
-        """Waits until OUT may have more, and answers questions meanwhile; False at the end of OUT."""
+    def _is_over(self) -> bool:
+        """Waits until OUT may have more; whether it has ended. Raises Stopped if its writer is gone without a word."""
         ready = dict(self._poll.poll(50 if self.source.is_pipe else 1))
-        self._answer()
+        if self._wake in ready:
+            os.eventfd_read(self._wake)
         self._heed()
-        over = self.source.is_over(ready.get(self.source.file, 0))
-        return not over or self.source.read()
+        if not self._is_left(ready.get(self.source.file, 0)):
+            self._left_ns = 0
+            return False
+        with self._lock:
+            if self.source.has_line() or self.source.read():
+                return False
+        return self._is_session_over()
+
+    def _is_left(self, ready: int) -> bool:
+        """Whether nobody writes OUT any more. Of a file that is followed only those who ask can be seen."""
+        if not self.source.follow:
+            return self.source.is_left(ready)
+        return self.answers is not None and (self.answers.ended or self.is_on() and self.answers.are_gone())
+
+    def _is_session_over(self) -> bool:
+        """Whether OUT, which nobody writes any more, has ended: at once if spindle and coolant are off, else some time
+        after the last writer and the last question. Raises Stopped if nobody said that the session is over."""
+        if self.source.is_file and not self.source.follow:
+            return True
+        now = time.monotonic_ns()
+        self._left_ns = self._left_ns or now
+        if self.answers:
+            self.answers.catch_up()
+        asked_ns = self.answers.asked_ns if self.answers else 0
+        if self.is_on() and now < max(self._left_ns, asked_ns) + self.manner.off_after_us * 1000:
+            time.sleep(SLICE_NS / 1e9)  # the poll of a pipe that nobody writes doesn't wait
+            return False
+        ended = self.answers is not None and self.answers.ended
+        if not ended and (asked_ns or self.is_on()):
+            raise Stopped("console", f"the console is gone without a word, after line {self.lines}")
+        return True
 
     def _heed(self) -> None:
         """Raises Stopped if it is asked to stop, or can't keep its record any more."""
-        if self.stopping or self.keeper and self.keeper.failed:
-            raise Stopped
+        if self.stopping:
+            raise Stopped("signal", f"stopped after line {self.lines}")
+        if self.keeper and self.keeper.failed:
+            raise Stopped("record", f"stopped after line {self.lines}: the record can't be kept")
 
     def _carry_out(self, text: bytes) -> None:
-        line = read_line(text, self.lines + 1, self.least_period_us)
-        if isinstance(line, Switch) and line.slot != self.outputs.slot and self.asks:
-            self._await_tool(line.slot)
-        if self.timed:
+        line = read_line(text, self.lines + 1, self.manner.least_period_us)
+        if isinstance(line, Switch) and line.slot != self.outputs.slot and self.manner.person:
+            self._await_tool(line.slot, self.manner.person)
+        if self.manner.timed:
             self._wait_until(self.schedule.due)
-        else:
-            self._answer()
         self._heed()
-        self.pins.set(text)
         self.schedule.begun(line.lasts_us)
-        if isinstance(line, Switch) and line.spindle != self.outputs.spindle and self.spindle_us:
-            self._wait_until(time.monotonic_ns() + self.spindle_us * 1000)
-        self.position.take(line)
-        self.counts.add(line)
-        self.lines += 1
-        self.size += len(text) + 1
+        self.pins.set(text)
         if isinstance(line, Switch):
+            turns = line.spindle != self.outputs.spindle
             self.outputs = line
+            if turns:
+                self._wait_until(time.monotonic_ns() + self.manner.spindle_us * 1000)
             self.schedule.pause()  # as long as the tool and the spindle took
-        self._keep()
+        self._count(line, len(text) + 1)
+
+    def _count(self, line: Line, size: int) -> None:
+        """Counts a line that is carried out."""
+        self.counts.add(line)
+        with self._lock:
+            self.position.take(line)
+            self.lines += 1
+            self.size += size
+            self._keep()
 
     def _wait_until(self, due: int) -> None:
-        """Waits until a moment of the monotonic clock, and answers questions while there is time for it."""
-        self._answer()
+        """Waits until a moment of the monotonic clock."""
         while (rest := due - time.monotonic_ns()) > 0:
-            if self.listener and rest > 400_000:
-                select.select([self.listener.socket], [], [], min(rest - 200_000, 50_000_000) / 1e9)
-                self._answer()
-            else:
-                time.sleep(min(rest, 50_000_000) / 1e9)
+            time.sleep(min(rest, SLICE_NS) / 1e9)
             self._heed()
 
-    def _await_tool(self, slot: int) -> None:
+    def _await_tool(self, slot: int, person: Person) -> None:
         """Waits until a person says that the tool is in, by Enter or over the socket."""
-        self._wait_until(self.schedule.due)
-        print(f"line {self.lines + 1}: put in tool {slot}, then press Enter" if slot else
-              f"line {self.lines + 1}: take the tool out, then press Enter", file=sys.stderr, flush=True)
-        self.waits = True
-        watched: list = [self.asks, self.listener.socket] if self.listener else [self.asks]
-        while self.waits:
-            if self.asks in select.select(watched, [], [], 0.05)[0]:
-                if os.read(self.asks.fileno(), 4096):
-                    self.waits = False
-                else:
-                    watched.remove(self.asks)  # its end isn't an answer
-            self._answer()
+        if self.manner.timed:
+            self._wait_until(self.schedule.due)
+        what = f"put in tool {slot}" if slot else "take the tool out"
+        person.forget()
+        self._tool = slot
+        say(f"line {self.lines + 1}: {what}, then press Enter")
+        while self._tool is not None:
+            if person.has_pressed(SLICE_NS / 1e9):
+                self._tool = None
+            elif person.is_gone and self.answers is None:
+                raise Stopped("tool", f"line {self.lines + 1} asks to {what}, and nobody can say that it is done: start"
+                              " the player at a terminal or with --progress; --no-ask-tool is for a tool changer")
             self._heed()
+            self._heed_console(what)
         self.schedule.pause()
 
-    def _answer(self) -> None:
-        """Answers whoever asks how far it is."""
-        while self.listener and (asked := self.listener.next()):
-            question, sender = asked
-            if question == b"go":
-                self.waits = False
-            elif question.startswith(b"progress "):
-                self.source.drain()
-                out = os.path.abspath(self.source.path)
-                report = Report(self.lines, self.source.received, self.waits, str(self.position), out)
-                self.listener.answer(question + b" " + report.text(), sender)
+    def _heed_console(self, what: str) -> None:
+        """Raises Stopped if the console died while a person is asked for a tool."""
+        ready = dict(self._poll.poll(0)).get(self.source.file, 0)
+        if not self.answers or not self.answers.asked_ns or not self._is_left(ready):
+            self._left_ns = 0
+            return
+        self._left_ns = self._left_ns or time.monotonic_ns()
+        since = max(self._left_ns, self.answers.asked_ns)
+        if time.monotonic_ns() >= since + self.manner.off_after_us * 1000:
+            raise Stopped("console", f"the console is gone, and line {self.lines + 1} asks to {what}")
 
-    def _keep(self) -> None:
+    def _switch_off(self, why: str) -> None:
+        """Turns spindle and coolant off, if they are on or it stops before OUT's end; keeps why in the record."""
+        if not why and not self.is_on():
+            return
+        try:
+            self.pins.off()
+        except OSError as error:
+            self._keep("pins")
+            raise OSError(error.errno, f"{error.strerror}; switch spindle and coolant off by hand", error.filename)
+        self.outputs = stopped(self.outputs)
+        self._keep(why)
+
+    def _keep(self, why: str = "") -> None:
         """Gives the keeper what stands now."""
         if self.keeper:
-            self.keeper.now = Record(self.record.out, self.lines, self.size, self.outputs, self.position.nm)
-
-
-def begin(position: str | Path, out: str | Path, step_nm: tuple[int, int, int], at_nm: tuple[int, int, int] | None,
-          anew: bool) -> tuple[Record, Position]:
-    """What was carried out before, and where the machine stands, by the record, if there is one, and by what the
-    operator says. Raises BadRecord or OSError."""
-    path = os.path.abspath(out)
-    found = Record.read(position) if os.path.exists(position) else Record(path)
-    where = Position(step_nm, found.at_nm if at_nm is None else at_nm)
-    if anew or found.out != path or not os.path.isfile(out):
-        found = replace(found, lines=0, size=0)
-    return replace(found, out=path, at_nm=where.nm), where
+            self.keeper.now = self.standing(why)
 
 
 def save_wakeups() -> None:

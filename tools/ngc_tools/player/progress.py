@@ -1,8 +1,20 @@
-"""How a player tells how far it is: a Unix socket, asked by a datagram `progress N`.
+"""How a player tells how far it is, and what it is told: datagrams to a Unix socket.
 
-It answers `progress N carried C received R works reference X Y Z out PATH`: C of the R lines that stand in OUT then are
-carried out; `waits` in place of `works` if a person has to put a tool in, whose answer is a datagram `go`. N is
-the asker's own number, so that a late answer is known as one."""
+`progress N`
+    is answered by `progress N carried C received R works reference X Y Z outputs S .. out PATH`. C of the R lines that
+    stand in OUT then are carried out. The motors are at X Y Z, in machine millimetres, and the outputs are as the line
+    `S ..` says. While a person has to put a tool in, `waits tool 3` stands in the place of `works`; `waits tool 0` asks
+    to take the tool out. N is the asker's own number, so that a late answer is known as one.
+`go`
+    The tool is in.
+`at X Y Z`
+    The machine stands there, in machine millimetres. It is taken while nothing is behind; the next report shows it.
+`end`
+    The session is over; whoever asks sends it last, before it closes OUT. Lines in hand are carried out. With spindle
+    and coolant off the player then ends with status 0. With one of them on it ends with status 0 too, but leaves them
+    on for the seconds of `--off-after` first. A question after `end` begins another session.
+
+A console that dies sends no `end`: the player ends with status 1 after the same seconds."""
 import errno
 import os
 import re
@@ -14,8 +26,11 @@ from pathlib import Path
 
 from ngc_tools.failure import Failure
 from ngc_tools.files import naming
+from ngc_tools.formats.out import OFF, BadLine, Switch, read_line
 
-_REPORT = re.compile(r"carried (\d+) received (\d+) (works|waits) reference (\S+ \S+ \S+) out (.*)", re.DOTALL)
+QUESTION = re.compile(rb"progress [0-9]{1,20}")
+_REPORT = re.compile(r"carried (\d+) received (\d+) (works|waits tool (\d{1,3})) reference (\S+ \S+ \S+)"
+                     r" outputs (S \d \S+ \d \d \d+ \d+) out (.*)", re.DOTALL)
 
 
 class NoAnswer(Failure):
@@ -25,13 +40,16 @@ class NoAnswer(Failure):
 @dataclass(frozen=True, slots=True)
 class Report:
     """A player has carried out `carried` of the `received` lines that stood in `out` when it was asked. `waits`: a
-    person has to put a tool in. `at` are machine millimetres, as `7.210000 0.000000 0.000000`."""
+    person has to put `tool` in, or to take the tool out where that is 0. `at` are machine millimetres, as
+    `7.210000 0.000000 0.000000`; `outputs` are those of the motors, not those that `ngc` handed out last."""
 
     carried: int
     received: int
     waits: bool
     at: str
     out: str
+    outputs: Switch = OFF
+    tool: int = 0
 
     @property
     def behind(self) -> int:
@@ -40,37 +58,59 @@ class Report:
 
     def text(self) -> bytes:
         """What is answered."""
-        state = "waits" if self.waits else "works"
-        said = f"carried {self.carried} received {self.received} {state} reference {self.at} out {self.out}"
+        state = f"waits tool {self.tool}" if self.waits else "works"
+        said = (f"carried {self.carried} received {self.received} {state} reference {self.at}"
+                f" outputs {self.outputs} out {self.out}")
         return said.encode("utf-8", "surrogateescape")
 
     @staticmethod
     def read(answer: bytes) -> "Report":
         """Reads what was answered. Raises ValueError for any other text."""
         match = _REPORT.fullmatch(answer.decode("utf-8", "surrogateescape"))
-        if match is None:
+        outputs = _switch(match[6]) if match else None
+        if match is None or outputs is None:
             raise ValueError(f"not a report of a player: {answer[:80]!r}")
-        return Report(int(match[1]), int(match[2]), match[3] == "waits", match[4], match[5])
+        return Report(int(match[1]), int(match[2]), match[4] is not None, match[5], match[7], outputs,
+                      int(match[4] or 0))
+
+
+def _switch(text: str) -> Switch | None:
+    """The outputs of a line of OUT, None for any other text."""
+    try:
+        line = read_line(text, 1)
+    except BadLine:
+        return None
+    return line if isinstance(line, Switch) else None
 
 
 class Listener:
-    """The player's end."""
+    """The player's end of the socket, which its own user alone may use."""
 
     def __init__(self, path: str | Path) -> None:
-        """Makes the socket. Raises OSError, also if another player listens there."""
+        """Takes the place of a socket that a player left which is gone. Raises OSError, also if one listens there."""
         self.path = str(path)
         if os.path.exists(self.path):
             _remove_stale(self.path)
         self.socket = socket.socket(socket.AF_UNIX, socket.SOCK_DGRAM)
         self.socket.setblocking(False)
         try:
-            with naming(self.path):
-                self.socket.bind(self.path)
+            self._bind()
         except OSError:
             self.socket.close()
             raise
 
-    def next(self) -> tuple[bytes, str | bytes] | None:
+    def _bind(self) -> None:
+        """Makes the name, with mode 0600 from its first moment."""
+        if len(os.fsencode(self.path)) > 107:
+            raise OSError(errno.ENAMETOOLONG, "too long a path for a socket", self.path)
+        before = os.umask(0o177)
+        try:
+            with naming(self.path):
+                self.socket.bind(self.path)
+        finally:
+            os.umask(before)
+
+    def next(self) -> tuple[bytes, str | bytes | None] | None:
         """A question and whom to answer, or None if nobody asks."""
         try:
             question, sender = self.socket.recvfrom(64)
@@ -78,8 +118,10 @@ class Listener:
             return None
         return question.strip(), sender
 
-    def answer(self, text: bytes, sender: str | bytes) -> None:
-        """Answers; whoever doesn't read the answer goes without."""
+    def answer(self, text: bytes, sender: str | bytes | None) -> None:
+        """Answers; whoever has no name, or doesn't read the answer, goes without."""
+        if sender is None:
+            return
         try:
             self.socket.sendto(text, sender)
         except OSError:
@@ -104,6 +146,8 @@ def _remove_stale(path: str) -> None:
         except ConnectionRefusedError:
             os.unlink(path)
             return
+        except OSError as error:  # a socket of another kind, or of another user
+            raise OSError(errno.EADDRINUSE, f"no player's socket: {error.strerror}", path) from None
     raise OSError(errno.EADDRINUSE, "another player listens there", path)
 
 
@@ -122,7 +166,7 @@ class Link:
             self.socket.connect(self.path)
         except OSError as error:
             self.socket.close()
-            raise NoAnswer(f"{self.path}: no player listens there: {error.strerror}") from None
+            raise NoAnswer(f"{self.path}: no player listens there: {error.strerror or error}") from None
 
     def ask(self) -> Report:
         """How far the player is now. Raises NoAnswer."""
@@ -141,10 +185,17 @@ class Link:
         raise NoAnswer(f"{self.path}: the player doesn't answer")
 
     def _send(self, text: bytes) -> None:
-        try:
-            self.socket.send(text)
-        except OSError as error:
-            raise NoAnswer(f"{self.path}: the player is gone: {error.strerror or error}") from None
+        """Sends a datagram, and waits for room for it. Raises NoAnswer."""
+        until = time.monotonic() + self.patience_s
+        while True:
+            try:
+                self.socket.send(text)
+                return
+            except TimeoutError:
+                if time.monotonic() > until:
+                    raise NoAnswer(f"{self.path}: the player doesn't answer") from None
+            except OSError as error:
+                raise NoAnswer(f"{self.path}: the player is gone: {error.strerror or error}") from None
 
     def _look(self) -> None:
         """Raises NoAnswer if nobody listens any more."""
@@ -157,6 +208,15 @@ class Link:
     def go(self) -> None:
         """Tells a player that waits at a tool change that the tool is in. Raises NoAnswer."""
         self._send(b"go")
+
+    def at(self, place: str) -> None:
+        """Tells a player where the machine stands, as `7.21 0 0`. It takes that while nothing is behind, and the next
+        report shows whether it did. Raises NoAnswer."""
+        self._send(b"at " + place.encode())
+
+    def end(self) -> None:
+        """Tells a player that the session is over, before OUT is closed. Raises NoAnswer."""
+        self._send(b"end")
 
     def close(self) -> None:
         """Asks nothing more."""

@@ -1,0 +1,57 @@
+"""What a refusal of a command means now: which of its causes holds, by the status, and what to do next."""
+from ngc_tools.ngc.console import Status
+from ngc_tools.operator.face import REFUSED
+from ngc_tools.operator.sentences import explained
+from ngc_tools.operator.session import Session
+
+_GO_ON = ("run", "start", "continue")
+
+
+def taken(session: Session, reply: str, command: str) -> bool:
+    """Whether a command was taken; shows the reply, a refusal with its cause."""
+    if not reply.startswith("refused"):
+        session.face.say(reply)
+        return True
+    return not refused(session, reply, command)
+
+
+def refused(session: Session, reply: str, command: str) -> bool:
+    """Whether a command was refused; shows that with its cause."""
+    if not reply.startswith("refused"):
+        return False
+    code, word = reply.split()[1], command.split()[0]
+    said = explained(reply)
+    if code == "K1":
+        said = f"{reply}: {busy(session, session.console.status(), word)}"
+    elif code == "K3":
+        said = f"{reply}: it isn't known where the machine stands: {_reference(session)}"
+    session.face.say(said, REFUSED)
+    return True
+
+
+def busy(session: Session, status: Status, word: str) -> str:
+    """The cause of K1 that holds, and what to do next, of a command that begins with this word; `mdi` is that of a line
+    of G-code."""
+    if status.half != "none":
+        return _within(session, status, word)
+    line = session.line(status)
+    if status.does == "held":
+        then = "" if word == "mdi" else f"; then {word}"
+        return f"held before {line}: run goes on; a line of G-code, as M5, is done and ends the hold{then}"
+    return f"{line} runs: hold first"
+
+
+def _within(session: Session, status: Status, word: str) -> str:
+    """Of a block that is under way or half-done."""
+    half = session.half(status)
+    if status.does in ("held", "running"):
+        return (f"{status.does} in {half}: run goes on; to give the block up: quit, start again, abandon. No other line"
+                " is done before that")
+    place = "" if status.known else f"{_reference(session)}, "
+    then = f", and {'a line of yours' if word == 'mdi' else word} after that" if word not in _GO_ON else ""
+    return f"{half} is half-done. rehearse says what resume would do; {place}then resume or abandon{then}"
+
+
+def _reference(session: Session) -> str:
+    """How to tell where the machine stands."""
+    return "reference player, or reference X Y Z" if session.meter else "reference X Y Z"

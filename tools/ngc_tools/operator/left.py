@@ -1,0 +1,133 @@
+"""How the program left the machine for its next line, and what lines of one's own, `abandon` and `reference` changed of
+it since: that is what `run` asks about."""
+from ngc_tools.formats.canonical import BadText, read_commands
+from ngc_tools.formats.device import Device, NoDevice, State
+from ngc_tools.formats.settings import BadSettings
+from ngc_tools.job.figures import millimetres as rounded
+from ngc_tools.job.moves import distance
+from ngc_tools.ngc.beginning import Beginning, CannotSetUp
+from ngc_tools.operator.modes import Difference, Restoring, differences, point_words, restoring
+from ngc_tools.operator.session import Session
+
+_TOLD = ("unit", "feed_mode", "plane", "distance", "retract", "system", "path_mode", "origin", "g92", "tool_length", "feed")
+"""What is said after a line of one's own; the rest where the program goes on and it matters."""
+_FEEDS = ("STRAIGHT_FEED", "ARC_FEED", "SET_FEED_RATE")
+
+
+class Left:
+    """`device` is what stood as the program left it, None where nothing was done since."""
+
+    def __init__(self, session: Session) -> None:
+        self.session = session
+        self.device: Device | None = None
+        self._told = ""
+
+    def keep(self, device: Device | None = None) -> None:
+        """Something is about to be done between two lines of the program; what stands now is kept, once."""
+        if self.device is None:
+            found = device or self.session.stored()
+            self.device = found if isinstance(found, Device) else None
+
+    def forget(self) -> None:
+        """The program goes on."""
+        self.device, self._told = None, ""
+
+    def differs(self) -> bool:
+        """Whether something is in force otherwise than the program left it."""
+        return bool(self._differences())
+
+    def tell_modes(self) -> None:
+        """Says what lines of one's own left in force otherwise, if that wasn't said before."""
+        found = [each for each in self._differences() if each.name in _TOLD]
+        text = ", ".join(map(str, found))
+        if text and text != self._told:
+            self.session.face.say(f"in force now: {text}. restore puts it back")
+        self._told = text
+
+    def questions(self) -> list[str]:
+        """What a person has to know before the program goes on, in lines; none if all is as the program left it."""
+        now = self.session.stored()
+        if self.device is None or not isinstance(now, Device):
+            return []
+        said = self._place(self.device.state, now.state)
+        found = self._differences()
+        if found and (said or self._matters(self.device, now, found)):
+            said += ["in force now: " + ", ".join(map(str, found))]
+            lines = self.restoring().lines
+            said += [f"restore types: {'; '.join(lines)}"] if lines else []
+        return said
+
+    def restoring(self) -> Restoring:
+        """The lines that put back what was in force."""
+        now = self.session.stored()
+        if self.device is None or not isinstance(now, Device):
+            return Restoring((), ())
+        return restoring(self.device.state, now.state, now.tools_nm)
+
+    def _differences(self) -> list[Difference]:
+        now = self.session.stored()
+        if self.device is None or not isinstance(now, Device):
+            return []
+        return differences(self.device.state, now.state)
+
+    def _place(self, before: State, now: State) -> list[str]:
+        """Where the machine is, and where the next line begins, if that isn't the same place. A program that begins
+        goes from wherever the machine is."""
+        apart = distance(before.point_nm, now.point_nm)
+        if before.place != now.place or now.place == 0 or not now.point_known or before.point_nm == now.point_nm:
+            return []
+        line = self.session.program.number(now.place)
+        return [f"line {line} begins at {point_words(before.point_nm)}, and the machine is at"
+                f" {point_words(now.point_nm)}: {rounded(apart)} mm apart. The line goes from where the machine is"]
+
+    def _matters(self, before: Device, now: Device, found: list[Difference]) -> bool:
+        """Whether what is in force makes the rest of the program another one: by a dry run of it from both."""
+        names = {difference.name for difference in found}
+        if _stopped(before.state, now.state) or max(before.state.motion, now.state.motion) not in (0, 1, 80):
+            return True
+        try:
+            said = [self._rest(device, now) for device in (before, now)]
+        except (CannotSetUp, NoDevice, BadSettings, BadText, OSError):
+            return True
+        if said[0] != said[1]:
+            return True
+        first = next((command.name for command in read_commands(said[1]) if command.name in _FEEDS), "")
+        return "feed" in names and first != "SET_FEED_RATE" and bool(first)
+
+    def _rest(self, device: Device, now: Device) -> bytes:
+        """What the program does from the place on where it goes on, by a dry run that begins as a device stands."""
+        console, text = self.session.console, self.session.program.text[now.state.place:]
+        return Beginning.of(device).dry(console.ngc, text, console.settings, self.session.delete)[1]
+
+
+def _stopped(before: State, now: State) -> bool:
+    """Whether a program that goes on had a spindle, coolant or a tool that it hasn't now."""
+    if not now.place:
+        return False
+    spindle = before.spindle and (before.spindle, before.speed) != (now.spindle, now.speed)
+    coolant = before.mist > now.mist or before.flood > now.flood
+    return bool(spindle or coolant or before.slot != now.slot)
+
+
+def dropped_g92(session: Session) -> str:
+    """What is said of a G92 offset that the program's end drops; nothing if there is none."""
+    device = session.stored()
+    if not isinstance(device, Device) or not any(device.state.g92_nm):
+        return ""
+    state = device.state
+    kept = [origin + offset for origin, offset in zip(state.origin_nm, state.g92_nm, strict=True)]
+    return (f"a G92 offset is in force, and the program's end, M2 or M30, drops it: the next run begins without it."
+            f" To keep the zero point: G21, then G92.1, then G10 L2 P{state.system} {point_words(tuple(kept))}")
+
+
+def begins_at(device: Device) -> Device | None:
+    """What stood as the program was left for its next line, by a device's log as a session finds it; None where the log
+    doesn't tell it, or the program is at its beginning."""
+    states = [device.snapshot, *(record.state for record in device.records)]
+    found = 0 if device.snapshot.half == 1 else None
+    for number, (before, after) in enumerate(zip(states, states[1:]), 1):
+        if after.half == 1 or after.place != before.place:
+            found = number
+    if found is None or not device.state.place:
+        return None
+    return Device(device.before(found))

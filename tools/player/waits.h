@@ -1,0 +1,29 @@
+/* What a play waits for: a line's time, a person, a console. */
+#ifndef WAITS_H
+#define WAITS_H
+
+#include <stdbool.h>
+
+#include "play.h"
+
+enum { SLICE_MS = 20 }; /* how long it sleeps at most before it looks whether it is to stop */
+
+/* Notes what stops the play, in a word, and why, in `play->why`. */
+void note_stop(struct play *play, const char *word);
+
+/* Whether the play has to stop: somebody asks for it, or the record can't be kept. */
+bool has_to_stop(struct play *play);
+
+/* Waits until the next line is due; false where the play has to stop before. */
+bool wait_until_due(struct play *play);
+
+/* Whether the seconds of --off-after have passed since the last writer was gone and the last question came. */
+bool have_seconds_passed(struct play *play);
+
+/* Waits until a person says that the tool is in, by Enter or over the socket; false where the play has to stop. */
+bool await_tool(struct play *play, unsigned slot);
+
+/* Asks the play to stop, from a signal's handler. */
+void stop_soon(void);
+
+#endif
