@@ -271,21 +271,21 @@ class Warnings(Warned):
     def test_homes(self) -> None:
         """G28 and G30, not in a comment, not G28 of 280, not where block delete leaves the line's words out."""
         self.assertEqual(self.warnings(HEAD + "#5163=2\n(G28) G0 X2.28\ng 9 1 g 0 28.0 z0\nG90 G30\nM2\n"), [
-            "5: warning: G28 moves all three axes, in one straight traverse to X 0.000 Y 0.000 Z 2.000; to lift Z alone"
-            " write G53 G0 Z with the height",
-            "6: warning: G30 moves all three axes, in one straight traverse to X 0.000 Y 0.000 Z 0.000; to lift Z alone"
-            " write G53 G0 Z with the height"])
+            "5: warning: G28 moves all three axes, in one straight traverse to X 0.000 Y 0.000 Z 2.000, through what"
+            " stands there; to lift Z alone write G53 G0 Z with the height",
+            "6: warning: G30 moves all three axes, in one straight traverse to X 0.000 Y 0.000 Z 0.000, through what"
+            " stands there; to lift Z alone write G53 G0 Z with the height"])
 
     def test_dwell(self) -> None:
         """Above 30 seconds, in a cycle too."""
         self.assertEqual(self.warnings(HEAD + "G4 P30\nG4 P500\nG82 X1 Z-1 R1 P30.001\nM2\n"), [
-            "4: warning: a dwell of 8 min 20.000 s: P is in seconds",
-            "5: warning: a dwell of 30.001 s: P is in seconds"])
+            "4: warning: a dwell of 8 min 20.000 s: P is in seconds, not in milliseconds",
+            "5: warning: a dwell of 30.001 s: P is in seconds, not in milliseconds"])
 
     def test_turns(self) -> None:
-        """A full turn, in another plane too; half a turn is none."""
+        """A full turn, in another plane too; half a turn is none, and a helix is meant."""
         asked = "Is it meant? A short arc whose end was rounded goes round so too"
-        self.assertEqual(self.warnings(HEAD + "G2 X0 I5\nG18 G3 X0 K-5\nG17 X10 I5 J0\nM2\n"), [
+        self.assertEqual(self.warnings(HEAD + "G2 X0 I5\nG18 G3 X0 K-5\nG17 X10 I5 J0\nX10 Z1 I-5\nG0 Z0\nM2\n"), [
             f"3: warning: a full turn of radius 5.000, as the arc ends where it starts. {asked}",
             f"4: warning: a full turn of radius 5.000, as the arc ends where it starts. {asked}"])
 
@@ -320,7 +320,7 @@ class Warnings(Warned):
     def test_marks_of_its_own(self) -> None:
         """A program with comments that look like those it puts between the lines."""
         self.assertEqual(self.warnings(HEAD + "(line 9)\nG4 P31\n(line- 1)\n(line-- 2)\nM2\n"),
-                         ["4: warning: a dwell of 31.000 s: P is in seconds"])
+                         ["4: warning: a dwell of 31.000 s: P is in seconds, not in milliseconds"])
 
     def test_at_the_edge(self) -> None:
         """At the end of the travel the distance mode is tried without a shift, which would lie outside."""
@@ -344,7 +344,7 @@ class Warnings(Warned):
     def test_like_ones(self) -> None:
         """Ten of a kind are shown, the others counted."""
         said = self.warnings(HEAD + "G4 P31\n" * 12 + "M2\n")
-        self.assertEqual(said[9:], ["12: warning: a dwell of 31.000 s: P is in seconds",
+        self.assertEqual(said[9:], ["12: warning: a dwell of 31.000 s: P is in seconds, not in milliseconds",
                                     " 2 more warnings as those of line 3"])
 
 
@@ -363,7 +363,8 @@ class Cutting(Warned):
         """A step of 0.001 mm each 50 us is 1,200 mm a minute, along a diagonal the square root of two times as much;
         of an arc no axis is faster. Without settings nothing is known of it."""
         program = HEAD + "G0 X0 Y0 Z1\nG1 Z0 F1200\nX1 Y1 F1697\nX0 F90000\nY0\nX1 Y1 F1698\nG2 X3 I1 F1201\nM2\n"
-        said = "warning: a feed of {} mm/min is capped at {} by period_us of the settings: is F right?"
+        said = ("warning: a feed of {} mm/min is more than period_us of the settings lets through: it cuts at {}. Is F"
+                " right?")
         self.assertEqual(self.warnings(program, "--settings", "first.toml"), [
             f"6: {said.format('90,000', '1,200')}", f"8: {said.format('1,698', '1,697')}",
             f"9: {said.format('1,201', '1,200')}"])
@@ -418,6 +419,14 @@ class Heights(Warned):
             f"10: {self.SIDEWAYS.format('-2.000', 4)}"])
         program = "G0 X0 Y0 Z5\nG1 Z2\nZ-3\nX9\nZ4\nG0 X0 Z5\nX1 Z-2.999\nG81 X3 Z-4 R-2\nM2\n"
         self.assertEqual(self.warnings(HEAD + program), [])
+
+    def test_arc(self) -> None:
+        """An arc of the XZ plane is as deep as its lowest point."""
+        program = "G0 X0 Y0 Z5\nG1 Z0\nG18 G2 X4 I2\nG1 Z1\nG0 Z5\nX2\nZ-1.9\nZ5\nM2\n"
+        self.assertEqual(self.warnings(HEAD + program), [])
+        self.assertEqual(self.warnings(HEAD + program.replace("G2", "G3").replace("Z-1.9", "Z-0.1")), [
+            "9: warning: a traverse down to Z -0.100, below the last cut, whose lowest point is Z 0.000: nothing has"
+            " cut the way free"])
 
     def test_tip(self) -> None:
         """The heights are those of the tip: a longer tool isn't deeper. What is said are program coordinates."""
@@ -487,7 +496,7 @@ class FromDevice(Warned):
         self.assertEqual(self.warnings(program, "--device", "mill.dev"), [
             "6: warning: the program's end drops the G92 offset X 50.000 Y 50.000 Z 0.000 that is in force on the"
             " device: a second run cuts that far away. Set the origin in its place, by G10 L2 P1"])
-        self.assertEqual(self.warnings("G92.1\n" + program, "--device", "mill.dev"), [])
+        self.assertEqual(self.warnings("G92.1\nG55\n" + program, "--device", "mill.dev"), [])
         self.assertEqual(self.warnings(program), [])
 
     def test_modes_and_notes(self) -> None:
@@ -510,6 +519,7 @@ class FromDevice(Warned):
             " warning: slot 1 has 62.500000 mm on the device, and 50.000000 in the settings: a dry run without --device"
             " is as much too high or too deep"])
         self.assertEqual(self.warnings(HEAD + "G0 Z5\nM2\n", *words), [])
+        self.assertEqual(self.warnings(HEAD + "G43 H0\nG0 Z5\nM2\n", *words), [])
 
 
 class ByChance(InFolder):

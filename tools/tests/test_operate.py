@@ -258,10 +258,11 @@ class Scripted(InFolder):
             self.assertEqual(done.returncode, 2)
 
     def test_refused_settings(self) -> None:
-        """What `ngc` refuses itself is said with its sentence."""
+        """The key that is to blame, and what it takes."""
         Path("first.toml").write_text(Path("first.toml").read_text().replace("period_us = 50", "period_us = 0"))
         done = self.tool("ngc-operate", *operate("mill.dev", "first.toml", "out"))
-        wanted = ("ngc-operate: ngc ended with status 2: refused S5 OutOfLimits: a number is beyond its limits\n")
+        wanted = ("ngc-operate: first.toml: S5 OutOfLimits: a number is beyond its limits\n    line 5: period_us = 0"
+                  " (S5): it takes a whole number of microseconds, 1 to 1,000,000\n")
         self.assertEqual((done.stderr, done.returncode), (wanted, 2))
 
     def test_words(self) -> None:

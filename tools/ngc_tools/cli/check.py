@@ -12,7 +12,7 @@ from ngc_tools.formats.program_text import ProgramText
 from ngc_tools.formats.settings import DEFAULT, Settings
 from ngc_tools.formats.text import shown
 from ngc_tools.job.danger import Danger
-from ngc_tools.job.dangers import World, dangers
+from ngc_tools.job.dangers import Conditions, dangers
 from ngc_tools.job.in_force import InForce
 from ngc_tools.job.outside import breach, widest
 from ngc_tools.job.refused import Finding, Lines, Piece, find_all
@@ -98,7 +98,7 @@ def check(ngc: str, args: argparse.Namespace) -> int:
     for finding in find_all(lines, dry_run.ask, args.most):
         report.refused(finding, dry_run.breach(lines, finding.refusal), dry_run.is_placed)
     more = bool(args.most and report.count >= args.most and dry_run.ask(b"".join(lines.all)))
-    report.warned([] if more else dangers(lines, dry_run.run, dry_run.world()), whole, more)
+    report.warned([] if more else dangers(lines, dry_run.run, dry_run.conditions()), whole, more)
     return 1 if report.count else 0
 
 
@@ -143,9 +143,9 @@ class DryRun:
             return breach(lines, refused.line, lambda text: self._dry(text, file.name)[1], settings, self.begun,
                           self.beginning.point_nm)
 
-    def world(self) -> World:
-        """What the program is checked in."""
-        return World(self.beginning, self.begun, self.settings, self.args.large, self.is_placed)
+    def conditions(self) -> Conditions:
+        """What the program is checked under."""
+        return Conditions(self.beginning, self.begun, self.settings, self.args.large, self.is_placed)
 
     def _dry(self, text: bytes, settings: str | None) -> tuple[int, bytes]:
         return self.beginning.dry(self.ngc, text, settings, self.args.block_delete)

@@ -20,6 +20,7 @@ from ngc_tools.operator.operator import Operator
 from ngc_tools.operator.sentences import explained
 from ngc_tools.player.progress import Link
 from ngc_tools.ngc.run import find_ngc
+from ngc_tools.ngc.usable_settings import look_at_settings
 from ngc_tools.cli.terminal import AskedToEnd, Screen
 from ngc_tools.formats.device import Device, NoDevice
 from ngc_tools.formats.settings import Settings
@@ -65,6 +66,7 @@ def work(args: argparse.Namespace) -> int:
     ngc = find_ngc(args.ngc)
     meter = metered(args)
     pipe = look(args.device, args.settings, args.out)
+    look_at_settings(ngc, args.settings)
     try:
         return session(ngc, args, meter, pipe)
     except Ended as ended:

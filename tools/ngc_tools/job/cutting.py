@@ -6,12 +6,11 @@ from math import isqrt
 from ngc_tools.formats.settings import Settings
 from ngc_tools.job.danger import Danger
 from ngc_tools.job.figures import millimetres
-from ngc_tools.job.moves import PLANES, Point
+from ngc_tools.job.moves import PLANES
 from ngc_tools.job.printed import Act
 from ngc_tools.job.refused import Lines
 from ngc_tools.ngc.settings_report import number
 
-_ASIDE = re.compile(rb"\([^()]*\)|[ \t]")
 _SLOT = re.compile(rb"H0*([0-9]+)(?:\.0*)?(?![0-9.])", re.IGNORECASE)
 _STARTS = ("START_SPINDLE_CLOCKWISE", "START_SPINDLE_COUNTERCLOCKWISE")
 _STOPS = ("STOP_SPINDLE_TURNING", "CHANGE_TOOL")
@@ -41,8 +40,8 @@ def capped(acts: list[Act], settings: Settings) -> Iterator[Danger]:
         fastest = _fastest(act, settings)
         if fastest is not None and now.feed > fastest:
             said.add(now.feed)
-            yield Danger(act.line, "feed", f"a feed of {number(now.feed, 6)} mm/min is capped at"
-                         f" {number(fastest // 10**6, 0)} by period_us of the settings: is F right?")
+            yield Danger(act.line, "feed", f"a feed of {number(now.feed, 6)} mm/min is more than period_us of the"
+                         f" settings lets through: it cuts at {number(fastest // 10**6, 0)}. Is F right?")
 
 
 def _fastest(act: Act, settings: Settings) -> int | None:
@@ -58,16 +57,16 @@ def _fastest(act: Act, settings: Settings) -> int | None:
 
 def lengths(lines: Lines, acts: list[Act], tools_nm: Sequence[int]) -> Iterator[Danger]:
     """Cuts with a length that isn't that of the tool in the spindle. `tools_nm` are the lengths of the slots."""
-    taken = 0  # the line of the last G43
+    taken = 0  # the line of the last G43; 0 where the length was in force before the program
     judged: set[tuple[int, int]] = set()
     for act in acts:
         tool, length = act.in_force.tool, act.in_force.length
         if act.command.name == "USE_TOOL_LENGTH_OFFSET":
-            taken = act.line if act.line else taken
-        if not act.is_cut or not tool or not taken or (taken, tool) in judged:
+            taken = act.line
+        if not act.is_cut or not tool or not (taken or length) or (taken, tool) in judged:
             continue
         judged.add((taken, tool))
-        slot = _slot(lines.body(taken))
+        slot = slot_of(lines, taken) if taken else None
         if slot not in (None, 0, tool):
             yield Danger(taken, "length", f"H{slot} takes the length of slot {slot}, and tool {tool} is in the spindle"
                          f" at the cut of line {act.line}: it cuts too deep, or in the air")
@@ -76,9 +75,9 @@ def lengths(lines: Lines, acts: list[Act], tools_nm: Sequence[int]) -> Iterator[
                          f" {tool} has {millimetres(tools_nm[tool - 1])}: it cuts too deep, or in the air")
 
 
-def _slot(line: bytes) -> int | None:
+def slot_of(lines: Lines, line: int) -> int | None:
     """The slot that a line names by H, None where it isn't a plain number."""
-    found = _SLOT.search(_ASIDE.sub(b"", line))
+    found = _SLOT.search(lines.words(line))
     return int(found[1]) if found else None
 
 
@@ -98,15 +97,3 @@ def tool_changes(acts: list[Act]) -> Iterator[Danger]:
         elif name == "CHANGE_TOOL" and has_moved and act.in_force.tool not in (0, act.command.args[0]):
             change = act
         has_stopped = has_stopped or name in ("PROGRAM_STOP", "PALLET_SHUTTLE")
-
-
-def dropped_offset(acts: list[Act], g92_nm: Point) -> Iterator[Danger]:
-    """A G92 offset that is in force before the program begins, and that its end drops."""
-    if not any(g92_nm) or not any(act.is_motion for act in acts):
-        return
-    end = next((act for act in acts if act.command.name == "PROGRAM_END"), None)
-    before = next((act for act in acts if end and act.line == end.line), None)
-    if end and before and before.in_force.origin != end.in_force.origin:
-        x, y, z = map(millimetres, g92_nm)
-        yield Danger(end.line, "g92", f"the program's end drops the G92 offset X {x} Y {y} Z {z} that is in force on"
-                     " the device: a second run cuts that far away. Set the origin in its place, by G10 L2 P1")

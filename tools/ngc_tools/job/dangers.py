@@ -22,13 +22,12 @@ NEARLY_NM = 10_000  # an arc whose ends are as near as that is taken as rounded
 
 _ROUNDED = "Is it meant? A short arc whose end was rounded goes round so too"
 _HOME = re.compile(rb"G0*(28|30)(?:\.0*)?(?![0-9.])", re.IGNORECASE)
-_ASIDE = re.compile(rb"\([^()]*\)|[ \t]")
 
 
 @dataclass(frozen=True, slots=True)
-class World:
-    """What a program is checked in: where it begins, what is in force there, the settings, None for the default ones,
-    whether the device is large, and whether it is known where the work zero is."""
+class Conditions:
+    """What a program is checked under: where it begins, what is in force there, the settings, None for the default
+    ones, whether the device is large, and whether it is known where the work zero is."""
 
     beginning: Beginning
     begun: InForce
@@ -43,19 +42,20 @@ class World:
         return given if self.beginning.tools_nm is None else self.beginning.tools_nm
 
 
-def dangers(lines: Lines, run: Run, world: World) -> list[Danger]:
+def dangers(lines: Lines, run: Run, under: Conditions) -> list[Danger]:
     """The warnings of a program in the order of its lines, those of the whole first. `run` is a dry run from where it
     begins."""
     printed = by_line(lines, run)
-    acts = list(acts_of(printed, world.begun, world.beginning.point_nm))
-    found = [*(Danger(0, "device", note) for note in world.beginning.notes), *_too_long(lines, world.is_large),
+    acts = list(acts_of(printed, under.begun, under.beginning.point_nm))
+    found = [*(Danger(0, "device", note) for note in under.beginning.notes), *_too_long(lines, under.is_large),
              *_homes(lines, printed), *_dwells(printed), *_full_turns(acts),
-             *heights.heights(lines, acts, world.is_placed), *heights.first_descent(lines, acts),
-             *cutting.spindle(acts), *cutting.lengths(lines, acts, world.tools_nm), *cutting.tool_changes(acts),
-             *_other_lengths(acts, world), *cutting.dropped_offset(acts, world.beginning.g92_nm),
-             *(cutting.capped(acts, world.settings) if world.settings else ()),
-             *reliance.modes(lines, printed, run, world.beginning.modes), *reliance.after_stops(lines, printed, run),
-             *reliance.place(lines, acts, run, world.beginning.point_nm)]
+             *heights.heights(lines, acts, under.is_placed), *heights.first_descent(lines, acts),
+             *cutting.spindle(acts), *cutting.lengths(lines, acts, under.tools_nm), *cutting.tool_changes(acts),
+             *_other_lengths(lines, acts, under),
+             *(cutting.capped(acts, under.settings) if under.settings else ()),
+             *reliance.modes(lines, printed, run, under.beginning.modes), *reliance.after_stops(lines, printed, run),
+             *reliance.dropped_offset(lines, printed, run, under.beginning.g92_nm),
+             *reliance.place(lines, acts, run, under.beginning.point_nm, under.beginning.modes[0])]
     return sorted(found, key=lambda warning: warning.line)
 
 
@@ -67,26 +67,29 @@ def _too_long(lines: Lines, is_large: bool) -> list[Danger]:
     return [Danger(0, "bytes", f"{size:,} bytes: ngc run takes at most {most:,} of a program{where} (J5)")]
 
 
-def _other_lengths(acts: list[Act], world: World) -> list[Danger]:
-    """A program that takes tool lengths, where the device has others than the settings."""
-    if world.settings is None or not any(act.command.name == "USE_TOOL_LENGTH_OFFSET" for act in acts):
-        return []
-    both = enumerate(zip(world.settings.tools_nm, world.tools_nm), 1)
-    return [Danger(0, "slots", f"slot {slot} has {exact(on)} mm on the device, and {exact(given)} in the settings: a"
+def _other_lengths(lines: Lines, acts: list[Act], under: Conditions) -> list[Danger]:
+    """Slots whose lengths the program takes, and that have others on the device than in the settings."""
+    taken = [act for act in acts if act.command.name == "USE_TOOL_LENGTH_OFFSET"]
+    slots = {cutting.slot_of(lines, act.line) or act.in_force.tool for act in taken}
+    given = under.settings.tools_nm if under.settings else ()
+    both = [(slot, under.tools_nm[slot - 1], given[slot - 1]) for slot in sorted(slots)
+            if 1 <= slot <= min(len(given), len(under.tools_nm))]
+    return [Danger(0, "slots", f"slot {slot} has {exact(on)} mm on the device, and {exact(other)} in the settings: a"
                    " dry run without --device is as much too high or too deep")
-            for slot, (given, on) in both if given != on]
+            for slot, on, other in both if on != other]
 
 
 def _homes(lines: Lines, printed: Printed) -> list[Danger]:
     """G28 and G30 by their text, if the line then prints a traverse."""
     found = []
-    for number, line in enumerate(lines.all, 1):
-        code = _HOME.search(_ASIDE.sub(b"", line))
+    for number in range(1, len(lines.all) + 1):
+        code = _HOME.search(lines.words(number))
         moves = [command for command in printed.get(number, []) if command.name == "STRAIGHT_TRAVERSE"]
         if code and moves:
             x, y, z = map(millimetres, moves[-1].point)
             found.append(Danger(number, "home", f"G{code[1].decode()} moves all three axes, in one straight traverse to"
-                                f" X {x} Y {y} Z {z}; to lift Z alone write G53 G0 Z with the height"))
+                                f" X {x} Y {y} Z {z}, through what stands there; to lift Z alone write G53 G0 Z with"
+                                " the height"))
     return found
 
 
@@ -95,7 +98,8 @@ def _dwells(printed: Printed) -> list[Danger]:
     for number, commands in printed.items():
         waits = [int(command.args[0]) for command in commands if command.name == "DWELL"]
         if waits and max(waits) > LONG_DWELL_US:
-            found.append(Danger(number, "dwell", f"a dwell of {duration(max(waits))}: P is in seconds"))
+            found.append(Danger(number, "dwell", f"a dwell of {duration(max(waits))}: P is in seconds, not in"
+                                " milliseconds"))
     return found
 
 
@@ -107,9 +111,11 @@ def _full_turns(acts: list[Act]) -> Iterator[Danger]:
 
 
 def _turn(act: Act) -> str | None:
-    """What to say of an arc, if anything."""
-    a, b, _ = PLANES[act.in_force.plane]
+    """What to say of an arc, if anything; nothing of a helix, whose turns are meant."""
+    a, b, c = PLANES[act.in_force.plane]
     arc, end = arc_of(act.command, act.in_force.plane), act.command.point
+    if abs(end[c] - act.at[c]) > NEARLY_NM:
+        return None
     p, q = act.at[a] - arc.centre[0], act.at[b] - arc.centre[1]
     s, t = end[a] - arc.centre[0], end[b] - arc.centre[1]
     radius = isqrt(p * p + q * q)

@@ -9,7 +9,6 @@ from ngc_tools.job.figures import millimetres
 from ngc_tools.job.printed import Act
 from ngc_tools.job.refused import Lines
 
-_ASIDE = re.compile(rb"\([^()]*\)|[ \t]")
 _MACHINE = re.compile(rb"G0*(?:28|30|53)(?:\.0*)?(?![0-9.])", re.IGNORECASE)  # to machine coordinates
 
 
@@ -48,7 +47,7 @@ def heights(lines: Lines, acts: list[Act], is_placed: bool) -> Iterator[Danger]:
         elif act.is_motion:
             cuts.traverse()
             if not is_placed:
-                to_machine = bool(_MACHINE.search(_ASIDE.sub(b"", lines.body(act.line))))
+                to_machine = bool(_MACHINE.search(lines.words(act.line)))
                 is_known = not to_machine and (is_known or act.command.point[2] != act.at[2])
             if is_known and (text := _through_work(act, cuts)):
                 yield Danger(act.line, "deep", text)
@@ -82,7 +81,7 @@ def first_descent(lines: Lines, acts: list[Act]) -> Iterator[Danger]:
     rises = next((act for act in motions if act.command.point[2] != act.at[2]), None) not in down
     for act in down:
         end = act.in_force.to_program(act.command.point)[2]
-        if end < 0 and not _MACHINE.search(_ASIDE.sub(b"", lines.body(act.line))):
+        if end < 0 and not _MACHINE.search(lines.words(act.line)):
             if not rises and act is down[0]:
                 yield Danger(act.line, "first", f"the first move in Z is a traverse down to Z {millimetres(end)}, below"
                              " the work zero: nothing says that it is free there")

@@ -30,14 +30,16 @@ def breach(lines: Lines, line: int, run_widest: Run, settings: Settings, begun: 
 
 
 def _leaves(act: Act, settings: Settings) -> str | None:
-    """Where a motion leaves the travel, if it does."""
+    """Where a motion leaves the travel farthest, if it does."""
+    found = []
     for axis, nm, is_passed in _reached(act):
         low, high = settings.low_nm[axis], settings.high_nm[axis]
-        if not low <= nm <= high:
-            limit, key = (low, "low_nm") if nm < low else (high, "high_nm")
-            return (f"{AXES[axis]} {'passes' if is_passed else 'goes to'} {number(nm, 6)} mm of the machine, and the"
-                    f" travel ends at {number(limit, 6)} ({key} of the settings)")
-    return None
+        beyond, limit, key = max((low - nm, low, "low_nm"), (nm - high, high, "high_nm"))
+        goes = "passes" if is_passed else "goes to"
+        found.append((beyond, f"{AXES[axis]} {goes} {number(nm, 6)} mm of the machine, and the travel ends at"
+                      f" {number(limit, 6)} ({key} of the settings)"))
+    beyond, said = max(found, key=lambda each: each[0])
+    return said if beyond > 0 else None
 
 
 def _reached(act: Act) -> Iterator[tuple[int, int, bool]]:

@@ -4,7 +4,7 @@ from dataclasses import dataclass
 
 from ngc_tools.formats.canonical import MOTIONS, Command, read_commands
 from ngc_tools.job.in_force import InForce
-from ngc_tools.job.moves import Point
+from ngc_tools.job.moves import Point, arc_of, arc_points
 from ngc_tools.job.refused import Lines
 from ngc_tools.ngc.beginning import percent_lines
 
@@ -36,8 +36,11 @@ class Act:
 
     @property
     def tip_z(self) -> int:
-        """The lower Z of a straight move's ends, of the tool's tip, in machine nm."""
-        return min(self.at[2], self.command.point[2]) - self.in_force.length
+        """The lowest Z of a motion, of the tool's tip, in machine nm."""
+        points = (self.at, self.command.point)
+        if self.command.name == "ARC_FEED" and self.in_force.plane != "XY":
+            points = arc_points(*points, arc_of(self.command, self.in_force.plane))
+        return min(z for _, _, z in points) - self.in_force.length
 
     @property
     def goes_sideways(self) -> bool:

@@ -23,6 +23,8 @@ _PIECE = re.compile(
     re.DOTALL)
 
 
+_ASIDE = re.compile(rb"\([^()]*\)|[ \t]")
+
 # A line is refused by the first fault that holds in this order; E2 is looked at before E1.
 _RANKS = {fault.code: rank for rank, fault in enumerate(FAULTS, 1)} | {"E2": 0}
 _MOST_PAIRED = 12  # pieces of a line that are tried two at a time
@@ -83,6 +85,10 @@ class Lines:
         """Line `number`, from 1, without its end."""
         line = self.all[number - 1]
         return line[:-2] if line.endswith(b"\r\n") else line.removesuffix(b"\n")
+
+    def words(self, number: int) -> bytes:
+        """The words of line `number`, without comments and blanks."""
+        return _ASIDE.sub(b"", self.body(number))
 
     def beginning(self, number: int, body: bytes) -> bytes:
         """The lines before line `number`, another line in its place, and the program's end."""

@@ -71,6 +71,17 @@ def after_stops(lines: Lines, printed: Printed, run: Run) -> Iterator[Danger]:
                  " typed at the stop, as G91 to lift the tool, stays in force; write the modes again after it")
 
 
+def dropped_offset(lines: Lines, printed: Printed, run: Run, g92_nm: Point) -> Iterator[Danger]:
+    """A program that relies on a G92 offset which is in force before it, and which its end drops."""
+    end = next((number for number, commands in printed.items()
+                if any(command.name == "PROGRAM_END" for command in commands)), None)
+    if end is None or not any(g92_nm) or _first_other(printed, by_line(lines, run, b"G92.2\n")) in (None, end):
+        return
+    x, y, z = map(millimetres, g92_nm)
+    yield Danger(end, "g92", f"the program's end drops the G92 offset X {x} Y {y} Z {z} that is in force on the device:"
+                 " a second run cuts that far away. Set the origin in its place, by G10 L2 P1")
+
+
 def _first_other(base: Printed, changed: Printed) -> int | None:
     """The first line that prints something else."""
     return next((number for number in sorted(base) if number and base[number] != changed.get(number)), None)
@@ -80,11 +91,12 @@ def _listed(names: list[str]) -> str:
     return f"{', '.join(names[:-1])} and {names[-1]}" if len(names) > 1 else names[0]
 
 
-def place(lines: Lines, acts: list[Act], run: Run, start: Point) -> Iterator[Danger]:
-    """The first cut whose place counts from where the machine stands at the start, if the program ends elsewhere."""
+def place(lines: Lines, acts: list[Act], run: Run, start: Point, unit: int) -> Iterator[Danger]:
+    """The first cut whose place counts from where the machine stands at the start, if the program ends elsewhere.
+    `unit` is 20 or 21, as is in force at the start."""
     nudged = [nm + _NUDGE_NM if nm <= 0 else nm - _NUDGE_NM for nm in start]
     words = " ".join(f"{axis}{exact(nm)}" for axis, nm in zip("XYZ", nudged, strict=True))
-    printed = by_line(lines, run, f"G53 G0 {words}\nG80\n".encode())
+    printed = by_line(lines, run, f"G21\nG53 G0 {words}\nG{unit} G80\n".encode())
     others = [command for number in sorted(printed) if number for command in printed[number]]
     mine = [act for act in acts if act.line]
     if len(others) != len(mine):  # a line relies on the motion mode, or is refused at the edge of the travel
