@@ -3,6 +3,7 @@ import re
 from dataclasses import dataclass, field
 from decimal import Decimal, InvalidOperation
 
+_LONGEST = 2048  # characters of a line that is cut; `ngc` takes 256 bytes
 _BLANKS = re.compile(r"[ \t]*")
 _LETTER = re.compile(r"[A-Za-z][ \t]*")
 _NUMBER = re.compile(r"[0-9. \t]*[0-9.]")
@@ -46,7 +47,10 @@ class CamLine:
 
     @staticmethod
     def cut(text: str) -> "CamLine":
-        """Cuts a line into pieces. From a ( that isn't closed on, the rest of the line is one piece."""
+        """Cuts a line into pieces. From a ( that isn't closed on, the rest of the line is one piece; so is a line that
+        is far too long."""
+        if len(text) > _LONGEST:
+            return CamLine([Token("", text)])
         pieces, here = [], 0
         comments, brackets = matched(text, "()"), matched(text, "[]")
         while here < len(text):
