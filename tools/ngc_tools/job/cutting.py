@@ -58,16 +58,16 @@ def _fastest(act: Act, settings: Settings) -> int | None:
 
 def lengths(lines: Lines, acts: list[Act], tools_nm: Sequence[int]) -> Iterator[Danger]:
     """Cuts with a length that isn't that of the tool in the spindle. `tools_nm` are the lengths of the slots."""
-    taken = 0  # the line of the last G43
+    taken = 0  # the line of the last G43; 0 where the length was in force before the program
     judged: set[tuple[int, int]] = set()
     for act in acts:
         tool, length = act.in_force.tool, act.in_force.length
         if act.command.name == "USE_TOOL_LENGTH_OFFSET":
-            taken = act.line if act.line else taken
-        if not act.is_cut or not tool or not taken or (taken, tool) in judged:
+            taken = act.line
+        if not act.is_cut or not tool or not (taken or length) or (taken, tool) in judged:
             continue
         judged.add((taken, tool))
-        slot = _slot(lines.body(taken))
+        slot = _slot(lines.body(taken)) if taken else None
         if slot not in (None, 0, tool):
             yield Danger(taken, "length", f"H{slot} takes the length of slot {slot}, and tool {tool} is in the spindle"
                          f" at the cut of line {act.line}: it cuts too deep, or in the air")

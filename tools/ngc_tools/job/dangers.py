@@ -55,7 +55,7 @@ def dangers(lines: Lines, run: Run, world: World) -> list[Danger]:
              *_other_lengths(acts, world), *cutting.dropped_offset(acts, world.beginning.g92_nm),
              *(cutting.capped(acts, world.settings) if world.settings else ()),
              *reliance.modes(lines, printed, run, world.beginning.modes), *reliance.after_stops(lines, printed, run),
-             *reliance.place(lines, acts, run, world.beginning.point_nm)]
+             *reliance.place(lines, acts, run, world.beginning.point_nm, world.beginning.modes[0])]
     return sorted(found, key=lambda warning: warning.line)
 
 

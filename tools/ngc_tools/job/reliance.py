@@ -80,11 +80,12 @@ def _listed(names: list[str]) -> str:
     return f"{', '.join(names[:-1])} and {names[-1]}" if len(names) > 1 else names[0]
 
 
-def place(lines: Lines, acts: list[Act], run: Run, start: Point) -> Iterator[Danger]:
-    """The first cut whose place counts from where the machine stands at the start, if the program ends elsewhere."""
+def place(lines: Lines, acts: list[Act], run: Run, start: Point, unit: int) -> Iterator[Danger]:
+    """The first cut whose place counts from where the machine stands at the start, if the program ends elsewhere.
+    `unit` is 20 or 21, as is in force at the start."""
     nudged = [nm + _NUDGE_NM if nm <= 0 else nm - _NUDGE_NM for nm in start]
     words = " ".join(f"{axis}{exact(nm)}" for axis, nm in zip("XYZ", nudged, strict=True))
-    printed = by_line(lines, run, f"G53 G0 {words}\nG80\n".encode())
+    printed = by_line(lines, run, f"G21\nG53 G0 {words}\nG{unit} G80\n".encode())
     others = [command for number in sorted(printed) if number for command in printed[number]]
     mine = [act for act in acts if act.line]
     if len(others) != len(mine):  # a line relies on the motion mode, or is refused at the edge of the travel
