@@ -373,9 +373,7 @@ class LeftBehind(Core):
         self.stop("G0 X0.002")
         self.do("G0 Y0.003")
         self.assertEqual(self.do("run", answers=("no",)),
-                         ["line 4 begins at X0.001 Y0 Z0, and the machine is at X0.001 Y0.003 Z0: 0.003 mm apart. The"
-                          " line goes from where the machine is", "in force now: G0 (G1 before)",
-                          "restore types: F1 G53 G1 X0.001000; F600"])
+                         ["line 4 begins at X0.001 Y0 Z0. The machine is at X0.001 Y0.003 Z0, 0.003 mm away, and the line would go from there"])
         self.do("G0 Y0", "run")
         self.assertEqual(self.face.asked, [])
 
@@ -398,8 +396,7 @@ class LeftBehind(Core):
         self.assertEqual((found.state.half, found.state.place), (1, 34))
         self.begin()
         self.do("reference 0.0005 0 -0.01", "abandon", "reference 0.0005 0 -0.01", "G53 G0 Z0")
-        asked = ("line 3 begins at X0.001 Y0 Z-0.01, and the machine is at X0.0005 Y0 Z0: 0.010 mm apart. The line goes"
-                 " from where the machine is")
+        asked = ("line 3 begins at X0.001 Y0 Z-0.01. The machine is at X0.0005 Y0 Z0, 0.010 mm away, and the line would go from there")
         self.assertEqual(self.do("run", answers=("no",))[0], asked)
         self.end()
         self.begin(found=Device.read("mill.dev"))
@@ -455,6 +452,19 @@ class Causes(Core):
                          " reference player, or reference X Y Z")
         self.do("reference player")
         self.assertEqual(self.do("tool 1 5"), [half + "then resume or abandon, and tool after that"])
+
+
+    def test_forms(self) -> None:
+        """A command that is written otherwise is said how it is written; a slot, which one comes first."""
+        self.begin()
+        self.do("tool 1 5", "tool 2 5")
+        self.assertEqual(self.do("reference 1 2", "tool one 3", "optional maybe", "tool 5 3"), [
+            "refused U1 BadCommand: reference X Y Z: three machine coordinates in millimetres, without letters, as in"
+            " `reference 7.21 0 -5`",
+            "refused U1 BadCommand: tool N LENGTH: a slot from 1 to 128 and its length in millimetres, 0 to 1000, as in"
+            " `tool 1 62.5`",
+            "refused U1 BadCommand: optional on or optional off",
+            "refused B14 BadSlot: slot 3 comes first: the table has slots 1 to 2, and takes one more at a time"])
 
 
 class Beginnings(Core):

@@ -4,6 +4,7 @@ from collections.abc import Iterator
 from dataclasses import dataclass
 
 from ngc_tools.ngc.console import Status
+from ngc_tools.operator.display import short_words
 from ngc_tools.operator.face import MESSAGE, WARNING, WHERE, UnderWay
 from ngc_tools.operator.session import Session
 from ngc_tools.operator.timeline import Timeline
@@ -132,6 +133,6 @@ class Work:
         if self.timeline is None or view is None:
             return
         done, left = (clock(us) for us in self.timeline.times_us(number))
-        yield " ".join(view.short())
+        yield " ".join(short_words(view))
         yield f"about {left} left"
         yield f"{done} done"
