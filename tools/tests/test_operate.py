@@ -71,7 +71,7 @@ G1 G17 G21 G90 G94; F100 mm/min; spindle stands; no coolant; no tool
 about 0:00 in all
 ngc> refused U1 BadCommand: reference X Y Z: three machine coordinates in millimetres, without letters, as in `reference 7.21 0 -5`
 ngc> done 11
-ngc> refused K4 NothingHalfDone: no block is half-done
+ngc> refused K4 NothingHalfDone: no block is half-done: run goes on with the program
 ngc> taken
 ngc> done 12
 ngc> idle

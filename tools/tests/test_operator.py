@@ -225,7 +225,11 @@ class Places(Core):
                    " ngc's"]
         self.assertEqual(self.do("resume"), refused)
         self.assertEqual((self.out(), self.status().does), ([], "idle"))
-        self.assertIn("taken up", self.do("resume anyway", answers=("yes",))[0])
+        self.hold_after(1)
+        self.assertIn("taken up", self.do("resume anyway")[0])
+        self.assertEqual(self.do("continue"), [refused[0].replace("resume", "continue")])
+        self.assertEqual((self.out(), self.status().does), ([], "held"))
+        self.do("continue anyway")
         self.assertEqual(self.out(), ["S 0 0.000000 0 0 0 0"] + ["P -1 0 0 50"] * 43 + ["P 1 0 0 50"] * 5)
 
     def test_lines_and_programs(self) -> None:
@@ -257,7 +261,11 @@ class Places(Core):
         link = FileLink()
         self.begin(link)
         link.silent = 1
-        self.assertEqual(self.do("G0 X1"), ["progress: the player doesn't answer"])
+        silent = ("nothing is done. Once the player answers, again; if it is gone, quit, and start a player and this"
+                  " again")
+        self.assertEqual(self.do("G0 X1"), ["progress: the player doesn't answer", silent])
+        link.silent = 1
+        self.assertEqual(self.do("reference player"), ["progress: the player doesn't answer", silent])
         self.assertEqual(self.out(), [])
 
 
@@ -467,6 +475,16 @@ class Causes(Core):
             "refused B14 BadSlot: slot 3 comes first: the table has slots 1 to 2, and takes one more at a time"])
 
 
+    def test_nothing_to_do(self) -> None:
+        """Nothing is half-done, nothing waits, nothing is loaded."""
+        self.begin()
+        self.assertEqual(self.do("continue", "run", "resume"), [
+            "refused K2 NoProgram: no program is loaded: load FILE", "refused K2 NoProgram: no program is loaded: load FILE",
+            "refused K4 NothingHalfDone: no block is half-done: run goes on with the program"])
+        self.load("M2\n")
+        self.assertEqual(self.do("continue"), ["refused K2 NoProgram: nothing waits: run starts the program"])
+
+
 class Beginnings(Core):
     """What a session begins with, and a rehearsal within it."""
 
@@ -562,7 +580,8 @@ class Shown(Core):
             "the motors are at X 13.000000 Y 0.000000 Z -2.500000, 0 lines behind",
             "and have spindle clockwise at 1000; no coolant; tool 1"])
         view = next(view for view in self.face.views if view and view.line.startswith("line 4"))
-        self.assertEqual((view.line, view.more), ("line 4: G1 X3 F60", ("F60 S1000 T1", "about 0:05 left", "0:00 done")))
+        self.assertEqual((view.line, view.more[1:]), ("line 4: G1 X3 F60", ("F60 S1000 T1", "about 0:05 left", "0:00 done")))
+        self.assertRegex(view.more[0], r"^work X-?[0-2]\.\d{3} Y0\.000 Z0\.00\d$")
         self.assertEqual(self.do("G0 Z1")[-2], "work X3.000 Y0.000 Z1.000; G55 at X10 Y0 Z-5, tool length 2.5")
 
     def test_fitted(self) -> None:

@@ -31,6 +31,10 @@ def _cause(session: Session, code: str, command: str) -> str | None:
     word, *rest = command.split()
     if code == "K1":
         return busy(session, session.console.status(), word)
+    if code == "K2":
+        return ("nothing waits: run starts the program" if session.program.text else "no program is loaded: load FILE")
+    if code == "K4":
+        return "no block is half-done: run goes on with the program"
     if code == "K3":
         return f"it isn't known where the machine stands: {_reference(session)}"
     if code == "U1":

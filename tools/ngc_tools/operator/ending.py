@@ -41,7 +41,8 @@ class Ending:
 
     def can_switch(self, status: Status) -> bool:
         """Whether a line of one's own is taken now, as M5 is."""
-        return status.half == "none" and status.known and status.does in ("idle", "stopped", "held")
+        return (status.half == "none" and status.known and status.does in ("idle", "stopped", "held")
+                and not self.session.gone)
 
     def how_off(self) -> str:
         """How what is on goes off, where no line of one's own is taken."""

@@ -67,9 +67,11 @@ class Operator:
 
     def load(self, name: str, text: bytes) -> bool:
         """Stores a program that people call `name`, once a dry run was looked at; whether it is stored. Raises Ended."""
-        if not self.loading.agreed(name, text):
+        session, status = self.session, self.console.status()
+        is_busy = status.half != "none" or status.does in ("held", "running")  # `ngc` refuses it
+        if not is_busy and not self.loading.agreed(name, text):
             return False
-        session, reply = self.session, self.console.load(text)
+        reply = self.console.load(text)
         if refused(session, reply, "load"):
             return False
         session.program, session.told = Program(text), 0
@@ -118,9 +120,8 @@ class Operator:
     def _go_on(self, command: str, typed: Typed) -> None:
         """Starts the program, or goes on with what waits."""
         status = self.console.status()
-        if status.half == "none" and not typed.anyway:
-            if not self.places.agree(status, f"{typed.word} {ANYWAY}") or not self._as_left():
-                return
+        if not typed.anyway and not (self.places.agree(status, f"{typed.word} {ANYWAY}") and self._as_left(status)):
+            return
         if refused(self.session, self.console.ask(command)[0], command):
             return
         if status.half == "none" and (said := dropped_g92(self.session)):
@@ -131,9 +132,9 @@ class Operator:
         if self._work() != "refused" or self.console.status().place != status.place:
             self.left.forget()
 
-    def _as_left(self) -> bool:
-        """Whether all is as the program left it, or a person wants to go on all the same."""
-        questions = self.left.questions()
+    def _as_left(self, status: Status) -> bool:
+        """Whether all is as the program left it, or a person wants to go on all the same. Within a block it is."""
+        questions = self.left.questions() if status.half == "none" else []
         for text in questions:
             self.face.say(text, WARNING)
         return not questions or self._yes("go on all the same? yes goes on: ")
@@ -150,7 +151,8 @@ class Operator:
         compared = status.half == "none" and not anyway and not stops_outputs(line)
         if compared and not self.places.agree(status, f"{ANYWAY} {line}"):
             return False
-        self.left.keep()
+        if status.half == "none":
+            self.left.keep()
         reply = self.console.ask(b"mdi " + line.encode("utf-8", "surrogateescape"))[0]
         if refused(self.session, reply, "mdi"):
             self._near(line)
@@ -181,7 +183,7 @@ class Operator:
             self.face.say(f"it can't put back {text}", WARNING)
 
     def _plain(self, typed: Typed) -> None:
-        if typed.word == "abandon":
+        if typed.word == "abandon" and self.console.status().does == "idle":
             self.left.keep()
         reply = self.console.ask(" ".join([typed.word, *typed.rest.lower().split()]))[0]
         if taken(self.session, reply, f"{typed.word} {typed.rest}".strip()) and typed.word in ("delete", "optional"):
@@ -202,6 +204,7 @@ class Operator:
             if reply.startswith("refused K3"):
                 self.places.offer()
             return
+        self.left.forget()
         self.face.say(TAKEN_UP.format(half=self.session.half(status), place=place(status)), WARNING)
         if not self._switched():
             self._hold()
@@ -243,7 +246,8 @@ class Operator:
     def _offer_off(self, status: Status, left_on: str) -> None:
         """Says what is on, and switches it off if that can be done and is wanted."""
         if not self.ending.can_switch(status):
-            self.face.say(f"still on: {left_on}. Within a block no M5 is done. {self.ending.how_off()}", WARNING)
+            within = "Within a block no M5 is done. " if status.half != "none" else ""
+            self.face.say(f"still on: {left_on}. {within}{self.ending.how_off()}", WARNING)
         elif self._yes(f"still on: {left_on}. Switch off? yes does M5 and M9, anything else doesn't: "):
             for line in ("M5", "M9"):
                 self._mdi(line, True)

@@ -22,6 +22,7 @@ delete on, off     leave out lines with a slash
 quit               end; Ctrl-D too
 help               this"""
 
+PLAYER_SILENT = "Once the player answers, again; if it is gone, quit, and start a player and this again"
 # what is said of a block that is taken up
 TAKEN_UP = """\
 {half} is taken up. Its outputs are switched on as they were; then the tool goes
