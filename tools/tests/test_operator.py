@@ -578,7 +578,7 @@ class Shown(Core):
             "G1 G17 G21 G90 G94; F60 mm/min; spindle clockwise at 1000; no coolant; tool 1",
             "about 0:03 done, 0:02 left",
             "the motors are at X 13.000000 Y 0.000000 Z -2.500000, 0 lines behind",
-            "and have spindle clockwise at 1000; no coolant; tool 1"])
+            "the player has spindle clockwise at 1000; no coolant; tool 1"])
         view = next(view for view in self.face.views if view and view.line.startswith("line 4"))
         self.assertEqual((view.line, view.more[1:]), ("line 4: G1 X3 F60", ("F60 S1000 T1", "about 0:05 left", "0:00 done")))
         self.assertRegex(view.more[0], r"^work X-?[0-2]\.\d{3} Y0\.000 Z0\.00\d$")

@@ -44,7 +44,7 @@ class Look:
             face.say(self._times(status, timeline), WHERE)
         self._motors(report)
         if report:
-            face.say(f"and have {outputs_words(report.outputs)}", WHERE)
+            face.say(f"the player has {outputs_words(report.outputs)}", WHERE)
 
     def _machine(self, status: Status) -> str:
         """What the machine does, where it is, and what comes next."""

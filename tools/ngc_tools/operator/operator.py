@@ -129,7 +129,8 @@ class Operator:
         if command == "start":
             self.session.told = status.place
         self.work.timeline = self.loading.timeline(command == "start" and not status.place)
-        if self._work() != "refused" or self.console.status().place != status.place:
+        ended = self._run_on()
+        if ended != "refused" or self.console.status().place != status.place:
             self.left.forget()
 
     def _as_left(self, status: Status) -> bool:
@@ -145,22 +146,26 @@ class Operator:
     def _typed_mdi(self, typed: Typed) -> None:
         self._mdi(typed.rest, typed.anyway)
 
-    def _mdi(self, line: str, anyway: bool) -> bool:
-        """Does a line of one's own; whether it was taken."""
+    def _mdi(self, line: str, anyway: bool) -> None:
+        """Does a line of one's own, and says how all stands then."""
+        if ended := self._line_done(line, anyway):
+            self._say_stand(ended)
+            self.left.tell_modes()
+
+    def _line_done(self, line: str, anyway: bool) -> str | None:
+        """Does a line of one's own. Returns what ended its work, None where it wasn't taken or is held."""
         status = self.console.status()
         compared = status.half == "none" and not anyway and not stops_outputs(line)
         if compared and not self.places.agree(status, f"{ANYWAY} {line}"):
-            return False
+            return None
         if status.half == "none":
             self.left.keep()
         reply = self.console.ask(b"mdi " + line.encode("utf-8", "surrogateescape"))[0]
         if refused(self.session, reply, "mdi"):
             self._near(line)
-            return False
+            return None
         self.session.own = line
-        self._work()
-        self.left.tell_modes()
-        return True
+        return self._work()
 
     def _near(self, line: str) -> None:
         """Names the command that is meant, if a line of G-code was none."""
@@ -177,8 +182,9 @@ class Operator:
         found = self.left.restoring()
         for line in found.lines:
             self.face.say(f"restore: {line}")
-            if not self._mdi(line, False):
+            if not self._line_done(line, False):
                 return
+        Look(self.session).after_work()
         for text in found.left:
             self.face.say(f"it can't put back {text}", WARNING)
 
@@ -209,7 +215,7 @@ class Operator:
         if not self._switched():
             self._hold()
         elif self._yes(SWITCHED):
-            self._work()
+            self._run_on()
         else:
             self._hold()
             self.face.say(NOT_MOVED, WARNING)
@@ -250,23 +256,32 @@ class Operator:
             self.face.say(f"still on: {left_on}. {within}{self.ending.how_off()}", WARNING)
         elif self._yes(f"still on: {left_on}. Switch off? yes does M5 and M9, anything else doesn't: "):
             for line in ("M5", "M9"):
-                self._mdi(line, True)
+                self._line_done(line, True)
+            Look(self.session).after_work()
 
     # work
 
+    def _run_on(self) -> str | None:
+        """The same as `_work`, and says how all stands then."""
+        ended = self._work()
+        if ended is not None:
+            self._say_stand(ended)
+        return ended
+
     def _work(self) -> str | None:
-        """Gives ticks until there is nothing to do, or somebody holds, and says what stands then. Returns what ended
-        them, None for a hold."""
+        """Gives ticks until there is nothing to do, or somebody holds. Returns what ended them, None for a hold."""
         ended = self.work.go()
         if ended is None:
             self._hold()
             return None
         self.session.own = ""
-        status = self.console.status()
-        if ended == "stopped" and status.half == "none":
+        return ended
+
+    def _say_stand(self, ended: str) -> None:
+        """Says how all stands once work has ended so."""
+        if ended == "stopped" and self.console.status().half == "none":
             self.face.say(f"stopped; the tool in the spindle is {self.stored().slot or 'none'}. run goes on", WHERE)
         Look(self.session).after_work()
-        return ended
 
     def _hold(self) -> None:
         session, reply = self.session, self.console.ask("hold")[0]
