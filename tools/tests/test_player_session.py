@@ -143,8 +143,8 @@ class Sessions:
         """Who can't be answered, or asks something else, does no harm."""
         child, link, pipe = self.session()
         with socket.socket(socket.AF_UNIX, socket.SOCK_DGRAM) as nameless:
-            for text in (b"progress 1", b"", b"progress", b"progress x", b"at", b"at 1 2", b"at 1 2 x", b"\0" * 64,
-                         b"go"):
+            for text in (b"progress 1", b"", b"progress", b"progress x", b"at", b"at 1 2", b"at 1 2 x", b"\0" * 128,
+                         b"at 1 2 3" + b"0" * 121, b"end\0", b"go"):
                 nameless.sendto(text, "progress")
         self.assertEqual(link.ask(), Report(0, 0, False, "0.000000 0.000000 0.000000", f"{self.folder}/out"))
         os.write(pipe, b"P 1 0 0 50\n")
