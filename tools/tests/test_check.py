@@ -1,4 +1,5 @@
 """`ngc-check`: refused lines with carets, what to write, how it goes on; warnings; status."""
+import os
 import random
 import sys
 from pathlib import Path
@@ -585,6 +586,15 @@ class Words(InFolder):
                          "ngc-check: none.toml: No such file or directory")
         self.assertEqual(self.failed("p.ngc", "--ngc", ngc(), "--settings", "bad.toml"), "    tools_nm is missing: an"
                          " array of at most 128 whole numbers of nanometres, 0 to 1,000,000,000")
+        Path("odd.ngc").write_bytes(b"\xff\xfeM\x002")
+        self.assertEqual(self.failed("odd.ngc", "--ngc", ngc()), "ngc-check: odd.ngc: it begins as UTF-16 does, and byte 4"
+                         " isn't UTF-16: save it in UTF-8")
+        os.mkfifo("pipe")
+        self.assertEqual(self.failed("p.ngc", "--device", "pipe", "--ngc", ngc()), "ngc-check: pipe: Illegal seek")
+        self.assertEqual(self.failed("p.ngc", "--device", "p.ngc", "--ngc", ngc()),
+                         "ngc-check: p.ngc: not a device: 3 bytes, and a device has 875,520 or more")
+        self.assertEqual(self.failed("p.ngc", "--origin", "0", "0", "1e3", "--ngc", ngc()), "ngc-check: error: argument"
+                         " --origin: not a number of millimetres with at most six decimals: 1e3")
         self.assertEqual(self.failed("p.ngc", "--ngc", sys.executable),
                          "ngc-check: ngc dry ended with status 2, and says nothing")
         self.assertEqual(self.failed("p.ngc", "--ngc", sys.executable, "--settings", "first.toml"),

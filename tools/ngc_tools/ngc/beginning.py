@@ -3,6 +3,7 @@
 `ngc dry` begins in the fresh state at machine 0, and `ngc run` with what its device has: origins, G92, modes, tool
 lengths, the machine's point. What is put here is what a program that is loaded now begins with (docs/SESSION.md)."""
 import errno
+import os
 import tempfile
 from collections.abc import Callable, Iterable, Iterator
 from contextlib import contextmanager
@@ -199,13 +200,18 @@ def _image(path: str | Path) -> bytes:
     """The sectors of a device as they stood at one moment: what two readings in a row give. A session may write
     meanwhile, and never leaves the same bytes twice, since epochs and records count up. Raises Held if it writes each
     time, OSError."""
-    with naming(path), open(path, "rb", buffering=0) as file:
+    with naming(path), open(path, "rb", buffering=0, opener=_open_without_waiting) as file:
         image = _sectors(file)
         for _ in range(_READINGS):
             last, image = image, _sectors(file)
             if image == last:
                 return image
     raise Held(errno.EBUSY, "a session writes to the device all the time: ask again once it stands still", str(path))
+
+
+def _open_without_waiting(path: str, flags: int) -> int:
+    """Opens a file; of a pipe it doesn't wait for a writer."""
+    return os.open(path, flags | os.O_NONBLOCK | os.O_CLOEXEC)
 
 
 def _sectors(file: RawIOBase) -> bytes:
