@@ -15,6 +15,15 @@ static bool fail(const struct keeper *keeper, int error, struct cause *why) {
     return because(why, "%s: %s", keeper->path, strerror(error));
 }
 
+/* Syncs a file or a folder. */
+static int sync_all(int file) {
+    int result = 0;
+    do {
+        result = fsync(file);
+    } while (result != 0 && errno == EINTR);
+    return result;
+}
+
 static bool lock(const struct keeper *keeper, int file, struct cause *why) {
     if (flock(file, LOCK_EX | LOCK_NB) == 0) {
         return true;
@@ -33,7 +42,10 @@ bool keeper_hold(struct keeper *keeper, const char *path, struct cause *why) {
 
 bool keeper_read(const struct keeper *keeper, struct record *record, struct cause *why) {
     char text[RECORD_SIZE + 1];
-    ssize_t size = pread(keeper->file, text, sizeof text, 0);
+    ssize_t size = 0;
+    do {
+        size = pread(keeper->file, text, sizeof text, 0);
+    } while (size < 0 && errno == EINTR);
     return size < 0 ? fail(keeper, errno, why) : record_read(text, (size_t)size, keeper->path, record, why);
 }
 
@@ -64,7 +76,7 @@ static int sync_folder(const char *path) {
     char copy[PATH_MAX];
     snprintf(copy, sizeof copy, "%s", path);
     int folder = open(dirname(copy), O_RDONLY | O_DIRECTORY | O_CLOEXEC);
-    int error = folder < 0 || fsync(folder) != 0 ? errno : 0;
+    int error = folder < 0 || sync_all(folder) != 0 ? errno : 0;
     if (folder >= 0) {
         close(folder);
     }
@@ -91,7 +103,7 @@ static bool make(struct keeper *keeper, const struct record *record, struct caus
         return because(why, "%s: another player keeps it", keeper->path);
     }
     int error = ftruncate(keeper->file, 0) != 0 ? errno : keeper_write(keeper, record);
-    if (error == 0 && (fsync(keeper->file) != 0 || rename(beside, keeper->path) != 0)) {
+    if (error == 0 && (sync_all(keeper->file) != 0 || rename(beside, keeper->path) != 0)) {
         error = errno;
     }
     return error == 0 || fail(keeper, error, why);

@@ -29,7 +29,10 @@ static bool holds_pins(const char *path) {
     struct line line;
     struct cause why;
     int begun = open(path, O_RDONLY | O_CLOEXEC);
-    ssize_t size = begun < 0 ? -1 : read(begun, text, sizeof text);
+    ssize_t size = 0;
+    do {
+        size = read(begun, text, sizeof text);
+    } while (size < 0 && errno == EINTR);
     if (begun >= 0) {
         close(begun);
     }

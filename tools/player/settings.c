@@ -3,245 +3,119 @@
 
 #include <errno.h>
 #include <fcntl.h>
-#include <inttypes.h>
 #include <stdio.h>
 #include <string.h>
 #include <unistd.h>
 
 #include "scan.h"
-#include "utf8.h"
+#include "toml.h"
 
-enum { KEYS = 6, MOST_VALUES = 128, MOST_BYTES = 1 << 16 };
+enum { KEYS = 6, MOST_BYTES = 1 << 16 };
 
 struct key {
     const char *name;
     int values; /* 3, 1, or MOST_VALUES for an array of any length up to that */
     int64_t least;
     int64_t most;
+    const char *takes; /* the same in words */
 };
 
-enum { STEP, LOW, HIGH, TRAVERSE, PERIOD, TOOLS };
+enum { STEP, LOW, HIGH, TRAVERSE, PERIOD, TOOLS }; /* the numbers of `keys` */
 
 static const struct key keys[KEYS] = {
-    {"step_nm", 3, 10, 1000000},
-    {"low_nm", 3, INT64_C(-10000000000), 0},
-    {"high_nm", 3, 0, INT64_C(10000000000)},
-    {"traverse_nm_per_min", 1, 1, INT64_C(100000000000)},
-    {"period_us", 1, 1, 1000000},
-    {"tools_nm", MOST_VALUES, 0, 1000000000},
+    {"step_nm", 3, 10, 1000000, "three whole numbers of nanometres, 10 to 1,000,000"},
+    {"low_nm", 3, INT64_C(-10000000000), 0, "three whole numbers of nanometres, -10,000,000,000 to 0"},
+    {"high_nm", 3, 0, INT64_C(10000000000), "three whole numbers of nanometres, 0 to 10,000,000,000"},
+    {"traverse_nm_per_min", 1, 1, INT64_C(100000000000),
+     "a whole number of nanometres a minute, 1 to 100,000,000,000"},
+    {"period_us", 1, 1, 1000000, "a whole number of microseconds, 1 to 1,000,000"},
+    {"tools_nm", MOST_VALUES, 0, 1000000000,
+     "an array of at most 128 whole numbers of nanometres, 0 to 1,000,000,000"},
 };
 
-/* What was read of a key. */
-struct found {
-    bool is_there;
-    bool is_array;
-    bool is_too_long; /* more values than MOST_VALUES */
-    int count;
-    int64_t values[MOST_VALUES];
+/* What was read: the value of each key, if it is there. */
+struct table {
+    bool is_there[KEYS];
+    struct value values[KEYS];
+    struct scan unknown; /* a key that is none of the six, if there is one */
+    struct value other;  /* and its value */
 };
 
-struct reader {
-    struct scan scan;
-    int line;
-    const char *path;
-    struct cause *why;
-};
-
-static bool refuse(const struct reader *reader, const char *what) {
-    return because(reader->why, "%s:%d: %s", reader->path, reader->line, what);
-}
-
-static void pass_blanks(struct scan *scan) {
-    while (!scan_is_over(scan) && (*scan->at == ' ' || *scan->at == '\t')) {
-        scan->at++;
-    }
-}
-
-/* Passes a comment, if one begins here. */
-static bool pass_comment(struct reader *reader) {
-    struct scan *scan = &reader->scan;
-    if (scan_is_over(scan) || *scan->at != '#') {
-        return true;
-    }
-    while (!scan_is_over(scan) && *scan->at != '\n' && *scan->at != '\r') {
-        size_t size = utf8_size(scan->at, (size_t)(scan->end - scan->at));
-        if (size == 0) {
-            return refuse(reader, "not UTF-8");
-        }
-        if (size == 1 && ((*scan->at < ' ' && *scan->at != '\t') || *scan->at == 0x7f)) {
-            return refuse(reader, "a control character can't stand in a comment");
-        }
-        scan->at += size;
-    }
-    return true;
-}
-
-static bool pass_line_end(struct reader *reader) {
-    if (!scan_word(&reader->scan, "\n") && !scan_word(&reader->scan, "\r\n")) {
-        return false;
-    }
-    reader->line++;
-    return true;
-}
-
-/* Passes blanks, comments and line ends. */
-static bool pass_space(struct reader *reader) {
-    do {
-        pass_blanks(&reader->scan);
-        if (!pass_comment(reader)) {
-            return false;
-        }
-    } while (pass_line_end(reader));
-    return true;
-}
-
-/* A decimal number, as TOML has it: no zeros before it, underscores between digits alone. */
-static bool read_number(struct reader *reader, int64_t *value) {
-    struct scan *scan = &reader->scan;
-    bool is_below = scan_word(scan, "-");
-    if (!is_below) {
-        scan_word(scan, "+");
-    }
-    char digits[20];
-    size_t count = 0;
-    while (!scan_is_over(scan) && count < sizeof digits) {
-        bool is_digit = *scan->at >= '0' && *scan->at <= '9';
-        bool is_between = *scan->at == '_' && count > 0 && scan->at[-1] != '_';
-        if (!is_digit && !is_between) {
-            break;
-        }
-        if (is_digit) {
-            digits[count] = *scan->at;
-            count++;
-        }
-        scan->at++;
-    }
-    struct scan number = {digits, digits + count};
-    uint64_t size = 0;
-    if (count == 0 || scan->at[-1] == '_' || !scan_whole(&number, 19, &size, NULL) || size > INT64_MAX) {
-        return refuse(reader, "not a decimal whole number");
-    }
-    *value = is_below ? -(int64_t)size : (int64_t)size;
-    return true;
-}
-
-static bool read_array(struct reader *reader, struct found *found) {
-    found->is_array = true;
-    if (!pass_space(reader)) {
-        return false;
-    }
-    while (!scan_word(&reader->scan, "]")) {
-        int64_t value = 0;
-        if (!read_number(reader, &value)) {
-            return false;
-        }
-        if (found->count == MOST_VALUES) {
-            found->is_too_long = true;
-        } else {
-            found->values[found->count] = value;
-            found->count++;
-        }
-        if (!pass_space(reader)) {
-            return false;
-        }
-        if (!scan_word(&reader->scan, ",")) {
-            return scan_word(&reader->scan, "]") || refuse(reader, "no ']' at an array's end");
-        }
-        if (!pass_space(reader)) {
-            return false;
-        }
-    }
-    return true;
-}
-
-/* The number of the key that stands here. */
-static bool read_key(struct reader *reader, int *number) {
-    struct scan *scan = &reader->scan;
-    const char *begin = scan->at;
-    while (!scan_is_over(scan) && ((*scan->at >= 'a' && *scan->at <= 'z') || *scan->at == '_')) {
-        scan->at++;
-    }
-    size_t size = (size_t)(scan->at - begin);
-    for (*number = 0; *number < KEYS; (*number)++) {
-        if (strlen(keys[*number].name) == size && memcmp(keys[*number].name, begin, size) == 0) {
-            break;
-        }
-    }
-    pass_blanks(scan);
-    if (*number == KEYS || !scan_word(scan, "=")) {
-        return refuse(reader, "not in the form KEY = VALUE with one of the six keys of docs/SETTINGS.md");
-    }
-    pass_blanks(scan);
-    return true;
-}
-
-static bool read_entry(struct reader *reader, struct found *table) {
+/* The number of a key; KEYS for one that is none of the six. */
+static int number_of(const struct scan *key) {
+    size_t size = (size_t)(key->end - key->at);
     int number = 0;
-    if (!read_key(reader, &number)) {
+    while (number < KEYS && (strlen(keys[number].name) != size || memcmp(keys[number].name, key->at, size) != 0)) {
+        number++;
+    }
+    return number;
+}
+
+static bool read_entry(struct toml *toml, struct table *table) {
+    struct scan key;
+    if (!toml_read_key(toml, &key)) {
         return false;
     }
-    struct found *found = &table[number];
-    if (found->is_there) {
-        return refuse(reader, "the key stands twice");
+    int number = number_of(&key);
+    if (number == KEYS) {
+        table->unknown = key;
+        memset(&table->other, 0, sizeof table->other);
+        return toml_read_value(toml, &table->other);
     }
-    found->is_there = true;
-    if (scan_word(&reader->scan, "[")) {
-        if (!read_array(reader, found)) {
-            return false;
-        }
-    } else if (read_number(reader, &found->values[0])) {
-        found->count = 1;
-    } else {
-        return false;
+    if (table->is_there[number]) {
+        return toml_refuse(toml, "the key stands twice");
     }
-    pass_blanks(&reader->scan);
-    if (!pass_comment(reader)) {
-        return false;
-    }
-    return scan_is_over(&reader->scan) || pass_line_end(reader) || refuse(reader, "more than a value after a key");
+    table->is_there[number] = true;
+    return toml_read_value(toml, &table->values[number]);
 }
 
 /* Whether the value is of its key's type. */
-static bool has_type(const struct key *key, const struct found *found) {
+static bool has_type(const struct key *key, const struct value *value) {
     if (key->values == 1) {
-        return !found->is_array;
+        return !value->is_array;
     }
-    return found->is_array && (key->values == MOST_VALUES || found->count == key->values);
+    return value->is_array && (key->values == MOST_VALUES || value->count == key->values);
 }
 
-static bool is_in_limits(const struct key *key, const struct found *found, const char *path, struct cause *why) {
-    for (int at = 0; at < found->count; at++) {
-        if (found->values[at] < key->least || found->values[at] > key->most) {
-            return because(why, "%s: %s: %" PRId64 " isn't from %" PRId64 " to %" PRId64, path, key->name,
-                           found->values[at], key->least, key->most);
-        }
-    }
-    return true;
-}
-
-static bool check(const struct found *table, const char *path, struct cause *why) {
-    for (int number = 0; number < KEYS; number++) {
-        if (!table[number].is_there) {
-            return because(why, "%s: %s is missing", path, keys[number].name);
-        }
-    }
-    for (int number = 0; number < KEYS; number++) {
-        if (!has_type(&keys[number], &table[number])) {
-            return because(why, "%s: %s isn't %s", path, keys[number].name,
-                           keys[number].values == 1 ? "a whole number"
-                           : keys[number].values == 3 ? "three whole numbers, of X, Y and Z"
-                                                      : "an array of whole numbers");
-        }
-    }
-    for (int number = 0; number < KEYS; number++) {
-        if (!is_in_limits(&keys[number], &table[number], path, why)) {
+static bool is_in_limits(const struct key *key, const struct value *value) {
+    for (int at = 0; at < value->count; at++) {
+        if (value->numbers[at] < key->least || value->numbers[at] > key->most) {
             return false;
         }
     }
-    if (table[TOOLS].is_too_long) {
-        return because(why, "%s: tools_nm has more than %d lengths", path, MOST_VALUES);
-    }
     return true;
+}
+
+/* Refuses a value by the code of docs/SETTINGS.md. */
+static bool refuse_value(const struct toml *toml, const struct table *table, int number, const char *code) {
+    const struct scan *text = &table->values[number].text;
+    return because(toml->why, "%s: %s = %.*s (%s): it takes %s", toml->path, keys[number].name,
+                   (int)(text->end - text->at), text->at, code, keys[number].takes);
+}
+
+/* The faults S2 to S6 of docs/SETTINGS.md, in that order. */
+static bool check(const struct toml *toml, const struct table *table) {
+    for (int number = 0; number < KEYS; number++) {
+        if (!table->is_there[number]) {
+            return because(toml->why, "%s: %s is missing (S2): %s", toml->path, keys[number].name,
+                           keys[number].takes);
+        }
+    }
+    if (table->unknown.at != NULL) {
+        return because(toml->why, "%s: %.*s isn't one of the six keys (S3)", toml->path,
+                       (int)(table->unknown.end - table->unknown.at), table->unknown.at);
+    }
+    for (int number = 0; number < KEYS; number++) {
+        if (!has_type(&keys[number], &table->values[number])) {
+            return refuse_value(toml, table, number, "S4");
+        }
+    }
+    for (int number = 0; number < KEYS; number++) {
+        if (!is_in_limits(&keys[number], &table->values[number])) {
+            return refuse_value(toml, table, number, "S5");
+        }
+    }
+    return !table->values[TOOLS].is_too_long || refuse_value(toml, table, TOOLS, "S6");
 }
 
 /* The bytes of a file of settings; its size, or -1 with the cause. */
@@ -270,25 +144,25 @@ static ssize_t read_file(const char *path, char text[MOST_BYTES], struct cause *
 
 bool settings_read(const char *path, struct settings *settings, struct cause *why) {
     static char text[MOST_BYTES];
-    static struct found table[KEYS];
+    static struct table table;
     ssize_t size = read_file(path, text, why);
     if (size < 0) {
         return false;
     }
-    struct reader reader = {{text, text + size}, 1, path, why};
-    scan_word(&reader.scan, "\xef\xbb\xbf");
-    if (!pass_space(&reader)) {
+    struct toml toml = {{text, text + size}, 1, path, why};
+    scan_word(&toml.scan, "\xef\xbb\xbf");
+    if (!toml_pass_space(&toml)) {
         return false;
     }
-    while (!scan_is_over(&reader.scan)) {
-        if (!read_entry(&reader, table) || !pass_space(&reader)) {
+    while (!scan_is_over(&toml.scan)) {
+        if (!read_entry(&toml, &table) || !toml_pass_space(&toml)) {
             return false;
         }
     }
-    if (!check(table, path, why)) {
+    if (!check(&toml, &table)) {
         return false;
     }
-    memcpy(settings->step_nm, table[STEP].values, sizeof settings->step_nm);
-    settings->period_us = table[PERIOD].values[0];
+    memcpy(settings->step_nm, table.values[STEP].numbers, sizeof settings->step_nm);
+    settings->period_us = table.values[PERIOD].numbers[0];
     return true;
 }

@@ -3,14 +3,16 @@ import atexit
 import os
 import re
 import shutil
+import signal
 import subprocess
 import sys
 import tempfile
 from functools import cache
 from pathlib import Path
 
-from session_support import PATIENCE_S, TOOLS, InFolder
+from session_support import PATIENCE_S, TOOLS, InFolder, told
 
+from ngc_tools.cli import player
 from ngc_tools.player.progress import Link, NoAnswer
 
 SOURCES = sorted((TOOLS / "player").glob("*.c"))
@@ -62,8 +64,11 @@ class PlayerTest(InFolder):
     def play(self, *words: str, **how: object) -> subprocess.CompletedProcess[str]:
         """Plays `out` to its end, or what `words` name besides, with a tool changer."""
         names = () if words and words[-1] == "position" else ("out", "first.toml", "position")
-        command = [*self.command(), "--no-ask-tool", "--pins", "pins", *words, *names]
-        return subprocess.run(command, capture_output=True, text=True, timeout=PATIENCE_S, **how)
+        return self.run_player("--no-ask-tool", "--pins", "pins", *words, *names, **how)
+
+    def run_player(self, *words: str, **how: object) -> subprocess.CompletedProcess[str]:
+        """Runs it to its end."""
+        return subprocess.run([*self.command(), *words], capture_output=True, text=True, timeout=PATIENCE_S, **how)
 
     def begin(self, *words: str, **how: object) -> subprocess.Popen[str]:
         """Starts it."""
@@ -89,10 +94,26 @@ class PlayerTest(InFolder):
 
     def refused(self, *words: str) -> str:
         """What is said, after the player's name, at status 2."""
-        done = subprocess.run([*self.command(), "--untimed", *words], capture_output=True, text=True)
+        done = self.run_player("--untimed", *words)
         self.assertEqual((done.returncode, done.stdout), (2, ""), words)
         self.assertRegex(done.stderr, r"^(ngc-)?player: .*\n$")
         return done.stderr.partition(": ")[2].removesuffix("\n")
+
+
+class InProcess:
+    """ngc-player within the process of the tests, which is quicker."""
+
+    def run_player(self, *words: str, **how: object) -> subprocess.CompletedProcess[str]:
+        """Runs it to its end."""
+        if how:
+            return super().run_player(*words, **how)
+        numbers = (signal.SIGINT, signal.SIGTERM, signal.SIGHUP, signal.SIGQUIT)
+        heeded = {number: signal.getsignal(number) for number in numbers}
+        try:
+            return subprocess.CompletedProcess(words, *told(player.main, *words))
+        finally:
+            for number, handler in heeded.items():
+                signal.signal(number, handler)
 
 
 class InC:

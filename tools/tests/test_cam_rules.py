@@ -116,6 +116,8 @@ class Motions(unittest.TestCase):
                          ["F120.00", "S10000", "", "N5(cut)", "G1 X1", "Y1"])
         self.assertEqual(adapted("G0 X1", "G01 F60", "(down)", "M8", "N7X2Z-1", "X3"),
                          ["G0 X1", "F60", "(down)", "M8", "N7G1X2Z-1", "X3"])
+        self.assertEqual(adapted("G0 X1", "G1 F5 ", "#1=5 X2 \t"), ["G0 X1", "F5 ", "G1 #1=5 X2 \t"])
+        self.assertEqual(adapted("G0 X1", "G1 F5", "5X2"), ["G0 X1", "F5", "5X2"])
         self.assertEqual(adapted("G1 X1 F5", "G1 F6", "X2"), ["G1 X1 F5", "F6", "X2"])
         self.assertEqual(adapted("G81 X1 Z-1 R1", "G0 S5", "X2"), ["G81 X1 Z-1 R1", "S5", "G0 X2"])
         self.assertEqual(adapted("G1 X1", "G0 F5", "G2 X2 I1"), ["G1 X1", "F5", "G2 X2 I1"])
@@ -171,6 +173,16 @@ class Motions(unittest.TestCase):
         for nm, inches, text in ((100_000_000, True, "3.937007"), (-100_000_000, True, "-3.937007"), (25, True, "0"),
                                  (-1, False, "-0.000001"), (-25_400_000, True, "-1"), (10_000_000, False, "10")):
             self.assertEqual(length(nm, inches), text)
+
+
+class NotPlain(unittest.TestCase):
+    """Lines that have more than words and comments."""
+
+    def test_stay(self) -> None:
+        """No word is taken away, since what stands around it could become another word."""
+        for line in ("XA0 5", "X1 A0 5", "IG91.1-1", "N100000 #1=5", "G0 &", "T201 #2=1", "G1 F5 (", "G91 G28 Z0 #1=2"):
+            self.assertEqual(told(line)[0], [line])
+        self.assertEqual(told("G91 G28 Z0 #1=2", "XG28-5")[1], [1, 2])
 
 
 class Whole(unittest.TestCase):

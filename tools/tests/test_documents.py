@@ -147,8 +147,8 @@ class Tools(Documents):
         player = self.begin(play)
         terminal = self.operate(operate)
         shown = b""
-        for typed in re.findall(r"^ngc> (.*\n)", session, re.MULTILINE):
-            shown += terminal.read_to(b"ngc> ")
+        for prompt, typed in re.findall(r"^(ngc> |.*\? yes .*: )(.*\n)", session, re.MULTILINE):
+            shown += terminal.read_to(prompt.encode())
             terminal.send(typed.encode())
         shown += terminal.read_to(b"never")
         self.assertEqual((terminal.status(), player.wait(PATIENCE_S)), (0, 0))
@@ -168,7 +168,7 @@ class Tools(Documents):
         player = self.begin(play)
         terminal = self.operate(operate)
         shown = b""
-        for line, end in zip(typed.splitlines(True), (b"ngc> ", b"ngc> "), strict=True):
+        for line, end in zip(typed.splitlines(True), (b"ngc> ",) * 3, strict=True):
             shown += terminal.read_to(end)
             terminal.send(line.removeprefix("ngc> ").encode())
         shown += terminal.read_to(b"holds: ")

@@ -20,7 +20,7 @@ from ngc_tools.ngc import faults  # noqa: E402
 from ngc_tools.formats.lines import Program  # noqa: E402
 from ngc_tools.formats.out import OFF, Switch, read_line  # noqa: E402
 from ngc_tools.formats.position import Position, nanometres  # noqa: E402
-from ngc_tools.operator.sentences import HELP, REFUSALS, explained  # noqa: E402
+from ngc_tools.operator.sentences import HELP, explained  # noqa: E402
 from ngc_tools.cli.operate import main  # noqa: E402
 from ngc_tools.player.progress import Listener, Report  # noqa: E402
 
@@ -51,14 +51,14 @@ stopped; the tool in the spindle is none. run goes on
 stopped; X 0.500000 Y 0.000000 Z 0.000000; next line 6 of 7: G1 X1
 ngc> stopped; the tool in the spindle is none. run goes on
 stopped; X 0.500000 Y 1.000000 Z 0.000000; next line 6 of 7: G1 X1
-ngc> line 6 begins at X0.5 Y0 Z0, and the machine is at X0.5 Y1 Z0: 1.000 mm apart. The line goes from where the machine is
+ngc> line 6 begins at X0.5 Y0 Z0. The machine is at X0.5 Y1 Z0, 1.000 mm away, and the line would go from there
 go on all the same? yes goes on: line 6: G1 X1
   refused X1 NoFeed: {X1}
 stopped; X 0.500000 Y 1.000000 Z 0.000000; next line 6 of 7: G1 X1
 ngc> stopped; the tool in the spindle is none. run goes on
 stopped; X 2.000000 Y 1.000000 Z 0.000000; next line 6 of 7: G1 X1
 in force now: F100 mm/min (F0 mm/min before). restore puts it back
-ngc> line 6 begins at X0.5 Y0 Z0, and the machine is at X2 Y1 Z0: 1.803 mm apart. The line goes from where the machine is
+ngc> line 6 begins at X0.5 Y0 Z0. The machine is at X2 Y1 Z0, 1.803 mm away, and the line would go from there
 in force now: G1 (G0 before), F100 mm/min (F0 mm/min before)
 restore types: G53 G0 X2.000000; F0
 go on all the same? yes goes on: idle; X 1.000000 Y 1.000000 Z 0.000000; next line 1 of 7: G21 G90 G17
@@ -69,9 +69,9 @@ idle; X 1.000000 Y 1.000000 Z 0.000000; next line 1 of 7: G21 G90 G17
 work X1.000 Y1.000 Z0.000; G54
 G1 G17 G21 G90 G94; F100 mm/min; spindle stands; no coolant; no tool
 about 0:00 in all
-ngc> refused U1 BadCommand: not a command, or a number of it isn't in range: help
+ngc> refused U1 BadCommand: reference X Y Z: three machine coordinates in millimetres, without letters, as in `reference 7.21 0 -5`
 ngc> done 11
-ngc> refused K4 NothingHalfDone: no block is half-done
+ngc> refused K4 NothingHalfDone: no block is half-done: run goes on with the program
 ngc> taken
 ngc> done 12
 ngc> idle
@@ -313,8 +313,8 @@ ngc> """)
         words = operate("mill.dev", "first.toml", "/dev/full")
         done = self.tool("ngc-operate", *words, text="G0 X0.001\nstart\nquit\n")
         self.assertIn("not metered: /dev/full is no pipe, which takes any number of lines", done.stdout)
-        self.assertIn(f"refused J1 DeviceFailed: {REFUSALS['J1']}\n", done.stdout)
-        self.assertIn(f"refused K5 Broken: {REFUSALS['K5']}\n", done.stdout)
+        self.assertIn(f"refused J1 DeviceFailed: {faults.SESSION['J1']}\n", done.stdout)
+        self.assertIn(f"refused K5 Broken: {faults.SESSION['K5']}\n", done.stdout)
         self.assertEqual((done.stderr, done.returncode), (
             "ngc-operate: ngc ended with status 2: the device or OUT failed in this session\n", 2))
 

@@ -225,7 +225,11 @@ class Places(Core):
                    " ngc's"]
         self.assertEqual(self.do("resume"), refused)
         self.assertEqual((self.out(), self.status().does), ([], "idle"))
-        self.assertIn("taken up", self.do("resume anyway", answers=("yes",))[0])
+        self.hold_after(1)
+        self.assertIn("taken up", self.do("resume anyway")[0])
+        self.assertEqual(self.do("continue"), [refused[0].replace("resume", "continue")])
+        self.assertEqual((self.out(), self.status().does), ([], "held"))
+        self.do("continue anyway")
         self.assertEqual(self.out(), ["S 0 0.000000 0 0 0 0"] + ["P -1 0 0 50"] * 43 + ["P 1 0 0 50"] * 5)
 
     def test_lines_and_programs(self) -> None:
@@ -257,7 +261,11 @@ class Places(Core):
         link = FileLink()
         self.begin(link)
         link.silent = 1
-        self.assertEqual(self.do("G0 X1"), ["progress: the player doesn't answer"])
+        silent = ("nothing is done. Once the player answers, again; if it is gone, quit, and start a player and this"
+                  " again")
+        self.assertEqual(self.do("G0 X1"), ["progress: the player doesn't answer", silent])
+        link.silent = 1
+        self.assertEqual(self.do("reference player"), ["progress: the player doesn't answer", silent])
         self.assertEqual(self.out(), [])
 
 
@@ -373,9 +381,7 @@ class LeftBehind(Core):
         self.stop("G0 X0.002")
         self.do("G0 Y0.003")
         self.assertEqual(self.do("run", answers=("no",)),
-                         ["line 4 begins at X0.001 Y0 Z0, and the machine is at X0.001 Y0.003 Z0: 0.003 mm apart. The"
-                          " line goes from where the machine is", "in force now: G0 (G1 before)",
-                          "restore types: F1 G53 G1 X0.001000; F600"])
+                         ["line 4 begins at X0.001 Y0 Z0. The machine is at X0.001 Y0.003 Z0, 0.003 mm away, and the line would go from there"])
         self.do("G0 Y0", "run")
         self.assertEqual(self.face.asked, [])
 
@@ -398,8 +404,7 @@ class LeftBehind(Core):
         self.assertEqual((found.state.half, found.state.place), (1, 34))
         self.begin()
         self.do("reference 0.0005 0 -0.01", "abandon", "reference 0.0005 0 -0.01", "G53 G0 Z0")
-        asked = ("line 3 begins at X0.001 Y0 Z-0.01, and the machine is at X0.0005 Y0 Z0: 0.010 mm apart. The line goes"
-                 " from where the machine is")
+        asked = ("line 3 begins at X0.001 Y0 Z-0.01. The machine is at X0.0005 Y0 Z0, 0.010 mm away, and the line would go from there")
         self.assertEqual(self.do("run", answers=("no",))[0], asked)
         self.end()
         self.begin(found=Device.read("mill.dev"))
@@ -455,6 +460,29 @@ class Causes(Core):
                          " reference player, or reference X Y Z")
         self.do("reference player")
         self.assertEqual(self.do("tool 1 5"), [half + "then resume or abandon, and tool after that"])
+
+
+    def test_forms(self) -> None:
+        """A command that is written otherwise is said how it is written; a slot, which one comes first."""
+        self.begin()
+        self.do("tool 1 5", "tool 2 5")
+        self.assertEqual(self.do("reference 1 2", "tool one 3", "optional maybe", "tool 5 3"), [
+            "refused U1 BadCommand: reference X Y Z: three machine coordinates in millimetres, without letters, as in"
+            " `reference 7.21 0 -5`",
+            "refused U1 BadCommand: tool N LENGTH: a slot from 1 to 128 and its length in millimetres, 0 to 1000, as in"
+            " `tool 1 62.5`",
+            "refused U1 BadCommand: optional on or optional off",
+            "refused B14 BadSlot: slot 3 comes first: the table has slots 1 to 2, and takes one more at a time"])
+
+
+    def test_nothing_to_do(self) -> None:
+        """Nothing is half-done, nothing waits, nothing is loaded."""
+        self.begin()
+        self.assertEqual(self.do("continue", "run", "resume"), [
+            "refused K2 NoProgram: no program is loaded: load FILE", "refused K2 NoProgram: no program is loaded: load FILE",
+            "refused K4 NothingHalfDone: no block is half-done: run goes on with the program"])
+        self.load("M2\n")
+        self.assertEqual(self.do("continue"), ["refused K2 NoProgram: nothing waits: run starts the program"])
 
 
 class Beginnings(Core):
@@ -550,9 +578,10 @@ class Shown(Core):
             "G1 G17 G21 G90 G94; F60 mm/min; spindle clockwise at 1000; no coolant; tool 1",
             "about 0:03 done, 0:02 left",
             "the motors are at X 13.000000 Y 0.000000 Z -2.500000, 0 lines behind",
-            "and have spindle clockwise at 1000; no coolant; tool 1"])
+            "the player has spindle clockwise at 1000; no coolant; tool 1"])
         view = next(view for view in self.face.views if view and view.line.startswith("line 4"))
-        self.assertEqual((view.line, view.more), ("line 4: G1 X3 F60", ("F60 S1000 T1", "about 0:05 left", "0:00 done")))
+        self.assertEqual((view.line, view.more[1:]), ("line 4: G1 X3 F60", ("F60 S1000 T1", "about 0:05 left", "0:00 done")))
+        self.assertRegex(view.more[0], r"^work X-?[0-2]\.\d{3} Y0\.000 Z0\.00\d$")
         self.assertEqual(self.do("G0 Z1")[-2], "work X3.000 Y0.000 Z1.000; G55 at X10 Y0 Z-5, tool length 2.5")
 
     def test_fitted(self) -> None:

@@ -13,7 +13,7 @@ from pathlib import Path
 
 sys.path.insert(0, str(Path(__file__).resolve().parent))
 
-from player_support import SOURCES, InC, PlayerTest, Sanitized, built, preloaded, record  # noqa: E402
+from player_support import SOURCES, InC, InProcess, PlayerTest, Sanitized, built, preloaded, record  # noqa: E402
 from session_support import PATIENCE_S  # noqa: E402
 
 from ngc_tools.cli.player import live  # noqa: E402
@@ -138,8 +138,9 @@ class Playing:
         self.play("--untimed")
         os.rename("out", "old")
         Path("out").write_text(long)
-        another = ("out: another file than the one whose first 100 lines are carried out, though it begins with the same"
-                   " lines; --anew begins with its first line, --restored goes on after line 100, where it is a copy")
+        another = ("out: another file than the one whose first 100 lines are carried out, though it begins with the"
+                   " same lines; --anew begins with its first line, --restored goes on after line 100, where it is a"
+                   " copy")
         self.assertEqual(self.refused("out", "first.toml", "position"), another)
         other = "out: not the file whose first 100 lines are carried out; --anew begins with its first line"
         for text in (short[11:], "D 1000000\n" * 120, long.replace("1 0", "0 1"), ""):
@@ -160,7 +161,8 @@ class Playing:
         with open("other", "a") as file:
             file.write("P 0 1 0 50\n")
         done = self.play("--untimed", "other", "first.toml", "position")
-        self.assertEqual((done.returncode, done.stderr), (0, f"other: it was {self.folder}/out: goes on after line 8\n"))
+        self.assertEqual((done.returncode, done.stderr),
+                         (0, f"other: it was {self.folder}/out: goes on after line 8\n"))
         self.assertEqual(done.stdout.splitlines()[-1], "reference 0.002000 0.000000 -0.001000")
 
     def test_older_record(self) -> None:
@@ -276,8 +278,7 @@ class Playing:
         first.wait()
         self.assertEqual(self.refused("--progress", "other", *second[2:]), "other: it is there, and is no socket")
         self.assertEqual(Path("other").read_text(), LINES)
-        command = [*self.command(), "--untimed", "--no-ask-tool", *second]
-        self.assertEqual(subprocess.run(command, capture_output=True).returncode, 0)
+        self.assertEqual(self.run_player("--untimed", "--no-ask-tool", *second).returncode, 0)
 
     def test_record_fails(self) -> None:
         """Where the record can't be written any more it stops, in the midst of a wait too."""
@@ -329,10 +330,10 @@ class Playing:
             self.assertEqual((done.returncode, done.stderr.partition(": ")[0]), said, text)
 
 
-class Python(Playing, PlayerTest):
+class Python(Playing, InProcess, PlayerTest):
     """tools/ngc-player."""
 
-    chances = 3
+    chances = 60
 
     def test_live(self) -> None:
         """It shows the line and the position while it works."""
@@ -393,8 +394,8 @@ class C(Playing, InC, PlayerTest):
 
     def test_its_own_words(self) -> None:
         """What it says of words that aren't its own."""
-        usage = ("usage: player [-u] [-n] [-r] [-t] [-a X Y Z] [-o SECONDS] [-b BYTES] [-s SOCKET] [-p PINS] OUT SETTINGS"
-                 " POSITION")
+        usage = ("usage: player [-u] [-n] [-r] [-t] [-a X Y Z] [-o SECONDS] [-b BYTES] [-s SOCKET] [-p PINS] OUT"
+                 " SETTINGS POSITION")
         Path("out").write_text(LINES)
         for words in (("out", "first.toml"), ("out", "first.toml", "position", "more"), ("-x",), ("-a", "1", "2")):
             self.assertEqual(self.refused(*words), usage)
@@ -432,7 +433,7 @@ int pins_off(void) {
     return 0;
 }
 """)
-        program = built("-O2", pins=self.folder / "mine.c")
+        program = built("-O0", pins=self.folder / "mine.c")
         Path("out").write_text("S 1 5.000000 0 0 0 0\nP 1 0 0 50\n")
         words = ["-u", "out", "first.toml", "position"]
         done = subprocess.run([program, *words], capture_output=True, text=True)

@@ -13,7 +13,8 @@ from ngc_tools.files import cause  # noqa: E402
 from ngc_tools.formats.out import Switch  # noqa: E402
 from ngc_tools.player.progress import Link, Listener, NoAnswer, Report  # noqa: E402
 
-REPORT = Report(3, 203, True, "0.002000 0.000000 -1.000000", "/a b/axis", Switch(1, 1_000_000_000, False, True, 3, 2), 3)
+REPORT = Report(3, 203, True, "0.002000 0.000000 -1.000000", "/a b/axis",
+                Switch(1, 1_000_000_000, False, True, 3, 2), 3)
 TEXT = (b"carried 3 received 203 waits tool 3 reference 0.002000 0.000000 -1.000000 outputs S 1 1000.000000 0 1 3 2"
         b" out /a b/axis")
 

@@ -40,7 +40,8 @@ class Read(InFolder):
             FIRST.replace("[50000000]", str([0] * 129)): f"bad.toml: tools_nm = {[0] * 129} (S6): it takes an array of"
                 " at most 128 whole numbers of nanometres, 0 to 1,000,000,000",
             "step_nm\n": "bad.toml: not TOML: Expected '=' after a key in a key/value pair (at line 1, column 8)",
-            "a = " + "[" * 10_000: "bad.toml: not TOML that ngc takes: nested too deeply",
+            "a = " + "[" * 4_000: "bad.toml: not TOML that ngc takes: nested too deeply",
+            "\n" + "a." * 3_000: "bad.toml: line 2 has more than 4,096 bytes",
         }
         for text, said in cases.items():
             Path("bad.toml").write_text(text)

@@ -6,7 +6,6 @@ import signal
 import sys
 import threading
 from contextlib import ExitStack, suppress
-from dataclasses import replace
 
 from ngc_tools.cli.run import new_parser, run
 from ngc_tools.formats.out import BadLine
@@ -43,9 +42,10 @@ _SECONDS = re.compile(r"([0-9]{1,4})(?:\.([0-9]{1,6}))?")
 def seconds(text: str) -> int:
     """Seconds, as `2.5`, in microseconds. Raises ArgumentTypeError."""
     match = _SECONDS.fullmatch(text)
-    if match is None or int(match[1]) > 3600:
+    size = int(match[1]) * 10**6 + int((match[2] or "").ljust(6, "0")) if match else -1
+    if not 0 <= size <= 3600 * 10**6:
         raise argparse.ArgumentTypeError(f"not a number of seconds from 0 to 3600: {text}")
-    return int(match[1]) * 10**6 + int((match[2] or "").ljust(6, "0"))
+    return size
 
 
 def pipe_size(text: str) -> int:
@@ -97,6 +97,7 @@ def prepared(args: argparse.Namespace, stack: ExitStack) -> Player:
     at_nm = tuple(map(machine_nm, args.at)) if args.at else None
     settings = Settings.read(args.settings)
     source = Source(args.out, args.pipe, args.follow)
+    stack.callback(source.close)
     check_path(os.path.realpath(args.out))
     file = RecordFile(args.position)
     stack.callback(file.close)
@@ -108,14 +109,16 @@ def prepared(args: argparse.Namespace, stack: ExitStack) -> Player:
     source.skip(begun)
     position = Position(settings.step_nm, begun.at_nm if at_nm is None else at_nm)
     pins = Pins(args.pins, (args.out, args.settings, args.position))
+    stack.callback(pins.close)
     manner = Manner(settings.period_us, not args.untimed, args.spindle, args.off_after,
                     None if args.no_ask_tool else Person(sys.stdin))
     player = Player(source, position, begun, pins, manner)
+    stack.callback(player.close)
     if args.progress:
         listener = Listener(args.progress)
         stack.callback(listener.close)
         player.answers = Answers(listener, player)
-    player.keeper = Keeper(file, player.standing(), lambda record: replace(record, mark=source.mark(record.size)))
+    player.keeper = Keeper(file, player.standing)
     return player
 
 

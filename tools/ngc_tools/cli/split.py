@@ -5,7 +5,7 @@ from pathlib import Path
 from ngc_tools.cli.run import new_parser, run
 from ngc_tools.failure import Failure, WrongWords, speaking_of
 from ngc_tools.files import look_before_write, read, write_new
-from ngc_tools.formats.device import MOST_LARGE_PROGRAM, MOST_PROGRAM, NoDevice, copied
+from ngc_tools.formats.device import MOST_LARGE_PROGRAM, MOST_PROGRAM, Device, NoDevice, copied
 from ngc_tools.formats.position import millimetres, nanometres
 from ngc_tools.formats.settings import DEFAULT, Settings
 from ngc_tools.job.parts_compared import compare_dry, compare_run
@@ -87,7 +87,7 @@ def write_parts(args: argparse.Namespace) -> int:
     ngc = find_ngc(args.ngc)
     if args.settings:
         look_at_settings(ngc, args.settings)
-    image = copied(args.device) if args.device else None
+    image = Device(copied(args.device)).image if args.device else None
     above = nanometres(args.above) if args.above is not None else None
     text = read(args.program)
     limit = args.limit or (MOST_LARGE_PROGRAM if args.large else MOST_PROGRAM)

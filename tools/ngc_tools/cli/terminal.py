@@ -33,8 +33,9 @@ class Screen:
         self._live = False
         self._shown = 0.0
         self._said: set[str] = set()
-        self._before = {number: signal.signal(number, self._end) for number in _ENDING}
-        self._before[signal.SIGINT] = signal.signal(signal.SIGINT, self._note)
+        heeded = {signal.SIGINT: self._note, **dict.fromkeys(_ENDING, self._end)}
+        self._before = {number: signal.signal(number, handler) for number, handler in heeded.items()
+                        if signal.getsignal(number) != signal.SIG_IGN}  # as under nohup
 
     def close(self) -> None:
         """Gives the signals back."""

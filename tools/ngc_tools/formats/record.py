@@ -77,8 +77,8 @@ class Record:
         try:
             return _read(text)
         except ValueError as error:
-            raise BadRecord(f"{path}: not a record of ngc-player: {error}; remove it, and tell by --at where the machine"
-                            " stands") from None
+            raise BadRecord(f"{path}: not a record of ngc-player: {error}; remove it, and tell by --at where the"
+                            " machine stands") from None
 
     @staticmethod
     def read(path: str) -> "Record":
@@ -103,7 +103,7 @@ def _read(text: bytes) -> Record:
     lines = text.decode("utf-8", "surrogateescape").split("\n")
     found = []
     for number, (form, pattern) in enumerate(_LINES):
-        match = pattern.fullmatch(lines[number]) if number < len(lines) else None
+        match = pattern.fullmatch(lines[number]) if number < len(lines) - 1 else None
         if match is None:
             raise ValueError(f"line {number + 1} isn't '{form}'")
         found.append(match[1])

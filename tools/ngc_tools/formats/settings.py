@@ -28,6 +28,7 @@ LIMITS = {key: f"{what}, {_RANGES[key][0]:,} to {_RANGES[key][-1]:,}" for key, w
 """What each key takes, for people."""
 _THREE = ("step_nm", "low_nm", "high_nm")
 _ONE = ("traverse_nm_per_min", "period_us")
+_LONGEST = 4096  # bytes of a line; 128 tool lengths have some 1,700
 _BARE = re.compile("[A-Za-z0-9_-]+")
 
 
@@ -69,6 +70,9 @@ DEFAULT = Settings((1000,) * 3, (-1_000_000_000,) * 3, (1_000_000_000,) * 3, 6_0
 def read_table(path: str | Path) -> dict[str, Any]:
     """The keys of the file and their values. Raises BadSettings if it isn't TOML, or OSError."""
     text = read(path)
+    for number, line in enumerate(text.split(b"\n"), 1):
+        if len(line) > _LONGEST:  # Python's reader takes hours for a key of many parts
+            raise BadSettings(f"{path}: line {number} has more than {_LONGEST:,} bytes")
     try:
         return tomllib.loads(text.removeprefix(b"\xef\xbb\xbf").decode("utf-8"))
     except UnicodeDecodeError as error:

@@ -17,7 +17,7 @@ def rewritten(texts: Sequence[str], answers: Answers, warn: Callable[[int, str],
     """The lines, each as it is to be written for `ngc`, but for arcs by radius. Raises Missing, SharedSlot.
 
     `warn` is told of lines that stay and are dangerous or not understood: the number from 1, and why."""
-    whole = cam_program.Whole.of(CamLine.cut(text) for text in texts)
+    whole = cam_program.Whole.of(texts)
     cam_program.look_at_slots(whole, answers)
     writer, lines = _Writer(whole, answers), []
     for number, text in enumerate(texts, 1):
@@ -40,12 +40,25 @@ class _Writer:
 
     def write(self, text: str, warn: cam_motion.Warn) -> CamLine:
         """The next line as it is to be written. Raises Missing."""
-        line, before = CamLine.cut(text), CamLine.cut(text)
+        before = CamLine.cut(text)
+        line = before.copy()
         if text.lstrip(" \t").startswith("%"):
             return line
         cam_program.open_comment(line, self.whole, warn)
         cam_words.comments(line)
         cam_words.signs(line)
+        if line.is_plain:
+            self._rewrite(line, warn)
+        else:
+            cam_homes.look_for_home(line, warn)
+        cam_motion.motion_in_force(line, before, self.meant, self.written)
+        self.named.take(before, self.meant)
+        self.meant.take(before)
+        self.written.take(line)
+        return line
+
+    def _rewrite(self, line: CamLine, warn: cam_motion.Warn) -> None:
+        """Takes words away and puts others in their places. Raises Missing."""
         cam_words.program_number(line, self.meant)
         cam_words.block_number(line)
         cam_words.unit(line)
@@ -57,11 +70,6 @@ class _Writer:
         cam_motion.full_circle(line, self.meant, self.named, warn)
         cam_homes.home(line, self.written, self.whole.unit, self.answers, warn)
         cam_motion.lone(line)
-        cam_motion.motion_in_force(line, before, self.meant, self.written)
-        self.named.take(before, self.meant)
-        self.meant.take(before)
-        self.written.take(line)
-        return line
 
 
 def whole_text(lines: Sequence[CamLine], text: ProgramText) -> tuple[str, list[str]]:

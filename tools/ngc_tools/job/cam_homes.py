@@ -30,6 +30,12 @@ class Missing(Failure):
         self.tool = tool
 
 
+def look_for_home(line: CamLine, warn: Callable[[str], None]) -> None:
+    """Warns of a G28 or G30 that stays."""
+    if word := line.find("G", 28, 30):
+        warn(f"{word.text} moves all three axes to the home, in one straight line; it is left as it is")
+
+
 def home(line: CamLine, written: Modes, unit: int | None, answers: Answers, warn: Callable[[str], None]) -> None:
     """G28 and G30 under G91 with zeros: Z alone, or X and Y alone. `unit` is the one that the text names first. Raises
     Missing."""
@@ -40,7 +46,7 @@ def home(line: CamLine, written: Modes, unit: int | None, answers: Answers, warn
     axes = [piece for piece in line.pieces if piece.letter and piece.letter in AXES]
     named = "".join(sorted(piece.letter for piece in axes))
     if after.distance != 91 or any(piece.value != 0 for piece in axes) or named not in ("Z", "X", "Y", "XY"):
-        warn(f"{word.text} moves all three axes to the home, in one straight line; it is left as it is")
+        look_for_home(line, warn)
         return
     what, ends = ("lift", (answers.lift_nm,)) if named == "Z" else ("park", answers.park_nm or (None, None))
     if None in ends:

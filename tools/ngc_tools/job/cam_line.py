@@ -3,9 +3,12 @@ import re
 from dataclasses import dataclass, field
 from decimal import Decimal, InvalidOperation
 
+_LONGEST = 2048  # characters of a line that is cut; `ngc` takes 256 bytes
 _BLANKS = re.compile(r"[ \t]*")
 _LETTER = re.compile(r"[A-Za-z][ \t]*")
 _NUMBER = re.compile(r"[0-9. \t]*[0-9.]")
+# A word as most are, which the others above would find too: nothing of a number comes after it.
+_PLAIN = re.compile(r"([ \t]*)([A-Za-z])([-+]?(?:[0-9]++\.?+[0-9]*+|\.[0-9]++))(?![ \t]*[0-9.])")
 _COMMENT = re.compile(r"[();]")
 _PAIRS = {"()": re.compile(r"[()]"), "[]": re.compile(r"[\[\]]")}
 # What may stand before a number or a bracket: a sign, the marks of parameters, the name of a function.
@@ -22,9 +25,9 @@ class Token:
     letter: str = ""
     value: Decimal | None = None
 
-    def is_code(self, letter: str, *values: float | str) -> bool:
+    def is_code(self, letter: str, *values: int | Decimal) -> bool:
         """Whether it is a word of this letter and of one of these numbers."""
-        return self.letter == letter and self.value is not None and any(self.value == Decimal(str(v)) for v in values)
+        return self.letter == letter and self.value in values
 
     @property
     def is_comment(self) -> bool:
@@ -46,16 +49,29 @@ class CamLine:
 
     @staticmethod
     def cut(text: str) -> "CamLine":
-        """Cuts a line into pieces. From a ( that isn't closed on, the rest of the line is one piece."""
+        """Cuts a line into pieces. From a ( that isn't closed on, the rest of the line is one piece; so is a line that
+        is far too long."""
+        if len(text) > _LONGEST:
+            return CamLine([Token("", text)])
         pieces, here = [], 0
-        comments, brackets = matched(text, "()"), matched(text, "[]")
+        comments = matched(text, "()") if "(" in text else {}
+        brackets = matched(text, "[]") if "[" in text else {}
         while here < len(text):
+            if match := _PLAIN.match(text, here):
+                blanks, letter, number = match.groups()
+                pieces.append(Token(blanks, letter + number, letter.upper(), Decimal(number)))
+                here = match.end()
+                continue
             begin = _BLANKS.match(text, here).end()
             piece = _piece(text, begin, comments, brackets)
             piece.blanks = text[here:begin]
             pieces.append(piece)
             here = begin + len(piece.text)
         return CamLine(pieces)
+
+    def copy(self) -> "CamLine":
+        """The same line, whose pieces may be changed."""
+        return CamLine([Token(piece.blanks, piece.text, piece.letter, piece.value) for piece in self.pieces])
 
     @property
     def text(self) -> str:
@@ -67,10 +83,23 @@ class CamLine:
         """Whether it begins with a slash."""
         return bool(self.pieces) and self.pieces[0].text == "/"
 
-    def find(self, letter: str, *values: float | str) -> Token | None:
+    @property
+    def is_plain(self) -> bool:
+        """Whether words and comments are all that it has, after a slash. Of others a word may not be taken away: what
+        stands around it could become another word."""
+        others = [piece for piece in self.pieces if piece.text and not piece.letter and not piece.is_comment]
+        return not others[self.is_deletable:]
+
+    @property
+    def is_itself(self) -> bool:
+        """Whether its text is cut into these pieces again."""
+        again = CamLine.cut(self.text)
+        return [piece for piece in again.pieces if piece.text] == [piece for piece in self.pieces if piece.text]
+
+    def find(self, letter: str, *values: int | Decimal) -> Token | None:
         """The first word of this letter, and of one of these numbers if some are named."""
         for piece in self.pieces:
-            if piece.letter == letter and (not values or piece.is_code(letter, *values)):
+            if piece.letter == letter and (not values or piece.value in values):
                 return piece
         return None
 
@@ -168,6 +197,6 @@ def matched(text: str, pair: str) -> dict[int, int]:
 
 def _number(text: str) -> Decimal | None:
     try:
-        return Decimal(re.sub(r"[ \t]", "", text))
+        return Decimal(text.replace(" ", "").replace("\t", ""))
     except InvalidOperation:
         return None

@@ -6,10 +6,11 @@ from ngc_tools.job.cam_line import CamLine
 
 AXES = "XYZ"
 CYCLES = (73, 76, 81, 82, 83, 84, 85, 86, 87, 88, 89)
-MOTIONS = (0, 1, 2, 3, 38.2, 80, *CYCLES)
+MOTIONS = (0, 1, 2, 3, Decimal("38.2"), 80, *CYCLES)
 TAKERS = (10, 28, 30, 52, 92)
 """The codes that take the axis words of their line, so that no motion does."""
-_SYSTEMS = (54, 55, 56, 57, 58, 59, 59.1, 59.2, 59.3)
+_MOVED = tuple(map(Decimal, "10 28 30 43 43.1 49 52 54 55 56 57 58 59 59.1 59.2 59.3 92 92.1 92.2 92.3".split()))
+"""The codes after which program coordinates are other ones, or the machine is elsewhere."""
 _PLANES = {17: ("XY", "IJ"), 18: ("XZ", "IK"), 19: ("YZ", "JK")}
 
 
@@ -44,7 +45,7 @@ class Modes:
             self.distance = int(code)
         elif code in (20, 21):
             self.unit = int(code)
-        elif code in _MOTION_CODES:
+        elif code in MOTIONS:
             self.motion = code
 
     @property
@@ -56,9 +57,6 @@ class Modes:
     def plane_offsets(self) -> str:
         """The offsets of an arc's centre in the plane, as `IJ`."""
         return _PLANES[self.plane][1]
-
-
-_MOTION_CODES = frozenset(Decimal(str(code)) for code in MOTIONS)
 
 
 def relies_on_motion(line: CamLine, modes: Modes) -> bool:
@@ -79,7 +77,7 @@ class Named:
     def take(self, line: CamLine, before: Modes) -> None:
         """Takes over the axis words of a line; `before` is what was in force before it."""
         after = before.after(line)
-        if line.find("G", 10, 28, 30, 43, 43.1, 49, 52, 92, 92.1, 92.2, 92.3, *_SYSTEMS) or after.unit != before.unit:
+        if line.find("G", 70, 71, *_MOVED) or after.unit != before.unit:
             self.coordinates.clear()
         if line.find("G", *TAKERS):
             return

@@ -44,4 +44,7 @@ def motion_in_force(line: CamLine, before: CamLine, meant: Modes, written: Modes
         return
     if relies_on_motion(before, meant.after(before)):
         word = "G80" if meant.motion is None else f"G{meant.motion.normalize():f}"
-        line.begin(word, "the motion in force is named, since its own word was left out or changed")
+        changed = line.copy()
+        changed.begin(word, "")
+        if changed.is_itself:  # of a line that begins with a number it wouldn't be
+            line.begin(word, "the motion in force is named, since its own word was left out or changed")

@@ -10,6 +10,7 @@ from ngc_tools.job.cam_line import CamLine, Token
 from ngc_tools.job.cam_motion import Warn
 
 _PROGRAM_NAME = re.compile(r"[O:]?[0-9]+|(?!(?:[A-Za-z][0-9.]+)+$)[A-Za-z_][A-Za-z0-9_.-]*")
+_OF_THE_WHOLE = re.compile(r"[ABCTH)]|G[ \t]*[27]", re.IGNORECASE)
 _UNITS = {20: 20, 21: 21, 70: 20, 71: 21}
 
 
@@ -24,10 +25,10 @@ class Whole:
     tools: frozenset[tuple[str, int]]
 
     @staticmethod
-    def of(lines: Iterable[CamLine]) -> "Whole":
+    def of(texts: Iterable[str]) -> "Whole":
         """Looks over all lines."""
         zero, moved, units, closes_more, tools = set(), set(), [], False, set()
-        for piece in (piece for line in lines for piece in line.pieces):
+        for piece in (piece for text in texts if _OF_THE_WHOLE.search(text) for piece in CamLine.cut(text).pieces):
             if piece.letter and piece.letter in "ABC":
                 (zero if piece.value == 0 else moved).add(piece.letter)
             elif piece.letter == "G" and piece.value in _UNITS:

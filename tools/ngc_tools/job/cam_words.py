@@ -1,12 +1,14 @@
 """The words of a line that CAM systems write otherwise than `ngc` reads them: rules that look at this line alone, and
 at the modes in force."""
 import re
+from decimal import Decimal
 
 from ngc_tools.job.cam_line import CamLine, matched, value_end
 from ngc_tools.job.cam_modes import Modes
 
 _SIGN = re.compile(r"[-+](?=[ \t]*[#\[A-Za-z])")
 _LONGEST = 256  # bytes of a line that `ngc` takes
+_CENTRES_FROM_START = Decimal("91.1")
 
 
 def comments(line: CamLine) -> None:
@@ -24,8 +26,7 @@ def program_number(line: CamLine, modes: Modes) -> None:
     """`O1000` before all other words, alone on its line but for comments."""
     number = line.find("O")
     if number and number.value is not None and not modes.begun and line.letters() <= {"O", "N"}:
-        if all(piece.letter or piece.is_comment or not piece.text for piece in line.pieces):
-            line.put(number, f"({number.text})", "a program has no number")
+        line.put(number, f"({number.text})", "a program has no number")
 
 
 def block_number(line: CamLine) -> None:
@@ -50,7 +51,7 @@ def unit(line: CamLine) -> None:
 
 def codes(line: CamLine) -> None:
     """G91.1, and G0 beside G80 without an axis word."""
-    if word := line.find("G", "91.1"):
+    if word := line.find("G", _CENTRES_FROM_START):
         line.drop(word, "centres of arcs count from their start always")
     zero = line.find("G", 0)
     if zero and line.find("G", 80) and not line.letters() & set("XYZABCUVW"):

@@ -28,6 +28,7 @@ _ASIDE = re.compile(rb"\([^()]*\)|[ \t]")
 # A line is refused by the first fault that holds in this order; E2 is looked at before E1.
 _RANKS = {fault.code: rank for rank, fault in enumerate(FAULTS, 1)} | {"E2": 0}
 _MOST_PAIRED = 12  # pieces of a line that are tried two at a time
+_LONGEST = 512  # bytes of a line whose pieces are looked at; a line has 256 at most
 
 
 @dataclass(frozen=True, slots=True)
@@ -132,6 +133,8 @@ def _looked_at(lines: Lines, refusal: Refusal, ask: Ask) -> tuple[Finding, bytes
         found = ask(lines.beginning(number, without(body, left_out, code) + added))
         return found.code if found is not None and found.line == number else None
 
+    if len(body) > _LONGEST:
+        return Finding(refusal, body[:_LONGEST // 4] + b" .."), b""
     all_pieces = pieces(body)
     with ThreadPoolExecutor(os.cpu_count()) as pool:
         each = dict(zip(all_pieces, pool.map(lambda piece: asked((piece,)), all_pieces), strict=True))

@@ -1,4 +1,6 @@
 """What a refusal of a command means now: which of its causes holds, by the status, and what to do next."""
+from ngc_tools.formats.device import Device
+from ngc_tools.ngc.commands import form_of, slot_to_give_first
 from ngc_tools.ngc.console import Status
 from ngc_tools.operator.face import REFUSED
 from ngc_tools.operator.sentences import explained
@@ -19,14 +21,27 @@ def refused(session: Session, reply: str, command: str) -> bool:
     """Whether a command was refused; shows that with its cause."""
     if not reply.startswith("refused"):
         return False
-    code, word = reply.split()[1], command.split()[0]
-    said = explained(reply)
-    if code == "K1":
-        said = f"{reply}: {busy(session, session.console.status(), word)}"
-    elif code == "K3":
-        said = f"{reply}: it isn't known where the machine stands: {_reference(session)}"
-    session.face.say(said, REFUSED)
+    cause = _cause(session, reply.split()[1], command)
+    session.face.say(f"{reply}: {cause}" if cause else explained(reply), REFUSED)
     return True
+
+
+def _cause(session: Session, code: str, command: str) -> str | None:
+    """What a fault means of this command now, where more can be said than for any command."""
+    word, *rest = command.split()
+    if code == "K1":
+        return busy(session, session.console.status(), word)
+    if code == "K2":
+        return ("nothing waits: run starts the program" if session.program.text else "no program is loaded: load FILE")
+    if code == "K4":
+        return "no block is half-done: run goes on with the program"
+    if code == "K3":
+        return f"it isn't known where the machine stands: {_reference(session)}"
+    if code == "U1":
+        return form_of(command)
+    if code == "B14" and word == "tool" and isinstance(device := session.stored(), Device):
+        return slot_to_give_first(int(rest[0]), len(device.tools_nm))
+    return None
 
 
 def busy(session: Session, status: Status, word: str) -> str:

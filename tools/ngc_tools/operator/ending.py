@@ -2,7 +2,7 @@
 from ngc_tools.formats.device import Device
 from ngc_tools.ngc.console import Status
 from ngc_tools.operator.face import WARNING
-from ngc_tools.operator.in_force import on, outputs_of
+from ngc_tools.operator.display import on_words, outputs_on
 from ngc_tools.operator.session import Session
 from ngc_tools.player.progress import NoAnswer
 
@@ -35,13 +35,14 @@ class Ending:
         says it, else as they were handed out."""
         report = self.session.report()
         if report:
-            return on(report.outputs)
+            return on_words(report.outputs)
         device = self.session.stored()
-        return on(outputs_of(device.state)) if isinstance(device, Device) else ""
+        return on_words(outputs_on(device.state)) if isinstance(device, Device) else ""
 
     def can_switch(self, status: Status) -> bool:
         """Whether a line of one's own is taken now, as M5 is."""
-        return status.half == "none" and status.known and status.does in ("idle", "stopped", "held")
+        return (status.half == "none" and status.known and status.does in ("idle", "stopped", "held")
+                and not self.session.gone)
 
     def how_off(self) -> str:
         """How what is on goes off, where no line of one's own is taken."""

@@ -1,5 +1,8 @@
 """How the program left the machine for its next line, and what lines of one's own, `abandon` and `reference` changed of
 it since: that is what `run` asks about."""
+from copy import copy
+from dataclasses import replace
+
 from ngc_tools.formats.canonical import BadText, read_commands
 from ngc_tools.formats.device import Device, NoDevice, State
 from ngc_tools.formats.settings import BadSettings
@@ -51,7 +54,7 @@ class Left:
             return []
         said = self._place(self.device.state, now.state)
         found = self._differences()
-        if found and (said or self._matters(self.device, now, found)):
+        if found and self._matters(self.device, now, found):
             said += ["in force now: " + ", ".join(map(str, found))]
             lines = self.restoring().lines
             said += [f"restore types: {'; '.join(lines)}"] if lines else []
@@ -77,16 +80,17 @@ class Left:
         if before.place != now.place or now.place == 0 or not now.point_known or before.point_nm == now.point_nm:
             return []
         line = self.session.program.number(now.place)
-        return [f"line {line} begins at {point_words(before.point_nm)}, and the machine is at"
-                f" {point_words(now.point_nm)}: {rounded(apart)} mm apart. The line goes from where the machine is"]
+        return [f"line {line} begins at {point_words(before.point_nm)}. The machine is at"
+                f" {point_words(now.point_nm)}, {rounded(apart)} mm away, and the line would go from there"]
 
     def _matters(self, before: Device, now: Device, found: list[Difference]) -> bool:
-        """Whether what is in force makes the rest of the program another one: by a dry run of it from both."""
+        """Whether what is in force makes the rest of the program another one: by a dry run of it with both, from where
+        the machine is now."""
         names = {difference.name for difference in found}
         if _stopped(before.state, now.state) or max(before.state.motion, now.state.motion) not in (0, 1, 80):
             return True
         try:
-            said = [self._rest(device, now) for device in (before, now)]
+            said = [self._rest(device, now) for device in (_moved(before, now), now)]
         except (CannotSetUp, NoDevice, BadSettings, BadText, OSError):
             return True
         if said[0] != said[1]:
@@ -98,6 +102,13 @@ class Left:
         """What the program does from the place on where it goes on, by a dry run that begins as a device stands."""
         console, text = self.session.console, self.session.program.text[now.state.place:]
         return Beginning.of(device).dry(console.ngc, text, console.settings, self.session.delete)[1]
+
+
+def _moved(before: Device, now: Device) -> Device:
+    """What stood before, with the machine where it is now."""
+    moved = copy(before)
+    moved.state = replace(before.state, point_nm=now.state.point_nm)
+    return moved
 
 
 def _stopped(before: State, now: State) -> bool:

@@ -5,7 +5,7 @@ from ngc_tools.formats.device import Device
 from ngc_tools.formats.position import nanometres
 from ngc_tools.ngc.console import Status
 from ngc_tools.operator.face import WHERE, axes
-from ngc_tools.operator.in_force import InForce, offsets_words, outputs_words
+from ngc_tools.operator.display import in_force_on, offsets_words, outputs_on, outputs_words, work_words
 from ngc_tools.operator.modes import trimmed
 from ngc_tools.operator.session import Session, place
 from ngc_tools.operator.timeline import Timeline
@@ -26,9 +26,9 @@ class Look:
         face.say(self._machine(status), WHERE)
         report = self.session.report()
         if isinstance(stored, Device) and (at := self._at(status, report)):
-            in_force = InForce.of(stored.state)
-            if in_force.moves_zero:
-                face.say(f"work {in_force.work(at)}; {offsets_words(stored.state)}", WHERE)
+            in_force = in_force_on(stored.state)
+            if any(in_force.origin) or in_force.length:
+                face.say(f"work {work_words(in_force, at)}; {offsets_words(stored.state)}", WHERE)
         self._motors(report)
 
     def all(self, timeline: Timeline | None) -> None:
@@ -44,7 +44,7 @@ class Look:
             face.say(self._times(status, timeline), WHERE)
         self._motors(report)
         if report:
-            face.say(f"and have {outputs_words(report.outputs)}", WHERE)
+            face.say(f"the player has {outputs_words(report.outputs)}", WHERE)
 
     def _machine(self, status: Status) -> str:
         """What the machine does, where it is, and what comes next."""
@@ -71,10 +71,10 @@ class Look:
         """The work point, offsets, modes and outputs."""
         state = stored.state
         at = self._at(status, report)
-        work = f"work {InForce.of(state).work(at)}; " if at else ""
+        work = f"work {work_words(in_force_on(state), at)}; " if at else ""
         yield work + offsets_words(state)
         yield (f"G{state.motion} G{state.plane} G{state.unit} G{state.distance} G{state.feed_mode};"
-               f" F{trimmed(state.feed_nm_per_min)} mm/min; {outputs_words(InForce.of(state).outputs)}")
+               f" F{trimmed(state.feed_nm_per_min)} mm/min; {outputs_words(outputs_on(state))}")
 
     def _times(self, status: Status, timeline: Timeline) -> str:
         done, left = timeline.times_us(self.session.program.number(status.place))

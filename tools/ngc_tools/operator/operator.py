@@ -67,9 +67,11 @@ class Operator:
 
     def load(self, name: str, text: bytes) -> bool:
         """Stores a program that people call `name`, once a dry run was looked at; whether it is stored. Raises Ended."""
-        if not self.loading.agreed(name, text):
+        session, status = self.session, self.console.status()
+        is_busy = status.half != "none" or status.does in ("held", "running")  # `ngc` refuses it
+        if not is_busy and not self.loading.agreed(name, text):
             return False
-        session, reply = self.session, self.console.load(text)
+        reply = self.console.load(text)
         if refused(session, reply, "load"):
             return False
         session.program, session.told = Program(text), 0
@@ -118,9 +120,8 @@ class Operator:
     def _go_on(self, command: str, typed: Typed) -> None:
         """Starts the program, or goes on with what waits."""
         status = self.console.status()
-        if status.half == "none" and not typed.anyway:
-            if not self.places.agree(status, f"{typed.word} {ANYWAY}") or not self._as_left():
-                return
+        if not typed.anyway and not (self.places.agree(status, f"{typed.word} {ANYWAY}") and self._as_left(status)):
+            return
         if refused(self.session, self.console.ask(command)[0], command):
             return
         if status.half == "none" and (said := dropped_g92(self.session)):
@@ -128,12 +129,13 @@ class Operator:
         if command == "start":
             self.session.told = status.place
         self.work.timeline = self.loading.timeline(command == "start" and not status.place)
-        if self._work() != "refused" or self.console.status().place != status.place:
+        ended = self._run_on()
+        if ended != "refused" or self.console.status().place != status.place:
             self.left.forget()
 
-    def _as_left(self) -> bool:
-        """Whether all is as the program left it, or a person wants to go on all the same."""
-        questions = self.left.questions()
+    def _as_left(self, status: Status) -> bool:
+        """Whether all is as the program left it, or a person wants to go on all the same. Within a block it is."""
+        questions = self.left.questions() if status.half == "none" else []
         for text in questions:
             self.face.say(text, WARNING)
         return not questions or self._yes("go on all the same? yes goes on: ")
@@ -144,21 +146,26 @@ class Operator:
     def _typed_mdi(self, typed: Typed) -> None:
         self._mdi(typed.rest, typed.anyway)
 
-    def _mdi(self, line: str, anyway: bool) -> bool:
-        """Does a line of one's own; whether it was taken."""
+    def _mdi(self, line: str, anyway: bool) -> None:
+        """Does a line of one's own, and says how all stands then."""
+        if ended := self._line_done(line, anyway):
+            self._say_stand(ended)
+            self.left.tell_modes()
+
+    def _line_done(self, line: str, anyway: bool) -> str | None:
+        """Does a line of one's own. Returns what ended its work, None where it wasn't taken or is held."""
         status = self.console.status()
         compared = status.half == "none" and not anyway and not stops_outputs(line)
         if compared and not self.places.agree(status, f"{ANYWAY} {line}"):
-            return False
-        self.left.keep()
+            return None
+        if status.half == "none":
+            self.left.keep()
         reply = self.console.ask(b"mdi " + line.encode("utf-8", "surrogateescape"))[0]
         if refused(self.session, reply, "mdi"):
             self._near(line)
-            return False
+            return None
         self.session.own = line
-        self._work()
-        self.left.tell_modes()
-        return True
+        return self._work()
 
     def _near(self, line: str) -> None:
         """Names the command that is meant, if a line of G-code was none."""
@@ -175,13 +182,14 @@ class Operator:
         found = self.left.restoring()
         for line in found.lines:
             self.face.say(f"restore: {line}")
-            if not self._mdi(line, False):
+            if not self._line_done(line, False):
                 return
+        Look(self.session).after_work()
         for text in found.left:
             self.face.say(f"it can't put back {text}", WARNING)
 
     def _plain(self, typed: Typed) -> None:
-        if typed.word == "abandon":
+        if typed.word == "abandon" and self.console.status().does == "idle":
             self.left.keep()
         reply = self.console.ask(" ".join([typed.word, *typed.rest.lower().split()]))[0]
         if taken(self.session, reply, f"{typed.word} {typed.rest}".strip()) and typed.word in ("delete", "optional"):
@@ -202,11 +210,12 @@ class Operator:
             if reply.startswith("refused K3"):
                 self.places.offer()
             return
+        self.left.forget()
         self.face.say(TAKEN_UP.format(half=self.session.half(status), place=place(status)), WARNING)
         if not self._switched():
             self._hold()
         elif self._yes(SWITCHED):
-            self._work()
+            self._run_on()
         else:
             self._hold()
             self.face.say(NOT_MOVED, WARNING)
@@ -243,26 +252,36 @@ class Operator:
     def _offer_off(self, status: Status, left_on: str) -> None:
         """Says what is on, and switches it off if that can be done and is wanted."""
         if not self.ending.can_switch(status):
-            self.face.say(f"still on: {left_on}. Within a block no M5 is done. {self.ending.how_off()}", WARNING)
+            within = "Within a block no M5 is done. " if status.half != "none" else ""
+            self.face.say(f"still on: {left_on}. {within}{self.ending.how_off()}", WARNING)
         elif self._yes(f"still on: {left_on}. Switch off? yes does M5 and M9, anything else doesn't: "):
             for line in ("M5", "M9"):
-                self._mdi(line, True)
+                self._line_done(line, True)
+            Look(self.session).after_work()
 
     # work
 
+    def _run_on(self) -> str | None:
+        """The same as `_work`, and says how all stands then."""
+        ended = self._work()
+        if ended is not None:
+            self._say_stand(ended)
+        return ended
+
     def _work(self) -> str | None:
-        """Gives ticks until there is nothing to do, or somebody holds, and says what stands then. Returns what ended
-        them, None for a hold."""
+        """Gives ticks until there is nothing to do, or somebody holds. Returns what ended them, None for a hold."""
         ended = self.work.go()
         if ended is None:
             self._hold()
             return None
         self.session.own = ""
-        status = self.console.status()
-        if ended == "stopped" and status.half == "none":
+        return ended
+
+    def _say_stand(self, ended: str) -> None:
+        """Says how all stands once work has ended so."""
+        if ended == "stopped" and self.console.status().half == "none":
             self.face.say(f"stopped; the tool in the spindle is {self.stored().slot or 'none'}. run goes on", WHERE)
         Look(self.session).after_work()
-        return ended
 
     def _hold(self) -> None:
         session, reply = self.session, self.console.ask("hold")[0]

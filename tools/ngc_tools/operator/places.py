@@ -8,6 +8,7 @@ from ngc_tools.ngc.console import Status
 from ngc_tools.operator.causes import taken
 from ngc_tools.operator.face import SAID, WARNING
 from ngc_tools.operator.modes import point_words
+from ngc_tools.operator.sentences import PLAYER_SILENT
 from ngc_tools.operator.session import Session
 from ngc_tools.operator.work import Work
 from ngc_tools.player.progress import NoAnswer, Report
@@ -34,6 +35,7 @@ class Places:
             return True
         report = self._settled()
         if report is None:
+            self.session.face.say(f"nothing is done. {PLAYER_SILENT}", WARNING)
             return False
         at = report.at.split()
         if self._same(at, status.at):
@@ -49,8 +51,8 @@ class Places:
             return
         report = self._settled() if self.session.meter else None
         if report is None and (self.session.meter or "player" in words):
-            self.session.face.say("no player says where the motors are: reference X Y Z" if not self.session.meter else
-                                  "nothing is changed", WARNING)
+            self.session.face.say(f"nothing is done. {PLAYER_SILENT}" if self.session.meter else
+                                  "no player says where the motors are: reference X Y Z", WARNING)
             return
         at = report.at.split() if report else []
         words = ["player"] * 3 if words == ["player"] else words

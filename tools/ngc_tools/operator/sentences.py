@@ -1,6 +1,5 @@
 """What the operator says of refusals, and of a block that is taken up."""
 from ngc_tools.ngc import faults
-from ngc_tools.ngc.settings_report import SENTENCES
 
 HELP = """\
 load FILE          try a program by a dry run, and store it
@@ -23,8 +22,7 @@ delete on, off     leave out lines with a slash
 quit               end; Ctrl-D too
 help               this"""
 
-# docs/SESSION.md, Faults
-REFUSALS = faults.SESSION
+PLAYER_SILENT = "Once the player answers, again; if it is gone, quit, and start a player and this again"
 # what is said of a block that is taken up
 TAKEN_UP = """\
 {half} is taken up. Its outputs are switched on as they were; then the tool goes
@@ -40,5 +38,5 @@ def explained(refusal: str) -> str:
     """A refusal, as `refused K1 Busy`, the sentence that says what it means, and of a line what to write instead."""
     code = refusal.split()[1] if len(refusal.split()) > 1 else ""
     fault = faults.fault(code)
-    said = f"{fault.holds}\n  {fault.cure}" if fault else REFUSALS.get(code) or SENTENCES.get(code)
+    said = f"{fault.holds}\n  {fault.cure}" if fault else faults.SESSION.get(code) or faults.SETTINGS.get(code)
     return refusal + (f": {said}" if said else "")

@@ -51,13 +51,16 @@ class Session:
 
     def report(self) -> Report | None:
         """How far the player is; None if there is none, or it doesn't answer, which is said."""
+        if not self.meter:
+            return None
         try:
-            report = self.meter.link.ask() if self.meter else None
+            report = self.meter.link.ask()
         except NoAnswer as error:
+            self.gone = True
             self.face.say(str(error), WARNING)
             return None
-        if report:
-            self.face.moved(report)
+        self.gone = False
+        self.face.moved(report)
         return report
 
     def line(self, status: Status) -> str:

@@ -5,14 +5,15 @@ from dataclasses import dataclass
 from ngc_tools.formats.canonical import Command
 from ngc_tools.formats.device import Device
 from ngc_tools.formats.settings import Settings
-from ngc_tools.job.dangers import by_line
 from ngc_tools.job.figures import Box, box, by_length
+from ngc_tools.job.in_force import InForce
 from ngc_tools.job.moves import Move, Step, of_canonical
+from ngc_tools.job.printed import by_line
 from ngc_tools.job.refused import Lines
 from ngc_tools.ngc.beginning import Beginning
 from ngc_tools.ngc.console import Console
 from ngc_tools.ngc.run import Refusal, refusal
-from ngc_tools.operator.in_force import InForce
+from ngc_tools.operator.display import in_force_on
 
 
 @dataclass(frozen=True, slots=True)
@@ -54,7 +55,7 @@ def timeline(console: Console, device: Device, text: bytes, settings: Settings, 
     printed = by_line(Lines(text), run)
     refused = refusal(*beginning.dry(console.ngc, text, console.settings, block_delete))
     set_up = beginning.set_up(console.ngc, console.settings)
-    return _folded(InForce.of(device.state), set_up, printed, settings, (refused, beginning.notes))
+    return _folded(in_force_on(device.state), set_up, printed, settings, (refused, beginning.notes))
 
 
 def _folded(view: InForce, set_up: list[Command], printed: dict[int, list[Command]], settings: Settings,

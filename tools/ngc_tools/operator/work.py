@@ -1,9 +1,11 @@
 """The work of a session: ticks, in small counts, until there is nothing to do or somebody wants to hold."""
 import time
-from collections.abc import Iterator
 from dataclasses import dataclass
 
+from ngc_tools.formats.position import nanometres
+from ngc_tools.job.in_force import InForce
 from ngc_tools.ngc.console import Status
+from ngc_tools.operator.display import short_words, work_words
 from ngc_tools.operator.face import MESSAGE, WARNING, WHERE, UnderWay
 from ngc_tools.operator.session import Session
 from ngc_tools.operator.timeline import Timeline
@@ -14,9 +16,11 @@ FIRST_TICKS, MOST_TICKS = 20, 1000
 
 
 def clock(us: int) -> str:
-    """A time in minutes and seconds, as `1:05`."""
-    seconds = us // 1_000_000
-    return f"{seconds // 60}:{seconds % 60:02d}"
+    """A time in minutes and seconds, as `1:05`; from an hour on as `1:02:05`."""
+    minutes, seconds = divmod(us // 1_000_000, 60)
+    if minutes < 60:
+        return f"{minutes}:{seconds:02d}"
+    return f"{minutes // 60}:{minutes % 60:02d}:{seconds:02d}"
 
 
 @dataclass
@@ -33,6 +37,16 @@ class Chunk:
             self.ticks = max(1, self.ticks // 2)
 
 
+@dataclass(frozen=True, slots=True)
+class _Shown:
+    """Of a place, its line, what is in force on it, if that is known, and more."""
+
+    place: int
+    line: str
+    view: InForce | None
+    more: tuple[str, ...]
+
+
 class Work:
     """Gives the ticks of a session."""
 
@@ -40,7 +54,7 @@ class Work:
         self.session = session
         self.chunk = Chunk()
         self.timeline: Timeline | None = None  # of the program that runs, if it is known
-        self._shown: tuple[int, str, tuple[str, ...]] = (-1, "", ())  # of a place, its line and what is in force on it
+        self._shown = _Shown(-1, "", None, ())
 
     def go(self) -> str | None:
         """Gives ticks until there is nothing to do, or somebody wants to hold.
@@ -120,18 +134,20 @@ class Work:
         session = self.session
         if session.own:
             return UnderWay(f"your line: {session.own}", status, session.motors)
-        if self._shown[0] != status.place:
-            self._shown = (status.place, session.line(status), tuple(self._more(status)))
-        _, line, more = self._shown
-        return UnderWay(line, status, session.motors, more)
+        if self._shown.place != status.place:
+            self._shown = self._shown_at(status)
+        shown, work = self._shown, ""
+        if session.motors and shown.view and (any(shown.view.origin) or shown.view.length):
+            x, y, z = map(nanometres, session.motors.split())
+            work = f"work {work_words(shown.view, (x, y, z))}"
+        return UnderWay(shown.line, status, session.motors, (work, *shown.more) if work else shown.more)
 
-    def _more(self, status: Status) -> Iterator[str]:
-        """What is in force on the program's line, and the times, if they are known."""
+    def _shown_at(self, status: Status) -> _Shown:
+        """What is shown of the program's line at the place."""
         number = self.session.program.number(status.place)
         view = self.timeline.view(number) if self.timeline else None
-        if self.timeline is None or view is None:
-            return
-        done, left = (clock(us) for us in self.timeline.times_us(number))
-        yield " ".join(view.short())
-        yield f"about {left} left"
-        yield f"{done} done"
+        more: tuple[str, ...] = ()
+        if self.timeline and view:
+            done, left = (clock(us) for us in self.timeline.times_us(number))
+            more = (" ".join(short_words(view)), f"about {left} left", f"{done} done")
+        return _Shown(status.place, self.session.line(status), view, more)

@@ -3,6 +3,7 @@ import select
 import socket
 import threading
 import time
+from contextlib import suppress
 from typing import Protocol
 
 from ngc_tools.formats.record import machine_nm
@@ -49,7 +50,7 @@ class Answers:
 
     def catch_up(self) -> None:
         """Heeds what has come before now."""
-        with self._one_at_a_time:
+        with self._one_at_a_time, suppress(OSError):  # one of OUT is met by the thread that carries it out
             while got := self._listener.next():
                 self._heed(*got)
 

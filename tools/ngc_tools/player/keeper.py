@@ -83,18 +83,16 @@ def _sync_folder(folder: str) -> None:
 
 
 class Keeper:
-    """Writes what is `now` to the disk, in a thread of its own, so that a sync delays no pulse.
+    """Writes what stands to the disk, in a thread of its own, so that a sync delays no pulse.
 
     `worst_ms` is how old the record on the disk was at most while something newer was there."""
 
-    def __init__(self, file: RecordFile, first: Record, completed: Callable[[Record], Record],
-                 every_ms: int = 20) -> None:
-        """Writes the first record. `completed` gives a record the mark of its OUT. Raises OSError or BadRecord."""
-        self.now = first
+    def __init__(self, file: RecordFile, standing: Callable[[], Record], every_ms: int = 20) -> None:
+        """Writes the first record. Raises OSError or BadRecord."""
         self.worst_ms = 0.0
         self.failed: OSError | None = None
         self._file = file
-        self._completed = completed
+        self._standing = standing
         self._every = every_ms / 1000
         self._end = threading.Event()
         self._kept: Record | None = None
@@ -111,21 +109,23 @@ class Keeper:
         self._keep()
 
     def _work(self) -> None:
-        current = time.monotonic()
+        before = time.monotonic()
         while not self._end.wait(self._every):
             taken = time.monotonic()
-            stale = self.now is self._kept
             try:
-                self._keep()
+                was_newer = self._keep()
             except OSError as error:
                 self.failed = error
                 return
-            if not stale:
-                self.worst_ms = max(self.worst_ms, (time.monotonic() - current) * 1000)
-            current = taken
+            if was_newer:
+                self.worst_ms = max(self.worst_ms, (time.monotonic() - before) * 1000)
+            before = taken
 
-    def _keep(self) -> None:
-        record = self.now
-        if record is not self._kept:
-            self._file.write(self._completed(record))
-            self._kept = record
+    def _keep(self) -> bool:
+        """Writes what stands, if that is something else than what was written last; whether it was."""
+        record = self._standing()
+        if record == self._kept:
+            return False
+        self._file.write(record)
+        self._kept = record
+        return True

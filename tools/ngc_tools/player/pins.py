@@ -38,6 +38,11 @@ class Pins:
         """Stops spindle and coolant, now. Raises OSError."""
         self.set(b"off")
 
+    def close(self) -> None:
+        """Lets go of the file."""
+        if self.file is not None:
+            os.close(self.file)
+
 
 def _open(path: str, others: Iterable[str | Path]) -> int:
     """Opens the file to append to it."""

@@ -73,6 +73,7 @@ class Player:
         self.counts = Counts()
         self.schedule = Schedule()
         self.keeper: Keeper | None = None
+        self.stopped_by = ""  # what has stopped it, in a word
         self.answers: Answers | None = None
         self.stopping = False
         self._lock = threading.Lock()  # of `source`, `position` and `lines`
@@ -85,31 +86,35 @@ class Player:
             self._poll.register(source.file, select.POLLIN)
 
     def run(self) -> bool:
-        """Carries out lines until OUT ends; whether spindle or coolant was on then. Raises BadLine at the first line that isn't one, and if OUT ends in a part
-        of a line; Stopped where it has to stop before; OSError if the pins fail. Spindle and coolant are off then,
-        however it ends."""
-        why = "failed"
+        """Carries out lines until OUT ends; returns whether spindle or coolant was on then. They are off afterwards,
+        however it ends. Raises BadLine at the first line that isn't one, and if OUT ends in a part of a line; Stopped
+        where it has to stop before; OSError if the pins fail."""
         try:
             self._play()
             if self.is_on() and self.manner.timed:
                 self._wait_until(self.schedule.due)  # the time of the last line
-            why = ""
             return self.is_on()
         except Stopped as error:
-            why = error.word
+            self.stopped_by = error.word
             raise
         except BadLine:
-            why = "line"
+            self.stopped_by = "line"
             raise
         except OSError:
-            why = "pins"
+            self.stopped_by = "pins"
             raise
         finally:
-            self._switch_off(why)
+            self._switch_off()
 
-    def standing(self, why: str = "") -> Record:
-        """What is carried out now; `why` is what has stopped it."""
-        return Record(self.out, self.lines, self.size, self.outputs, self.position.nm, None, why)
+    def standing(self) -> Record:
+        """What is carried out now, for the record."""
+        with self._lock:
+            lines, size, outputs, at_nm, why = self.lines, self.size, self.outputs, self.position.nm, self.stopped_by
+        return Record(self.out, lines, size, outputs, at_nm, self.source.mark(size), why)
+
+    def close(self) -> None:
+        """Lets go of what it has of the system."""
+        os.close(self._wake)
 
     def is_on(self) -> bool:
         """Whether spindle or coolant is on."""
@@ -121,18 +126,21 @@ class Player:
         """How far it is, with the lines that stand in OUT now."""
         with self._lock:
             tool = self._tool
-            if self.source.take_all():
-                os.eventfd_write(self._wake, 1)
+            self._take_all()
             return Report(self.lines, self.source.received, tool is not None, str(self.position), self.out,
                           self.outputs, tool or 0)
 
     def stand_at(self, at_nm: tuple[int, int, int]) -> None:
         """Takes where the machine stands, as after its axes were moved by hand, if nothing is behind."""
         with self._lock:
-            self.source.take_all()
+            self._take_all()
             if self.source.received == self.lines:
                 self.position = Position(self.position.step_nm, at_nm)
-                self._keep()
+
+    def _take_all(self) -> None:
+        """Takes into hand what stands in OUT, and wakes the thread that carries it out."""
+        if self.source.take_all():
+            os.eventfd_write(self._wake, 1)
 
     def go(self) -> None:
         """The tool is in."""
@@ -229,7 +237,6 @@ class Player:
             self.position.take(line)
             self.lines += 1
             self.size += size
-            self._keep()
 
     def _wait_until(self, due: int) -> None:
         """Waits until a moment of the monotonic clock."""
@@ -266,22 +273,17 @@ class Player:
         if time.monotonic_ns() >= since + self.manner.off_after_us * 1000:
             raise Stopped("console", f"the console is gone, and line {self.lines + 1} asks to {what}")
 
-    def _switch_off(self, why: str) -> None:
-        """Turns spindle and coolant off, if they are on or it stops before OUT's end; keeps why in the record."""
-        if not why and not self.is_on():
+    def _switch_off(self) -> None:
+        """Turns spindle and coolant off, if they are on or it stops before OUT's end."""
+        if not self.stopped_by and not self.is_on():
             return
         try:
             self.pins.off()
         except OSError as error:
-            self._keep("pins")
-            raise OSError(error.errno, f"{error.strerror}; switch spindle and coolant off by hand", error.filename)
+            self.stopped_by = "pins"
+            why = f"{error.strerror}; switch spindle and coolant off by hand"
+            raise OSError(error.errno, why, error.filename) from None
         self.outputs = stopped(self.outputs)
-        self._keep(why)
-
-    def _keep(self, why: str = "") -> None:
-        """Gives the keeper what stands now."""
-        if self.keeper:
-            self.keeper.now = self.standing(why)
 
 
 def save_wakeups() -> None:

@@ -49,6 +49,10 @@ class Source:
         self._part = b""
         self._held = 0  # bytes of `_lines`
 
+    def close(self) -> None:
+        """Reads nothing more."""
+        os.close(self.file)
+
     def skip(self, begun: Record) -> None:
         """Goes to the first line of a file that isn't carried out."""
         if self.is_file:

@@ -1,0 +1,42 @@
+/* A file of lines KEY = NUMBER and KEY = [NUMBER, NUMBER]: as much of TOML as settings need. */
+#ifndef TOML_H
+#define TOML_H
+
+#include <stdbool.h>
+#include <stdint.h>
+
+#include "cause.h"
+#include "scan.h"
+
+enum { MOST_VALUES = 128 };
+
+struct toml {
+    struct scan scan;
+    int line;
+    const char *path;
+    struct cause *why; /* why something can't be read */
+};
+
+/* A value: a number, or an array of them. */
+struct value {
+    struct scan text; /* as it stands there */
+    bool is_array;
+    bool is_too_long; /* more numbers than MOST_VALUES */
+    int count;
+    int64_t numbers[MOST_VALUES];
+};
+
+/* Says what is wrong with the line at which the reader is; returns false. */
+bool toml_refuse(const struct toml *toml, const char *what);
+
+/* Passes blanks, comments and line ends. The other functions return false, with the cause, at anything else than what
+ * they read, and so does this one at a comment that is none. */
+bool toml_pass_space(struct toml *toml);
+
+/* Reads a key and the = behind it. */
+bool toml_read_key(struct toml *toml, struct scan *key);
+
+/* Reads a value and the end of its line. */
+bool toml_read_value(struct toml *toml, struct value *value);
+
+#endif
