@@ -231,8 +231,8 @@ class Refused(Check):
 
     def test_encodings(self) -> None:
         """UTF-16 and lines that end in carriage returns are read as what they are; UTF-8 is shown so."""
-        mend = ["mend: save it in UTF-8, with newlines at the ends of its lines, as ngc-adapt does. What",
-                "follows is said of that text"]
+        mend = ["mend: save it in UTF-8, with newlines at the ends of its lines, as ngc-adapt does. What follows",
+                "is said of that text"]
         text = HEAD + "G0 X1 (\u00fc)\nQ1\nM2\n"
         fault = ["p.ngc:4: B12 UnusedWord", "Q1", "^^"]
         utf_16 = "the text is UTF-16, and ngc reads none of its lines"
@@ -243,8 +243,8 @@ class Refused(Check):
             self.assertEqual(self.said(data)[:6], [f"p.ngc: {why}", *mend, *fault])
         self.assertEqual(self.check(("\ufeff" + HEAD + "M2\n").encode("utf-16-le")), (1, """\
 p.ngc: the text is UTF-16, and ngc reads none of its lines
-    mend: save it in UTF-8, with newlines at the ends of its lines, as ngc-adapt does. What
-    follows is said of that text
+    mend: save it in UTF-8, with newlines at the ends of its lines, as ngc-adapt does. What follows
+    is said of that text
 p.ngc: 1 refusal, no warnings
 """))
         self.assertEqual(self.said((HEAD + "G0 X1 \u00fc\nM2\n").encode())[1:3], ["G0 X1 \u00fc", "^"])
