@@ -21,9 +21,12 @@ STEP_NM = (50_000, 50_000, 50_000)  # so that there are few pulses
 COARSE = (FIRST.replace("[1000, 1000, 1000]", str(list(STEP_NM))).replace("period_us = 50\n", "period_us = 1\n")
           .replace("[50000000]", "[50000000, 62500000, 0]"))
 HOME, TURN = "relies on", "a full turn of radius"
-# The lines that rely on the unit, the distance mode, the way that cycles end; and the circles, which are meant.
-WARNED = {"bores": [(9, HOME)], "first": [(1, HOME)] * 2, "parameters": [(5, HOME)] * 2, "percent": [(3, HOME)],
-          "pocket": [(2, HOME)], "ring": [(13, TURN), (15, TURN)]}
+STILL, DEEP = "it cuts with the spindle stopped", "a traverse sideways at Z -"
+# The lines that rely on the unit, the distance mode, the way that cycles end; programs without M3, which show other
+# things; ways through what a pocket's rings before have cut free; and the circles, which are meant.
+WARNED = {"bores": [(9, HOME)], "face": [(5, STILL)], "first": [(1, HOME)] * 2,
+          "parameters": [(5, HOME), (5, HOME), (7, STILL)], "percent": [(3, HOME), (6, STILL)],
+          "pocket": [(2, HOME), (6, STILL), (26, DEEP), (47, DEEP)], "ring": [(13, TURN), (15, TURN)]}
 # Known otherwise, of lengths and rates: 7.001 mm at 6,000 mm a minute, and what was once added up of two others.
 SECONDS = {"first": "0.070 s", "bolts": "2 min 10.6", "pocket": "53.3"}
 
