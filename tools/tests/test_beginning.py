@@ -146,7 +146,7 @@ class Lines(InFolder):
         self.run_ngc("mdi G81 X1 Z-0.005 R0 F60\ntick 1000000\n")
         self.assertEqual(Beginning.of_device("mill.dev").notes, (
             "G81 is in force on the device, and the dry run begins with G80: a line with axes and no G word is refused"
-            " here (B7), and moves there",))
+            " here (B7), and not by the machine",))
         self.run_ngc("mdi G0 X2\ntick 10\nquit\n")
         self.assertIn("half-done", Beginning.of_device("mill.dev").notes[0])
         self.run_ngc("abandon\n")

@@ -1,4 +1,5 @@
 """`ngc-check`: refused lines with carets, what to write, how it goes on; warnings; status."""
+import os
 import random
 import sys
 from pathlib import Path
@@ -230,7 +231,8 @@ class Refused(Check):
 
     def test_encodings(self) -> None:
         """UTF-16 and lines that end in carriage returns are read as what they are; UTF-8 is shown so."""
-        mend = ["mend: ngc-adapt writes it as ngc reads it. What follows is said of that text"]
+        mend = ["mend: save it in UTF-8, with newlines at the ends of its lines, as ngc-adapt does. What follows",
+                "is said of that text"]
         text = HEAD + "G0 X1 (\u00fc)\nQ1\nM2\n"
         fault = ["p.ngc:4: B12 UnusedWord", "Q1", "^^"]
         utf_16 = "the text is UTF-16, and ngc reads none of its lines"
@@ -238,10 +240,11 @@ class Refused(Check):
                           (b"\xfe\xff" + text.encode("utf-16-be"), utf_16),
                           (text.replace("\n", "\r").encode(),
                            "the lines end in carriage returns alone, and ngc takes them for one line")):
-            self.assertEqual(self.said(data)[:5], [f"p.ngc: {why}", *mend, *fault])
+            self.assertEqual(self.said(data)[:6], [f"p.ngc: {why}", *mend, *fault])
         self.assertEqual(self.check(("\ufeff" + HEAD + "M2\n").encode("utf-16-le")), (1, """\
 p.ngc: the text is UTF-16, and ngc reads none of its lines
-    mend: ngc-adapt writes it as ngc reads it. What follows is said of that text
+    mend: save it in UTF-8, with newlines at the ends of its lines, as ngc-adapt does. What follows
+    is said of that text
 p.ngc: 1 refusal, no warnings
 """))
         self.assertEqual(self.said((HEAD + "G0 X1 \u00fc\nM2\n").encode())[1:3], ["G0 X1 \u00fc", "^"])
@@ -585,6 +588,15 @@ class Words(InFolder):
                          "ngc-check: none.toml: No such file or directory")
         self.assertEqual(self.failed("p.ngc", "--ngc", ngc(), "--settings", "bad.toml"), "    tools_nm is missing: an"
                          " array of at most 128 whole numbers of nanometres, 0 to 1,000,000,000")
+        Path("odd.ngc").write_bytes(b"\xff\xfeM\x002")
+        self.assertEqual(self.failed("odd.ngc", "--ngc", ngc()), "ngc-check: odd.ngc: it begins as UTF-16 does, and byte 4"
+                         " isn't UTF-16: save it in UTF-8")
+        os.mkfifo("pipe")
+        self.assertEqual(self.failed("p.ngc", "--device", "pipe", "--ngc", ngc()), "ngc-check: pipe: Illegal seek")
+        self.assertEqual(self.failed("p.ngc", "--device", "p.ngc", "--ngc", ngc()),
+                         "ngc-check: p.ngc: not a device: 3 bytes, and a device has 875,520 or more")
+        self.assertEqual(self.failed("p.ngc", "--origin", "0", "0", "1e3", "--ngc", ngc()), "ngc-check: error: argument"
+                         " --origin: not a number of millimetres with at most six decimals: 1e3")
         self.assertEqual(self.failed("p.ngc", "--ngc", sys.executable),
                          "ngc-check: ngc dry ended with status 2, and says nothing")
         self.assertEqual(self.failed("p.ngc", "--ngc", sys.executable, "--settings", "first.toml"),

@@ -6,9 +6,9 @@ import textwrap
 from ngc_tools import files
 from ngc_tools.cli.beginning import add_beginning, chosen_beginning
 from ngc_tools.cli.run import new_parser, run
-from ngc_tools.failure import WrongWords
+from ngc_tools.failure import WrongWords, speaking_of
 from ngc_tools.formats.device import MOST_LARGE_PROGRAM
-from ngc_tools.formats.program_text import ProgramText
+from ngc_tools.formats.program_text import NotText, ProgramText
 from ngc_tools.formats.settings import DEFAULT, Settings
 from ngc_tools.formats.text import shown
 from ngc_tools.job.danger import Danger
@@ -90,7 +90,8 @@ def check(ngc: str, args: argparse.Namespace) -> int:
     dry_run = DryRun(ngc, args)
     report = Listing(args.program)
     data = files.read(args.program)
-    text = ProgramText.read(data)
+    with speaking_of(args.program, NotText):
+        text = ProgramText.read(data)
     if why := _unreadable(text, data):
         report.unreadable(why)
         data = text.data
@@ -164,7 +165,8 @@ class Listing:
         """Prints why the text as a whole can't be read."""
         self.count += 1
         print(f"{shown(self.path)}: {why}")
-        print(wrapped("mend: ngc-adapt writes it as ngc reads it. What follows is said of that text"))
+        print(wrapped("mend: save it in UTF-8, with newlines at the ends of its lines, as ngc-adapt does. What follows is"
+                      " said of that text"))
 
     def refused(self, finding: Finding, breach: str | None, is_placed: bool) -> None:
         """Prints a refusal: its fault and cause, the line, the carets, what to write, how it goes on. `breach` says how

@@ -37,3 +37,19 @@ class Program:
             if match and not (delete and line.lstrip(b" \t").startswith(b"/")):
                 found.append((number, shown(match[1]).strip()))
         return found
+
+
+def program_lines(text: bytes) -> list[bytes]:
+    """The lines of a program, each with its end."""
+    lines = [line + b"\n" for line in text.split(b"\n")]
+    last = lines.pop()[:-1]  # what stands after the last newline is a line if it isn't empty
+    return [*lines, last] if last else lines
+
+
+def percent_lines(lines: list[bytes]) -> int:
+    """How many lines a percent program has up to its first percent sign; 0 of any other program."""
+    for number, line in enumerate(lines, 1):
+        words = line.removesuffix(b"\n").removesuffix(b"\r").replace(b" ", b"").replace(b"\t", b"")
+        if words:
+            return number if words == b"%" else 0
+    return 0

@@ -3,10 +3,10 @@ from collections.abc import Callable, Iterator, Mapping
 from dataclasses import dataclass
 
 from ngc_tools.formats.canonical import MOTIONS, Command, read_commands
+from ngc_tools.formats.lines import percent_lines
 from ngc_tools.job.in_force import InForce
 from ngc_tools.job.moves import Point, arc_of, arc_points
 from ngc_tools.job.refused import Lines
-from ngc_tools.ngc.beginning import percent_lines
 
 Run = Callable[[bytes], bytes]
 """Gives a text to `ngc dry`, and returns what it prints."""
@@ -37,9 +37,9 @@ class Act:
     @property
     def tip_z(self) -> int:
         """The lowest Z of a motion, of the tool's tip, in machine nm."""
-        points = (self.at, self.command.point)
+        points: tuple[Point, ...] = (self.at, self.command.point)
         if self.command.name == "ARC_FEED" and self.in_force.plane != "XY":
-            points = arc_points(*points, arc_of(self.command, self.in_force.plane))
+            points = arc_points(self.at, self.command.point, arc_of(self.command, self.in_force.plane))
         return min(z for _, _, z in points) - self.in_force.length
 
     @property

@@ -7,7 +7,7 @@ from concurrent.futures import ThreadPoolExecutor
 from dataclasses import dataclass
 from itertools import combinations
 
-from ngc_tools.ngc.beginning import program_lines
+from ngc_tools.formats.lines import program_lines
 from ngc_tools.ngc.faults import FAULTS
 from ngc_tools.ngc.run import Refusal
 

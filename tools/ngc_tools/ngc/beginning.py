@@ -3,42 +3,26 @@
 `ngc dry` begins in the fresh state at machine 0, and `ngc run` with what its device has: origins, G92, modes, tool
 lengths, the machine's point. What is put here is what a program that is loaded now begins with (docs/SESSION.md)."""
 import errno
+import os
 import tempfile
-from collections.abc import Callable, Iterable, Iterator
+from collections.abc import Callable, Iterator
 from contextlib import contextmanager
 from dataclasses import dataclass, replace
 from io import RawIOBase
 from pathlib import Path
 
-from ngc_tools.failure import Failure
 from ngc_tools.files import naming
 from ngc_tools.formats.canonical import Command, read_commands
-from ngc_tools.formats.device import LARGE_SIZE, SLOTS, Device, Held, NoDevice, State
+from ngc_tools.formats.device import LARGE_SIZE, SLOTS, Device, Held, NoDevice
+from ngc_tools.formats.lines import percent_lines, program_lines
 from ngc_tools.formats.position import millimetres
 from ngc_tools.formats.settings import DEFAULT, Settings
+from ngc_tools.ngc.device_head import CannotSetUp, HeadLine, Point, head_of, notes_of, system_line
 from ngc_tools.ngc.run import Refusal, dry, refusal
 
-Point = tuple[int, int, int]
-
-SYSTEMS = ("G54", "G55", "G56", "G57", "G58", "G59", "G59.1", "G59.2", "G59.3")
 _READINGS = 100
 _MARK = "the program begins"
 _MARKED = f"COMMENT({_MARK})\n".encode()
-_KEPT = (5161, 5162, 5163, 5181, 5182, 5183, 5211, 5212, 5213,
-         *(5221 + 20 * system + axis for system in range(len(SYSTEMS)) for axis in range(3)))
-"""The parameters that `load` keeps, but 5220."""
-
-
-class CannotSetUp(Failure):
-    """A dry run can't begin there; the text says with what it can't, and why."""
-
-
-@dataclass(frozen=True, slots=True)
-class HeadLine:
-    """A line that is put before a program, and what it sets up, for people."""
-
-    text: str
-    what: str
 
 
 @dataclass(frozen=True, slots=True)
@@ -48,8 +32,8 @@ class Beginning:
     `head` are the lines that are put before the program. `tools_nm` are the lengths of slots 1, 2 .., None for those of
     the settings; `lost_nm` is a tool length in force that none of these slots has any more. `point_nm` is where the
     machine stands, `g92_nm` the G92 offset in force, `modes` are the G codes of unit, distance, plane and the end of
-    cycles. `notes` say what the dry run doesn't begin with though the machine would, and what keeps a program
-    from being started there."""
+    cycles. `notes` say what the dry run doesn't begin with though the machine would, and what keeps a program from
+    being started there."""
 
     head: tuple[HeadLine, ...] = ()
     tools_nm: tuple[int, ...] | None = None
@@ -63,7 +47,7 @@ class Beginning:
     def of_origin(x_nm: int, y_nm: int, z_nm: int) -> "Beginning":
         """At machine 0, with the work zero of G54 at this machine point."""
         origin = (x_nm, y_nm, z_nm)
-        return Beginning((_system(1, origin),)) if any(origin) else Beginning()
+        return Beginning((system_line(1, origin),)) if any(origin) else Beginning()
 
     @staticmethod
     def of_device(path: str | Path) -> "Beginning":
@@ -87,9 +71,9 @@ class Beginning:
         if lost is not None and len(tools or ()) == SLOTS:
             raise CannotSetUp(f"a tool length of {millimetres(length)} mm is in force, which no slot has any more: take"
                               " another one, by mdi G43 H1 or G49")
-        head = (*_outputs(state), *_length(state, tools), *_moved(state), *_origins(device), *_modes(state))
         modes = (state.unit, state.distance, state.plane, state.retract)
-        return Beginning(head, tools, lost, state.point_nm, state.g92_nm, modes, tuple(_notes(state)))
+        notes = tuple(notes_of(state))
+        return Beginning(head_of(device, tools), tools, lost, state.point_nm, state.g92_nm, modes, notes)
 
     def dry(self, ngc: str | Path, text: bytes, settings: str | Path | None = None,
             block_delete: bool = False) -> tuple[int, bytes]:
@@ -154,22 +138,6 @@ class Beginning:
         return _ended(run(b"".join(lines[:before])), Refusal(taking, "B14", "BadSlot"))
 
 
-def program_lines(text: bytes) -> list[bytes]:
-    """The lines of a program, each with its end."""
-    lines = [line + b"\n" for line in text.split(b"\n")]
-    last = lines.pop()[:-1]  # what stands after the last newline is a line if it isn't empty
-    return [*lines, last] if last else lines
-
-
-def percent_lines(lines: list[bytes]) -> int:
-    """How many lines a percent program has up to its first percent sign; 0 of any other program."""
-    for number, line in enumerate(lines, 1):
-        words = line.removesuffix(b"\n").removesuffix(b"\r").replace(b" ", b"").replace(b"\t", b"")
-        if words:
-            return number if words == b"%" else 0
-    return 0
-
-
 def _ended(text: bytes, refused: Refusal) -> bytes:
     """Canonical text with this refusal in the place of its last line."""
     before, newline, _ = text.rstrip(b"\n").rpartition(b"\n")
@@ -199,7 +167,7 @@ def _image(path: str | Path) -> bytes:
     """The sectors of a device as they stood at one moment: what two readings in a row give. A session may write
     meanwhile, and never leaves the same bytes twice, since epochs and records count up. Raises Held if it writes each
     time, OSError."""
-    with naming(path), open(path, "rb", buffering=0) as file:
+    with naming(path), open(path, "rb", buffering=0, opener=_open_without_waiting) as file:
         image = _sectors(file)
         for _ in range(_READINGS):
             last, image = image, _sectors(file)
@@ -208,99 +176,14 @@ def _image(path: str | Path) -> bytes:
     raise Held(errno.EBUSY, "a session writes to the device all the time: ask again once it stands still", str(path))
 
 
+def _open_without_waiting(path: str, flags: int) -> int:
+    """Opens a file; of a pipe it doesn't wait for a writer."""
+    return os.open(path, flags | os.O_NONBLOCK | os.O_CLOEXEC)
+
+
 def _sectors(file: RawIOBase) -> bytes:
     file.seek(0)
     image = b""
     while len(image) < LARGE_SIZE and (piece := file.read(LARGE_SIZE - len(image))):
         image += piece
     return image
-
-
-def _words(letters: str, values_nm: Iterable[int]) -> str:
-    return " ".join(f"{letter}{millimetres(nm)}" for letter, nm in zip(letters, values_nm, strict=True))
-
-
-def _set(first: int, values: Iterable[int]) -> str:
-    """Settings of parameters in a row."""
-    return " ".join(f"#{index}={millimetres(value)}" for index, value in enumerate(values, first))
-
-
-def _system(number: int, origin_nm: Point) -> HeadLine:
-    """Takes an origin; an assignment alone wouldn't act until then."""
-    name = SYSTEMS[number - 1]
-    return HeadLine(f"{_set(5201 + 20 * number, origin_nm)} {name}", f"{name} at {_words('XYZ', origin_nm)}")
-
-
-def _outputs(state: State) -> Iterator[HeadLine]:
-    """The tool, the spindle, the coolant; a tool change stops the spindle, so it comes first."""
-    if state.slot:
-        yield HeadLine(f"T{state.slot} M6", f"tool {state.slot} in the spindle")
-    if state.selected != state.slot:
-        yield HeadLine(f"T{state.selected}", f"tool {state.selected} selected")
-    if state.speed:
-        yield HeadLine(f"S{millimetres(state.speed)}", "the spindle's speed")
-    switches = [code for code, holds in (("M3", state.spindle == 1), ("M4", state.spindle == 2), ("M7", state.mist),
-                                         ("M8", state.flood)) if holds]
-    yield from (HeadLine(code, "the spindle and the coolant") for code in switches)
-
-
-def _length(state: State, tools_nm: tuple[int, ...] | None) -> Iterator[HeadLine]:
-    """The tool length in force, by a slot that has it. A device of format 1 has no table, and is given the settings'.
-    """
-    length = state.tool_length_nm
-    if length and tools_nm is None:
-        raise CannotSetUp("a device of format 1 has a tool length in force and no tool table: start ngc run over it"
-                          " once, which makes format 2 of it")
-    if length and tools_nm is not None:
-        yield HeadLine(f"G43 H{(*tools_nm, length).index(length) + 1}", f"a tool length of {millimetres(length)} mm")
-
-
-def _moved(state: State) -> Iterator[HeadLine]:
-    """The machine's point and the motion mode, which a move there leaves; the feed."""
-    point = f"{_words('XYZ', state.point_nm)}"
-    what = f"the machine at {point}"
-    if state.motion == 1:
-        yield HeadLine(f"F1 G53 G1 {point}", what)
-    elif state.motion == 0 or any(state.point_nm):
-        yield HeadLine(f"G53 G0 {point}", what)
-    if state.motion > 1 and any(state.point_nm):
-        yield HeadLine("G80", "no motion mode")
-    if state.feed_nm_per_min or state.motion == 1:
-        yield HeadLine(f"F{millimetres(state.feed_nm_per_min)}", "the feed")
-
-
-def _origins(device: Device) -> Iterator[HeadLine]:
-    """The origin and the G92 offset in force, then the parameters, which may have been set since these were taken."""
-    state, values = device.state, device.parameters
-    if state.system > 1 or any(state.origin_nm):
-        yield _system(state.system, state.origin_nm)
-    if any(state.g92_nm):
-        yield HeadLine(f"{_set(5211, state.g92_nm)} G92.3", f"a G92 offset of {_words('XYZ', state.g92_nm)}")
-    given = dict.fromkeys(_KEPT, 0)
-    for first, taken in ((5201 + 20 * state.system, state.origin_nm), (5211, state.g92_nm)):
-        given |= dict(enumerate(taken, first))
-    given[5220] = state.system * 10**6
-    changed = [index for index in given if values[index] != given[index]]
-    for begin in range(0, len(changed), 8):  # eight of them fit into a line
-        text = " ".join(_set(index, [values[index]]) for index in changed[begin:begin + 8])
-        yield HeadLine(text, "the parameters of homes and origins")
-
-
-def _modes(state: State) -> Iterator[HeadLine]:
-    """The modes, last: what stands before them counts in millimetres, absolute, under G94."""
-    fresh = {"plane": 17, "unit": 21, "distance": 90, "feed_mode": 94, "retract": 98}
-    codes = [f"G{getattr(state, name)}" for name, code in fresh.items() if getattr(state, name) != code]
-    if codes:
-        yield HeadLine(" ".join(codes), "the modes")
-
-
-def _notes(state: State) -> Iterator[str]:
-    if state.half:
-        yield ("a block of the device is half-done, and no program can be started before `resume` or `abandon`; the dry"
-               " run begins with what was in force before that block")
-    elif not state.point_known:
-        yield ("it isn't known where the machine stands, and no program can be started before `reference X Y Z`; the"
-               f" dry run begins at {_words('XYZ', state.point_nm)}")
-    if state.motion not in (0, 1, 80):
-        yield (f"G{state.motion} is in force on the device, and the dry run begins with G80: a line with axes and no G"
-               " word is refused here (B7), and moves there")
