@@ -180,7 +180,8 @@ class NotPlain(unittest.TestCase):
 
     def test_stay(self) -> None:
         """No word is taken away, since what stands around it could become another word."""
-        for line in ("XA0 5", "X1 A0 5", "IG91.1-1", "N100000 #1=5", "G0 &", "T201 #2=1", "G1 F5 (", "G91 G28 Z0 #1=2"):
+        for line in ("XA0 5", "X1 A0 5", "IG91.1-1", "N100000 #1=5", "G0 &", "T201 #2=1", "G1 F5 (a(b)",
+                     "G91 G28 Z0 #1=2"):
             self.assertEqual(told(line)[0], [line])
         self.assertEqual(told("G91 G28 Z0 #1=2", "XG28-5")[1], [1, 2])
 
