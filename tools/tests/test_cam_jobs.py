@@ -33,10 +33,8 @@ COMPENSATED_TOLD = """\
 out.ngc:14: B3 LeftOutCode: G43 H1 D31 G0 X-30. Y-20. Z50. S3000 M3
     mend: let the CAM system compensate the cutter's radius (in computer)
 out.ngc:22: B3 LeftOutCode: G41 X-25. F100
-out.ngc:23: B11 RadiusArc: G3 X-20. Y-15. R5.
-    mend: write the arc by its centre, I and J in G17 from the start of the arc, in place of R
-out.ngc:25: B11 RadiusArc: G2 X-15. Y20. R5.
-Mend these, and check again: ngc-check out.ngc
+From line 23 on arcs by radius stay as they are, since where they begin isn't known. Mend the lines above in the CAM \
+system's text, and adapt it again
 """
 
 

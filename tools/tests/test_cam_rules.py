@@ -123,6 +123,12 @@ class Motions(unittest.TestCase):
         self.assertEqual(adapted("G1 X1", "G0 F5", "G2 X2 I1"), ["G1 X1", "F5", "G2 X2 I1"])
         self.assertEqual(adapted("G1 X1", "G0 F5", "G92 X0", "X2"), ["G1 X1", "F5", "G92 X0", "G0 X2"])
 
+    def test_lone_after_lines_that_may_be_deleted(self) -> None:
+        """What they name isn't in force where they are deleted: a later motion that isn't theirs is named."""
+        self.assertEqual(adapted("G0 X1", "/G1 X2 F9", "G01 F5", "X3"), ["G0 X1", "/G1 X2 F9", "F5", "G1 X3"])
+        self.assertEqual(adapted("G1 X1 F5", "/G1 X2", "G1 F6", "X3"), ["G1 X1 F5", "/G1 X2", "F6", "X3"])
+        self.assertEqual(adapted("G0 X1", "/G1 X2 F9", "X3"), ["G0 X1", "/G1 X2 F9", "X3"])
+
     def test_lone_that_stay(self) -> None:
         """Beside codes that take axis words, of lines that may be deleted, and where two motions are named."""
         for line in ("/G1 F5", "G53 G0", "G92 G0", "G0 G1", "G0 U1", "G2", "G0 X[1]"):

@@ -183,6 +183,10 @@ def told(new: bytes, path: str, ask: Callable[[bytes], Refusal | None]) -> Itera
         fault = finding.refusal
         if fault.line in lines:
             continue  # a fault that shows once another one's word is left out
+        if lines and fault.code == "B11":
+            yield (f"From line {fault.line} on arcs by radius stay as they are, since where they begin isn't known."
+                   " Mend the lines above in the CAM system's text, and adapt it again")
+            return
         if len(lines) == _MOST:
             yield f"and more: ngc-check {path} lists each"
             return
