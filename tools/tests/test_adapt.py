@@ -140,7 +140,7 @@ class Words(InFolder):
         status, said, error, new = self.adapt("T201 M6\nG43 H201\nM2\n", "--tool", "201=1", "--tool", "7=2")
         self.assertEqual((status, error, new), (0, "", b"T1 M6\nG43 H1\nM2\n"))
         self.assertTrue(said.startswith("line 1: tool 201 is in slot 1\n  - T201 M6\n  + T1 M6\n"))
-        for wrong in ("201", "201=0", "201=129", "=1", "201=x", "-1=1", "1=1=1"):
+        for wrong in ("201", "201=0", "201=129", "=1", "201=x", "-1=1", "1=1=1", "0=1"):
             self.assertEqual(self.adapt("M2\n", "--tool", wrong)[0], 2, wrong)
         self.assertIn("each number once", self.adapt("M2\n", "--tool", "7=1", "--tool", "7=2")[2])
         for text, table in (("T201\nT202\nM2\n", ("201=1", "202=1")), ("T1\nT201 M6\nM2\n", ("201=1",))):

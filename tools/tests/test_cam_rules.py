@@ -191,6 +191,11 @@ class NotPlain(unittest.TestCase):
             self.assertEqual(told(line)[0], [line])
         self.assertEqual(told("G91 G28 Z0 #1=2", "XG28-5")[1], [1, 2])
 
+    def test_far_too_long(self) -> None:
+        """A line that is far too long stays as it is."""
+        for line in ("(a) G1 X5 A0" + " " * 2048 + "(b (c))", "G91.1" * 500, ";" * 2049, "X[" * 2000):
+            self.assertEqual(told(line), ([line], []))
+
 
 class Whole(unittest.TestCase):
     """Rules of the text as a whole."""

@@ -106,7 +106,7 @@ def given(args: argparse.Namespace) -> Answers:
     slots: dict[int, int] = {}
     for word in args.tool:
         number, _, slot = word.partition("=")
-        if not _is_count(number) or int(number) in slots:
+        if not _is_count(number) or int(number) in (0, *slots):
             raise WrongWords(f"--tool {word}: write NUMBER=SLOT, as 201=1, and each number once")
         slots[int(number)] = slot_number(slot)
     return Answers(None if args.lift is None else nanometres(args.lift), (x_y[0], x_y[1]) if x_y else None, slots)
