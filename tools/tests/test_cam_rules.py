@@ -140,6 +140,7 @@ class Motions(unittest.TestCase):
                          ["G0 X5. Y-1", "G3 X5. I-5. J0. F9", "G3Z-2X5.I-5J0", "Y1", "X5. J1", "G18 G2 X5. K1",
                           "G19 G2 Y1 K1"])
         self.assertEqual(adapted("G0 Y7", "G2 I1"), ["G0 Y7", "G2 Y7 I1"])
+        self.assertEqual(adapted("G0 X5 Y0", "G43 H1 Z5", "G53 G0 Z0", "G2 I1")[3], "G2 X5 I1")
         self.assertEqual(adapted("G91 G2 I1", "J1", "G19 K1"), ["G91 G2 X0 I1", "X0 J1", "G19 Y0 K1"])
         self.assertEqual(adapted("G0 X1", "G2 I1 X2", "G2 R1", "G2 I1 P2", "G1 I1")[1:],
                          ["G2 I1 X2", "G2 R1", "G2 I1 P2", "G1 I1"])
@@ -147,7 +148,7 @@ class Motions(unittest.TestCase):
     def test_full_circles_from_nowhere(self) -> None:
         """One whose start no line names in program coordinates stays, and is warned of."""
         for before in ("G0", "G53 G0 X1", "G91 G0 X1\nG90", "G0 X1\nG54", "G0 X1\nG20", "G0 X1\nG92 X0", "G0 X[1]",
-                       "G0 X1\nG10 L2 P1 X0", "/G0 X1", "G0 X1\nG28", "G0 X1\n/X2"):
+                       "G0 X1\nG10 L2 P1 X0", "/G0 X1", "G0 X1\nG28", "G0 X1\n/X2", "G18 G0 Z1\nG43 H1"):
             lines = [*before.split("\n"), "G2 I1"]
             found, warned = told(*lines)
             self.assertEqual((found[-1], warned[-1]), ("G2 I1", len(lines)), before)

@@ -1,6 +1,7 @@
 """The words of `ngc-adapt`, and what it writes."""
 import argparse
 import sys
+import tempfile
 from collections.abc import Callable, Iterator, Sequence
 from dataclasses import replace
 
@@ -11,14 +12,17 @@ from ngc_tools.failure import BadNumber, Failure, WrongWords, speaking_of
 from ngc_tools.formats.device import SLOTS
 from ngc_tools.formats.position import nanometres
 from ngc_tools.formats.program_text import NotText, ProgramText
+from ngc_tools.formats.settings import DEFAULT, Settings
 from ngc_tools.formats.text import shown
 from ngc_tools.job.cam import rewritten, whole_text
 from ngc_tools.job.cam_homes import Answers, Missing
 from ngc_tools.job.cam_line import CamLine
 from ngc_tools.job.cam_program import SharedSlot
+from ngc_tools.job.outside import widest
 from ngc_tools.job.radius_arcs import centred
 from ngc_tools.job.refused import Lines, find_all
 from ngc_tools.ngc import faults
+from ngc_tools.ngc.beginning import Beginning
 from ngc_tools.ngc.run import Refusal, find_ngc, refusal
 from ngc_tools.ngc.usable_settings import look_at_settings
 
@@ -73,7 +77,7 @@ def adapt(args: argparse.Namespace) -> int:
         files.look_before_write(args.output, inputs, args.force)
     begin, text = chosen_beginning(args), _read(args.program)
     lines, warnings = _rewritten(args.program, text, answers)
-    centred(lines, lambda asked: begin.dry(ngc, asked, args.settings))
+    _centre(ngc, args, begin, lines)
     new, said = whole_text(lines, text)
     _write(args, new.encode(), inputs)
     changed = [*said, *changes(text.lines, lines)] or ["no line is changed"]
@@ -82,6 +86,18 @@ def adapt(args: argparse.Namespace) -> int:
                         lambda asked: refusal(*begin.dry(ngc, asked, args.settings))))
     print("\n".join(refused), file=sys.stderr, end="\n" if refused else "")
     return 1 if refused else 0
+
+
+def _centre(ngc: str, args: argparse.Namespace, begin: Beginning, lines: list[CamLine]) -> None:
+    """Writes arcs by radius by their centres. What is asked is where they lie, not whether they fit: so with the widest
+    travel, and all slots. Raises OSError, CannotSetUp."""
+    known = Settings.read(args.settings) if args.settings else DEFAULT
+    tools = (*known.tools_nm, *(0,) * (SLOTS - len(known.tools_nm)))
+    with tempfile.NamedTemporaryFile("w", prefix="ngc-settings-", suffix=".toml") as file:
+        with files.naming(file.name):
+            file.write(replace(widest(known), tools_nm=tools).text())
+            file.flush()
+        centred(lines, lambda asked: begin.dry(ngc, asked, file.name))
 
 
 def _read(program: str) -> ProgramText:

@@ -9,8 +9,9 @@ CYCLES = (73, 76, 81, 82, 83, 84, 85, 86, 87, 88, 89)
 MOTIONS = (0, 1, 2, 3, Decimal("38.2"), 80, *CYCLES)
 TAKERS = (10, 28, 30, 52, 92)
 """The codes that take the axis words of their line, so that no motion does."""
-_MOVED = tuple(map(Decimal, "10 28 30 43 43.1 49 52 54 55 56 57 58 59 59.1 59.2 59.3 92 92.1 92.2 92.3".split()))
+_MOVED = tuple(map(Decimal, "10 28 30 52 54 55 56 57 58 59 59.1 59.2 59.3 92 92.1 92.2 92.3".split()))
 """The codes after which program coordinates are other ones, or the machine is elsewhere."""
+_LENGTHS = (43, Decimal("43.1"), 49)
 _PLANES = {17: ("XY", "IJ"), 18: ("XZ", "IK"), 19: ("YZ", "JK")}
 
 
@@ -81,6 +82,8 @@ class Named:
         after = before.after(line)
         if line.find("G", 70, 71, *_MOVED) or after.unit != before.unit:
             self.coordinates.clear()
+        if line.find("G", *_LENGTHS):
+            self.coordinates.pop("Z", None)
         if line.find("G", *TAKERS):
             return
         unsure = after.distance == 91 or line.is_deletable or bool(line.find("G", 53))
