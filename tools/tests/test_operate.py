@@ -291,6 +291,7 @@ stopped; X 0.000000 Y 0.000000 Z 0.000000; next line 3 of 5: (MSG, kept)
 ngc> stopped; X 0.000000 Y 0.000000 Z 0.000000; next line 3 of 5: (MSG, kept)
 work X0.000 Y0.000 Z0.000; G54
 G80 G17 G21 G90 G94; F0 mm/min; spindle stands; no coolant; no tool
+it stops at M1; lines with a slash are left out
 about 0:00 done, 0:00 left
 ngc> message, line 3: kept
 idle; X 1.000000 Y 0.000000 Z 0.000000; next line 1 of 5: /(MSG, left out)
@@ -449,8 +450,7 @@ class AtTerminal(InFolder):
             if typed:
                 terminal.send(typed)
                 self.wait_for("it waits for the player", lambda: self.player.most_behind > 90)
-            os.kill(terminal.pid, number)
-            shown = terminal.read_to(b"never").decode()
+            shown = terminal.end_by(number).decode()
             self.assertEqual(terminal.status(), 2)
             self.assertEqual(self.player.words, [b"end"])
             stays = "held; segment 0 of your line G1 F60 X3 stays half-done" if typed else "idle; segment 0 of a line of yours stays half-done"

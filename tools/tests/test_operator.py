@@ -365,6 +365,26 @@ class LeftBehind(Core):
             "it can't put back G2: no line without a move puts it back",
             "it can't put back a tool length of 5 mm: no slot has it", "it can't put back the tool: T1 M6"])
 
+    def test_cycle(self) -> None:
+        """A cycle that another motion ended would be drilled no more; what it kept is named."""
+        self.stop("X0.002", "G21 G90 F600\nG81 X0 Z-0.01 R0.005")
+        self.do("G0 Y0")
+        self.assertEqual(self.do("run", answers=("no",)),
+                         ["in force now: G0 (G1 before)", "restore types: F1 G53 G1 X0.001000; F600"])
+        self.do("G81 X0.001 Z-0.01 R0.005", "G0 Y0", "restore")
+        self.do("G81 X0.001 Z-0.01 R0.005")
+        self.assertEqual(self.do("run", answers=("no",)),
+                         ["in force now: G81 (G1 before)", "restore types: F1 G53 G1 X0.001000; F600"])
+
+    def test_other_words_of_a_cycle(self) -> None:
+        """A cycle that goes on with other words than the program gave it is asked about, and isn't put back."""
+        self.begin()
+        self.load("G21 G90 F600\nG81 X0 Z-0.01 R0.005\nM0\nX0.002\nM2\n")
+        self.do("run", "G81 X0 Z-0.02 R0.005")
+        self.assertEqual(self.do("run", answers=("no",)),
+                         ["in force now: R0.005 Z-0.02 of a cycle (R0.005 Z-0.01 of a cycle before)"])
+        self.assertEqual(self.do("restore")[-1], "it can't put back what a cycle kept: its next line has to name R and Z")
+
     def test_idle(self) -> None:
         """Lines while idle leave something too; a program that sets its modes isn't asked about."""
         self.begin()
