@@ -138,8 +138,7 @@ class Terminal:
         raise AssertionError(f"nothing comes of {key!r}")
 
     def end_by(self, number: int) -> bytes:
-        """Sends a signal, again where nothing is shown for two seconds, as `press` does; returns what is shown up to the
-        end."""
+        """Sends a signal, again where nothing is shown for two seconds, as `press` does. Returns what is shown then."""
         for _ in range(PATIENCE_S // 2):
             os.kill(self.pid, number)
             if select.select([self.file], [], [], 2)[0]:

@@ -67,7 +67,7 @@ class Operator:
             self._mdi(typed.line, typed.anyway)
 
     def load(self, name: str, text: bytes) -> bool:
-        """Stores a program that people call `name`, once a dry run was looked at; whether it is stored. Raises Ended."""
+        """Stores a program that people call `name`, once a dry run tried it; whether it is stored. Raises Ended."""
         session, status = self.session, self.console.status()
         is_busy = status.half != "none" or status.does in ("held", "running")  # `ngc` refuses it
         if not is_busy and not self.loading.agreed(name, text):
@@ -184,8 +184,8 @@ class Operator:
             if not self._line_done(line, False):
                 return
         Look(self.session).after_work()
-        for text in found.left:
-            self.face.say(f"it can't put back {text}", WARNING)
+        if found.left:
+            self.face.say("it can't put back " + "; nor ".join(found.left), WARNING)
 
     def _plain(self, typed: Typed) -> None:
         if typed.word == "abandon" and self.console.status().does == "idle":
