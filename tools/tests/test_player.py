@@ -189,6 +189,13 @@ class Playing:
         self.assertEqual(self.play().returncode, 0)
         self.assertGreater(time.monotonic() - begun, 0.2 * 0.9 + 0.2 * 0.9)
 
+    def test_longest_waits(self) -> None:
+        """Times as long as a line can say, one after the other."""
+        Path("out").write_text("D 18446744073709551615\nP 1 0 0 18446744073709551615\n" * 5)
+        done = self.play("--untimed")
+        self.assertEqual((done.returncode, done.stderr, done.stdout.splitlines()[-1]),
+                         (0, "", "reference 0.005000 0.000000 0.000000"))
+
     def test_run(self) -> None:
         """Over a named pipe, which it makes small, from `ngc run` itself."""
         os.mkfifo("out")
