@@ -5,7 +5,8 @@
 
 enum { NS_PER_US = 1000 };
 
-static const int64_t most_ns = INT64_MAX / 4; /* 73 years: no line lasts longer, and none is due later than twice that */
+/* 73 years: no line lasts longer, and none is due later than at twice that. */
+static const int64_t most_ns = INT64_MAX / 4;
 
 int64_t schedule_now(void) {
     struct timespec now;

@@ -136,11 +136,14 @@ class Playing:
         short, long = "P 1 0 0 50\n" * 100, "P 1 0 0 50\n" * 300
         Path("out").write_text(short)
         self.play("--untimed")
-        os.rename("out", "old")
-        Path("out").write_text(long)
+        os.unlink("out")
+        Path("out").write_text(long)  # it may well get the inode of the one before
         another = ("out: another file than the one whose first 100 lines are carried out, though it begins with the"
                    " same lines; --anew begins with its first line, --restored goes on after line 100, where it is a"
                    " copy")
+        self.assertEqual(self.refused("out", "first.toml", "position"), another)
+        shutil.copy("out", "copy")
+        os.rename("copy", "out")
         self.assertEqual(self.refused("out", "first.toml", "position"), another)
         other = "out: not the file whose first 100 lines are carried out; --anew begins with its first line"
         for text in (short[11:], "D 1000000\n" * 120, long.replace("1 0", "0 1"), ""):
