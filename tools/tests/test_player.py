@@ -217,6 +217,15 @@ class Playing:
                                    "reference 1.000000 -0.500000 0.000000\n")
         self.assertFalse(os.path.exists("progress"))
 
+    def test_full_pipe(self) -> None:
+        """A pipe in which more waits than it is to hold stays as it is, which is said."""
+        os.mkfifo("out")
+        pipe = os.open("out", os.O_RDWR)
+        self.addCleanup(os.close, pipe)
+        os.write(pipe, b"P 1 0 0 50\n" * 1000)
+        child = self.begin("--untimed", "out", "first.toml", "position")
+        self.assertEqual(child.stderr.readline(), "out: the pipe stays at 65,536 bytes\n")
+
     def test_progress(self) -> None:
         """It tells how many lines it has carried out of those that stand in OUT, while it waits and while it works."""
         os.mkfifo("out")
@@ -357,7 +366,7 @@ class Python(Playing, InProcess, PlayerTest):
         place = (40_550_000, 30_000_000, -5_000_000)
         self.assertEqual(live(10110, place, 80), "line 10110: 40.550000 30.000000 -5.000000")
         self.assertEqual(live(10110, place, 41), "10110: 40.550 30.000 -5.000")
-        self.assertEqual(live(10110, place, 20), "10110: 40.550 30.00")
+        self.assertEqual([live(10110, place, columns) for columns in (20, 10, 0)], ["line 10110", "", ""])
 
     def test_spindle(self) -> None:
         """Told so, it waits while the spindle starts, turns the other way, and stops, and not at other switches."""
@@ -380,15 +389,6 @@ class Python(Playing, InProcess, PlayerTest):
         said, wrong = child.communicate(timeout=PATIENCE_S)
         self.assertEqual((child.returncode, wrong), (1, "out: stopped after line 3; spindle and coolant off\n"))
         self.assertEqual(said.splitlines()[-1], "reference 0.002000 0.000000 0.000000")
-
-    def test_full_pipe(self) -> None:
-        """A pipe in which more waits than it is to hold stays as it is, which is said."""
-        os.mkfifo("out")
-        pipe = os.open("out", os.O_RDWR)
-        self.addCleanup(os.close, pipe)
-        os.write(pipe, b"P 1 0 0 50\n" * 1000)
-        child = self.begin("--untimed", "out", "first.toml", "position")
-        self.assertEqual(child.stderr.readline(), "out: the pipe stays at 65,536 bytes\n")
 
 
 class C(Playing, InC, PlayerTest):
