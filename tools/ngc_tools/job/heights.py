@@ -36,6 +36,19 @@ class _Cuts:
         self._open = False
 
 
+def shallowest(acts: list[Act]) -> int | None:
+    """The highest of the stretches' lowest points, of the tool's tip, in machine nm: what is no higher is taken as a
+    cut. None where nothing is cut."""
+    cuts = _Cuts()
+    for act in (act for act in acts if act.is_motion):
+        if act.is_cut:
+            cuts.cut(act)
+        else:
+            cuts.traverse()
+    cuts.traverse()
+    return cuts.floor
+
+
 def heights(lines: Lines, acts: list[Act], is_placed: bool) -> Iterator[Danger]:
     """Traverses down below the last cut, and those sideways as deep as a cut before them. Where the work zero isn't
     known (`is_placed`), nothing is said of how high a move to machine coordinates is."""
