@@ -1,6 +1,7 @@
 """`ngc-check`: refused lines with carets, what to write, how it goes on; warnings; status."""
 import os
 import random
+import subprocess
 import sys
 from pathlib import Path
 
@@ -345,6 +346,8 @@ class Warnings(Warned):
                           " device (J5)"])
         program += ("(" + "x" * 125 + ")\n") * 7168
         self.assertEqual(self.warnings(program, "--large"), [])
+        subprocess.run([ngc(), "format", "--large", "large.dev"], check=True, capture_output=True)
+        self.assertEqual(self.warnings(program, "--device", "large.dev"), [])
         self.assertEqual(self.warnings(program + "\n", "--large"), [
             " warning: 1,048,577 bytes: ngc run takes at most 1,048,576 of a program on a large device (J5)"])
 
@@ -523,7 +526,7 @@ class FromDevice(Warned):
         self.run_ngc("tool 1 62.5\n")
         words = ("--device", "mill.dev", "--settings", "first.toml")
         self.assertEqual(self.warnings(HEAD + "G43 H1\nG0 Z5\nM2\n", *words), [
-            " warning: slot 1 has 62.500000 mm on the device, and 50.000000 in the settings: a dry run without --device"
+            " warning: slot 1 has 62.5 mm on the device, and 50 in the settings: a dry run without --device"
             " is as much too high or too deep"])
         self.assertEqual(self.warnings(HEAD + "G0 Z5\nM2\n", *words), [])
         self.assertEqual(self.warnings(HEAD + "G43 H0\nG0 Z5\nM2\n", *words), [])
