@@ -16,7 +16,7 @@
 #include "scan.h"
 #include "schedule.h"
 
-enum { QUESTION_ROOM = 64, LOOKS_MS = 50 };
+enum { QUESTION_ROOM = 128, LOOKS_MS = 50 };
 
 /* Removes a socket to which nobody listens any more. */
 static bool remove_stale(const char *path, const struct sockaddr_un *address, struct cause *why) {
@@ -109,6 +109,10 @@ static bool is_question(const char *text, size_t size) {
     return scan_is_over(&scan);
 }
 
+static bool is_word(const char *text, size_t size, const char *word) {
+    return size == strlen(word) && memcmp(text, word, size) == 0;
+}
+
 /* Does what a datagram asks for; others are left alone. */
 static void heed(struct player *player, const char *text, size_t size, const struct sockaddr_un *from,
                  socklen_t named) {
@@ -119,9 +123,9 @@ static void heed(struct player *player, const char *text, size_t size, const str
         atomic_store(&player->asked_at, schedule_now());
         report(player, answer, sizeof answer, text);
         sendto(player->socket, answer, strlen(answer), MSG_DONTWAIT, (const struct sockaddr *)from, named);
-    } else if (strcmp(text, "go") == 0) {
+    } else if (is_word(text, size, "go")) {
         atomic_store(&player->tool, NO_TOOL);
-    } else if (strcmp(text, "end") == 0) {
+    } else if (is_word(text, size, "end")) {
         atomic_store(&player->has_ended, true);
     } else if (size > 3 && memcmp(text, "at ", 3) == 0 && place_read(text + 3, size - 3, nm)) {
         stand_at(player, nm);
@@ -133,9 +137,12 @@ static bool take_one(struct player *player) {
     char text[QUESTION_ROOM + 1];
     struct sockaddr_un from;
     socklen_t named = sizeof from;
-    ssize_t size = recvfrom(player->socket, text, QUESTION_ROOM, 0, (struct sockaddr *)&from, &named);
+    ssize_t size = recvfrom(player->socket, text, QUESTION_ROOM, MSG_TRUNC, (struct sockaddr *)&from, &named);
     if (size < 0) {
         return errno == EINTR;
+    }
+    if (size > QUESTION_ROOM) { /* its end is lost */
+        return true;
     }
     while (size > 0 && (text[size - 1] == '\n' || text[size - 1] == ' ')) {
         size--;

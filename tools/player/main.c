@@ -8,6 +8,7 @@
 #include <errno.h>
 #include <fcntl.h>
 #include <inttypes.h>
+#include <sched.h>
 #include <signal.h>
 #include <stdio.h>
 #include <string.h>
@@ -44,14 +45,21 @@ static void heed_signals(void) {
     sigaction(SIGPIPE, &ignore, NULL);
 }
 
+/* The other threads have no rank of the real-time scheduler: only the pulses have to be in time. */
 static bool begin_threads(pthread_t *keeper, pthread_t *answers, struct cause *why) {
+    const struct sched_param no_rank = {0};
+    pthread_attr_t how;
     sigset_t all;
     sigset_t before;
+    pthread_attr_init(&how);
+    pthread_attr_setinheritsched(&how, PTHREAD_EXPLICIT_SCHED);
+    pthread_attr_setschedpolicy(&how, SCHED_OTHER);
+    pthread_attr_setschedparam(&how, &no_rank);
     sigfillset(&all);
     pthread_sigmask(SIG_SETMASK, &all, &before);
-    int error = pthread_create(keeper, NULL, record_keep, &player);
+    int error = pthread_create(keeper, &how, record_keep, &player);
     if (error == 0 && player.socket >= 0) {
-        error = pthread_create(answers, NULL, answers_give, &player);
+        error = pthread_create(answers, &how, answers_give, &player);
     }
     pthread_sigmask(SIG_SETMASK, &before, NULL);
     return error == 0 || because(why, "no thread: %s", strerror(error));

@@ -166,9 +166,11 @@ static enum end carry_out_all(struct play *play) {
 }
 
 /* Turns spindle and coolant off, and notes it; says so if that fails. */
-static bool switch_off(struct player *shared) {
+static bool switch_off(struct play *play) {
+    struct player *shared = play->player;
     int error = pins_off();
     if (error != 0) {
+        note_stop(play, "pins");
         say("player: the pins: %s; switch spindle and coolant off by hand", strerror(error));
         return false;
     }
@@ -187,7 +189,7 @@ int play_out(struct play *play) {
     if (end == AT_OUTS_END && !play->options->is_untimed && !wait_until_due(play)) {
         end = STOPPED; /* in the time of the last line */
     }
-    if (!switch_off(play->player)) {
+    if (!switch_off(play)) {
         return 2;
     }
     if (end == AT_OUTS_END) {

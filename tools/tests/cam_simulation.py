@@ -217,9 +217,11 @@ class Control(Machine):
 
 
 def read_words(line: str) -> tuple[list[tuple[str, Fraction]], dict[str, Fraction]]:
-    """The G and M codes of a line in its order, and its other words. Comments, program and block numbers mean nothing,
-    and neither does a rotary axis at 0."""
-    text = re.sub(r"\([^()]*\)|;.*", "", line.upper().replace(" ", ""))
+    """The G and M codes of a line in its order, and its other words. Comments, program and block numbers and a name
+    after % mean nothing, and neither does a rotary axis at 0."""
+    text, before = line.upper().replace(" ", ""), ""
+    while text != before:  # of comments within comments the inner one goes first
+        text, before = re.sub(r"\([^()]*\)|;.*|^%.*", "", text), text
     found = [(letter, Fraction(number)) for letter, number in re.findall(r"([A-Z])([-+]?[0-9]*\.?[0-9]*)", text)]
     words = {letter: number for letter, number in found if letter not in "GMNO"}
     assert words.pop("A", 0) == 0

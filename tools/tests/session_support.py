@@ -137,6 +137,14 @@ class Terminal:
                 return self.read_to(end)
         raise AssertionError(f"nothing comes of {key!r}")
 
+    def end_by(self, number: int) -> bytes:
+        """Sends a signal, again where nothing is shown for two seconds, as `press` does. Returns what is shown then."""
+        for _ in range(PATIENCE_S // 2):
+            os.kill(self.pid, number)
+            if select.select([self.file], [], [], 2)[0]:
+                return self.read_to(b"never")
+        raise AssertionError(f"it doesn't end by signal {number}")
+
     def send_to_end(self, key: bytes) -> bytes:
         """Presses a key again and again until the program ends; returns what is shown meanwhile."""
         got, until = b"", time.monotonic() + PATIENCE_S

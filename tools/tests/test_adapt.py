@@ -140,7 +140,7 @@ class Words(InFolder):
         status, said, error, new = self.adapt("T201 M6\nG43 H201\nM2\n", "--tool", "201=1", "--tool", "7=2")
         self.assertEqual((status, error, new), (0, "", b"T1 M6\nG43 H1\nM2\n"))
         self.assertTrue(said.startswith("line 1: tool 201 is in slot 1\n  - T201 M6\n  + T1 M6\n"))
-        for wrong in ("201", "201=0", "201=129", "=1", "201=x", "-1=1", "1=1=1"):
+        for wrong in ("201", "201=0", "201=129", "=1", "201=x", "-1=1", "1=1=1", "0=1"):
             self.assertEqual(self.adapt("M2\n", "--tool", wrong)[0], 2, wrong)
         self.assertIn("each number once", self.adapt("M2\n", "--tool", "7=1", "--tool", "7=2")[2])
         for text, table in (("T201\nT202\nM2\n", ("201=1", "202=1")), ("T1\nT201 M6\nM2\n", ("201=1",))):
@@ -182,12 +182,15 @@ Mend these, and check again: ngc-check out.ngc
                          (10, "and more: ngc-check out.ngc lists each"))
 
     def test_beginning(self) -> None:
-        """Where the work zero lies counts for what is refused."""
+        """Where the work zero lies counts for what is refused, and not for where arcs lie; nor do slots."""
         Path("low.toml").write_text(FIRST.replace("high_nm = [1000000000, 1000000000, 1000000000]",
                                                   "high_nm = [1000000000, 1000000000, 0]"))
         text = "G21 G17 F100\nG0 Z5\nG2 X2 R1\nM2\n"
         status, _, error, _ = self.adapt(text, "--settings", "low.toml")
         self.assertEqual((status, error.split("\n")[0]), (1, "out.ngc:2: X2 OutsideTravel: G0 Z5"))
+        status, _, error, new = self.adapt(text.replace("G0 Z5", "T9"), "--settings", "low.toml")
+        self.assertEqual((status, error.split("\n")[0]), (1, "out.ngc:2: B14 BadSlot: T9"))
+        self.assertEqual(new, b"G21 G17 F100\nT9\nG2 X2 I1 J0\nM2\n")
         status, _, error, new = self.adapt(text, "--settings", "low.toml", "--origin", "0", "0", "-5")
         self.assertEqual((status, error, new), (0, "", b"G21 G17 F100\nG0 Z5\nG2 X2 I1 J0\nM2\n"))
 

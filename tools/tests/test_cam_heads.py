@@ -15,14 +15,13 @@ from ngc_tools.cli.split import main as split  # noqa: E402
 
 CAM = Path(__file__).resolve().parent / "cam"
 
-HOME, DEEP = "G28 moves all three axes", "a traverse down to"
-TURN, PLANE = "a full turn of radius", "relies on the plane"
+HOME, TURN, PLANE = "G28 moves all three axes", "a full turn of radius", "relies on the plane"
 
 # Of each: the refused lines with their faults and the marked words, then the lines that are warned of.
 SAID = {
-    "fusion_grbl.nc": ([], [(6, HOME), (23, HOME), (23, DEEP), (25, HOME)]),
-    "fusion_linuxcnc.ngc": ([(4, "B2", "G91.1"), (12, "B12", "P0.01")], [(20, DEEP)]),
-    "fusion_mach3.tap": ([(3, "B2", "G91.1")], [(5, HOME), (18, HOME), (18, DEEP)]),
+    "fusion_grbl.nc": ([], [(6, HOME), (23, HOME), (25, HOME)]),
+    "fusion_linuxcnc.ngc": ([(4, "B2", "G91.1"), (12, "B12", "P0.01")], []),
+    "fusion_mach3.tap": ([(3, "B2", "G91.1")], [(5, HOME), (18, HOME)]),
     "freecad_linuxcnc.ngc": ([(26, "B12", "K0.000")], []),
     "vectric_grbl.gcode": ([], []),
     "vectric_mach3mm.txt": ([(11, "B4", "G00 G80"), (12, "B2", "G71G91.1")], []),

@@ -1,5 +1,6 @@
-"""Twelve texts of CAM systems, and the heads of ten: what `ngc-adapt` writes of them does what they mean, motion by
-motion, by the simulation of `cam_simulation`."""
+"""Twelve texts of CAM systems, the heads of ten, and programs by chance: what `ngc-adapt` writes of them does what they
+mean, motion by motion, by the simulation of `cam_simulation`."""
+import os
 import sys
 import unittest
 from dataclasses import replace
@@ -8,6 +9,7 @@ from pathlib import Path
 
 sys.path.insert(0, str(Path(__file__).resolve().parent))
 
+import cam_programs  # noqa: E402
 from cam_simulation import Control, Deed, carried_out  # noqa: E402
 from session_support import InFolder, ngc, told  # noqa: E402
 
@@ -24,49 +26,48 @@ DEEDS = {
     "07_vcarve_mach_arcs_in.txt": 13, "10_pcb2gcode_drill.ngc": 28, "12_flatcam.nc": 15, "13_jscut.gcode": 9,
     "15_mastercam_fanuc_in.nc": 13, "18_cambam_mach3.nc": 11, "19_openbuilds.gcode": 10, "20_grbl_fullcircle.nc": 6}
 
-TOLERANCE = {"15_mastercam_fanuc_in.nc": Fraction(26, 10**6)}  # mm: its places in millimetres are written in inches
+FINE = Fraction(100, 10**6)  # mm: places in millimetres, and centres by radius, are written in inches of six decimals
+TOLERANCE = {"15_mastercam_fanuc_in.nc": FINE}
 COMPENSATED = "16_solidcam.tap"
 COMPENSATED_TOLD = """\
 out.ngc:14: B3 LeftOutCode: G43 H1 D31 G0 X-30. Y-20. Z50. S3000 M3
     mend: let the CAM system compensate the cutter's radius (in computer)
 out.ngc:22: B3 LeftOutCode: G41 X-25. F100
-out.ngc:23: B11 RadiusArc: G3 X-20. Y-15. R5.
-    mend: write the arc by its centre, I and J in G17 from the start of the arc, in place of R
-out.ngc:25: B11 RadiusArc: G2 X-15. Y20. R5.
-Mend these, and check again: ngc-check out.ngc
+From line 23 on arcs by radius stay as they are, since where they begin isn't known. Mend the lines above in the CAM \
+system's text, and adapt it again
 """
 
 
 def meant(text: str) -> list[Deed]:
     """What a text means."""
-    return Control(homes=HOMES, lengths=LENGTHS).run(text)
+    return Control(homes=HOMES, lengths=LENGTHS, slots={201: 4}).run(text)
 
 
-def near(a: Deed, b: Deed, tolerance: Fraction) -> bool:
+def near(a: Deed, b: Deed, tolerance: Fraction | int) -> bool:
     """Whether they are one deed: each end and centre to this length."""
     points = [*zip(a.end, b.end, strict=True), *zip(a.centre, b.centre, strict=True)]
     rest = {"end": b.end, "centre": b.centre, "turn": b.turn}
-    return (all(abs(x - y) <= tolerance for x, y in points) and abs(a.turn - b.turn) < 0.0001
+    return (all(abs(x - y) <= tolerance for x, y in points) and abs(a.turn - b.turn) < 0.001
             and replace(a, **rest) == b)
 
 
 class Jobs(InFolder):
     """Each text."""
 
-    def adapted(self, name: str) -> tuple[int, str, str]:
+    def adapted(self, path: Path) -> tuple[int, str, str]:
         """Adapts a text to out.ngc."""
         Path("out.ngc").unlink(missing_ok=True)
-        return told(adapt, str(CAM / name), "--settings", str(CAM / "cam.toml"), "--ngc", ngc(), "--lift", "100",
-                    "--park", "-10", "20.5", "--output", "out.ngc")
+        return told(adapt, str(path), "--settings", str(CAM / "cam.toml"), "--ngc", ngc(), "--lift", "100",
+                    "--park", "-10", "20.5", "--tool", "201=4", "--output", "out.ngc")
 
     def test_motions(self) -> None:
         """Each motion, its end, centre, turn, feed, spindle, coolant and tool, each dwell and change of the tool."""
         for name, count in DEEDS.items():
             with self.subTest(name):
-                status, _, error = self.adapted(name)
+                status, _, error = self.adapted(CAM / name)
                 self.assertEqual((status, error), (0, ""))
                 self.assertEqual(Path("out.ngc").read_bytes(), (CAM / f"{name}.expected").read_bytes())
-                self.assertEqual(self.compared(name), count)
+                self.assertEqual(self.compared(CAM / name, TOLERANCE.get(name, 0)), count)
 
     def test_heads(self) -> None:
         """The same of the heads of ten other texts."""
@@ -75,23 +76,34 @@ class Jobs(InFolder):
         self.assertEqual((len(names), len(heads)), (22, 10))
         for name in heads:
             with self.subTest(name):
-                self.assertEqual(self.adapted(name)[0], 0)
-                self.assertGreater(self.compared(name), 0)
+                self.assertEqual(self.adapted(CAM / name)[0], 0)
+                self.assertGreater(self.compared(CAM / name), 0)
 
-    def compared(self, name: str) -> int:
+    def test_by_chance(self) -> None:
+        """The same of programs by chance."""
+        count = 0
+        for seed in range(int(os.environ.get("NGC_PROGRAMS", "40"))):
+            with self.subTest(seed):
+                Path("part.nc").write_text(cam_programs.Program.by(seed))
+                status, _, error = self.adapted(Path("part.nc"))
+                self.assertEqual((status, error), (0, ""))
+                count += self.compared(Path("part.nc"), FINE)
+        self.assertGreater(count, 500)
+
+    def compared(self, path: Path, tolerance: Fraction | int = 0) -> int:
         """Compares what a text means with what `ngc dry` does of out.ngc. Returns how many deeds there are."""
-        wanted = meant((CAM / name).read_text())
+        wanted = meant(path.read_text())
         status, text = dry(ngc(), Path("out.ngc"), CAM / "cam.toml")
         done = carried_out(read_commands(text))
         self.assertEqual((status, len(done)), (0, len(wanted)))
         for one, other in zip(wanted, done, strict=True):
-            self.assertTrue(near(one, other, TOLERANCE.get(name, Fraction(0))), f"{name}:\n{one}\n{other}")
+            self.assertTrue(near(one, other, tolerance), f"{path}:\n{one}\n{other}")
         return len(wanted)
 
     def test_compensation(self) -> None:
         """The one that leaves the cutter's radius to the controller is written, but for what only its CAM system knows,
         and each line is told that has to be made anew there."""
-        status, said, error = self.adapted(COMPENSATED)
+        status, said, error = self.adapted(CAM / COMPENSATED)
         self.assertEqual(Path("out.ngc").read_bytes(), (CAM / f"{COMPENSATED}.expected").read_bytes())
         self.assertEqual((status, error), (1, COMPENSATED_TOLD))
         self.assertIn("line 8: WARNING: the text names no unit; the machine coordinate is written in millimetres", said)

@@ -123,6 +123,12 @@ class Motions(unittest.TestCase):
         self.assertEqual(adapted("G1 X1", "G0 F5", "G2 X2 I1"), ["G1 X1", "F5", "G2 X2 I1"])
         self.assertEqual(adapted("G1 X1", "G0 F5", "G92 X0", "X2"), ["G1 X1", "F5", "G92 X0", "G0 X2"])
 
+    def test_lone_after_lines_that_may_be_deleted(self) -> None:
+        """What they name isn't in force where they are deleted: a later motion that isn't theirs is named."""
+        self.assertEqual(adapted("G0 X1", "/G1 X2 F9", "G01 F5", "X3"), ["G0 X1", "/G1 X2 F9", "F5", "G1 X3"])
+        self.assertEqual(adapted("G1 X1 F5", "/G1 X2", "G1 F6", "X3"), ["G1 X1 F5", "/G1 X2", "F6", "X3"])
+        self.assertEqual(adapted("G0 X1", "/G1 X2 F9", "X3"), ["G0 X1", "/G1 X2 F9", "X3"])
+
     def test_lone_that_stay(self) -> None:
         """Beside codes that take axis words, of lines that may be deleted, and where two motions are named."""
         for line in ("/G1 F5", "G53 G0", "G92 G0", "G0 G1", "G0 U1", "G2", "G0 X[1]"):
@@ -134,6 +140,7 @@ class Motions(unittest.TestCase):
                          ["G0 X5. Y-1", "G3 X5. I-5. J0. F9", "G3Z-2X5.I-5J0", "Y1", "X5. J1", "G18 G2 X5. K1",
                           "G19 G2 Y1 K1"])
         self.assertEqual(adapted("G0 Y7", "G2 I1"), ["G0 Y7", "G2 Y7 I1"])
+        self.assertEqual(adapted("G0 X5 Y0", "G43 H1 Z5", "G53 G0 Z0", "G2 I1")[3], "G2 X5 I1")
         self.assertEqual(adapted("G91 G2 I1", "J1", "G19 K1"), ["G91 G2 X0 I1", "X0 J1", "G19 Y0 K1"])
         self.assertEqual(adapted("G0 X1", "G2 I1 X2", "G2 R1", "G2 I1 P2", "G1 I1")[1:],
                          ["G2 I1 X2", "G2 R1", "G2 I1 P2", "G1 I1"])
@@ -141,7 +148,7 @@ class Motions(unittest.TestCase):
     def test_full_circles_from_nowhere(self) -> None:
         """One whose start no line names in program coordinates stays, and is warned of."""
         for before in ("G0", "G53 G0 X1", "G91 G0 X1\nG90", "G0 X1\nG54", "G0 X1\nG20", "G0 X1\nG92 X0", "G0 X[1]",
-                       "G0 X1\nG10 L2 P1 X0", "/G0 X1", "G0 X1\nG28", "G0 X1\n/X2"):
+                       "G0 X1\nG10 L2 P1 X0", "/G0 X1", "G0 X1\nG28", "G0 X1\n/X2", "G18 G0 Z1\nG43 H1"):
             lines = [*before.split("\n"), "G2 I1"]
             found, warned = told(*lines)
             self.assertEqual((found[-1], warned[-1]), ("G2 I1", len(lines)), before)
@@ -180,9 +187,15 @@ class NotPlain(unittest.TestCase):
 
     def test_stay(self) -> None:
         """No word is taken away, since what stands around it could become another word."""
-        for line in ("XA0 5", "X1 A0 5", "IG91.1-1", "N100000 #1=5", "G0 &", "T201 #2=1", "G1 F5 (", "G91 G28 Z0 #1=2"):
+        for line in ("XA0 5", "X1 A0 5", "IG91.1-1", "N100000 #1=5", "G0 &", "T201 #2=1", "G1 F5 (a(b)",
+                     "G91 G28 Z0 #1=2"):
             self.assertEqual(told(line)[0], [line])
         self.assertEqual(told("G91 G28 Z0 #1=2", "XG28-5")[1], [1, 2])
+
+    def test_far_too_long(self) -> None:
+        """A line that is far too long stays as it is."""
+        for line in ("(a) G1 X5 A0" + " " * 2048 + "(b (c))", "G91.1" * 500, ";" * 2049, "X[" * 2000):
+            self.assertEqual(told(line), ([line], []))
 
 
 class Whole(unittest.TestCase):

@@ -69,7 +69,7 @@ idle; X 1.000000 Y 1.000000 Z 0.000000; next line 1 of 7: G21 G90 G17
 work X1.000 Y1.000 Z0.000; G54
 G1 G17 G21 G90 G94; F100 mm/min; spindle stands; no coolant; no tool
 about 0:00 in all
-ngc> refused U1 BadCommand: reference X Y Z: three machine coordinates in millimetres, without letters, as in `reference 7.21 0 -5`
+ngc> refused U1 BadCommand: {U1}
 ngc> done 11
 ngc> refused K4 NothingHalfDone: no block is half-done: run goes on with the program
 ngc> taken
@@ -105,7 +105,7 @@ quit? yes ends the session, anything else doesn't:
 ngc> quit
 segment 0 of your line g1 f60 x3 stays half-done: it is taken up or given up in the next session
 quit? yes ends the session, anything else doesn't: yes
-still on: the spindle, clockwise at 1000. Within a block no M5 is done. The player switches that off once the session has ended and the seconds of its --off-after are over; Ctrl-C in the player does it at once
+still on: the spindle, clockwise at 1000. Within a block no M5 is done. {OFF}
 """
 TYPED = """load part.ngc
 yes
@@ -138,7 +138,11 @@ def operate(*words: str) -> list[str]:
 
 def sentences() -> dict[str, str]:
     """What is said of some faults, by their codes."""
-    return {code: f"{faults.fault(code).holds}\n  {faults.fault(code).cure}" for code in ("X1", "X2", "E1")}
+    said = {code: f"{faults.fault(code).holds}\n  {faults.fault(code).cure}" for code in ("X1", "X2", "E1")}
+    return said | {
+        "U1": "reference X Y Z: three machine coordinates in millimetres, without letters, as in `reference 7.21 0 -5`",
+        "OFF": "The player switches that off once the session has ended and the seconds of its --off-after are over;"
+               " Ctrl-C in the player does it at once"}
 
 
 class Scripted(InFolder):
@@ -291,6 +295,7 @@ stopped; X 0.000000 Y 0.000000 Z 0.000000; next line 3 of 5: (MSG, kept)
 ngc> stopped; X 0.000000 Y 0.000000 Z 0.000000; next line 3 of 5: (MSG, kept)
 work X0.000 Y0.000 Z0.000; G54
 G80 G17 G21 G90 G94; F0 mm/min; spindle stands; no coolant; no tool
+it stops at M1; lines with a slash are left out
 about 0:00 done, 0:00 left
 ngc> message, line 3: kept
 idle; X 1.000000 Y 0.000000 Z 0.000000; next line 1 of 5: /(MSG, left out)
@@ -449,11 +454,11 @@ class AtTerminal(InFolder):
             if typed:
                 terminal.send(typed)
                 self.wait_for("it waits for the player", lambda: self.player.most_behind > 90)
-            os.kill(terminal.pid, number)
-            shown = terminal.read_to(b"never").decode()
+            shown = terminal.end_by(number).decode()
             self.assertEqual(terminal.status(), 2)
             self.assertEqual(self.player.words, [b"end"])
-            stays = "held; segment 0 of your line G1 F60 X3 stays half-done" if typed else "idle; segment 0 of a line of yours stays half-done"
+            stays = ("held; segment 0 of your line G1 F60 X3 stays half-done" if typed else
+                     "idle; segment 0 of a line of yours stays half-done")
             self.assertTrue(shown.endswith(f"ngc-operate: {number.name} came: {stays}\r\n"), shown)
 
     def test_closed_terminal(self) -> None:
@@ -474,7 +479,8 @@ class AtTerminal(InFolder):
         words = operate("mill.dev", "first.toml", "axis", "--player", "progress")
         terminal = Terminal(str(TOOLS / "ngc-operate"), *words, kind="xterm", columns=40)
         shown = terminal.read_to(PROMPT)
-        Path("part.ngc").write_text("G21 G90 (a long comment, so that the line is too long)\nG1 X9 Y0.5 Z0.5 F60 (and one more)\nM2\n")
+        Path("part.ngc").write_text("G21 G90 (a long comment, so that the line is too long)\n"
+                                    "G1 X9 Y0.5 Z0.5 F60 (and one more)\nM2\n")
         for typed in (b"help\n", b"load part.ngc\n"):
             terminal.send(typed)
             shown += terminal.read_to(PROMPT)
@@ -495,7 +501,8 @@ class AtTerminal(InFolder):
         self.player.lazy = self.player.waits = True
         self.player.tool = 7
         terminal.send(b"G1 F60 X3\n")
-        waits = b"the player waits for tool 7 to be put in: press Enter there once that is done; or hold here, and then: go\r\n"
+        waits = (b"the player waits for tool 7 to be put in: press Enter there once that is done; or hold here, and"
+                 b" then: go\r\n")
         self.assertEqual(terminal.read_to(b"then: go\r\n"), b"G1 F60 X3\r\n" + waits)
         terminal.send(b"\n")
         terminal.read_to(PROMPT)

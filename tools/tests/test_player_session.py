@@ -13,7 +13,7 @@ from pathlib import Path
 sys.path.insert(0, str(Path(__file__).resolve().parent))
 
 from player_support import InC, PlayerTest, Sanitized, preloaded, record, sector  # noqa: E402
-from session_support import PATIENCE_S  # noqa: E402
+from session_support import PATIENCE_S, ngc  # noqa: E402
 
 from ngc_tools.formats.out import OFF, Switch  # noqa: E402
 from ngc_tools.player.progress import Report  # noqa: E402
@@ -143,8 +143,8 @@ class Sessions:
         """Who can't be answered, or asks something else, does no harm."""
         child, link, pipe = self.session()
         with socket.socket(socket.AF_UNIX, socket.SOCK_DGRAM) as nameless:
-            for text in (b"progress 1", b"", b"progress", b"progress x", b"at", b"at 1 2", b"at 1 2 x", b"\0" * 64,
-                         b"go"):
+            for text in (b"progress 1", b"", b"progress", b"progress x", b"at", b"at 1 2", b"at 1 2 x", b"\0" * 128,
+                         b"at 1 2 3" + b"0" * 121, b"end\0", b"go"):
                 nameless.sendto(text, "progress")
         self.assertEqual(link.ask(), Report(0, 0, False, "0.000000 0.000000 0.000000", f"{self.folder}/out"))
         os.write(pipe, b"P 1 0 0 50\n")
@@ -186,6 +186,21 @@ class Sessions:
         self.assertGreater(time.monotonic() - begun, 0.39)
         self.assertEqual(Path("pins").read_bytes(), ON + b"P 1 0 0 50\noff\n")
         self.assertEqual(record(), f"lines 2\nbytes 32\n{OFF_RECORD}stopped console\n")
+
+    def test_operate_is_killed(self) -> None:
+        """The same with ngc-operate, which is killed with the spindle on."""
+        self.device()
+        os.mkfifo("axis")
+        player = self.begin("--off-after", "0.3", "--progress", "progress", "axis", "first.toml", "position")
+        link = self.linked()
+        console = self.start("ngc-operate", "mill.dev", "first.toml", "axis", "--player", "progress", "--ngc", ngc())
+        console.stdin.write("M3 S1000\n")
+        console.stdin.flush()
+        self.wait_for("the spindle is on", lambda: link.ask().outputs == Switch(1, 10**9, False, False, 0, 0))
+        console.kill()
+        self.assertEqual(self.ended(player),
+                         (1, "axis: the console is gone without a word, after line 2; spindle and coolant off\n"))
+        self.assertIn("\noutputs S 0 1000.000000 0 0 0 0\n", record())
 
     def test_console_comes_back(self) -> None:
         """A new console within the seconds keeps spindle and coolant on; the questions of one that starts do too."""

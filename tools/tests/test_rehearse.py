@@ -153,6 +153,7 @@ class Rehearsals(InFolder):
             found: list[Path] = []
 
             def begun() -> bool:
+                """Whether this one has its folder."""
                 found[:] = [path for path in Path("/dev/shm").glob("ngc-rehearse-*") if path not in before
                             and f"/{child.pid}/" in f"/{_parent(path)}/"]
                 return bool(found)
@@ -316,8 +317,8 @@ there is no program
         Path("first.toml").write_text(FIRST.replace("high_nm = [1000000000", "high_nm = [1500000"))
         self.assertEqual(self.refused(1, "1", "2", "5"), "ngc-rehearse: mill.dev: resume: refused X2 OutsideTravel\n")
         Path("first.toml").write_text(FIRST.replace("period_us = 50", "period_us = 0"))
-        self.assertIn("ngc-rehearse: first.toml: S5 OutOfLimits: a number is beyond its limits\n    line 5: period_us = 0",
-                      self.refused(2))
+        self.assertIn("ngc-rehearse: first.toml: S5 OutOfLimits: a number is beyond its limits\n"
+                      "    line 5: period_us = 0", self.refused(2))
         Path("first.toml").write_text(FIRST)
         with open("mill.dev", "rb") as file:
             fcntl.flock(file, fcntl.LOCK_EX)

@@ -1,6 +1,7 @@
 """The words of `ngc-adapt`, and what it writes."""
 import argparse
 import sys
+import tempfile
 from collections.abc import Callable, Iterator, Sequence
 from dataclasses import replace
 
@@ -11,14 +12,17 @@ from ngc_tools.failure import BadNumber, Failure, WrongWords, speaking_of
 from ngc_tools.formats.device import SLOTS
 from ngc_tools.formats.position import nanometres
 from ngc_tools.formats.program_text import NotText, ProgramText
+from ngc_tools.formats.settings import DEFAULT, Settings
 from ngc_tools.formats.text import shown
 from ngc_tools.job.cam import rewritten, whole_text
 from ngc_tools.job.cam_homes import Answers, Missing
 from ngc_tools.job.cam_line import CamLine
 from ngc_tools.job.cam_program import SharedSlot
+from ngc_tools.job.outside import widest
 from ngc_tools.job.radius_arcs import centred
 from ngc_tools.job.refused import Lines, find_all
 from ngc_tools.ngc import faults
+from ngc_tools.ngc.beginning import Beginning
 from ngc_tools.ngc.run import Refusal, find_ngc, refusal
 from ngc_tools.ngc.usable_settings import look_at_settings
 
@@ -73,7 +77,7 @@ def adapt(args: argparse.Namespace) -> int:
         files.look_before_write(args.output, inputs, args.force)
     begin, text = chosen_beginning(args), _read(args.program)
     lines, warnings = _rewritten(args.program, text, answers)
-    centred(lines, lambda asked: begin.dry(ngc, asked, args.settings))
+    _centre(ngc, args, begin, lines)
     new, said = whole_text(lines, text)
     _write(args, new.encode(), inputs)
     changed = [*said, *changes(text.lines, lines)] or ["no line is changed"]
@@ -82,6 +86,18 @@ def adapt(args: argparse.Namespace) -> int:
                         lambda asked: refusal(*begin.dry(ngc, asked, args.settings))))
     print("\n".join(refused), file=sys.stderr, end="\n" if refused else "")
     return 1 if refused else 0
+
+
+def _centre(ngc: str, args: argparse.Namespace, begin: Beginning, lines: list[CamLine]) -> None:
+    """Writes arcs by radius by their centres. What is asked is where they lie, not whether they fit: so with the widest
+    travel, and all slots. Raises OSError, CannotSetUp."""
+    known = Settings.read(args.settings) if args.settings else DEFAULT
+    tools = (*known.tools_nm, *(0,) * (SLOTS - len(known.tools_nm)))
+    with tempfile.NamedTemporaryFile("w", prefix="ngc-settings-", suffix=".toml") as file:
+        with files.naming(file.name):
+            file.write(replace(widest(known), tools_nm=tools).text())
+            file.flush()
+        centred(lines, lambda asked: begin.dry(ngc, asked, file.name))
 
 
 def _read(program: str) -> ProgramText:
@@ -106,7 +122,7 @@ def given(args: argparse.Namespace) -> Answers:
     slots: dict[int, int] = {}
     for word in args.tool:
         number, _, slot = word.partition("=")
-        if not _is_count(number) or int(number) in slots:
+        if not _is_count(number) or int(number) in (0, *slots):
             raise WrongWords(f"--tool {word}: write NUMBER=SLOT, as 201=1, and each number once")
         slots[int(number)] = slot_number(slot)
     return Answers(None if args.lift is None else nanometres(args.lift), (x_y[0], x_y[1]) if x_y else None, slots)
@@ -183,6 +199,10 @@ def told(new: bytes, path: str, ask: Callable[[bytes], Refusal | None]) -> Itera
         fault = finding.refusal
         if fault.line in lines:
             continue  # a fault that shows once another one's word is left out
+        if lines and fault.code == "B11":
+            yield (f"From line {fault.line} on arcs by radius stay as they are, since where they begin isn't known."
+                   " Mend the lines above in the CAM system's text, and adapt it again")
+            return
         if len(lines) == _MOST:
             yield f"and more: ngc-check {path} lists each"
             return

@@ -9,7 +9,7 @@ from ngc_tools.failure import speaking_of
 from ngc_tools.formats.program_text import ProgramText
 from ngc_tools.job import cam_homes, cam_motion, cam_program, cam_words
 from ngc_tools.job.cam_homes import Answers, Missing
-from ngc_tools.job.cam_line import CamLine
+from ngc_tools.job.cam_line import LONGEST, CamLine
 from ngc_tools.job.cam_modes import Modes, Named
 
 
@@ -42,7 +42,7 @@ class _Writer:
         """The next line as it is to be written. Raises Missing."""
         before = CamLine.cut(text)
         line = before.copy()
-        if text.lstrip(" \t").startswith("%"):
+        if text.lstrip(" \t").startswith("%") or len(text) > LONGEST:
             return line
         cam_program.open_comment(line, self.whole, warn)
         cam_words.comments(line)

@@ -3,7 +3,7 @@ import re
 from dataclasses import dataclass, field
 from decimal import Decimal, InvalidOperation
 
-_LONGEST = 2048  # characters of a line that is cut; `ngc` takes 256 bytes
+LONGEST = 2048  # characters of a line that is cut; `ngc` takes 256 bytes
 _BLANKS = re.compile(r"[ \t]*")
 _LETTER = re.compile(r"[A-Za-z][ \t]*")
 _NUMBER = re.compile(r"[0-9. \t]*[0-9.]")
@@ -51,7 +51,7 @@ class CamLine:
     def cut(text: str) -> "CamLine":
         """Cuts a line into pieces. From a ( that isn't closed on, the rest of the line is one piece; so is a line that
         is far too long."""
-        if len(text) > _LONGEST:
+        if len(text) > LONGEST:
             return CamLine([Token("", text)])
         pieces, here = [], 0
         comments = matched(text, "()") if "(" in text else {}

@@ -1,5 +1,5 @@
 """What the words of a CAM system's text leave in force for the lines after them."""
-from dataclasses import dataclass, field
+from dataclasses import dataclass, field, replace
 from decimal import Decimal
 
 from ngc_tools.job.cam_line import CamLine
@@ -9,36 +9,38 @@ CYCLES = (73, 76, 81, 82, 83, 84, 85, 86, 87, 88, 89)
 MOTIONS = (0, 1, 2, 3, Decimal("38.2"), 80, *CYCLES)
 TAKERS = (10, 28, 30, 52, 92)
 """The codes that take the axis words of their line, so that no motion does."""
-_MOVED = tuple(map(Decimal, "10 28 30 43 43.1 49 52 54 55 56 57 58 59 59.1 59.2 59.3 92 92.1 92.2 92.3".split()))
+_MOVED = tuple(map(Decimal, "10 28 30 52 54 55 56 57 58 59 59.1 59.2 59.3 92 92.1 92.2 92.3".split()))
 """The codes after which program coordinates are other ones, or the machine is elsewhere."""
+_LENGTHS = (43, Decimal("43.1"), 49)
 _PLANES = {17: ("XY", "IJ"), 18: ("XZ", "IK"), 19: ("YZ", "JK")}
 
 
 @dataclass(slots=True)
 class Modes:
     """What is in force: the plane, 90 or 91, the unit as 20 or 21, the motion's number; None where none was named.
-    `begun` says that there was a word."""
+    `is_sure` says that no line which may be deleted names the motion, `begun` that there was a word."""
 
     plane: int = 17
     distance: int = 90
     unit: int | None = None
     motion: Decimal | None = None
+    is_sure: bool = True
     begun: bool = False
 
     def take(self, line: CamLine) -> None:
         """Takes over the modes of a line."""
         for piece in line.pieces:
             if piece.letter == "G" and piece.value is not None:
-                self._take_code(piece.value)
+                self._take_code(piece.value, line.is_deletable)
             self.begun = self.begun or bool(piece.letter) and piece.letter != "N"
 
     def after(self, line: CamLine) -> "Modes":
         """What is in force after a line."""
-        modes = Modes(self.plane, self.distance, self.unit, self.motion, self.begun)
+        modes = replace(self)
         modes.take(line)
         return modes
 
-    def _take_code(self, code: Decimal) -> None:
+    def _take_code(self, code: Decimal, is_deletable: bool) -> None:
         if code in (17, 18, 19):
             self.plane = int(code)
         elif code in (90, 91):
@@ -46,6 +48,7 @@ class Modes:
         elif code in (20, 21):
             self.unit = int(code)
         elif code in MOTIONS:
+            self.is_sure = not is_deletable or self.is_sure and self.motion == code
             self.motion = code
 
     @property
@@ -79,6 +82,8 @@ class Named:
         after = before.after(line)
         if line.find("G", 70, 71, *_MOVED) or after.unit != before.unit:
             self.coordinates.clear()
+        if line.find("G", *_LENGTHS):
+            self.coordinates.pop("Z", None)
         if line.find("G", *TAKERS):
             return
         unsure = after.distance == 91 or line.is_deletable or bool(line.find("G", 53))

@@ -39,8 +39,10 @@ def full_circle(line: CamLine, modes: Modes, named: Named, warn: Warn) -> None:
 
 
 def motion_in_force(line: CamLine, before: CamLine, meant: Modes, written: Modes) -> None:
-    """The motion by name, where the line relies on one that `ngc` wouldn't have in force any more."""
-    if meant.motion == written.motion or line.find("G", *MOTIONS):
+    """The motion by name, where the line relies on one that `ngc` wouldn't have in force any more, or only where a line
+    that may be deleted isn't."""
+    is_same = meant.motion == written.motion and (written.is_sure or not meant.is_sure)
+    if is_same or line.find("G", *MOTIONS):
         return
     if relies_on_motion(before, meant.after(before)):
         word = "G80" if meant.motion is None else f"G{meant.motion.normalize():f}"

@@ -16,9 +16,9 @@ _PLANES = {17: "XY", 18: "XZ", 19: "YZ"}
 def in_force_on(state: State) -> InForce:
     """What is in force on a device."""
     x, y, z = (origin + offset for origin, offset in zip(state.origin_nm, state.g92_nm, strict=True))
-    return InForce(_PLANES[state.plane], "MM" if state.unit == 21 else "INCHES", state.feed_nm_per_min, 0,
-                   _SPINDLE[state.spindle], state.speed, bool(state.mist), bool(state.flood), state.selected, state.slot,
-                   state.tool_length_nm, (x, y, z))
+    return InForce(plane=_PLANES[state.plane], unit="MM" if state.unit == 21 else "INCHES", feed=state.feed_nm_per_min,
+                   spindle=_SPINDLE[state.spindle], speed=state.speed, mist=bool(state.mist), flood=bool(state.flood),
+                   selected=state.selected, tool=state.slot, length=state.tool_length_nm, origin=(x, y, z))
 
 
 def outputs_on(state: State) -> Switch:

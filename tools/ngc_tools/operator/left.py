@@ -12,8 +12,10 @@ from ngc_tools.ngc.beginning import Beginning, CannotSetUp
 from ngc_tools.operator.modes import Difference, Restoring, differences, point_words, restoring
 from ngc_tools.operator.session import Session
 
-_TOLD = ("unit", "feed_mode", "plane", "distance", "retract", "system", "path_mode", "origin", "g92", "tool_length", "feed")
+_TOLD = ("unit", "feed_mode", "plane", "distance", "retract", "system", "path_mode", "origin", "g92", "tool_length",
+         "feed")
 """What is said after a line of one's own; the rest where the program goes on and it matters."""
+_PUT = {0, 1, 80}  # the motion modes that a dry run can begin with
 _FEEDS = ("STRAIGHT_FEED", "ARC_FEED", "SET_FEED_RATE")
 
 
@@ -87,16 +89,15 @@ class Left:
         """Whether what is in force makes the rest of the program another one: by a dry run of it with both, from where
         the machine is now."""
         names = {difference.name for difference in found}
-        if _stopped(before.state, now.state) or max(before.state.motion, now.state.motion) not in (0, 1, 80):
+        motions = {before.state.motion, now.state.motion}
+        if _stopped(before.state, now.state) or not motions <= _PUT:
             return True
         try:
             said = [self._rest(device, now) for device in (_moved(before, now), now)]
+            first = next((command.name for command in read_commands(said[1]) if command.name in _FEEDS), "")
         except (CannotSetUp, NoDevice, BadSettings, BadText, OSError):
             return True
-        if said[0] != said[1]:
-            return True
-        first = next((command.name for command in read_commands(said[1]) if command.name in _FEEDS), "")
-        return "feed" in names and first != "SET_FEED_RATE" and bool(first)
+        return said[0] != said[1] or "feed" in names and first in ("STRAIGHT_FEED", "ARC_FEED")
 
     def _rest(self, device: Device, now: Device) -> bytes:
         """What the program does from the place on where it goes on, by a dry run that begins as a device stands."""

@@ -41,8 +41,8 @@ class Loading:
             return False
         found = self._try(text)
         if not isinstance(found, Timeline):
-            face.say(f"not tried: {found}", WARNING)
-            return True
+            face.say(f"it can't be tried by a dry run: {found}", WARNING)
+            return self._wanted()
         for note in found.notes:
             face.say(f"the dry run isn't the machine's: {note}", WARNING)
         said = figures(found, self.session.settings)
@@ -50,10 +50,14 @@ class Loading:
         if found.refused is None:
             return True
         face.say(f"it would stop at {refusal_lines(text, found)}\n  ngc-check lists each such line", REFUSED)
-        if face.ask("store it all the same? yes stores it: ").strip().lower() == "yes":
-            return True
-        face.say("nothing is stored")
-        return False
+        return self._wanted()
+
+    def _wanted(self) -> bool:
+        """Whether a person wants it stored all the same."""
+        wanted = self.session.face.ask("store it all the same? yes stores it: ").strip().lower() == "yes"
+        if not wanted:
+            self.session.face.say("nothing is stored")
+        return wanted
 
     def timeline(self, begins: bool) -> Timeline | None:
         """What the stored program does line by line, as it would from here; None if that can't be said. Where it

@@ -40,6 +40,10 @@ class Look:
         if isinstance(stored, Device):
             for line in self._in_force(status, stored, report):
                 face.say(line, WHERE)
+        switches = [text for text, is_on in (("it stops at M1", self.session.optional),
+                                             ("lines with a slash are left out", self.session.delete)) if is_on]
+        if switches:
+            face.say("; ".join(switches), WHERE)
         if timeline and self.session.program.text:
             face.say(self._times(status, timeline), WHERE)
         self._motors(report)

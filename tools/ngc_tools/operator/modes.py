@@ -9,7 +9,6 @@ SYSTEMS = ("G54", "G55", "G56", "G57", "G58", "G59", "G59.1", "G59.2", "G59.3")
 _PATHS = ("G61", "G61.1", "G64")
 _SPINDLE = ("M5", "M3", "M4")
 _CODES = ("unit", "feed_mode", "plane", "distance", "retract", "system", "path_mode")
-_OUTPUTS = ("spindle", "speed", "coolant", "tool", "selected")
 
 
 @dataclass(frozen=True, slots=True)
@@ -34,7 +33,7 @@ def point_words(nm: tuple[int, ...]) -> str:
     return " ".join(f"{axis}{trimmed(value)}" for axis, value in zip("XYZ", nm, strict=True))
 
 
-def in_force(state: State) -> dict[str, str]:
+def words_of(state: State) -> dict[str, str]:
     """What is in force, for people, by its name; a mode is shown by its code."""
     found = {name: f"G{getattr(state, name)}" for name in ("unit", "feed_mode", "plane", "distance", "retract")}
     coolant = [code for code, on in (("M7", state.mist), ("M8", state.flood)) if on]
@@ -46,13 +45,20 @@ def in_force(state: State) -> dict[str, str]:
         "tool_length": length, "feed": f"F{trimmed(state.feed_nm_per_min)} mm/min",
         "spindle": _SPINDLE[state.spindle], "speed": f"S{trimmed(state.speed)}", "coolant": " ".join(coolant) or "M9",
         "tool": f"tool {state.slot} in the spindle" if state.slot else "no tool in the spindle",
-        "selected": f"T{state.selected}", "cycle": f"R, Z, P, Q of a cycle {state.kept_rzpq}" if state.kept else "",
+        "selected": f"T{state.selected}", "cycle": _kept(state),
     }
+
+
+def _kept(state: State) -> str:
+    """What a cycle keeps for the lines after it."""
+    words = [letter + trimmed(value) for bit, (letter, value) in enumerate(zip("RZPQ", state.kept_rzpq, strict=True))
+             if state.kept >> bit & 1]
+    return " ".join(words) + " of a cycle" if words else "no words of a cycle"
 
 
 def differences(before: State, now: State) -> list[Difference]:
     """What is in force now and wasn't before."""
-    was, found = in_force(before), in_force(now)
+    was, found = words_of(before), words_of(now)
     if before.system != now.system:
         was["origin"] = found["origin"]  # the name of the system says it
     if before.motion != now.motion:
@@ -104,8 +110,8 @@ def _in_millimetres(before: State, now: State, names: set[str], tools_nm: list[i
         yield {0: f"G53 G0 {at}", 1: f"F1 G53 G1 {at}", 80: "G80"}[before.motion]
     if feeds:
         yield f"F{trimmed(before.feed_nm_per_min)}"
-    codes = in_force(before)
-    here = {**in_force(now), "unit": f"G{unit}", "feed_mode": f"G{feed_mode}"}
+    codes = words_of(before)
+    here = {**words_of(now), "unit": f"G{unit}", "feed_mode": f"G{feed_mode}"}
     changed = [codes[name] for name in _CODES if codes[name] != here[name]]
     if changed:
         yield " ".join(changed)

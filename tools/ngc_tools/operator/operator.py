@@ -10,7 +10,6 @@ from ngc_tools.formats.device import Device
 from ngc_tools.formats.lines import Program
 from ngc_tools.formats.settings import Settings
 from ngc_tools.ngc.console import Console, Status
-from ngc_tools.operator.beginning import say_beginning
 from ngc_tools.operator.causes import refused, taken
 from ngc_tools.operator.ending import Ending
 from ngc_tools.operator.face import REFUSED, WARNING, WHERE, Face
@@ -18,6 +17,7 @@ from ngc_tools.operator.left import Left, dropped_g92
 from ngc_tools.operator.loading import Loading
 from ngc_tools.operator.look import Look
 from ngc_tools.operator.meter import Meter
+from ngc_tools.operator.opening import say_opening
 from ngc_tools.operator.places import Places, stops_outputs
 from ngc_tools.operator.rehearsing import rehearse
 from ngc_tools.operator.sentences import HELP, NOT_MOVED, SWITCHED, TAKEN_UP
@@ -46,7 +46,8 @@ class Operator:
             "load": self._load, "run": self._run, "start": self._start, "continue": self._continue,
             "where": self._where, "status": self._status, "reference": self._reference, "resume": self._resume,
             "rehearse": self._rehearse, "restore": self._restore, "go": self._go, "help": self._help, "?": self._help,
-            "quit": self._quit, "exit": self._quit, "tick": self._tick, "mdi": self._typed_mdi,
+            "quit": self._quit, "exit": self._quit, "tick": self._tick,
+            "mdi": lambda typed: self._mdi(typed.rest, typed.anyway),
             **dict.fromkeys(PLAIN, self._plain),
         }
 
@@ -54,7 +55,7 @@ class Operator:
         """Says what the session begins with. `found` is the device as it stood before `ngc` was started."""
         self.session.program = Program(self.stored().program)
         self.face.say(bound)
-        say_beginning(self.session, self.places, self.left, found)
+        say_opening(self.session, self.places, self.left, found)
         self.session.told = self.console.status().place
 
     def do(self, line: str) -> None:
@@ -66,7 +67,7 @@ class Operator:
             self._mdi(typed.line, typed.anyway)
 
     def load(self, name: str, text: bytes) -> bool:
-        """Stores a program that people call `name`, once a dry run was looked at; whether it is stored. Raises Ended."""
+        """Stores a program that people call `name`, once a dry run tried it; whether it is stored. Raises Ended."""
         session, status = self.session, self.console.status()
         is_busy = status.half != "none" or status.does in ("held", "running")  # `ngc` refuses it
         if not is_busy and not self.loading.agreed(name, text):
@@ -122,13 +123,14 @@ class Operator:
         status = self.console.status()
         if not typed.anyway and not (self.places.agree(status, f"{typed.word} {ANYWAY}") and self._as_left(status)):
             return
+        timeline = self.loading.timeline(command == "start" and not status.place)
         if refused(self.session, self.console.ask(command)[0], command):
             return
         if status.half == "none" and (said := dropped_g92(self.session)):
             self.face.once(said)
         if command == "start":
             self.session.told = status.place
-        self.work.timeline = self.loading.timeline(command == "start" and not status.place)
+        self.work.timeline = timeline
         ended = self._run_on()
         if ended != "refused" or self.console.status().place != status.place:
             self.left.forget()
@@ -142,9 +144,6 @@ class Operator:
 
     def _yes(self, question: str) -> bool:
         return self.face.ask(question).strip().lower() == "yes"
-
-    def _typed_mdi(self, typed: Typed) -> None:
-        self._mdi(typed.rest, typed.anyway)
 
     def _mdi(self, line: str, anyway: bool) -> None:
         """Does a line of one's own, and says how all stands then."""
@@ -185,8 +184,8 @@ class Operator:
             if not self._line_done(line, False):
                 return
         Look(self.session).after_work()
-        for text in found.left:
-            self.face.say(f"it can't put back {text}", WARNING)
+        if found.left:
+            self.face.say("it can't put back " + "; nor ".join(found.left), WARNING)
 
     def _plain(self, typed: Typed) -> None:
         if typed.word == "abandon" and self.console.status().does == "idle":

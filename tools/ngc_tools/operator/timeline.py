@@ -1,14 +1,13 @@
 """What a program does line by line, by a dry run from a device: what is in force, and about how long it takes."""
-from collections.abc import Iterator
+from collections.abc import Iterable
 from dataclasses import dataclass
 
-from ngc_tools.formats.canonical import Command
 from ngc_tools.formats.device import Device
 from ngc_tools.formats.settings import Settings
 from ngc_tools.job.figures import Box, box, by_length
 from ngc_tools.job.in_force import InForce
-from ngc_tools.job.moves import Move, Step, of_canonical
-from ngc_tools.job.printed import by_line
+from ngc_tools.job.moves import CUT, TRAVERSE, Move, Step, Wait, arc_of, arc_points
+from ngc_tools.job.printed import Act, acts_of, by_line
 from ngc_tools.job.refused import Lines
 from ngc_tools.ngc.beginning import Beginning
 from ngc_tools.ngc.console import Console
@@ -50,49 +49,46 @@ def timeline(console: Console, device: Device, text: bytes, settings: Settings, 
     beginning = Beginning.of(device)
 
     def run(part: bytes) -> bytes:
+        """A dry run from there."""
         return beginning.dry(console.ngc, part, console.settings, block_delete)[1]
 
-    printed = by_line(Lines(text), run)
+    acts = acts_of(by_line(Lines(text), run), in_force_on(device.state), device.state.point_nm)
     refused = refusal(*beginning.dry(console.ngc, text, console.settings, block_delete))
-    set_up = beginning.set_up(console.ngc, console.settings)
-    return _folded(in_force_on(device.state), set_up, printed, settings, (refused, beginning.notes))
+    return _folded(acts, settings, refused, beginning.notes)
 
 
-def _folded(view: InForce, set_up: list[Command], printed: dict[int, list[Command]], settings: Settings,
-            said: tuple[Refusal | None, tuple[str, ...]]) -> Timeline:
-    """Goes through what the lines printed. `set_up` brings the machine where it begins."""
+def _folded(acts: Iterable[Act], settings: Settings, refused: Refusal | None, notes: tuple[str, ...]) -> Timeline:
+    """Goes through what the lines do."""
     views: dict[int, InForce] = {}
-    for number in sorted(printed):
-        for command in printed[number]:
-            view = view.after(command)
-        views[number] = view
-    ends, total, moves = {}, 0, []
-    for number, step in _steps(set_up, printed):
-        if number:
-            total += _lasts_us(step, settings)
-            ends[number] = total
-            moves += [step] if isinstance(step, Move) else []
-    return Timeline(views, ends, total, box(moves), *said)
+    ends: dict[int, int] = {}
+    total, moves = 0, []
+    for act in acts:
+        views[act.line] = act.in_force.after(act.command)
+        step = _step(act)
+        total += _lasts_us(step, settings)
+        ends[act.line] = total
+        moves += [step] if isinstance(step, Move) else []
+    return Timeline(views, ends, total, box(moves), refused, notes)
 
 
-def _steps(set_up: list[Command], printed: dict[int, list[Command]]) -> Iterator[tuple[int, Step]]:
-    """The moves and dwells with the numbers of their lines; 0 for what is set up."""
-    here = 0
+def _step(act: Act) -> Step | None:
+    """The move or the wait of a command, if it is one."""
+    command, in_force = act.command, act.in_force
+    match command.name:
+        case "DWELL":
+            return Wait(int(command.args[0]))
+        case "STRAIGHT_TRAVERSE":
+            return Move(TRAVERSE, (act.at, command.point))
+        case "STRAIGHT_FEED":
+            return Move(CUT, (act.at, command.point), feed=in_force.feed, inverse=in_force.inverse)
+        case "ARC_FEED":
+            points = arc_points(act.at, command.point, arc_of(command, in_force.plane))
+            return Move(CUT, points, feed=in_force.feed, inverse=in_force.inverse)
+    return None
 
-    def commands() -> Iterator[Command]:
-        nonlocal here
-        yield from set_up
-        for number in sorted(printed):
-            for command in printed[number]:
-                here = number
-                yield command
 
-    for step in of_canonical(commands()):  # a step comes of the command that was taken last
-        yield here, step
-
-
-def _lasts_us(step: Step, settings: Settings) -> int:
+def _lasts_us(step: Step | None, settings: Settings) -> int:
     """About how long a step lasts: by length and rate."""
     if not isinstance(step, Move):
-        return step.us
+        return step.us if step else 0
     return by_length(step) or step.length * 60_000_000 // settings.traverse_nm_per_min

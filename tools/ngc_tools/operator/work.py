@@ -47,6 +47,9 @@ class _Shown:
     more: tuple[str, ...]
 
 
+_NOTHING_SHOWN = _Shown(-1, "", None, ())
+
+
 class Work:
     """Gives the ticks of a session."""
 
@@ -54,7 +57,7 @@ class Work:
         self.session = session
         self.chunk = Chunk()
         self.timeline: Timeline | None = None  # of the program that runs, if it is known
-        self._shown = _Shown(-1, "", None, ())
+        self._shown = _NOTHING_SHOWN
 
     def go(self) -> str | None:
         """Gives ticks until there is nothing to do, or somebody wants to hold.
@@ -62,6 +65,7 @@ class Work:
         It returns what ended them: idle, stopped, held or refused; None for a wish to hold, or a player that is gone.
         After all but a refusal it waits until the motors are through."""
         self.session.gone = False
+        self._shown = _NOTHING_SHOWN
         ended = self._ticks()
         self.session.face.live(None)
         if ended in ("idle", "stopped", "held"):
@@ -95,8 +99,8 @@ class Work:
             return min(session.meter.room(self._goes_on), MOST_TICKS)
         except NoAnswer as error:
             session.gone = True
-            session.face.say(f"{error}; nothing more is handed out. Once it answers again, run goes on; if it is gone, quit,"
-                             " and start a player and this again", WARNING)
+            session.face.say(f"{error}; nothing more is handed out. Once it answers again, run goes on; if it is gone,"
+                             " quit, and start a player and this again", WARNING)
             return 0
 
     def await_motors(self) -> bool:

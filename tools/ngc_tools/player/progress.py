@@ -29,6 +29,7 @@ from ngc_tools.files import naming
 from ngc_tools.formats.out import OFF, BadLine, Switch, read_line
 
 QUESTION = re.compile(rb"progress [0-9]{1,20}")
+_LONGEST = 128  # bytes of a datagram to a player
 _REPORT = re.compile(r"carried (\d+) received (\d+) (works|waits tool (\d{1,3})) reference (\S+ \S+ \S+)"
                      r" outputs (S \d \S+ \d \d \d+ \d+) out (.*)", re.DOTALL)
 
@@ -111,12 +112,12 @@ class Listener:
             os.umask(before)
 
     def next(self) -> tuple[bytes, str | bytes | None] | None:
-        """A question and whom to answer, or None if nobody asks."""
+        """A question and whom to answer, or None if nobody asks. One that is too long to be one is empty."""
         try:
-            question, sender = self.socket.recvfrom(64)
+            question, sender = self.socket.recvfrom(_LONGEST + 1)
         except BlockingIOError:
             return None
-        return question.strip(), sender
+        return question.rstrip(b" \n") if len(question) <= _LONGEST else b"", sender
 
     def answer(self, text: bytes, sender: str | bytes | None) -> None:
         """Answers; whoever has no name, or doesn't read the answer, goes without."""

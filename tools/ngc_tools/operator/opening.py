@@ -11,7 +11,7 @@ from ngc_tools.operator.rehearsing import count_segments
 from ngc_tools.operator.session import Session
 
 
-def say_beginning(session: Session, places: Places, left: Left, found: Device | None) -> None:
+def say_opening(session: Session, places: Places, left: Left, found: Device | None) -> None:
     """Says it. `found` is the device as it stood before `ngc` was started: its log tells how the program was left."""
     status = session.console.status()
     if session.program.text:
