@@ -451,6 +451,8 @@ class Heights(Warned):
         program = HEAD + "G0 X0 Y0 Z5\nG1 Z2\nG0 Z5\nG53 G0 Z0\nX9\nG0 Z5\nM2\n"
         self.assertEqual(self.warnings(program), [])
         self.assertEqual(self.warnings(program, "--origin", "0", "0", "-60"), [])
+        self.assertEqual(self.warnings(program.replace("X9\n", "G1 Z1\nG0 X9\n")),
+                         [f"8: {self.SIDEWAYS.format('1.000', 4)}"])
         self.assertEqual(self.warnings(program, "--origin", "0", "0", "-1"), [
             "6: warning: a traverse down to Z 1.000, below the last cut, whose lowest point is Z 2.000: nothing has cut"
             " the way free", f"7: {self.SIDEWAYS.format('1.000', 4)}"])
