@@ -1,17 +1,22 @@
 """`ngc-check`: refused lines with carets, what to write, how it goes on; warnings; status."""
 import os
 import random
+import subprocess
 import sys
 from pathlib import Path
 
 sys.path.insert(0, str(Path(__file__).resolve().parent))
 
-from session_support import FIRST, InFolder, ngc, told  # noqa: E402
+from session_support import FIRST, TOOLS, InFolder, ngc, told  # noqa: E402
 
 from ngc_tools.cli.check import main as check_main  # noqa: E402
 from ngc_tools.formats.canonical import read_commands  # noqa: E402
+from ngc_tools.formats.settings import Settings  # noqa: E402
+from ngc_tools.job.dangers import Conditions, dangers  # noqa: E402
+from ngc_tools.job.in_force import InForce  # noqa: E402
 from ngc_tools.job.printed import by_line  # noqa: E402
 from ngc_tools.job.refused import Lines, find_all  # noqa: E402
+from ngc_tools.ngc.beginning import Beginning  # noqa: E402
 from ngc_tools.ngc.run import Refusal, dry, refusal  # noqa: E402
 
 HEAD = "G17 G21 G90 G98\nF600 M3\n"
@@ -341,6 +346,8 @@ class Warnings(Warned):
                           " device (J5)"])
         program += ("(" + "x" * 125 + ")\n") * 7168
         self.assertEqual(self.warnings(program, "--large"), [])
+        subprocess.run([ngc(), "format", "--large", "large.dev"], check=True, capture_output=True)
+        self.assertEqual(self.warnings(program, "--device", "large.dev"), [])
         self.assertEqual(self.warnings(program + "\n", "--large"), [
             " warning: 1,048,577 bytes: ngc run takes at most 1,048,576 of a program on a large device (J5)"])
 
@@ -357,7 +364,7 @@ class Cutting(Warned):
     def test_spindle(self) -> None:
         """The first cut of each stretch in which it stands; not a feed up, nor one after M4."""
         stopped = "warning: it cuts with the spindle stopped, which breaks the tool: "
-        program = "G17 G21 G90\nF600\nG1 Z5\nG0 X0 Y0\nG1 Z-1\nX5\nM4\nX0\nM5\nX5\nX0\nM3 S1\nX5\nT1 M6\nX0\nM30\n"
+        program = "G17 G21 G90\nF600\nG0 Z5\nG1 X0 Y0\nG1 Z-1\nX5\nM4\nX0\nM5\nX5\nX0\nM3 S1\nX5\nT1 M6\nX0\nM30\n"
         self.assertEqual(self.warnings(program), [
             f"5: {stopped}no M3 or M4 comes before it", f"10: {stopped}line 9 stops it",
             f"15: {stopped}line 14 stops it, as a tool change does"])
@@ -444,6 +451,8 @@ class Heights(Warned):
         program = HEAD + "G0 X0 Y0 Z5\nG1 Z2\nG0 Z5\nG53 G0 Z0\nX9\nG0 Z5\nM2\n"
         self.assertEqual(self.warnings(program), [])
         self.assertEqual(self.warnings(program, "--origin", "0", "0", "-60"), [])
+        self.assertEqual(self.warnings(program.replace("X9\n", "G1 Z1\nG0 X9\n")),
+                         [f"8: {self.SIDEWAYS.format('1.000', 4)}"])
         self.assertEqual(self.warnings(program, "--origin", "0", "0", "-1"), [
             "6: warning: a traverse down to Z 1.000, below the last cut, whose lowest point is Z 2.000: nothing has cut"
             " the way free", f"7: {self.SIDEWAYS.format('1.000', 4)}"])
@@ -519,10 +528,56 @@ class FromDevice(Warned):
         self.run_ngc("tool 1 62.5\n")
         words = ("--device", "mill.dev", "--settings", "first.toml")
         self.assertEqual(self.warnings(HEAD + "G43 H1\nG0 Z5\nM2\n", *words), [
-            " warning: slot 1 has 62.500000 mm on the device, and 50.000000 in the settings: a dry run without --device"
+            " warning: slot 1 has 62.5 mm on the device, and 50 in the settings: a dry run without --device"
             " is as much too high or too deep"])
         self.assertEqual(self.warnings(HEAD + "G0 Z5\nM2\n", *words), [])
         self.assertEqual(self.warnings(HEAD + "G43 H0\nG0 Z5\nM2\n", *words), [])
+
+
+class NoFalseAlarm(InFolder):
+    """All warnings of the examples and of what CAM systems write, each of which was looked at."""
+
+    STAND = {  # no line starts a spindle
+        "face.ngc": ["5 spindle"], "parameters.ngc": ["5 mode", "5 mode", "7 spindle"],
+        "percent.ngc": ["3 mode", "6 spindle"], "13_jscut.gcode": ["22 spindle"],
+        # the second and the third level are begun by a traverse within the pocket
+        "pocket.ngc": ["2 mode", "6 spindle", "26 deep", "47 deep"],
+    }
+    MEANT = {
+        "first.ngc": ["1 mode", "1 mode"], "bores.ngc": ["9 mode"], "ring.ngc": ["13 turn", "15 turn"],
+        "01_fusion_linuxcnc_in.ngc": ["24 turn", "34 stop", "35 tool"],
+        "10_pcb2gcode_drill.ngc": ["19 stop", "23 mode", "23 mode"], "15_mastercam_fanuc_in.nc": ["19 turn"],
+        "16_solidcam.tap": ["8 mode", "10 stop"], "18_cambam_mach3.nc": ["18 turn"],
+        "19_openbuilds.gcode": ["16 turn", "16 mode"], "20_grbl_fullcircle.nc": ["9 turn"],
+        "carbide.nc": ["9 stop"], "estlcam.nc": ["11 turn", "11 mode"],
+    }
+
+    def test_all(self) -> None:
+        """From machine 0, and from a work zero far below it."""
+        folder = Path(__file__).resolve().parent / "cam"
+        settings = str(folder / "cam.toml")
+        files = [*sorted((TOOLS.parent / "examples").glob("*.ngc")), *sorted(folder.glob("*.expected"))]
+        self.assertGreater(len(files), 30)
+        wanted = self.STAND | self.MEANT
+        for path in files:
+            name = path.name.removesuffix(".expected")
+            for beginning in (Beginning(), Beginning.of_origin(0, 0, -100_000_000)):
+                with self.subTest(name):
+                    self.assertEqual(self.found(path, settings, beginning), wanted.get(name, []))
+
+    @staticmethod
+    def found(path: Path, settings: str, beginning: Beginning) -> list[str]:
+        """The lines that are warned of, each with the kind of the warning."""
+        lines = Lines(path.read_bytes())
+
+        def run(text: bytes) -> tuple[int, bytes]:
+            return beginning.dry(ngc(), text, settings)
+
+        refused = {finding.refusal.line for finding in find_all(lines, lambda text: refusal(*run(text)))}
+        under = Conditions(beginning, InForce(origin=(0, 0, -100_000_000) if beginning.head else (0, 0, 0)),
+                           Settings.read(settings), is_placed=bool(beginning.head))
+        return [f"{danger.line} {danger.kind}" for danger in dangers(lines, lambda text: run(text)[1], under)
+                if danger.line not in refused]
 
 
 class ByChance(InFolder):

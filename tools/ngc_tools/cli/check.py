@@ -146,7 +146,8 @@ class DryRun:
 
     def conditions(self) -> Conditions:
         """What the program is checked under."""
-        return Conditions(self.beginning, self.begun, self.settings, self.args.large, self.is_placed)
+        is_large = self.args.large or self.beginning.is_large
+        return Conditions(self.beginning, self.begun, self.settings, is_large, self.is_placed)
 
     def _dry(self, text: bytes, settings: str | None) -> tuple[int, bytes]:
         return self.beginning.dry(self.ngc, text, settings, self.args.block_delete)

@@ -6,6 +6,7 @@ from math import isqrt
 from ngc_tools.formats.settings import Settings
 from ngc_tools.job.danger import Danger
 from ngc_tools.job.figures import millimetres
+from ngc_tools.job.heights import shallowest
 from ngc_tools.job.moves import PLANES
 from ngc_tools.job.printed import Act
 from ngc_tools.job.refused import Lines
@@ -17,7 +18,8 @@ _STOPS = ("STOP_SPINDLE_TURNING", "CHANGE_TOOL")
 
 
 def spindle(acts: list[Act]) -> Iterator[Danger]:
-    """The first cut of each stretch in which the spindle stands."""
+    """The first cut each time that the spindle stands. What stays above the work zero and above all cuts is none."""
+    floor = shallowest(acts)
     why: str | None = "no M3 or M4 comes before it"
     for act in acts:
         name = act.command.name
@@ -25,9 +27,14 @@ def spindle(acts: list[Act]) -> Iterator[Danger]:
             why = None
         elif name in _STOPS:
             why = f"line {act.line} stops it" + (", as a tool change does" if name == "CHANGE_TOOL" else "")
-        elif why and act.is_cut and (act.goes_sideways or act.command.point[2] < act.at[2]):
+        elif why and floor is not None and act.is_cut and act.goes_in and act.tip_z <= max(floor, _below_zero(act)):
             yield Danger(act.line, "spindle", f"it cuts with the spindle stopped, which breaks the tool: {why}")
             why = None
+
+
+def _below_zero(act: Act) -> int:
+    """The highest Z of the tool's tip in machine nm that is below the work zero."""
+    return act.in_force.origin[2] - 1
 
 
 def capped(acts: list[Act], settings: Settings) -> Iterator[Danger]:

@@ -6,7 +6,6 @@ from dataclasses import dataclass
 from math import isqrt
 
 from ngc_tools.formats.device import MOST_LARGE_PROGRAM, MOST_PROGRAM
-from ngc_tools.formats.position import millimetres as exact
 from ngc_tools.formats.settings import Settings
 from ngc_tools.job import cutting, heights, reliance
 from ngc_tools.job.danger import Danger
@@ -16,6 +15,7 @@ from ngc_tools.job.moves import PLANES, arc_of
 from ngc_tools.job.printed import Act, Printed, Run, acts_of, by_line
 from ngc_tools.job.refused import Lines
 from ngc_tools.ngc.beginning import Beginning
+from ngc_tools.ngc.settings_report import number
 
 LONG_DWELL_US = 30_000_000
 NEARLY_NM = 10_000  # an arc whose ends are as near as that is taken as rounded
@@ -74,20 +74,20 @@ def _other_lengths(lines: Lines, acts: list[Act], under: Conditions) -> list[Dan
     given = under.settings.tools_nm if under.settings else ()
     both = [(slot, under.tools_nm[slot - 1], given[slot - 1]) for slot in sorted(slots)
             if 1 <= slot <= min(len(given), len(under.tools_nm))]
-    return [Danger(0, "slots", f"slot {slot} has {exact(on)} mm on the device, and {exact(other)} in the settings: a"
-                   " dry run without --device is as much too high or too deep")
+    return [Danger(0, "slots", f"slot {slot} has {number(on, 6)} mm on the device, and {number(other, 6)} in the"
+                   " settings: a dry run without --device is as much too high or too deep")
             for slot, on, other in both if on != other]
 
 
 def _homes(lines: Lines, printed: Printed) -> list[Danger]:
     """G28 and G30 by their text, if the line then prints a traverse."""
     found = []
-    for number in range(1, len(lines.all) + 1):
-        code = _HOME.search(lines.words(number))
-        moves = [command for command in printed.get(number, []) if command.name == "STRAIGHT_TRAVERSE"]
+    for line in range(1, len(lines.all) + 1):
+        code = _HOME.search(lines.words(line))
+        moves = [command for command in printed.get(line, []) if command.name == "STRAIGHT_TRAVERSE"]
         if code and moves:
             x, y, z = map(millimetres, moves[-1].point)
-            found.append(Danger(number, "home", f"G{code[1].decode()} moves all three axes, in one straight traverse to"
+            found.append(Danger(line, "home", f"G{code[1].decode()} moves all three axes, in one straight traverse to"
                                 f" X {x} Y {y} Z {z}, through what stands there; to lift Z alone write G53 G0 Z with"
                                 " the height"))
     return found
@@ -95,10 +95,10 @@ def _homes(lines: Lines, printed: Printed) -> list[Danger]:
 
 def _dwells(printed: Printed) -> list[Danger]:
     found = []
-    for number, commands in printed.items():
+    for line, commands in printed.items():
         waits = [int(command.args[0]) for command in commands if command.name == "DWELL"]
         if waits and max(waits) > LONG_DWELL_US:
-            found.append(Danger(number, "dwell", f"a dwell of {duration(max(waits))}: P is in seconds, not in"
+            found.append(Danger(line, "dwell", f"a dwell of {duration(max(waits))}: P is in seconds, not in"
                                 " milliseconds"))
     return found
 

@@ -36,21 +36,33 @@ class _Cuts:
         self._open = False
 
 
+def shallowest(acts: list[Act]) -> int | None:
+    """The highest of the stretches' lowest points, of the tool's tip, in machine nm: what is no higher is taken as a
+    cut. None where nothing is cut."""
+    cuts = _Cuts()
+    for act in (act for act in acts if act.is_motion):
+        if act.is_cut:
+            cuts.cut(act)
+        else:
+            cuts.traverse()
+    cuts.traverse()
+    return cuts.floor
+
+
 def heights(lines: Lines, acts: list[Act], is_placed: bool) -> Iterator[Danger]:
     """Traverses down below the last cut, and those sideways as deep as a cut before them. Where the work zero isn't
     known (`is_placed`), nothing is said of how high a move to machine coordinates is."""
     cuts = _Cuts()
     is_known = True
-    for act in acts:
+    for act in (act for act in acts if act.is_motion):
+        to_machine = bool(_MACHINE.search(lines.words(act.line)))
+        is_known = is_placed or not to_machine and (is_known or act.command.point[2] != act.at[2])
         if act.is_cut:
             cuts.cut(act)
-        elif act.is_motion:
-            cuts.traverse()
-            if not is_placed:
-                to_machine = bool(_MACHINE.search(lines.words(act.line)))
-                is_known = not to_machine and (is_known or act.command.point[2] != act.at[2])
-            if is_known and (text := _through_work(act, cuts)):
-                yield Danger(act.line, "deep", text)
+            continue
+        cuts.traverse()
+        if is_known and (text := _through_work(act, cuts)):
+            yield Danger(act.line, "deep", text)
 
 
 def _through_work(act: Act, cuts: _Cuts) -> str | None:
@@ -71,22 +83,21 @@ def _through_work(act: Act, cuts: _Cuts) -> str | None:
 
 
 def first_descent(lines: Lines, acts: list[Act]) -> Iterator[Danger]:
-    """A traverse down to below the work zero before anything is cut: the first move in Z, or the one that comes to
+    """The first traverse down to below the work zero before anything is cut, if it is the first move in Z, or comes to
     where the first cut begins without going deeper."""
     motions = [act for act in acts if act.is_motion and act.line]
     begin = next((place for place, act in enumerate(motions) if act.is_cut), len(motions))
-    stretch = takewhile(lambda act: act.is_cut, motions[begin:])
-    lowest = min((act.tip_z for act in stretch), default=None)
-    down = [act for act in motions[:begin] if act.command.point[2] < act.at[2]]
-    rises = next((act for act in motions if act.command.point[2] != act.at[2]), None) not in down
-    for act in down:
+    lowest = min((act.tip_z for act in takewhile(lambda act: act.is_cut, motions[begin:])), default=None)
+    first = next((act for act in motions if act.command.point[2] != act.at[2]), None)
+    for act in motions[:begin]:
         end = act.in_force.to_program(act.command.point)[2]
-        if end < 0 and not _MACHINE.search(lines.words(act.line)):
-            if not rises and act is down[0]:
-                yield Danger(act.line, "first", f"the first move in Z is a traverse down to Z {millimetres(end)}, below"
-                             " the work zero: nothing says that it is free there")
-                return
-            if lowest is not None and act.tip_z <= lowest:
-                yield Danger(act.line, "first", f"a traverse down to Z {millimetres(end)}, below the work zero, before"
-                             " anything is cut: it breaks the tool where the work stands")
-                return
+        if end >= min(0, act.in_force.to_program(act.at)[2]) or _MACHINE.search(lines.words(act.line)):
+            continue
+        if act is first:
+            yield Danger(act.line, "first", f"the first move in Z is a traverse down to Z {millimetres(end)}, below the"
+                         " work zero: nothing says that it is free there")
+            return
+        if lowest is not None and act.tip_z <= lowest:
+            yield Danger(act.line, "first", f"a traverse down to Z {millimetres(end)}, below the work zero, before"
+                         " anything is cut: it breaks the tool where the work stands")
+            return

@@ -47,6 +47,11 @@ class Act:
         """Whether it moves X or Y, an arc in any case."""
         return self.command.name == "ARC_FEED" or self.at[:2] != self.command.point[:2]
 
+    @property
+    def goes_in(self) -> bool:
+        """Whether it may remove something: it goes sideways or down."""
+        return self.goes_sideways or self.command.point[2] < self.at[2]
+
 
 def acts_of(printed: Printed, begun: InForce, at: Point) -> Iterator[Act]:
     """The commands of all lines in turn; what is in force at first, and where the machine stands then."""

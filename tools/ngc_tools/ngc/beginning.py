@@ -32,8 +32,8 @@ class Beginning:
     `head` are the lines that are put before the program. `tools_nm` are the lengths of slots 1, 2 .., None for those of
     the settings; `lost_nm` is a tool length in force that none of these slots has any more. `point_nm` is where the
     machine stands, `g92_nm` the G92 offset in force, `modes` are the G codes of unit, distance, plane and the end of
-    cycles. `notes` say what the dry run doesn't begin with though the machine would, and what keeps a program from
-    being started there."""
+    cycles. `is_large` says that there is room for a long program. `notes` say what the dry run doesn't begin with
+    though the machine would, and what keeps a program from being started there."""
 
     head: tuple[HeadLine, ...] = ()
     tools_nm: tuple[int, ...] | None = None
@@ -41,6 +41,7 @@ class Beginning:
     point_nm: Point = (0, 0, 0)
     g92_nm: Point = (0, 0, 0)
     modes: tuple[int, int, int, int] = (21, 90, 17, 98)
+    is_large: bool = False
     notes: tuple[str, ...] = ()
 
     @staticmethod
@@ -72,8 +73,8 @@ class Beginning:
             raise CannotSetUp(f"a tool length of {millimetres(length)} mm is in force, which no slot has any more: take"
                               " another one, by mdi G43 H1 or G49")
         modes = (state.unit, state.distance, state.plane, state.retract)
-        notes = tuple(notes_of(state))
-        return Beginning(head_of(device, tools), tools, lost, state.point_nm, state.g92_nm, modes, notes)
+        return Beginning(head_of(device, tools), tools, lost, state.point_nm, state.g92_nm, modes, device.is_large,
+                         tuple(notes_of(state)))
 
     def dry(self, ngc: str | Path, text: bytes, settings: str | Path | None = None,
             block_delete: bool = False) -> tuple[int, bytes]:
