@@ -68,7 +68,7 @@ def main(arguments: list[str] | None = None) -> int:
 
 
 def adapt(args: argparse.Namespace) -> int:
-    """Reads, rewrites, writes and asks `ngc`. Raises OSError and Failures."""
+    """Reads, rewrites, asks `ngc` and writes. Raises OSError and Failures."""
     ngc, answers = find_ngc(args.ngc), given(args)
     if args.settings:
         look_at_settings(ngc, args.settings)
@@ -79,11 +79,11 @@ def adapt(args: argparse.Namespace) -> int:
     lines, warnings = _rewritten(args.program, text, answers)
     _centre(ngc, args, begin, lines)
     new, said = whole_text(lines, text)
+    refused = list(told(new.encode(), args.output or "the text",
+                        lambda asked: refusal(*begin.dry(ngc, asked, args.settings))))
     _write(args, new.encode(), inputs)
     changed = [*said, *changes(text.lines, lines)] or ["no line is changed"]
     print("\n".join([*warnings, *changed]), file=sys.stdout if args.output else sys.stderr)
-    refused = list(told(new.encode(), args.output or "the text",
-                        lambda asked: refusal(*begin.dry(ngc, asked, args.settings))))
     print("\n".join(refused), file=sys.stderr, end="\n" if refused else "")
     return 1 if refused else 0
 
