@@ -233,6 +233,8 @@ class Scripted(InFolder):
              " reader: start the player first"),
             (("mill.dev", "first.toml", "part"), "part: it ends in a part of a line, and the next line would stand on"
              " the same one: give a new OUT, or cut that part off"),
+            (("mill.dev", "first.toml", "part.ngc"), "part.ngc: it holds something else than lines of OUT, and pulses"
+             " would be appended to it: give a new OUT. Its last line is not a line of OUT: 'M2'"),
             (("mill.dev", "first.toml", "out", "--player", "none"), "none: no player listens there: No such file or"
              " directory"),
         ]

@@ -188,9 +188,9 @@ class Places(Core):
         self.begin(link)
         said = self.do("reference 43.25 -10 -10.5")
         self.assertEqual(said, [
-            "the player says that the motors are at X4.325 Y-10 Z-10.5, and what was typed is X43.25 Y-10 Z-10.5: 38.925"
-            " mm apart. Nothing is done.\n  reference player takes the player's point; reference 43.25 -10 -10.5 anyway"
-            " takes what was typed"])
+            "the player says that the motors are at X4.325 Y-10 Z-10.5, and what was typed is X43.25 Y-10 Z-10.5:"
+            " 38.925 mm apart. Nothing is done.\n  reference player takes the player's point; reference 43.25 -10 -10.5"
+            " anyway takes what was typed"])
         self.assertFalse(self.status().known)
         self.assertEqual(self.do("reference player"), ["done 3"])
         self.assertEqual(self.status().at, ("4.325000", "-10.000000", "-10.500000"))
@@ -286,7 +286,8 @@ class LeftBehind(Core):
         self.stop("G0 X0.002\nG1 X0.005")
         self.assertEqual(self.do("G91")[-1], "in force now: G91 (G90 before). restore puts it back")
         self.assertNotIn("in force", self.do("G4 P0")[-1])
-        self.assertEqual(self.do("run", answers=("",)), ["in force now: G91 (G90 before)", "restore types: G90"])
+        self.assertEqual(self.do("run", answers=("",)), ["line 4 begins where the machine is, at X0.001 Y0 Z0",
+                                                         "in force now: G91 (G90 before)", "restore types: G90"])
         self.assertEqual(self.face.asked, ["go on all the same? yes goes on: "])
         self.assertEqual((self.status().does, self.out()[-1]), ("stopped", "D 0"))
         self.do("run", answers=("yes",))
@@ -310,7 +311,7 @@ class LeftBehind(Core):
         it."""
         self.stop("X0.15")
         self.assertNotIn("in force", self.do("G53 G0 Z0")[-1])
-        self.assertEqual(self.do("run", answers=("no",)),
+        self.assertEqual(self.do("run", answers=("no",))[1:],
                          ["in force now: G0 (G1 before)", "restore types: F1 G53 G1 X0.001000; F600"])
         self.do("restore")
         self.do("run")
@@ -333,7 +334,7 @@ class LeftBehind(Core):
         """A spindle that was stopped is asked of; one that was started, or that stands as a program begins, isn't."""
         self.stop("G90 G1 X0.002 F600", "G21 G90 F600 M3 S1000")
         self.assertNotIn("in force", self.do("M8", "M5")[-1])
-        self.assertEqual(self.do("run", answers=("no",)),
+        self.assertEqual(self.do("run", answers=("no",))[1:],
                          ["in force now: M5 (M3 before), M8 (M9 before)", "restore types: M3; M9"])
         self.do("M3", "run", "M4", "run")
         self.assertEqual(self.face.asked, [])
@@ -369,11 +370,11 @@ class LeftBehind(Core):
         """A cycle that another motion ended would be drilled no more; what it kept is named."""
         self.stop("X0.002", "G21 G90 F600\nG81 X0 Z-0.01 R0.005")
         self.do("G0 Y0")
-        self.assertEqual(self.do("run", answers=("no",)),
+        self.assertEqual(self.do("run", answers=("no",))[1:],
                          ["in force now: G0 (G1 before)", "restore types: F1 G53 G1 X0.001000; F600"])
         self.do("G81 X0.001 Z-0.01 R0.005", "G0 Y0", "restore")
         self.do("G81 X0.001 Z-0.01 R0.005")
-        self.assertEqual(self.do("run", answers=("no",)),
+        self.assertEqual(self.do("run", answers=("no",))[1:],
                          ["in force now: G81 (G1 before)", "restore types: F1 G53 G1 X0.001000; F600"])
 
     def test_other_words_of_a_cycle(self) -> None:
@@ -381,7 +382,7 @@ class LeftBehind(Core):
         self.begin()
         self.load("G21 G90 F600\nG81 X0 Z-0.01 R0.005\nM0\nX0.002\nM2\n")
         self.do("run", "G81 X0 Z-0.02 R0.005")
-        self.assertEqual(self.do("run", answers=("no",)),
+        self.assertEqual(self.do("run", answers=("no",))[1:],
                          ["in force now: R0.005 Z-0.02 of a cycle (R0.005 Z-0.01 of a cycle before)"])
         self.assertEqual(self.do("restore")[-1],
                          "it can't put back what a cycle kept: its next line has to name R and Z")
@@ -653,8 +654,8 @@ class Ends(Core):
         self.assertFalse(self.operator.over)
         self.assertEqual(self.do("quit", answers=("yes",))[-1],
                          "still on: the spindle, clockwise at 8000. Within a block no M5 is done. The player switches"
-                         " that off once the session has ended and the seconds of its --off-after are over; Ctrl-C in the"
-                         " player does it at once")
+                         " that off once the session has ended and the seconds of its --off-after are over; Ctrl-C in"
+                         " the player does it at once")
         self.assertTrue(self.operator.over)
 
     def test_resume_no(self) -> None:

@@ -54,7 +54,7 @@ class Loading:
 
     def _wanted(self) -> bool:
         """Whether a person wants it stored all the same."""
-        wanted = self.session.face.ask("store it all the same? yes stores it: ").strip().lower() == "yes"
+        wanted = self.session.agrees("store it all the same? yes stores it: ")
         if not wanted:
             self.session.face.say("nothing is stored")
         return wanted

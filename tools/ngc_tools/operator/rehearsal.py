@@ -93,6 +93,7 @@ class Rehearsal:
         entries = self._device.state.entries + len(commands) - 1  # a reference is one
 
         def make(counted: bool) -> Copy:
+            """A copy that begins with the commands."""
             return Copy(self.ngc, self.settings, self.image, commands, counted, self.interrupted)
 
         return first(make, lambda status: status.entries > entries)

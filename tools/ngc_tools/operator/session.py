@@ -63,6 +63,10 @@ class Session:
         self.face.moved(report)
         return report
 
+    def agrees(self, question: str) -> bool:
+        """Whether a person answers with a typed yes; anything else, nothing too, is a no."""
+        return self.face.ask(question).strip().lower() == "yes"
+
     def line(self, status: Status) -> str:
         """The program's line at the place."""
         return f"line {self.program.number(status.place)}: {self.program.line(status.place)}"
