@@ -76,7 +76,7 @@ ngc> taken
 ngc> done 12
 ngc> idle
 ngc> none.ngc: No such file or directory
-ngc> refused X2 OutsideTravel: {X2}
+ngc> refused X2 OutsideTravel: X 5,000 is outside the travel, which ends at 1,000 (high_nm of the settings)
 ngc> """
 HELD = """\
 metered: OUT is at most 50 lines ahead of the player, which is what a loss of power can cost

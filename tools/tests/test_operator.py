@@ -398,6 +398,18 @@ class LeftBehind(Core):
         self.load("G0 X0.002\nM2\n")
         self.assertEqual(self.do("run", answers=("no",)), ["in force now: G91 (G90 before)", "restore types: G90"])
 
+    def test_zero_set(self) -> None:
+        """A zero point that is set before a program begins is no question; one that is set at a stop is."""
+        self.begin()
+        self.do("tool 1 0.001", "G10 L2 P2 X0.001", "G55", "G43 H1", "G92 Y0.002")
+        self.load("G21 G90 G0 X0.002\nM0\nG0 X0.003\nM2\n")
+        self.do("run")
+        self.assertEqual((self.face.asked, self.status().at[0]), ([], "0.003000"))
+        self.do("G10 L2 P2 X0.005")
+        self.assertEqual(self.do("run", answers=("no",))[1:],
+                         ["in force now: G55 at X0.005 Y0 Z0 (G55 at X0.001 Y0 Z0 before)",
+                          "restore types: G10 L2 P2 X0.001 Y0 Z0"])
+
     def test_place(self) -> None:
         """At a stop the machine was moved: where the next line begins, and where the machine is."""
         self.stop("G0 X0.002")
@@ -510,6 +522,19 @@ class Causes(Core):
         self.assertEqual(self.do("continue"), ["refused K2 NoProgram: nothing waits: run starts the program"])
 
 
+    def test_outside(self) -> None:
+        """X2 says which axis leaves the travel, and where: of a line, a point that is told, a line of the program."""
+        self.begin()
+        self.do("G10 L2 P1 X10", "G54")
+        line = "X goes to 1,001 mm of the machine, and the travel ends at 1,000 (high_nm of the settings)"
+        self.assertIn(f"refused X2 OutsideTravel: {line}\n", self.do("G0 X991")[0])
+        self.assertEqual(self.do("reference 1 2 -1001"), ["refused X2 OutsideTravel: Z -1,001 is outside the travel,"
+                                                          " which ends at -1,000 (low_nm of the settings)"])
+        self.face.answers = ["yes"]
+        self.load("G21 G90\nG0 X0\nG0 X991\nM2\n")
+        self.assertIn(f"line 3: G0 X991\n  refused X2 OutsideTravel: {line}\n", self.do("run")[0])
+
+
 class Beginnings(Core):
     """What a session begins with, and a rehearsal within it."""
 
@@ -563,7 +588,8 @@ class Loads(Core):
         without a yes."""
         self.begin()
         self.do("G10 L2 P1 X999", "G54")
-        for text, line in (("G21 G90\nG0 X2\nM2\n", "line 2: G0 X2\n  refused X2 OutsideTravel"),
+        outside = "X goes to 1,001 mm of the machine, and the travel ends at 1,000 (high_nm of the settings)"
+        for text, line in (("G21 G90\nG0 X2\nM2\n", f"line 2: G0 X2\n  refused X2 OutsideTravel: {outside}\n  look at"),
                            ("T1 M6\nM2\n", "line 1: T1 M6\n  refused B14 BadSlot"),
                            ("G21\nG90\n", "line 3\n  refused X3 NoProgramEnd")):
             self.face.said.clear()

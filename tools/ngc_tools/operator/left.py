@@ -17,6 +17,8 @@ from ngc_tools.operator.session import Session
 _TOLD = ("unit", "feed_mode", "plane", "distance", "retract", "system", "path_mode", "origin", "g92", "tool_length",
          "feed")
 """What is said after a line of one's own; the rest where the program goes on and it matters."""
+_SET_UP = ("origin", "system", "g92", "tool_length")
+"""What people set on purpose before a program begins."""
 _PUT = {0, 1, 80}  # the motion modes that a dry run can begin with
 _FEEDS = ("STRAIGHT_FEED", "ARC_FEED", "SET_FEED_RATE")
 
@@ -83,6 +85,8 @@ class Left:
     def _modes(self, before: Device, now: Device) -> list[str]:
         """What is in force otherwise and matters, and what puts it back."""
         found = differences(before.state, now.state)
+        if not now.state.place:
+            found = [difference for difference in found if difference.name not in _SET_UP]
         if not found or not self._matters(before, now, found):
             return []
         lines = restoring(before.state, now.state, now.tools_nm).lines
@@ -127,9 +131,13 @@ def _goes_on(before: State, now: State) -> bool:
 
 
 def _moved(before: Device, now: Device) -> Device:
-    """What stood before, with the machine where it is now."""
-    moved = copy(before)
-    moved.state = replace(before.state, point_nm=now.state.point_nm)
+    """What stood before, with the machine where it is now; where a program begins, with the offsets that it has now."""
+    moved, state = copy(before), now.state
+    moved.state = replace(before.state, point_nm=state.point_nm)
+    if not state.place:
+        moved.state = replace(moved.state, origin_nm=state.origin_nm, system=state.system, g92_nm=state.g92_nm,
+                              tool_length_nm=state.tool_length_nm)
+        moved.parameters, moved.tools_nm = now.parameters, now.tools_nm
     return moved
 
 

@@ -107,7 +107,7 @@ def refusal_lines(text: bytes, found: Timeline) -> str:
         return ""
     refused, lines = found.refused, text.split(b"\n")
     line = Program(lines[refused.line - 1] if refused.line <= len(lines) else b"").line(0)
-    said = explained(f"refused {refused.code} {refused.name}")
+    said = explained(f"refused {refused.code} {refused.name}", found.breach)
     return f"line {refused.line}" + (f": {line}" if line else "") + f"\n  {said}"
 
 

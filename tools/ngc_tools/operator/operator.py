@@ -150,7 +150,7 @@ class Operator:
         if status.half == "none":
             self.left.keep()
         reply = self.console.ask(b"mdi " + line.encode("utf-8", "surrogateescape"))[0]
-        if refused(self.session, reply, "mdi"):
+        if refused(self.session, reply, f"mdi {line}"):
             self._near(line)
             return None
         self.session.own = line
