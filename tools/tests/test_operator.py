@@ -562,6 +562,14 @@ class Beginnings(Core):
         self.begin()
         self.assertIn("the machine is where it is known to be, unless it was moved; then rehearse", self.begun[2])
 
+    def test_other_settings(self) -> None:
+        """Settings under which the half-done block is refused aren't those of its session, and that is said."""
+        self.run_ngc("mdi G0 X1\ntick 4\n", "before")
+        Path("first.toml").write_text(FIRST.replace("high_nm = [1000000000", "high_nm = [900000"))
+        self.begin()
+        self.assertEqual(self.begun[1].splitlines()[-1],
+                         "  resume would be refused X2 OutsideTravel: is first.toml other than it was?")
+
     def test_other_steps(self) -> None:
         """A player that counts in other steps than the settings has."""
         Path("first.toml").write_text(FIRST.replace("[1000, 1000, 1000]", "[5000, 1000, 1000]"))

@@ -195,6 +195,18 @@ class Copy:
             self.stops.append(self.console.status().place)
             self.console.ask("continue")
 
+    def go_to_entry(self) -> None:
+        """Goes on until an entry is stored, in counts of ticks so small that the log still has its records. Raises as
+        `go`."""
+        entries = self.console.status().entries
+        while not self.idle and self.console.status().entries == entries:
+            self.go(500)
+
+    def go_to_end(self) -> None:
+        """Goes on until nothing is left to do. Raises as `go`."""
+        while not self.idle:
+            self.go(1_000_000)
+
     def hand_out(self, lines: int) -> None:
         """Goes on until this number of lines is handed out in all, or nothing is left to do."""
         while self.lines < lines and not self.idle:
