@@ -5,6 +5,7 @@ import os
 import re
 import signal
 import socket
+import subprocess
 import sys
 import threading
 import tty
@@ -190,6 +191,14 @@ class Scripted(InFolder):
         self.assertIn(asked + "idle; X 0.005000 Y 0.000000 Z 0.000000; next line 1 of 3: M3 S1000\n", done.stdout)
         self.assertEqual(Path("out2").read_text(), "S 1 1000.000000 0 0 0 0\nP -1 0 0 50\n" + "P 1 0 0 50\n" * 5
                          + "S 0 1000.000000 0 0 0 0\n")
+
+    def test_bytes_that_are_no_text(self) -> None:
+        """A byte that isn't UTF-8 ends no session: it goes to `ngc` as it is."""
+        words = [sys.executable, str(TOOLS / "ngc-operate"), *operate("mill.dev", "first.toml", "out")]
+        environment = {**os.environ, "PYTHONIOENCODING": "utf-8:strict"}
+        done = subprocess.run(words, input=b"G0 X0.001 (\xff)\nquit\n", capture_output=True, env=environment)
+        self.assertEqual((done.returncode, done.stderr), (0, b""))
+        self.assertIn(b"idle; X 0.001000 Y 0.000000 Z 0.000000\n", done.stdout)
 
     def test_tool_at_a_stop(self) -> None:
         """The tool in the spindle is named at M0."""
