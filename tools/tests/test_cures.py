@@ -12,7 +12,7 @@ from session_support import FIRST, InFolder, ngc  # noqa: E402
 
 from ngc_tools.formats.canonical import Command, read_commands  # noqa: E402
 from ngc_tools.job.refused import Finding, Lines, find_all  # noqa: E402
-from ngc_tools.ngc import faults  # noqa: E402
+from ngc_tools.ngc import cures, faults  # noqa: E402
 from ngc_tools.ngc.run import dry, refusal  # noqa: E402
 
 HEAD = "G21 G17 G90 G94 F600\n"
@@ -246,28 +246,47 @@ class Cures(InFolder):
 
     def test_all_are_tried(self) -> None:
         """Each cure of a fault, and each of a word, has its case."""
-        for cases, cures in ((CASES, [(fault.code, fault.cure) for fault in faults.FAULTS]),
-                             (WORDS, [(cure.code, cure.text) for cure in faults.CURES])):
-            self.assertEqual([(case.code, case.words) for case in cases], cures)
+        for cases, known in ((CASES, [(fault.code, fault.cure) for fault in faults.FAULTS]),
+                             (WORDS, [(cure.code, cure.text) for cure in cures.CURES])):
+            self.assertEqual([(case.code, case.words) for case in cases], known)
 
     def test_faults(self) -> None:
         """The program is refused with this fault, whose cure it is where no word tells more."""
         for case in CASES:
             with self.subTest(case.code):
                 self.assertEqual(self.found(case).refusal.code, case.code)
-                self.assertEqual(faults.cure(case.code, []), case.words)
+                self.assertEqual(cures.cure(case.code, []), case.words)
                 self.assertEqual(self.does(case), case.does)
 
     def test_words(self) -> None:
         """The program is refused with this fault, and its words have this cure."""
-        for case, cure in zip(WORDS, faults.CURES, strict=True):
+        for case, cure in zip(WORDS, cures.CURES, strict=True):
             with self.subTest(f"{case.code} {cure.word} {cure.line}"):
                 finding = self.found(case)
-                said = faults.cure(finding.refusal.code, finding.words(), finding.text)
+                said = cures.cure(finding.refusal.code, finding.words(), finding.text)
                 self.assertEqual((finding.refusal.code, said), (case.code, case.words))
                 line, *words = [part.decode("latin-1").strip(" \t") for part in (finding.text, *finding.words())]
                 self.assertTrue(any(cure.fits(case.code, word, line) for word in words))
                 self.assertEqual(self.does(case), case.does)
+
+    def test_several_words(self) -> None:
+        """Each with its own; of what isn't known the page tells."""
+        self.assertEqual(cures.cure("B2", [b"G71", b"G91.1"]),
+                         "G71: write G21; G91.1: leave it out: I, J and K count from the start of the arc, always")
+        self.assertEqual(cures.cure("B2", [b"G61.2"]), faults.fault("B2").cure)
+        self.assertEqual(cures.cure("X9", [b""]), "look it up in docs/LANGUAGE.md")
+
+    def test_going_on(self) -> None:
+        """Words that belong to what is left out are left out with it, so that nothing is said of them; others stay."""
+        for line, taken in (("G52 X5", True), ("G73 X5 Y5 Z-2 R1 Q1", True), ("G68 X0 Y0 R45", True), ("G4 X1.5", True),
+                            ("G10 L20 P1 X0 Y0", True), ("G12 I2", True), ("G28 A0", True), ("G0 X5 A0", False),
+                            ("G91.1 X5", False), ("G70 X5", False), ("M62 X5", False), ("G1 X5 Q1", False)):
+            finding = self.found(Case("", "", f"G0 X1\n{line}\nX2", ""))
+            self.assertEqual(finding.left_out is None, taken, line)
+        lines = Lines(text("G0 X1\nG52 X5\nG68 X9 R45\nG0 X2"))
+        found = [finding.refusal.code for finding in find_all(lines, lambda asked: refusal(*dry(ngc(), asked)))]
+        self.assertEqual(found, ["B2", "B2"])
+        self.assertEqual(b"".join(lines.all).split(b"\n")[1:5], [b"G0 X1", b"", b"", b"G0 X2"])
 
     def found(self, case: Case) -> Finding:
         """The first refusal."""

@@ -30,20 +30,6 @@ class Faults(unittest.TestCase):
         for fault in faults.FAULTS:
             self.assertGreater(len(fault.cure), 8, fault)
 
-    def test_cures_of_words(self) -> None:
-        """What CAM systems write."""
-        for code, word, said in (("E1", b"; tool 3", "write the comment in ( ), with no ( or ) in it"),
-                                 ("E1", b"O1000", "leave the program's number out; there are no subroutines and no"
-                                  " loops"),
-                                 ("E1", b"\xef\xbb\xbf", "save the file without a byte order mark"),
-                                 ("B2", b"G91.1", "leave it out: I, J and K count from the start of the arc, always"),
-                                 ("B2", b"G71 ", "write G21"),
-                                 ("B2", b"G61.2", faults.fault("B2").cure),
-                                 ("X9", b"", "look it up in docs/LANGUAGE.md")):
-            self.assertEqual(faults.cure(code, [word]), said)
-        self.assertEqual(faults.cure("B2", [b"G71", b"G91.1"]),
-                         "G71: write G21; G91.1: leave it out: I, J and K count from the start of the arc, always")
-
     def test_other_codes(self) -> None:
         """A fault that isn't of a line has no sentence here."""
         self.assertIsNone(faults.sentence("K1"))

@@ -21,7 +21,7 @@ from ngc_tools.job.cam_program import SharedSlot
 from ngc_tools.job.outside import widest
 from ngc_tools.job.radius_arcs import centred
 from ngc_tools.job.refused import Lines, find_all
-from ngc_tools.ngc import faults
+from ngc_tools.ngc import cures
 from ngc_tools.ngc.beginning import Beginning
 from ngc_tools.ngc.run import Refusal, find_ngc, refusal
 from ngc_tools.ngc.usable_settings import look_at_settings
@@ -213,7 +213,7 @@ def changes(texts: Sequence[str], lines: list[CamLine]) -> list[str]:
 def told(new: bytes, path: str, ask: Callable[[bytes], Refusal | None]) -> Iterator[str]:
     """The refused lines of what is written: where, which fault, the line, what to write; and what lists them all."""
     lines: set[int] = set()
-    cures: set[str] = set()
+    said: set[str] = set()
     for finding in find_all(Lines(new), ask):
         fault = finding.refusal
         if fault.line in lines:
@@ -227,9 +227,9 @@ def told(new: bytes, path: str, ask: Callable[[bytes], Refusal | None]) -> Itera
             return
         lines.add(fault.line)
         yield f"{path}:{fault.line}: {fault.code} {fault.name}: {shown(finding.text).strip() or '(the end)'}"
-        cure = faults.cure(fault.code, finding.words(), finding.text)
-        if cure not in cures:
+        cure = cures.cure(fault.code, finding.words(), finding.text)
+        if cure not in said:
             yield f"    mend: {shown(cure)}"
-        cures.add(cure)
+        said.add(cure)
     if lines:
         yield f"Mend these, and check again: ngc-check {path}"

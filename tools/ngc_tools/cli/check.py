@@ -16,7 +16,7 @@ from ngc_tools.job.dangers import Conditions, dangers
 from ngc_tools.job.in_force import InForce
 from ngc_tools.job.outside import breach, widest
 from ngc_tools.job.refused import Finding, Lines, Piece, find_all
-from ngc_tools.ngc import faults, settings_report
+from ngc_tools.ngc import cures, faults, settings_report
 from ngc_tools.ngc.run import Refusal, find_ngc, refusal
 from ngc_tools.ngc.usable_settings import look_at_settings
 
@@ -182,7 +182,7 @@ class Listing:
             print(f"    {carets(finding.text, finding.marks)}")
         if cause := self._once(breach or faults.sentence(fault.code) or "see docs/LANGUAGE.md"):
             print(wrapped(cause))
-        advice = faults.cure(fault.code, finding.words(), finding.text)
+        advice = cures.cure(fault.code, finding.words(), finding.text)
         if breach and not is_placed:
             advice += ". The work zero is taken to be at machine 0: --origin X Y Z or --device DEVICE says where it is"
         if advice := self._once(advice):

@@ -10,7 +10,7 @@ from ngc_tools.formats.position import millimetres, nanometres
 from ngc_tools.formats.settings import DEFAULT, Settings
 from ngc_tools.job.parts_compared import compare_dry, compare_run
 from ngc_tools.job.split import CannotPart, LongProgram, Part, parted
-from ngc_tools.ngc import faults
+from ngc_tools.ngc import cures
 from ngc_tools.ngc.run import find_ngc
 from ngc_tools.ngc.usable_settings import look_at_settings
 from ngc_tools.ngc.worlds import LineRefused, two_worlds
@@ -77,7 +77,7 @@ def work(args: argparse.Namespace) -> int:
         with speaking_of(args.program, CannotPart), speaking_of(args.device or "", NoDevice):
             return write_parts(args)
     except LineRefused as error:
-        cure = faults.cure(error.refused.code, [])
+        cure = cures.cure(error.refused.code, [])
         raise Refused(f"{args.program}:{error.refused.line}: {error}\n  {cure}") from None
 
 

@@ -8,6 +8,7 @@ from dataclasses import dataclass
 from itertools import combinations
 
 from ngc_tools.formats.lines import program_lines
+from ngc_tools.ngc.cures import takes_line
 from ngc_tools.ngc.faults import FAULTS
 from ngc_tools.ngc.run import Refusal
 
@@ -109,7 +110,7 @@ def find_all(lines: Lines, ask: Ask, most: int = 0) -> Iterator[Finding]:
 
     After X1 it goes on with an F on the line. Otherwise it leaves out a marked piece, or all of them, if the line is
     then taken; if only one piece is marked, it leaves that one out, so that the line's next fault is told too.
-    Otherwise it goes on with a blank line in its place."""
+    Otherwise it goes on with a blank line in its place, and so where other words of the line belong to a marked one."""
     refusal = ask(b"".join(lines.all))
     count = 0
     while refusal is not None and (count < most or not most):
@@ -146,6 +147,8 @@ def _looked_at(lines: Lines, refusal: Refusal, ask: Ask) -> tuple[Finding, bytes
     taken = [piece for piece in marks if each[piece] is None]
     if code == "X1" and asked((), b" F100") is None:
         return Finding(refusal, body, marks, added=b" F100"), body + b" F100"
+    if takes_line(code, [body[mark.begin:mark.end] for mark in marks], body):
+        return Finding(refusal, body, marks), b""
     for left_out in ((taken[0],) if taken else (), marks):
         other = without(body, left_out, code)
         # what is refused of the rest is told next, unless the word's absence alone brings it
