@@ -79,8 +79,7 @@ def adapt(args: argparse.Namespace) -> int:
     lines, warnings = _rewritten(args.program, text, answers)
     _centre(ngc, args, begin, lines)
     new, said = whole_text(lines, text)
-    refused = list(told(new.encode(), args.output or "the text",
-                        lambda asked: refusal(*begin.dry(ngc, asked, args.settings))))
+    refused = list(told(new.encode(), args.output, lambda asked: refusal(*begin.dry(ngc, asked, args.settings))))
     _write(args, new.encode(), inputs)
     changed = [*said, *changes(text.lines, lines)] or ["no line is changed"]
     print("\n".join([*warnings, *changed]), file=sys.stdout if args.output else sys.stderr)
@@ -210,8 +209,9 @@ def changes(texts: Sequence[str], lines: list[CamLine]) -> list[str]:
     return said
 
 
-def told(new: bytes, path: str, ask: Callable[[bytes], Refusal | None]) -> Iterator[str]:
+def told(new: bytes, output: str | None, ask: Callable[[bytes], Refusal | None]) -> Iterator[str]:
     """The refused lines of what is written: where, which fault, the line, what to write; and what lists them all."""
+    check = f"ngc-check {output}" if output else "ngc-check"
     lines: set[int] = set()
     said: set[str] = set()
     for finding in find_all(Lines(new), ask):
@@ -223,13 +223,13 @@ def told(new: bytes, path: str, ask: Callable[[bytes], Refusal | None]) -> Itera
                    " Mend the lines above in the CAM system's text, and adapt it again")
             return
         if len(lines) == _MOST:
-            yield f"and more: ngc-check {path} lists each"
+            yield f"and more: {check} lists each"
             return
         lines.add(fault.line)
-        yield f"{path}:{fault.line}: {fault.code} {fault.name}: {shown(finding.text).strip() or '(the end)'}"
+        yield f"{output or 'the text'}:{fault.line}: {fault.code} {fault.name}: {shown(finding.text).strip() or '(the end)'}"
         cure = cures.cure(fault.code, finding.words(), finding.text)
         if cure not in said:
             yield f"    mend: {shown(cure)}"
         said.add(cure)
     if lines:
-        yield f"Mend these, and check again: ngc-check {path}"
+        yield f"Mend these, and check again: {check}"
