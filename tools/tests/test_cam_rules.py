@@ -53,6 +53,7 @@ class Rules(unittest.TestCase):
         self.assertEqual(adapted("%", "N1 O0007(X)", "G0 X1"), ["%", "N1 (O0007)(X)", "G0 X1"])
         self.each(*((line, line) for line in ("O100 sub", "O<up> call", "O100 G0 X1")))
         self.assertEqual(adapted("G21", "O1000")[1], "O1000")
+        self.assertEqual(adapted("%", ":1000 (part)", "G0 X1", ":2"), ["%", "(:1000) (part)", "G0 X1", ":2"])
 
     def test_block_numbers(self) -> None:
         """Of six digits and more."""

@@ -211,7 +211,7 @@ def changes(texts: Sequence[str], lines: list[CamLine]) -> list[str]:
 
 def told(new: bytes, output: str | None, ask: Callable[[bytes], Refusal | None]) -> Iterator[str]:
     """The refused lines of what is written: where, which fault, the line, what to write; and what lists them all."""
-    check = f"ngc-check {output}" if output else "ngc-check"
+    path, check = (shown(output), f"ngc-check {shown(output)}") if output else ("the text", "ngc-check")
     lines: set[int] = set()
     said: set[str] = set()
     for finding in find_all(Lines(new), ask):
@@ -226,7 +226,7 @@ def told(new: bytes, output: str | None, ask: Callable[[bytes], Refusal | None])
             yield f"and more: {check} lists each"
             return
         lines.add(fault.line)
-        yield f"{output or 'the text'}:{fault.line}: {fault.code} {fault.name}: {shown(finding.text).strip() or '(the end)'}"
+        yield f"{path}:{fault.line}: {fault.code} {fault.name}: {shown(finding.text).strip() or '(the end)'}"
         cure = cures.cure(fault.code, finding.words(), finding.text)
         if cure not in said:
             yield f"    mend: {shown(cure)}"

@@ -47,6 +47,7 @@ class _Writer:
         cam_program.open_comment(line, self.whole, warn)
         cam_words.comments(line)
         cam_words.signs(line)
+        cam_words.colon_number(line, self.meant)
         if line.is_plain:
             self._rewrite(line, warn)
         else:

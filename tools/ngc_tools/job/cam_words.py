@@ -7,6 +7,7 @@ from ngc_tools.job.cam_line import CamLine, matched, value_end
 from ngc_tools.job.cam_modes import Modes
 
 _SIGN = re.compile(r"[-+](?=[ \t]*[#\[A-Za-z])")
+_COLON = re.compile(r"[ \t]*(:[ \t]*[0-9]+)((?:[ \t]*\([^()]*\))?[ \t]*)")
 _LONGEST = 256  # bytes of a line that `ngc` takes
 _CENTRES_FROM_START = Decimal("91.1")
 
@@ -20,6 +21,13 @@ def comments(line: CamLine) -> None:
             line.put(piece, f"({words})" if words else "", "a comment stands in ( )")
         elif piece.is_comment and ("(" in inner or ")" in inner):
             line.put(piece, f"({inner.translate(str.maketrans('()', '[]'))})", "a comment has no ( ) in it")
+
+
+def colon_number(line: CamLine, modes: Modes) -> None:
+    """`:1000` before all words, alone on its line but for a comment."""
+    match = _COLON.fullmatch(line.text)
+    if match and not modes.begun:
+        line.cut_again(f"({match[1]}){match[2]}", "a program has no number")
 
 
 def program_number(line: CamLine, modes: Modes) -> None:
