@@ -80,7 +80,7 @@ class Jobs(InFolder):
                 self.assertGreater(self.compared(CAM / name), 0)
 
     def test_by_chance(self) -> None:
-        """The same of programs by chance."""
+        """The same of programs by chance; what was adapted stays as it is."""
         count = 0
         for seed in range(int(os.environ.get("NGC_PROGRAMS", "40"))):
             with self.subTest(seed):
@@ -88,6 +88,8 @@ class Jobs(InFolder):
                 status, _, error = self.adapted(Path("part.nc"))
                 self.assertEqual((status, error), (0, ""))
                 count += self.compared(Path("part.nc"), FINE)
+                Path("out.ngc").rename("part.nc")
+                self.assertEqual(self.adapted(Path("part.nc")), (0, "no line is changed\n", ""))
         self.assertGreater(count, 500)
 
     def compared(self, path: Path, tolerance: Fraction | int = 0) -> int:
