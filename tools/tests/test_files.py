@@ -1,10 +1,12 @@
 """Files that a tool writes: whole or not at all, and never over what somebody needs."""
 import os
 import resource
+import signal
 import subprocess
 import sys
 import unittest
 from pathlib import Path
+from unittest import mock
 
 sys.path.insert(0, str(Path(__file__).resolve().parent))
 
@@ -14,6 +16,7 @@ from ngc_tools import files  # noqa: E402
 from ngc_tools.files import NotWritten, kind, look_before_append, read, write_new  # noqa: E402
 from ngc_tools.formats.record import Record  # noqa: E402
 from ngc_tools.formats.settings import KEYS  # noqa: E402
+from ngc_tools.scratch import Scratch  # noqa: E402
 
 
 class Written(InFolder):
@@ -132,6 +135,27 @@ class Read(InFolder):
         with self.assertRaises(OSError) as caught:
             read("/dev/zero")
         self.assertEqual(files.cause(caught.exception), "/dev/zero: it has more than 1,000 bytes")
+
+
+class Scratched(unittest.TestCase):
+    """`Scratch`."""
+
+    def test_interrupted_while_it_is_removed(self) -> None:
+        """Ctrl-C in the midst of the removal comes after it."""
+        before = signal.signal(signal.SIGINT, signal.default_int_handler)
+        self.addCleanup(signal.signal, signal.SIGINT, before)
+        folder = Scratch("ngc-test-")
+        for name in range(3):
+            (Path(folder.name) / str(name)).touch()
+        unlink = os.unlink
+
+        def interrupted(*words: object, **options: object) -> None:
+            os.kill(os.getpid(), signal.SIGINT)
+            unlink(*words, **options)
+
+        with mock.patch.object(os, "unlink", interrupted), self.assertRaises(KeyboardInterrupt):
+            folder.cleanup()
+        self.assertFalse(os.path.exists(folder.name))
 
 
 if __name__ == "__main__":

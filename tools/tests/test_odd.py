@@ -247,6 +247,18 @@ class Odd(InFolder):
                 if data is not None:
                     self.assertTrue(Path(path).read_bytes()[:len(data)] == data, (name, words, path))
 
+    def test_escapes_on_a_device(self) -> None:
+        """A program and a line of the operator's with escape sequences on a device are shown without them."""
+        text = "G0 X1 (\x1b[2J)\n(MSG, \x1b]0;x\x07)\nM0\n"
+        self.run_ngc(f"load {len(text)}\n{text}mdi G0 X2 (\x1b[31m)\ntick 3\n")
+        for name, words in (("ngc-device", ("mill.dev",)), ("ngc-rehearse", ("mill.dev", "first.toml")),
+                            ("ngc-rehearse", ("mill.dev", "first.toml", "1", "0", "0")),
+                            ("ngc-operate", ("mill.dev", "first.toml", "out"))):
+            end = self.ended(name, *words)
+            self.check_end(name, end, (name, words))
+            self.assertFalse("\x1b" in end.out + end.error or "\x07" in end.out + end.error, (name, end.out))
+            self.assertTrue("\\x1b" in end.out or name == "ngc-operate", (name, end.out))
+
     def test_unreadable(self) -> None:
         """A file that the user may not read is named, with the cause."""
         Path("secret").write_text(FIRST)
