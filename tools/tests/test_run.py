@@ -95,6 +95,7 @@ class Ends(unittest.TestCase):
     def test_bugs(self) -> None:
         """One line; the traceback if it is asked for."""
         self.assertEqual(raised(KeyError("x")), (2, "", "try: internal error: KeyError: 'x'\n"))
+        self.assertEqual(raised(ValueError("x")), (2, "", "try: internal error: ValueError: x\n"))
         os.environ["NGC_DEBUG"] = "1"
         self.addCleanup(os.environ.pop, "NGC_DEBUG")
         self.assertIn("Traceback", raised(KeyError("x"))[2])

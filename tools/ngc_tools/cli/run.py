@@ -196,8 +196,6 @@ def _discard() -> None:
 
 def _bug(prog: str, error: Exception) -> int:
     """Says what a tool's own fault is; where it is in the code, if NGC_DEBUG is set."""
-    if type(error) is ValueError:
-        return _say(f"{prog}: {error}")
     if os.environ.get("NGC_DEBUG"):
         traceback.print_exception(error)
     return _say(f"{prog}: internal error: {type(error).__name__}: {error}")
