@@ -44,7 +44,7 @@ ODD = (
     ("ngc-operate", "mill.dev", "first.toml", "ODD"),
     ("ngc-player", "ODD", "first.toml", "position", "--untimed"), ("ngc-player", "pulses", "ODD", "position"),
     ("ngc-player", "pulses", "first.toml", "ODD", "--untimed"),
-    ("ngc-plot", "ODD"), ("ngc-plot", "part.txt", "--settings", "ODD"),
+    ("ngc-plot", "ODD"), ("ngc-plot", "part.txt", "--settings", "ODD"), ("ngc-plot", "part.ngc", "--device", "ODD"),
     ("ngc-rehearse", "ODD", "first.toml"), ("ngc-rehearse", "mill.dev", "ODD"),
     ("ngc-split", "ODD", "--limit", "1000"), ("ngc-split", "part.ngc", "--settings", "ODD"),
     ("ngc-split", "part.ngc", "--settings", "first.toml", "--device", "ODD"),
@@ -212,7 +212,7 @@ class Odd(InFolder):
         return Path("folders").read_text().splitlines()
 
     def odd_files(self) -> dict[str, bytes | None]:
-        """Twenty files; None for what isn't made by its bytes."""
+        """The bytes of files; None for a path that has none."""
         utf16 = TEXT.encode("utf-16")
         return {"empty": b"", "newlines": b"\n" * 1000, "nul": b"\0" * 1000, "nul.ngc": b"G0 X1\0\nM2\n",
                 "binary": bytes(range(256)) * 40, "cr.ngc": TEXT.replace("\n", "\r").encode(), "utf16.ngc": utf16,
