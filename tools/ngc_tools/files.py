@@ -16,10 +16,9 @@ MOST = 2**30  # bytes that are read of a file: of /dev/zero there is no end
 _BEGIN = 65_536  # bytes that tell what a file is
 _MARK = b"RS274NGC"  # of a device's header, docs/DEVICE.md
 _SECTOR = 512
-_SETTINGS = re.compile(rb"""^[ \t]*["']?(?:step_nm|low_nm|high_nm|traverse_nm_per_min|period_us|tools_nm)["']?[ \t]*=""",
-                       re.MULTILINE)
-_OUT = re.compile(rb"(?:P (?:-1|0|1) (?:-1|0|1) (?:-1|0|1) [0-9]+|D [0-9]+|S [012] [0-9]+\.[0-9]{6} [01] [01] [0-9]+ [0-9]+)"
-                  rb"(?:\n|\Z)")
+_KEY = rb"(?:step_nm|low_nm|high_nm|traverse_nm_per_min|period_us|tools_nm)"
+_SETTINGS = re.compile(rb"""^[ \t]*["']?""" + _KEY + rb"""["']?[ \t]*=""", re.MULTILINE)
+_OUT = re.compile(rb"(?:P (?:(?:-1|0|1) ){3}[0-9]+|D [0-9]+|S [012] [0-9]+\.[0-9]{6}(?: [0-9]+){4})(?:\n|\Z)")
 _OUT_PART = re.compile(rb"P (?:(?:-?[01]? ?){0,3}|(?:(?:-1|0|1) ){3}[0-9]*)")
 _LINE = 200  # bytes; no line of an OUT is as long
 _RECORD = re.compile(rb"out .*\nlines [0-9]")
@@ -74,9 +73,9 @@ def is_out(text: bytes) -> bool:
 
 
 def write_new(path: str | Path, data: bytes, inputs: Iterable[str | Path | None], force: bool = False) -> None:
-    """Writes a file whole or not at all: beside its place, synced, and renamed. A file that is there is written over with
-    `force` alone, and one of `inputs`, a device, settings, an OUT, a record or what is no file never. To /dev/null and
-    to standard output's own name it is written at once.
+    """Writes a file whole or not at all: beside its place, synced, and renamed. A file that is there is written over
+    with `force` alone; one of `inputs`, a device, settings, an OUT, a record, and what is no file, never. To /dev/null
+    and to standard output's own name it is written at once.
 
     Raises NotWritten, or OSError with the path."""
     if _is_open_output(path):
@@ -106,13 +105,6 @@ def look_before_write(path: str | Path, inputs: Iterable[str | Path | None], for
     _refuse_needed(path, inputs)
     if not force:
         raise NotWritten(f"{path}: it is there already; --force writes over it")
-
-
-def look_before_append(path: str | Path, inputs: Iterable[str | Path | None]) -> None:
-    """Raises NotWritten where a file that is there isn't one to append to: one of `inputs`, a device, settings, an OUT,
-    a record; OSError if it can't be read."""
-    if os.path.isfile(path):
-        _refuse_needed(path, inputs)
 
 
 def _refuse_needed(path: str | Path, inputs: Iterable[str | Path | None]) -> None:

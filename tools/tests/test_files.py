@@ -1,19 +1,22 @@
 """Files that a tool writes: whole or not at all, and never over what somebody needs."""
 import os
 import resource
+import signal
 import subprocess
 import sys
 import unittest
 from pathlib import Path
+from unittest import mock
 
 sys.path.insert(0, str(Path(__file__).resolve().parent))
 
 from session_support import FIRST, TOOLS, InFolder, ngc  # noqa: E402
 
 from ngc_tools import files  # noqa: E402
-from ngc_tools.files import NotWritten, kind, look_before_append, read, write_new  # noqa: E402
+from ngc_tools.files import NotWritten, kind, read, write_new  # noqa: E402
 from ngc_tools.formats.record import Record  # noqa: E402
 from ngc_tools.formats.settings import KEYS  # noqa: E402
+from ngc_tools.scratch import Scratch  # noqa: E402
 
 
 class Written(InFolder):
@@ -62,14 +65,12 @@ class Written(InFolder):
                              f"{path}: it is what is read here, and isn't written over; name another file")
 
     def test_machines_files(self) -> None:
-        """A device, settings, an OUT and a record are known by what they hold, and refused; so to append to them."""
+        """A device, settings, an OUT and a record are known by what they hold, and refused."""
         self.machine()
         Path("half.toml").write_text("# of the small mill\nfeed = 1\n  'period_us' = [")
         for path, what in (("mill.dev", "a device"), ("first.toml", "settings"), ("half.toml", "settings"),
                            ("out", "an OUT"), ("position", "a player's record")):
             self.assertEqual(self.refused(path), f"{path}: it is {what}, which isn't written over; name another file")
-            with self.assertRaises(NotWritten):
-                look_before_append(path, [])
         image = bytearray(Path("mill.dev").read_bytes())
         image[512:1024] = bytes(512)
         Path("mill.dev").write_bytes(image)
@@ -83,8 +84,6 @@ class Written(InFolder):
         for text in (FIRST.replace("_", "-"), "G0 X1\n", "P 1\n", "D1\n", "out of stock\n", ""):
             Path("other").write_text(text)
             self.assertEqual(kind("other"), None)
-            look_before_append("other", ["first.toml"])
-        look_before_append("none", [])
 
     def test_no_files(self) -> None:
         """A pipe, a folder, a socket's place; /dev/null and /dev/stdout take all."""
@@ -132,6 +131,27 @@ class Read(InFolder):
         with self.assertRaises(OSError) as caught:
             read("/dev/zero")
         self.assertEqual(files.cause(caught.exception), "/dev/zero: it has more than 1,000 bytes")
+
+
+class Scratched(unittest.TestCase):
+    """`Scratch`."""
+
+    def test_interrupted_while_it_is_removed(self) -> None:
+        """Ctrl-C in the midst of the removal comes after it."""
+        before = signal.signal(signal.SIGINT, signal.default_int_handler)
+        self.addCleanup(signal.signal, signal.SIGINT, before)
+        folder = Scratch("ngc-test-")
+        for name in range(3):
+            (Path(folder.name) / str(name)).touch()
+        unlink = os.unlink
+
+        def interrupted(*words: object, **options: object) -> None:
+            os.kill(os.getpid(), signal.SIGINT)
+            unlink(*words, **options)
+
+        with mock.patch.object(os, "unlink", interrupted), self.assertRaises(KeyboardInterrupt):
+            folder.cleanup()
+        self.assertFalse(os.path.exists(folder.name))
 
 
 if __name__ == "__main__":

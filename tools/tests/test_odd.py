@@ -44,7 +44,7 @@ ODD = (
     ("ngc-operate", "mill.dev", "first.toml", "ODD"),
     ("ngc-player", "ODD", "first.toml", "position", "--untimed"), ("ngc-player", "pulses", "ODD", "position"),
     ("ngc-player", "pulses", "first.toml", "ODD", "--untimed"),
-    ("ngc-plot", "ODD"), ("ngc-plot", "part.txt", "--settings", "ODD"),
+    ("ngc-plot", "ODD"), ("ngc-plot", "part.txt", "--settings", "ODD"), ("ngc-plot", "part.ngc", "--device", "ODD"),
     ("ngc-rehearse", "ODD", "first.toml"), ("ngc-rehearse", "mill.dev", "ODD"),
     ("ngc-split", "ODD", "--limit", "1000"), ("ngc-split", "part.ngc", "--settings", "ODD"),
     ("ngc-split", "part.ngc", "--settings", "first.toml", "--device", "ODD"),
@@ -212,7 +212,7 @@ class Odd(InFolder):
         return Path("folders").read_text().splitlines()
 
     def odd_files(self) -> dict[str, bytes | None]:
-        """Twenty files; None for what isn't made by its bytes."""
+        """The bytes of files; None for a path that has none."""
         utf16 = TEXT.encode("utf-16")
         return {"empty": b"", "newlines": b"\n" * 1000, "nul": b"\0" * 1000, "nul.ngc": b"G0 X1\0\nM2\n",
                 "binary": bytes(range(256)) * 40, "cr.ngc": TEXT.replace("\n", "\r").encode(), "utf16.ngc": utf16,
@@ -246,6 +246,18 @@ class Odd(InFolder):
                     self.assertEqual(end.status, 0 if is_made else 2, (name, words, path))
                 if data is not None:
                     self.assertTrue(Path(path).read_bytes()[:len(data)] == data, (name, words, path))
+
+    def test_escapes_on_a_device(self) -> None:
+        """A program and a line of the operator's with escape sequences on a device are shown without them."""
+        text = "G0 X1 (\x1b[2J)\n(MSG, \x1b]0;x\x07)\nM0\n"
+        self.run_ngc(f"load {len(text)}\n{text}mdi G0 X2 (\x1b[31m)\ntick 3\n")
+        for name, words in (("ngc-device", ("mill.dev",)), ("ngc-rehearse", ("mill.dev", "first.toml")),
+                            ("ngc-rehearse", ("mill.dev", "first.toml", "1", "0", "0")),
+                            ("ngc-operate", ("mill.dev", "first.toml", "out"))):
+            end = self.ended(name, *words)
+            self.check_end(name, end, (name, words))
+            self.assertFalse("\x1b" in end.out + end.error or "\x07" in end.out + end.error, (name, end.out))
+            self.assertTrue("\\x1b" in end.out or name == "ngc-operate", (name, end.out))
 
     def test_unreadable(self) -> None:
         """A file that the user may not read is named, with the cause."""

@@ -4,8 +4,10 @@ import subprocess
 import sys
 import unittest
 import xml.etree.ElementTree as ElementTree
+from contextlib import redirect_stderr, redirect_stdout
 from dataclasses import dataclass
 from fractions import Fraction
+from io import BytesIO, StringIO, TextIOWrapper
 from itertools import combinations
 from pathlib import Path
 from unittest import mock
@@ -14,6 +16,7 @@ sys.path.insert(0, str(Path(__file__).resolve().parent))
 
 from session_support import FIRST, TOOLS, InFolder, ngc  # noqa: E402
 
+from ngc_tools.cli.plot import main  # noqa: E402
 from ngc_tools.ngc import timing  # noqa: E402
 from ngc_tools.formats.canonical import read_commands  # noqa: E402
 from ngc_tools.job.figures import duration, micrometres  # noqa: E402
@@ -105,8 +108,12 @@ class Plot(InFolder):
     """Pictures and figures."""
 
     def plot(self, *words: str, text: str = "") -> subprocess.CompletedProcess[str]:
-        """Runs it."""
-        return self.tool("ngc-plot", "--ngc", ngc(), *words, text=text)
+        """Runs it, in this process."""
+        out, error = TextIOWrapper(BytesIO(), "utf-8"), StringIO()
+        given = mock.patch.object(sys, "stdin", TextIOWrapper(BytesIO(text.encode())))
+        with redirect_stdout(out), redirect_stderr(error), given:
+            status = main(["--ngc", ngc(), *words])
+        return subprocess.CompletedProcess(words, status, out.buffer.getvalue().decode(), error.getvalue())
 
     def figures(self, *words: str) -> list[str]:
         """What it says beside the picture."""
@@ -142,7 +149,8 @@ class Plot(InFolder):
 
     def test_fits_the_cuts(self) -> None:
         """A traverse that goes on far beyond the cuts doesn't make them small; it is told."""
-        far = "STRAIGHT_TRAVERSE(10.000000, 50.000000, 100.000000)\nSTRAIGHT_TRAVERSE(-900.000000, 0.000000, 100.000000)\n"
+        far = ("STRAIGHT_TRAVERSE(10.000000, 50.000000, 100.000000)\n"
+               "STRAIGHT_TRAVERSE(-900.000000, 0.000000, 100.000000)\n")
         near, drawn = (self.plot(text=text).stdout for text in (SQUARE, SQUARE + far))
         tall = [int(re.search(r'viewBox="0 0 96000 (\d+)"', svg)[1]) for svg in (near, drawn)]
         self.assertLess(tall[1], tall[0] * 13 // 10)
@@ -188,7 +196,8 @@ class Plot(InFolder):
         """Heads point the way that the tool goes, here to the right and then up."""
         drawn = self.plot(text="SET_FEED_RATE(60.000000)\nSTRAIGHT_FEED(40.000000, 0.000000, 0.000000)\n"
                                "STRAIGHT_FEED(40.000000, 40.000000, 0.000000)\n").stdout
-        heads = [tuple(map(int, re.findall(r"-?\d+", data))) for data in re.findall(r'fill="#053061" d="([^"]*)"', drawn)]
+        heads = [tuple(map(int, re.findall(r"-?\d+", data)))
+                 for data in re.findall(r'fill="#053061" d="([^"]*)"', drawn)]
         self.assertEqual(len(heads), 2)
         (tip, tip_y, left, _, _, _), (up, up_y, _, low, _, _) = heads
         self.assertTrue(tip > left and up_y < low, heads)

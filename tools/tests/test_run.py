@@ -4,6 +4,7 @@ import os
 import signal
 import subprocess
 import sys
+import threading
 import unittest
 from collections.abc import Callable
 from pathlib import Path
@@ -94,9 +95,19 @@ class Ends(unittest.TestCase):
     def test_bugs(self) -> None:
         """One line; the traceback if it is asked for."""
         self.assertEqual(raised(KeyError("x")), (2, "", "try: internal error: KeyError: 'x'\n"))
+        self.assertEqual(raised(ValueError("x")), (2, "", "try: internal error: ValueError: x\n"))
         os.environ["NGC_DEBUG"] = "1"
         self.addCleanup(os.environ.pop, "NGC_DEBUG")
         self.assertIn("Traceback", raised(KeyError("x"))[2])
+
+    def test_bug_in_a_thread(self) -> None:
+        """One line, and no traceback."""
+        def work(_args: argparse.Namespace) -> int:
+            thread = threading.Thread(target=lambda: {}["x"])
+            thread.start()
+            thread.join()
+            return 0
+        self.assertEqual(ended(work), (0, "", "try: internal error: KeyError: 'x'\n"))
 
     def test_help_is_narrow(self) -> None:
         """At 40 columns all is within them but a command, which stays whole."""

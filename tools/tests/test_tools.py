@@ -51,13 +51,16 @@ class Tools(InFolder):
             self.assertTrue((TOOLS / name).stat().st_mode & 0o111, name)
 
     def test_entry_points(self) -> None:
-        """What `pip install` puts on PATH is what the scripts call."""
+        """What `pip install` puts on PATH is what the scripts call, and all of its folders are packages."""
         points = tomllib.loads((TOOLS / "pyproject.toml").read_text())["project"]["scripts"]
         called = {}
         for name in NAMES:
             module, = re.findall(r"^from (ngc_tools\.cli\.\w+) import main\b", (TOOLS / name).read_text(), re.MULTILINE)
             called[name] = f"{module}:main"
         self.assertEqual(points, called)
+        folders = {path.parent for path in TOOLS.glob("ngc_tools/**/*.py")}
+        self.assertGreater(len(folders), 6)
+        self.assertEqual([folder for folder in folders if not (folder / "__init__.py").is_file()], [])
 
     def test_wrong_words(self) -> None:
         """Status 2, on standard error, with the tool's name."""

@@ -45,7 +45,7 @@ exit status:
   1  it is written, and ends before a line that is refused
   2  the words are wrong, a file can't be used, or ngc didn't hand out the moves"""
 
-_CANONICAL = re.compile(rb"(?:[A-Z]+(?:_[A-Z]+)*\(.*\)|REFUSED line [0-9]+: .*)\r?$", re.MULTILINE)
+_CANONICAL = re.compile(rb"[A-Z]+(?:_[A-Z]+)*\(.*\)|REFUSED line [0-9]+: .*")
 
 
 def make_parser() -> argparse.ArgumentParser:
@@ -74,14 +74,14 @@ def main(arguments: list[str] | None = None) -> int:
 
 @dataclass(frozen=True, slots=True)
 class Drawn:
-    """What is drawn: the steps, the work zeros, whether the times are exact, what is said of them besides, and why the
-    picture ends early, if it does."""
+    """What is drawn: the steps, the work zeros, whether the times are exact, what is said besides, after the input's
+    name, and whether the picture ends before a refused line."""
 
     steps: list[moves.Step]
     zeros: list[moves.Point]
     is_exact: bool
     notes: tuple[str, ...] = ()
-    refused: str = ""
+    is_cut: bool = False
 
 
 def draw(args: argparse.Namespace) -> int:
@@ -95,13 +95,12 @@ def draw(args: argparse.Namespace) -> int:
     settings = Settings.read(args.settings) if args.settings else None
     with speaking_of(of, BadText, BadLine):
         drawn = _of_out(args, text, settings) if is_out(text) else _of_program(args, text, of)
-    for note in (*drawn.notes, drawn.refused):
-        if note:
-            print(f"ngc-plot: {shown(of)}{'' if note == drawn.refused else ': '}{note}", file=sys.stderr)
+    for note in drawn.notes:
+        print(f"ngc-plot: {shown(of)}{note}", file=sys.stderr)
     title = args.title if args.title is not None else Path(name).name
     said = figures.lines(drawn.steps, settings, drawn.is_exact)
     _write(args, picture(drawn.steps, title, said, settings, at, drawn.zeros), said)
-    return 1 if drawn.refused else 0
+    return 1 if drawn.is_cut else 0
 
 
 def _of_out(args: argparse.Namespace, text: bytes, settings: Settings | None) -> Drawn:
@@ -111,21 +110,21 @@ def _of_out(args: argparse.Namespace, text: bytes, settings: Settings | None) ->
     notes = []
     if settings is None:
         settings = DEFAULT
-        notes.append("its steps are taken as 0.001 mm; name the machine's settings by --settings FILE")
+        notes.append(": its steps are taken as 0.001 mm; name the machine's settings by --settings FILE")
     if not text.endswith(b"\n"):
-        notes.append("the part of a line at its end isn't drawn")
+        notes.append(": the part of a line at its end isn't drawn")
     return Drawn(moves.of_out(text, settings, _point(args.start) or (0, 0, 0)), [], True, tuple(notes))
 
 
 def _of_program(args: argparse.Namespace, text: bytes, of: str) -> Drawn:
     """A program, or what was printed of one. Raises BadText, NotTimed and the failures of a dry run."""
     before: list[Command] = []
-    first, is_program = re.match(rb"[^\n]*", text), False
-    if text and not _CANONICAL.fullmatch(first[0] if first else b""):
-        ngc, begin, is_program = find_ngc(args.ngc), chosen_beginning(args), True
+    is_program = text != b"" and not _CANONICAL.fullmatch(text.partition(b"\n")[0])
+    if is_program:
+        ngc, begin = find_ngc(args.ngc), chosen_beginning(args)
         before = begin.set_up(ngc, args.settings)
         status, text = begin.dry(ngc, text, args.settings, args.block_delete)
-        refusal(status, text)
+        refusal(status, text)  # a dry run that was none is raised
     elif args.device or args.origin or args.block_delete:
         raise WrongWords("--device, --origin and --block-delete are of a program, and this is canonical text")
     commands = read_commands(text)
@@ -133,8 +132,9 @@ def _of_program(args: argparse.Namespace, text: bytes, of: str) -> Drawn:
     if args.settings:
         steps = timed(find_ngc(args.ngc), args.settings, steps)
     last = commands[-1] if commands else Command("")
-    refused = _refused(args, of, last, is_program) if last.name == "REFUSED" else ""
-    return Drawn(steps, moves.work_zeros(commands, before), bool(args.settings), (), refused)
+    is_cut = last.name == "REFUSED"
+    notes = (_refused(args, of, last, is_program),) if is_cut else ()
+    return Drawn(steps, moves.work_zeros(commands, before), bool(args.settings), notes, is_cut)
 
 
 def _refused(args: argparse.Namespace, of: str, last: Command, is_program: bool) -> str:

@@ -6,6 +6,7 @@ import re
 import signal
 import sys
 import textwrap
+import threading
 import traceback
 from collections.abc import Callable, Iterator
 from contextlib import contextmanager, suppress
@@ -31,7 +32,7 @@ def run(parser: argparse.ArgumentParser, work: Work, arguments: list[str] | None
     _open_streams()
     status = ending = 0
     try:
-        with _heeding():
+        with _heeding(), _told_of_threads(parser.prog):
             status = _ended(parser, work, arguments)
     except KeyboardInterrupt:
         status = _say(f"{parser.prog}: stopped")
@@ -138,6 +139,22 @@ def _heeding() -> Iterator[None]:
                 signal.signal(number, handler)
 
 
+@contextmanager
+def _told_of_threads(prog: str) -> Iterator[None]:
+    """A fault in another thread is told in a line too."""
+    before = threading.excepthook
+
+    def tell(what: threading.ExceptHookArgs) -> None:
+        if isinstance(what.exc_value, Exception):
+            _bug(prog, what.exc_value)
+
+    threading.excepthook = tell
+    try:
+        yield
+    finally:
+        threading.excepthook = before
+
+
 def _interrupt(_number: int, _frame: FrameType | None) -> None:
     signal.signal(signal.SIGINT, signal.SIG_IGN)  # what is held is given back now, once
     raise KeyboardInterrupt
@@ -179,10 +196,8 @@ def _discard() -> None:
 
 def _bug(prog: str, error: Exception) -> int:
     """Says what a tool's own fault is; where it is in the code, if NGC_DEBUG is set."""
-    if type(error) is ValueError:
-        return _say(f"{prog}: {error}")
     if os.environ.get("NGC_DEBUG"):
-        traceback.print_exc()
+        traceback.print_exception(error)
     return _say(f"{prog}: internal error: {type(error).__name__}: {error}")
 
 

@@ -4,6 +4,8 @@ from collections.abc import Iterable, Sequence
 from ngc_tools.failure import BadNumber
 from ngc_tools.formats.out import Line, Pulse
 
+_LONGEST = 20  # digits of whole millimetres; no length has as many
+
 
 def millimetres(nm: int) -> str:
     """A length in nanometres as millimetres with six decimals, as `ngc` prints them."""
@@ -13,7 +15,8 @@ def millimetres(nm: int) -> str:
 def nanometres(text: str) -> int:
     """Millimetres with at most six decimals, as `7.21`, in nanometres. Raises BadNumber for anything else."""
     whole, point, decimals = text.strip().removeprefix("-").removeprefix("+").partition(".")
-    if not (whole + decimals).isdecimal() or not (whole + decimals).isascii() or len(decimals) > 6:
+    digits = whole + decimals
+    if not digits.isdecimal() or not digits.isascii() or len(decimals) > 6 or len(whole) > _LONGEST:
         raise BadNumber(f"not a number of millimetres with at most six decimals: {text}")
     size = int(whole or "0") * 10**6 + int(decimals.ljust(6, "0"))
     return -size if text.strip().startswith("-") else size

@@ -28,7 +28,7 @@ LIMITS = {key: f"{what}, {_RANGES[key][0]:,} to {_RANGES[key][-1]:,}" for key, w
 """What each key takes, for people."""
 _THREE = ("step_nm", "low_nm", "high_nm")
 _ONE = ("traverse_nm_per_min", "period_us")
-_LONGEST = 4096  # bytes of a line; 128 tool lengths have some 1,700
+_LONGEST = 4096  # bytes of a line; all tool lengths in one have some 1,700
 _BARE = re.compile("[A-Za-z0-9_-]+")
 
 

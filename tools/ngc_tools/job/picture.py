@@ -1,5 +1,5 @@
-"""A picture of a job as SVG: from above, from the front, from the right, and aslant. It fits the cuts; traverses and the
-travel are drawn as far as they are near."""
+"""A picture of a job as SVG: from above, from the front, from the right, and aslant. It fits the cuts; traverses and
+the travel are drawn as far as they are near."""
 from collections.abc import Iterable, Sequence
 from dataclasses import dataclass
 

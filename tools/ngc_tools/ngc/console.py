@@ -23,6 +23,10 @@ class Ended(Failure):
         self.replies = replies
 
 
+class NoStatus(Failure, ValueError):
+    """A reply to `status` that is none: the program that answers isn't `ngc`, or another version of it."""
+
+
 @dataclass(frozen=True, slots=True)
 class Status:
     """What `status` says. `at` are machine millimetres as `ngc` prints them; `half` is `none`, `program` or `mdi`, and
@@ -38,10 +42,10 @@ class Status:
 
     @staticmethod
     def read(reply: str) -> "Status":
-        """Reads the reply to `status`. Raises ValueError for any other text."""
+        """Reads the reply to `status`. Raises NoStatus for any other text."""
         match = _STATUS.fullmatch(reply)
         if match is None:
-            raise ValueError(f"not a status: {reply}")
+            raise NoStatus(f"ngc run doesn't answer as it should; not a status: {reply}")
         half = match[7] or match[8]
         at = (match[3], match[4], match[5])
         return Status(int(match[1]), int(match[2]), at, match[6] == "known", half, int(match[9] or 0), match[10])

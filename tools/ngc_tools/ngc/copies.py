@@ -1,5 +1,4 @@
 """Copies of a device, over which `ngc run` does what it would do over the device itself."""
-import tempfile
 from collections.abc import Callable
 from contextlib import ExitStack
 from dataclasses import dataclass, field
@@ -8,10 +7,12 @@ from types import TracebackType
 
 from ngc_tools.failure import Failure
 from ngc_tools.ngc.console import Console, Status
+from ngc_tools.files import naming
 from ngc_tools.formats.device import Device
 from ngc_tools.formats.out import Dwell, Pulse, Switch, read_line
 from ngc_tools.formats.position import Position, nanometres
 from ngc_tools.formats.settings import Settings
+from ngc_tools.scratch import Scratch
 
 Point = tuple[int, int, int]
 
@@ -105,7 +106,6 @@ class Copy:
                  interrupted: Callable[[], bool] = never) -> None:
         """Begins it and gives the commands; it is broken off where `interrupted` says so. Raises CommandRefused, Ended
         of the console, OSError, BadSettings."""
-        shared = "/dev/shm" if Path("/dev/shm").is_dir() else None  # a sync costs nothing there
         self._settings = Settings.read(settings)
         self._interrupted = interrupted
         self.ticks = self.lines = 0
@@ -113,9 +113,10 @@ class Copy:
         self.idle = False
         self.tally: Tally | None = None
         with ExitStack() as stack:
-            folder = Path(stack.enter_context(tempfile.TemporaryDirectory(prefix="ngc-rehearse-", dir=shared)))
+            folder = Path(stack.enter_context(Scratch("ngc-rehearse-")))
             self._device, self._out = folder / "device", folder / "out"
-            self._device.write_bytes(image)
+            with naming(self._device):
+                self._device.write_bytes(image)
             self.console = _Console(ngc, self._device, settings, self._out)
             stack.callback(self.console.kill)
             self._begin(commands, counted)

@@ -1,6 +1,5 @@
 """Exact times of moves: `ngc run` hands them out over a device of its own, and the periods of OUT are added up."""
 import subprocess
-import tempfile
 from collections.abc import Iterator
 from dataclasses import replace
 from pathlib import Path
@@ -12,6 +11,7 @@ from ngc_tools.job.moves import PLANES, TRAVERSE, Move, Step
 from ngc_tools.formats.out import Pulse, read_line
 from ngc_tools.formats.position import millimetres
 from ngc_tools.formats.settings import Settings
+from ngc_tools.scratch import Scratch
 
 MOST_PULSES = 3_000_000  # about, of one part: so OUT stays short
 _HEAD = "G17 G21 G40 G49 G54 G80 G90 G94\n"
@@ -29,8 +29,7 @@ def timed(ngc: str, settings: str | Path, steps: list[Step]) -> list[Step]:
     is removed: `ngc` decides the pulses and their periods. Raises NotTimed, OSError, BadSettings."""
     moves = [step for step in steps if isinstance(step, Move)]
     times: list[int] = []
-    shared = "/dev/shm" if Path("/dev/shm").is_dir() else None  # a sync costs nothing there
-    with tempfile.TemporaryDirectory(prefix="ngc-times-", dir=shared) as name:
+    with Scratch("ngc-times-") as name:
         folder = Path(name)
         done = subprocess.run([ngc, "format", str(folder / "device")], check=False, capture_output=True)
         if done.returncode:

@@ -2,6 +2,7 @@
 import time
 from collections.abc import Callable
 
+from ngc_tools.failure import BadNumber
 from ngc_tools.player.progress import Link, Report
 
 LIMIT = 100  # lines
@@ -9,9 +10,9 @@ LIMITS = range(2, 5001)
 
 
 def check_limit(limit: int) -> None:
-    """Raises ValueError for a bound below 2, or above 5,000, which is what a player can have in hand."""
+    """Raises BadNumber for a bound below 2, or above 5,000, which is what a player can have in hand."""
     if limit not in LIMITS:
-        raise ValueError(f"{limit} lines: the bound is from {LIMITS[0]} to {LIMITS[-1]:,}")
+        raise BadNumber(f"{limit} lines: the bound is from {LIMITS[0]} to {LIMITS[-1]:,}")
 
 
 class Meter:
