@@ -128,8 +128,9 @@ class InC:
 @cache
 def has_sanitizers() -> bool:
     """Whether the compiler of this computer has them."""
-    command = ["cc", *SANITIZERS, "-x", "c", "-", "-o", os.devnull]
-    return subprocess.run(command, input=b"int main(void) { return 0; }", capture_output=True).returncode == 0
+    with tempfile.TemporaryDirectory() as folder:
+        command = ["cc", *SANITIZERS, "-x", "c", "-", "-o", f"{folder}/tried"]
+        return subprocess.run(command, input=b"int main(void) { return 0; }", capture_output=True).returncode == 0
 
 
 class Sanitized:
