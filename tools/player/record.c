@@ -143,7 +143,7 @@ static bool is_reference(struct scan *line) {
     return is_word && blanks == 2;
 }
 
-/* The line of the axis that isn't a number, or NULL. */
+/* The numbers of such a line. */
 static bool read_reference(struct scan line, struct record *record, struct cause *why) {
     for (int axis = 0; axis < 3; axis++) {
         const char *stop = axis < 2 ? memchr(line.at, ' ', (size_t)(line.end - line.at)) : line.end;

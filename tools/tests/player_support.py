@@ -7,6 +7,7 @@ import signal
 import subprocess
 import sys
 import tempfile
+import unittest
 from functools import cache
 from pathlib import Path
 
@@ -124,10 +125,25 @@ class InC:
         return [built("-O2")]
 
 
+@cache
+def has_sanitizers() -> bool:
+    """Whether the compiler of this computer has them."""
+    with tempfile.TemporaryDirectory() as folder:
+        command = ["cc", *SANITIZERS, "-x", "c", "-", "-o", f"{folder}/tried"]
+        return subprocess.run(command, input=b"int main(void) { return 0; }", capture_output=True).returncode == 0
+
+
 class Sanitized:
     """The same under the compiler's sanitizers of addresses and undefined behaviour."""
 
     takes_preloads = False
+
+    @classmethod
+    def setUpClass(cls) -> None:
+        """Needs a compiler that has them."""
+        super().setUpClass()
+        if not has_sanitizers():
+            raise unittest.SkipTest("the compiler has no sanitizers")
 
     def command(self) -> list[str]:
         """The player."""

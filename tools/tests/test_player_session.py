@@ -13,7 +13,7 @@ from pathlib import Path
 sys.path.insert(0, str(Path(__file__).resolve().parent))
 
 from player_support import InC, PlayerTest, Sanitized, preloaded, record, sector  # noqa: E402
-from session_support import PATIENCE_S, ngc  # noqa: E402
+from session_support import PATIENCE_S, TOOLS, Terminal, ngc  # noqa: E402
 
 from ngc_tools.formats.out import OFF, Switch  # noqa: E402
 from ngc_tools.player.progress import Report  # noqa: E402
@@ -321,6 +321,17 @@ class Sessions:
 
 class Python(Sessions, PlayerTest):
     """tools/ngc-player."""
+
+    def test_asks_below_the_live_line(self) -> None:
+        """At a terminal what it asks for stands on a line of its own, and Enter answers it."""
+        Path("out").write_text("P 1 0 0 50\nD 300000\nS 0 0.000000 0 0 2 2\nD 300000\nD 0\n")
+        terminal = Terminal(str(TOOLS / "ngc-player"), "out", "first.toml", "position")
+        shown = terminal.read_to(b"press Enter\r\n")
+        self.assertEqual(shown, b"\rline 2: 0.001000 0.000000 0.000000\r\nline 3: put in tool 2, then press Enter\r\n")
+        terminal.send(b"\n")
+        shown = terminal.read_to(b"never")
+        self.assertIn(b"\rline 4: 0.001000 0.000000 0.000000\r\nout: 5 lines carried out, ", shown)
+        self.assertEqual(terminal.status(), 0)
 
     def test_follow(self) -> None:
         """Of a file that is followed, those who ask are looked for: with the last one gone the spindle goes off."""

@@ -5,7 +5,7 @@ import re
 import signal
 import sys
 import threading
-from contextlib import ExitStack, suppress
+from contextlib import ExitStack
 
 from ngc_tools.cli.run import new_parser, run
 from ngc_tools.formats.out import BadLine
@@ -14,7 +14,7 @@ from ngc_tools.formats.record import check_path, machine_nm
 from ngc_tools.formats.settings import Settings
 from ngc_tools.player.answers import Answers
 from ngc_tools.player.keeper import Keeper, RecordFile
-from ngc_tools.player.person import Person, say
+from ngc_tools.player.person import Person, Voice
 from ngc_tools.player.pins import Pins
 from ngc_tools.player.player import Manner, Player, Stopped, save_wakeups
 from ngc_tools.player.progress import Listener
@@ -88,12 +88,13 @@ def main(arguments: list[str] | None = None) -> int:
 
 def work(args: argparse.Namespace) -> int:
     """Opens what is named, and plays. Raises Failure or OSError."""
+    voice = Voice()
     with ExitStack() as stack:
-        return play(prepared(args, stack), args)
+        return play(prepared(args, voice, stack), args, voice)
 
 
-def prepared(args: argparse.Namespace, stack: ExitStack) -> Player:
-    """The player, with its record and its socket, which `stack` lets go. Raises OSError or ValueError."""
+def prepared(args: argparse.Namespace, voice: Voice, stack: ExitStack) -> Player:
+    """The player, with its record and its socket, which `stack` lets go. Raises Failure or OSError."""
     at_nm = tuple(map(machine_nm, args.at)) if args.at else None
     settings = Settings.read(args.settings)
     source = Source(args.out, args.pipe, args.follow)
@@ -103,15 +104,15 @@ def prepared(args: argparse.Namespace, stack: ExitStack) -> Player:
     stack.callback(file.close)
     begun, notice = where_to_begin(file.read(), source, args.anew, args.restored)
     if notice:
-        say(f"{args.out}: {notice}")
+        voice.say(f"{args.out}: {notice}")
     if source.pipe_bytes >= 2 * max(args.pipe, PIPE_BYTES):
-        say(f"{args.out}: the pipe stays at {source.pipe_bytes:,} bytes")
+        voice.say(f"{args.out}: the pipe stays at {source.pipe_bytes:,} bytes")
     source.skip(begun)
     position = Position(settings.step_nm, begun.at_nm if at_nm is None else at_nm)
     pins = Pins(args.pins, (args.out, args.settings, args.position))
     stack.callback(pins.close)
     manner = Manner(settings.period_us, not args.untimed, args.spindle, args.off_after,
-                    None if args.no_ask_tool else Person(sys.stdin))
+                    None if args.no_ask_tool else Person(sys.stdin, voice))
     player = Player(source, position, begun, pins, manner)
     stack.callback(player.close)
     if args.progress:
@@ -122,30 +123,33 @@ def prepared(args: argparse.Namespace, stack: ExitStack) -> Player:
     return player
 
 
-def play(player: Player, args: argparse.Namespace) -> int:
+def play(player: Player, args: argparse.Namespace, voice: Voice) -> int:
     """Plays OUT to its end, and tells what was done."""
     _heed_signals(player)
     save_wakeups()
     over = threading.Event()
+    display = threading.Thread(target=_show, args=(player, voice, over), daemon=True)
     if args.live or sys.stderr.isatty():
-        threading.Thread(target=_show, args=(player, over), daemon=True).start()
+        display.start()
     if player.answers:
         player.answers.start()
     status = 0
     try:
         if player.run():
-            say(f"{args.out}: ended with spindle or coolant on; spindle and coolant off")
+            voice.say(f"{args.out}: ended with spindle or coolant on; spindle and coolant off")
     except BadLine as error:
-        say(f"{args.out}:{error.number}: {error.cause}; stopped, spindle and coolant off")
+        voice.say(f"{args.out}:{error.number}: {error.cause}; stopped, spindle and coolant off")
         status = 1
     except Stopped as error:
-        say(f"{args.out}: {error}; spindle and coolant off")
+        voice.say(f"{args.out}: {error}; spindle and coolant off")
         status = 1
     finally:
         over.set()
         if player.answers:
             player.answers.close()
         player.keeper.close()
+    if display.is_alive():
+        display.join()
     tell(player, args.out)
     return status
 
@@ -169,15 +173,15 @@ def _heed_signals(player: Player) -> None:
         signal.signal(number, stop)
 
 
-def _show(player: Player, over: threading.Event) -> None:
-    """Shows the live position, ten times a second."""
-    shown = ""
+def _show(player: Player, voice: Voice, over: threading.Event) -> None:
+    """Shows the live position, ten times a second, if it is another one."""
+    before = ""
     while not over.wait(0.1):
-        line = live(player.lines, player.position.nm, _columns())
-        with suppress(OSError, ValueError):
-            print("\r" + line.ljust(len(shown)), end="", file=sys.stderr, flush=True)
-        shown = line
-    say("")
+        now = live(player.lines, player.position.nm, _columns())
+        if now != before:
+            voice.live(now)
+        before = now
+    voice.end_live()
 
 
 def live(lines: int, at_nm: tuple[int, int, int], columns: int) -> str:

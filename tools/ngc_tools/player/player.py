@@ -11,7 +11,7 @@ from ngc_tools.formats.position import Position
 from ngc_tools.formats.record import Record, stopped
 from ngc_tools.player.answers import Answers
 from ngc_tools.player.keeper import Keeper
-from ngc_tools.player.person import Person, say
+from ngc_tools.player.person import Person
 from ngc_tools.player.pins import Pins
 from ngc_tools.player.progress import Report
 from ngc_tools.player.schedule import Schedule
@@ -249,9 +249,8 @@ class Player:
         if self.manner.timed:
             self._wait_until(self.schedule.due)
         what = f"put in tool {slot}" if slot else "take the tool out"
-        person.forget()
         self._tool = slot
-        say(f"line {self.lines + 1}: {what}, then press Enter")
+        person.ask(f"line {self.lines + 1}: {what}, then press Enter")
         while self._tool is not None:
             if person.has_pressed(SLICE_NS / 1e9):
                 self._tool = None
