@@ -20,6 +20,8 @@ _SETTINGS = re.compile(rb"""^[ \t]*["']?(?:step_nm|low_nm|high_nm|traverse_nm_pe
                        re.MULTILINE)
 _OUT = re.compile(rb"(?:P (?:-1|0|1) (?:-1|0|1) (?:-1|0|1) [0-9]+|D [0-9]+|S [012] [0-9]+\.[0-9]{6} [01] [01] [0-9]+ [0-9]+)"
                   rb"(?:\n|\Z)")
+_OUT_PART = re.compile(rb"P (?:(?:-?[01]? ?){0,3}|(?:(?:-1|0|1) ){3}[0-9]*)")
+_LINE = 200  # bytes; no line of an OUT is as long
 _RECORD = re.compile(rb"out .*\nlines [0-9]")
 
 
@@ -63,6 +65,12 @@ def kind(path: str | Path) -> str | None:
     if _OUT.match(begin):
         return "an OUT"
     return "settings" if _SETTINGS.search(begin) else None
+
+
+def is_out(text: bytes) -> bool:
+    """Whether a text begins with a line of an OUT, or with a part of one."""
+    begin = text[:_LINE]
+    return bool(_OUT.match(begin)) or b"\n" not in begin and bool(_OUT_PART.fullmatch(begin))
 
 
 def write_new(path: str | Path, data: bytes, inputs: Iterable[str | Path | None], force: bool = False) -> None:

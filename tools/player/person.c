@@ -1,6 +1,7 @@
 #define _POSIX_C_SOURCE 200809L
 #include "person.h"
 
+#include <errno.h>
 #include <poll.h>
 #include <string.h>
 #include <unistd.h>
@@ -19,7 +20,7 @@ static ssize_t typed(char *keys, size_t room, int milliseconds) {
         return 0;
     }
     ssize_t size = read(STDIN_FILENO, keys, room);
-    is_gone = size <= 0;
+    is_gone = size == 0 || (size < 0 && errno != EINTR && errno != EAGAIN);
     return size > 0 ? size : 0;
 }
 

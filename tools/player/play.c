@@ -38,7 +38,7 @@ static bool carry_out(struct play *play, const struct line *line, const char *te
     if (play->options->is_untimed ? has_to_stop(play) : !wait_until_due(play)) {
         return false;
     }
-    schedule_begin(&play->schedule, line->us);
+    schedule_begin(&play->schedule, line);
     int error = pins_set(line, text, size);
     if (error != 0) {
         note_stop(play, "pins");

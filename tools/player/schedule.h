@@ -1,8 +1,10 @@
-/* When each line is due. A player that makes ramps has its own times here. */
+/* When each line is due. */
 #ifndef SCHEDULE_H
 #define SCHEDULE_H
 
 #include <stdint.h>
+
+#include "line.h"
 
 /* In nanoseconds of the monotonic clock. */
 struct schedule {
@@ -16,8 +18,8 @@ int64_t schedule_now(void);
 /* Nothing was there to be carried out, or a switch took its time: the next line is due now, if not later. */
 void schedule_pause(struct schedule *schedule);
 
-/* A line begins now, and lasts so many microseconds. Lateness of less than a tenth of that is made up for; by more, all
- * lines after it move. So nothing comes sooner after a pulse than nine tenths of its period. */
-void schedule_begin(struct schedule *schedule, uint64_t lasts_us);
+/* A line begins now; the next one is due once it has lasted its time. Lateness of less than a tenth of that time is made
+ * up for; by more, all lines after it move. So nothing comes sooner after a pulse than nine tenths of its period. */
+void schedule_begin(struct schedule *schedule, const struct line *line);
 
 #endif

@@ -8,7 +8,21 @@
 #include <sys/stat.h>
 #include <unistd.h>
 
-enum { TAIL_BYTES = 4096 };
+enum { TAIL_BYTES = 4096, LEAST_PIPE = 4096 };
+
+/* Asks for a pipe of so many bytes; says so where one in which more waits stays as it is. */
+static void resize(const struct source *source, int bytes) {
+    fcntl(source->file, F_SETPIPE_SZ, bytes);
+    int size = fcntl(source->file, F_GETPIPE_SZ);
+    if (size < 2 * (bytes > LEAST_PIPE ? bytes : LEAST_PIPE)) {
+        return;
+    }
+    if (size < 1000000) {
+        say("%s: the pipe stays at %d,%03d bytes", source->path, size / 1000, size % 1000);
+    } else {
+        say("%s: the pipe stays at %d,%03d,%03d bytes", source->path, size / 1000000, size / 1000 % 1000, size % 1000);
+    }
+}
 
 bool source_open(struct source *source, const char *path, int pipe_bytes, struct cause *why) {
     struct stat what;
@@ -25,11 +39,7 @@ bool source_open(struct source *source, const char *path, int pipe_bytes, struct
         return because(why, "%s: neither a file nor a named pipe", path);
     }
     if (source->is_pipe) {
-        fcntl(source->file, F_SETPIPE_SZ, pipe_bytes);
-        int size = fcntl(source->file, F_GETPIPE_SZ);
-        if (size >= 2 * (pipe_bytes > 4096 ? pipe_bytes : 4096)) {
-            say("%s: the pipe stays at %d bytes", path, size);
-        }
+        resize(source, pipe_bytes);
     }
     return true;
 }

@@ -124,16 +124,17 @@ class Words(InFolder):
         return status, said, error, Path("out.ngc").read_bytes() if Path("out.ngc").exists() else None
 
     def test_needed(self) -> None:
-        """Without a height, a place or a slot nothing is written; each is named with its line."""
+        """Without heights, places and slots nothing is written; each is named with its line."""
         text = "G21 G91\nG28 Z0\nG28 X0\nT201 M6\nG43 H300\n"
-        for words, asked in (((), "2: G28 Z0: name the machine Z that the tool is lifted to, in millimetres: --lift Z"),
-                             (("--lift", "0"), "3: G28 X0: name the machine X and Y that the table is brought to, in"
-                              " millimetres: --park X Y"),
-                             (("--lift", "0", "--park", "0", "0"), "4: T201 M6: name the slot of tool 201, 1 to 128:"
-                              " --tool 201=SLOT"),
-                             (("--lift", "0", "--park", "0", "0", "--tool", "201=1"), "5: G43 H300: name the slot of"
-                              " tool 300, 1 to 128: --tool 300=SLOT")):
-            self.assertEqual(self.adapt(text, *words), (2, "", f"ngc-adapt: part.nc: line {asked}\n", None))
+        needed = ["2: G28 Z0: name the machine Z that the tool is lifted to, in millimetres: --lift Z\n",
+                  "3: G28 X0: name the machine X and Y that the table is brought to, in millimetres: --park X Y\n",
+                  "4: T201 M6: name the slot of tool 201, 1 to 128: --tool 201=SLOT\n",
+                  "5: G43 H300: name the slot of tool 300, 1 to 128: --tool 300=SLOT\n"]
+        words: list[str] = []
+        for number, more in enumerate((["--lift", "0"], ["--park", "0", "0"], ["--tool", "201=1"], [])):
+            wanted = "ngc-adapt: " + "".join(f"part.nc: line {line}" for line in needed[number:])
+            self.assertEqual(self.adapt(text, *words), (2, "", wanted, None))
+            words += more
 
     def test_slots(self) -> None:
         """By the table, in the list; what is no table."""

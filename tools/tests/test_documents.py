@@ -203,10 +203,10 @@ class Tools(Documents):
         self.assertEqual(error, "ngc-check: mill.toml" + wrong)
 
     def test_plot(self) -> None:
-        """A pipe, and a picture beside an example with its figures."""
+        """A program where the work is, and a picture beside an example with its figures."""
         text, ((synopsis, _), (pipe, _), (ring, said)) = self.chapter("TOOLS.md", "ngc-plot")
         self.same_options("ngc-plot", text, synopsis)
-        shutil.copy("examples/mill.ngc", "part.ngc")
+        shutil.copy("examples/pocket.ngc", "part.ngc")
         self.assertEqual(self.shell(pipe), "")
         ElementTree.parse("part.svg")
         os.unlink("examples/ring.svg")

@@ -61,11 +61,12 @@ class Sentences(unittest.TestCase):
     """Faults that aren't of a line."""
 
     def test_session(self) -> None:
-        """Each fault of docs/SESSION.md has a sentence, but those of lines, and that of threads, which no tool meets."""
+        """Each fault of docs/SESSION.md has a sentence, but those of lines and that of threads, which no tool meets."""
         told = rows("SESSION.md", "[A-Z]").keys() - OF_LINES - {"K6"}
         self.assertEqual(set(faults.SESSION), told)
-        for code, words in (("J5", (f"{device.MOST_PROGRAM:,}", f"{device.MOST_LARGE_PROGRAM:,}")), ("K4", ("no block",)),
-                            ("M1", ("out of memory",)), ("J2", ("too short",)), ("K3", ("where the machine stands",))):
+        for code, words in (("J5", (f"{device.MOST_PROGRAM:,}", f"{device.MOST_LARGE_PROGRAM:,}")),
+                            ("K4", ("no block",)), ("M1", ("out of memory",)), ("J2", ("too short",)),
+                            ("K3", ("where the machine stands",))):
             for word in words:
                 self.assertIn(word, faults.SESSION[code])
                 self.assertIn(word, rows("SESSION.md", "[A-Z]")[code][1])

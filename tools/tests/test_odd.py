@@ -61,7 +61,7 @@ class Ended:
 
 
 def begin(name: str, words: Iterable[str], before: Callable[[], object]) -> int:
-    """Starts a tool in a fork with a process group of its own; its outputs go to files. `before` is done in it first."""
+    """Starts a tool in a fork with a process group of its own, its outputs in files; `before` is done in it first."""
     child = os.fork()
     if child:
         return child
@@ -217,7 +217,8 @@ class Odd(InFolder):
         return {"empty": b"", "newlines": b"\n" * 1000, "nul": b"\0" * 1000, "nul.ngc": b"G0 X1\0\nM2\n",
                 "binary": bytes(range(256)) * 40, "cr.ngc": TEXT.replace("\n", "\r").encode(), "utf16.ngc": utf16,
                 "utf16le.ngc": utf16[2:], "cut.ngc": utf16[:-1], "latin.ngc": TEXT.encode("latin-1"),
-                "escapes.ngc": b"G0 \x1b[2JX1 ; \x1b]0;x\x07\nM2\n", "zeros": bytes(875_520), "large": b"\xff" * 3_000_000,
+                "escapes.ngc": b"G0 \x1b[2JX1 ; \x1b]0;x\x07\nM2\n", "zeros": bytes(875_520),
+                "large": b"\xff" * 3_000_000,
                 "line": b"G1 X1 " * 10_000, "long.toml": b"a." * 50_000 + b"b = 1\n",
                 "deep.toml": b"period_us = " + b"[" * 5000, "digits": b"period_us = " + b"9" * 5000 + b"\n",
                 "part": b"P 1 0 0 50\nP 1 0", "name\x1b[2J\n": b"G0 X1\n", "surrogate\udcff": b"G0 X1\n",

@@ -5,6 +5,7 @@ import os
 import re
 import signal
 import socket
+import subprocess
 import sys
 import threading
 import tty
@@ -76,7 +77,7 @@ ngc> taken
 ngc> done 12
 ngc> idle
 ngc> none.ngc: No such file or directory
-ngc> refused X2 OutsideTravel: {X2}
+ngc> refused X2 OutsideTravel: X 5,000 is outside the travel, which ends at 1,000 (high_nm of the settings)
 ngc> """
 HELD = """\
 metered: OUT is at most 50 lines ahead of the player, which is what a loss of power can cost
@@ -191,6 +192,14 @@ class Scripted(InFolder):
         self.assertEqual(Path("out2").read_text(), "S 1 1000.000000 0 0 0 0\nP -1 0 0 50\n" + "P 1 0 0 50\n" * 5
                          + "S 0 1000.000000 0 0 0 0\n")
 
+    def test_bytes_that_are_no_text(self) -> None:
+        """A byte that isn't UTF-8 ends no session: it goes to `ngc` as it is."""
+        words = [sys.executable, str(TOOLS / "ngc-operate"), *operate("mill.dev", "first.toml", "out")]
+        environment = {**os.environ, "PYTHONIOENCODING": "utf-8:strict"}
+        done = subprocess.run(words, input=b"G0 X0.001 (\xff)\nquit\n", capture_output=True, env=environment)
+        self.assertEqual((done.returncode, done.stderr), (0, b""))
+        self.assertIn(b"idle; X 0.001000 Y 0.000000 Z 0.000000\n", done.stdout)
+
     def test_tool_at_a_stop(self) -> None:
         """The tool in the spindle is named at M0."""
         Path("part.ngc").write_text("T1 M6\nM0\nM2\n")
@@ -233,6 +242,8 @@ class Scripted(InFolder):
              " reader: start the player first"),
             (("mill.dev", "first.toml", "part"), "part: it ends in a part of a line, and the next line would stand on"
              " the same one: give a new OUT, or cut that part off"),
+            (("mill.dev", "first.toml", "part.ngc"), "part.ngc: it holds something else than lines of OUT, and pulses"
+             " would be appended to it: give a new OUT. Its last line is not a line of OUT: 'M2'"),
             (("mill.dev", "first.toml", "out", "--player", "none"), "none: no player listens there: No such file or"
              " directory"),
         ]

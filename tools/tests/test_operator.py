@@ -188,9 +188,9 @@ class Places(Core):
         self.begin(link)
         said = self.do("reference 43.25 -10 -10.5")
         self.assertEqual(said, [
-            "the player says that the motors are at X4.325 Y-10 Z-10.5, and what was typed is X43.25 Y-10 Z-10.5: 38.925"
-            " mm apart. Nothing is done.\n  reference player takes the player's point; reference 43.25 -10 -10.5 anyway"
-            " takes what was typed"])
+            "the player says that the motors are at X4.325 Y-10 Z-10.5, and what was typed is X43.25 Y-10 Z-10.5:"
+            " 38.925 mm apart. Nothing is done.\n  reference player takes the player's point; reference 43.25 -10 -10.5"
+            " anyway takes what was typed"])
         self.assertFalse(self.status().known)
         self.assertEqual(self.do("reference player"), ["done 3"])
         self.assertEqual(self.status().at, ("4.325000", "-10.000000", "-10.500000"))
@@ -286,7 +286,8 @@ class LeftBehind(Core):
         self.stop("G0 X0.002\nG1 X0.005")
         self.assertEqual(self.do("G91")[-1], "in force now: G91 (G90 before). restore puts it back")
         self.assertNotIn("in force", self.do("G4 P0")[-1])
-        self.assertEqual(self.do("run", answers=("",)), ["in force now: G91 (G90 before)", "restore types: G90"])
+        self.assertEqual(self.do("run", answers=("",)), ["line 4 begins where the machine is, at X0.001 Y0 Z0",
+                                                         "in force now: G91 (G90 before)", "restore types: G90"])
         self.assertEqual(self.face.asked, ["go on all the same? yes goes on: "])
         self.assertEqual((self.status().does, self.out()[-1]), ("stopped", "D 0"))
         self.do("run", answers=("yes",))
@@ -310,7 +311,7 @@ class LeftBehind(Core):
         it."""
         self.stop("X0.15")
         self.assertNotIn("in force", self.do("G53 G0 Z0")[-1])
-        self.assertEqual(self.do("run", answers=("no",)),
+        self.assertEqual(self.do("run", answers=("no",))[1:],
                          ["in force now: G0 (G1 before)", "restore types: F1 G53 G1 X0.001000; F600"])
         self.do("restore")
         self.do("run")
@@ -333,7 +334,7 @@ class LeftBehind(Core):
         """A spindle that was stopped is asked of; one that was started, or that stands as a program begins, isn't."""
         self.stop("G90 G1 X0.002 F600", "G21 G90 F600 M3 S1000")
         self.assertNotIn("in force", self.do("M8", "M5")[-1])
-        self.assertEqual(self.do("run", answers=("no",)),
+        self.assertEqual(self.do("run", answers=("no",))[1:],
                          ["in force now: M5 (M3 before), M8 (M9 before)", "restore types: M3; M9"])
         self.do("M3", "run", "M4", "run")
         self.assertEqual(self.face.asked, [])
@@ -369,11 +370,11 @@ class LeftBehind(Core):
         """A cycle that another motion ended would be drilled no more; what it kept is named."""
         self.stop("X0.002", "G21 G90 F600\nG81 X0 Z-0.01 R0.005")
         self.do("G0 Y0")
-        self.assertEqual(self.do("run", answers=("no",)),
+        self.assertEqual(self.do("run", answers=("no",))[1:],
                          ["in force now: G0 (G1 before)", "restore types: F1 G53 G1 X0.001000; F600"])
         self.do("G81 X0.001 Z-0.01 R0.005", "G0 Y0", "restore")
         self.do("G81 X0.001 Z-0.01 R0.005")
-        self.assertEqual(self.do("run", answers=("no",)),
+        self.assertEqual(self.do("run", answers=("no",))[1:],
                          ["in force now: G81 (G1 before)", "restore types: F1 G53 G1 X0.001000; F600"])
 
     def test_other_words_of_a_cycle(self) -> None:
@@ -381,7 +382,7 @@ class LeftBehind(Core):
         self.begin()
         self.load("G21 G90 F600\nG81 X0 Z-0.01 R0.005\nM0\nX0.002\nM2\n")
         self.do("run", "G81 X0 Z-0.02 R0.005")
-        self.assertEqual(self.do("run", answers=("no",)),
+        self.assertEqual(self.do("run", answers=("no",))[1:],
                          ["in force now: R0.005 Z-0.02 of a cycle (R0.005 Z-0.01 of a cycle before)"])
         self.assertEqual(self.do("restore")[-1],
                          "it can't put back what a cycle kept: its next line has to name R and Z")
@@ -396,6 +397,18 @@ class LeftBehind(Core):
         self.do("G91")
         self.load("G0 X0.002\nM2\n")
         self.assertEqual(self.do("run", answers=("no",)), ["in force now: G91 (G90 before)", "restore types: G90"])
+
+    def test_zero_set(self) -> None:
+        """A zero point that is set before a program begins is no question; one that is set at a stop is."""
+        self.begin()
+        self.do("tool 1 0.001", "G10 L2 P2 X0.001", "G55", "G43 H1", "G92 Y0.002")
+        self.load("G21 G90 G0 X0.002\nM0\nG0 X0.003\nM2\n")
+        self.do("run")
+        self.assertEqual((self.face.asked, self.status().at[0]), ([], "0.003000"))
+        self.do("G10 L2 P2 X0.005")
+        self.assertEqual(self.do("run", answers=("no",))[1:],
+                         ["in force now: G55 at X0.005 Y0 Z0 (G55 at X0.001 Y0 Z0 before)",
+                          "restore types: G10 L2 P2 X0.001 Y0 Z0"])
 
     def test_place(self) -> None:
         """At a stop the machine was moved: where the next line begins, and where the machine is."""
@@ -509,6 +522,19 @@ class Causes(Core):
         self.assertEqual(self.do("continue"), ["refused K2 NoProgram: nothing waits: run starts the program"])
 
 
+    def test_outside(self) -> None:
+        """X2 says which axis leaves the travel, and where: of a line, a point that is told, a line of the program."""
+        self.begin()
+        self.do("G10 L2 P1 X10", "G54")
+        line = "X goes to 1,001 mm of the machine, and the travel ends at 1,000 (high_nm of the settings)"
+        self.assertIn(f"refused X2 OutsideTravel: {line}\n", self.do("G0 X991")[0])
+        self.assertEqual(self.do("reference 1 2 -1001"), ["refused X2 OutsideTravel: Z -1,001 is outside the travel,"
+                                                          " which ends at -1,000 (low_nm of the settings)"])
+        self.face.answers = ["yes"]
+        self.load("G21 G90\nG0 X0\nG0 X991\nM2\n")
+        self.assertIn(f"line 3: G0 X991\n  refused X2 OutsideTravel: {line}\n", self.do("run")[0])
+
+
 class Beginnings(Core):
     """What a session begins with, and a rehearsal within it."""
 
@@ -536,6 +562,14 @@ class Beginnings(Core):
         self.begin()
         self.assertIn("the machine is where it is known to be, unless it was moved; then rehearse", self.begun[2])
 
+    def test_other_settings(self) -> None:
+        """Settings under which the half-done block is refused aren't those of its session, and that is said."""
+        self.run_ngc("mdi G0 X1\ntick 4\n", "before")
+        Path("first.toml").write_text(FIRST.replace("high_nm = [1000000000", "high_nm = [900000"))
+        self.begin()
+        self.assertEqual(self.begun[1].splitlines()[-1],
+                         "  resume would be refused X2 OutsideTravel: is first.toml other than it was?")
+
     def test_other_steps(self) -> None:
         """A player that counts in other steps than the settings has."""
         Path("first.toml").write_text(FIRST.replace("[1000, 1000, 1000]", "[5000, 1000, 1000]"))
@@ -562,7 +596,8 @@ class Loads(Core):
         without a yes."""
         self.begin()
         self.do("G10 L2 P1 X999", "G54")
-        for text, line in (("G21 G90\nG0 X2\nM2\n", "line 2: G0 X2\n  refused X2 OutsideTravel"),
+        outside = "X goes to 1,001 mm of the machine, and the travel ends at 1,000 (high_nm of the settings)"
+        for text, line in (("G21 G90\nG0 X2\nM2\n", f"line 2: G0 X2\n  refused X2 OutsideTravel: {outside}\n  look at"),
                            ("T1 M6\nM2\n", "line 1: T1 M6\n  refused B14 BadSlot"),
                            ("G21\nG90\n", "line 3\n  refused X3 NoProgramEnd")):
             self.face.said.clear()
@@ -653,8 +688,8 @@ class Ends(Core):
         self.assertFalse(self.operator.over)
         self.assertEqual(self.do("quit", answers=("yes",))[-1],
                          "still on: the spindle, clockwise at 8000. Within a block no M5 is done. The player switches"
-                         " that off once the session has ended and the seconds of its --off-after are over; Ctrl-C in the"
-                         " player does it at once")
+                         " that off once the session has ended and the seconds of its --off-after are over; Ctrl-C in"
+                         " the player does it at once")
         self.assertTrue(self.operator.over)
 
     def test_resume_no(self) -> None:

@@ -136,11 +136,14 @@ class Playing:
         short, long = "P 1 0 0 50\n" * 100, "P 1 0 0 50\n" * 300
         Path("out").write_text(short)
         self.play("--untimed")
-        os.rename("out", "old")
-        Path("out").write_text(long)
+        os.unlink("out")
+        Path("out").write_text(long)  # it may well get the inode of the one before
         another = ("out: another file than the one whose first 100 lines are carried out, though it begins with the"
                    " same lines; --anew begins with its first line, --restored goes on after line 100, where it is a"
                    " copy")
+        self.assertEqual(self.refused("out", "first.toml", "position"), another)
+        shutil.copy("out", "copy")
+        os.rename("copy", "out")
         self.assertEqual(self.refused("out", "first.toml", "position"), another)
         other = "out: not the file whose first 100 lines are carried out; --anew begins with its first line"
         for text in (short[11:], "D 1000000\n" * 120, long.replace("1 0", "0 1"), ""):
@@ -189,6 +192,13 @@ class Playing:
         self.assertEqual(self.play().returncode, 0)
         self.assertGreater(time.monotonic() - begun, 0.2 * 0.9 + 0.2 * 0.9)
 
+    def test_longest_waits(self) -> None:
+        """Times as long as a line can say, one after the other."""
+        Path("out").write_text("D 18446744073709551615\nP 1 0 0 18446744073709551615\n" * 5)
+        done = self.play("--untimed")
+        self.assertEqual((done.returncode, done.stderr, done.stdout.splitlines()[-1]),
+                         (0, "", "reference 0.005000 0.000000 0.000000"))
+
     def test_run(self) -> None:
         """Over a named pipe, which it makes small, from `ngc run` itself."""
         os.mkfifo("out")
@@ -206,6 +216,15 @@ class Playing:
         self.assertEqual(record(), "lines 1003\nbytes 11572\noutputs S 0 1000.000000 0 0 0 0\n"
                                    "reference 1.000000 -0.500000 0.000000\n")
         self.assertFalse(os.path.exists("progress"))
+
+    def test_full_pipe(self) -> None:
+        """A pipe in which more waits than it is to hold stays as it is, which is said."""
+        os.mkfifo("out")
+        pipe = os.open("out", os.O_RDWR)
+        self.addCleanup(os.close, pipe)
+        os.write(pipe, b"P 1 0 0 50\n" * 1000)
+        child = self.begin("--untimed", "out", "first.toml", "position")
+        self.assertEqual(child.stderr.readline(), "out: the pipe stays at 65,536 bytes\n")
 
     def test_progress(self) -> None:
         """It tells how many lines it has carried out of those that stand in OUT, while it waits and while it works."""
@@ -347,7 +366,7 @@ class Python(Playing, InProcess, PlayerTest):
         place = (40_550_000, 30_000_000, -5_000_000)
         self.assertEqual(live(10110, place, 80), "line 10110: 40.550000 30.000000 -5.000000")
         self.assertEqual(live(10110, place, 41), "10110: 40.550 30.000 -5.000")
-        self.assertEqual(live(10110, place, 20), "10110: 40.550 30.00")
+        self.assertEqual([live(10110, place, columns) for columns in (20, 10, 0)], ["line 10110", "", ""])
 
     def test_spindle(self) -> None:
         """Told so, it waits while the spindle starts, turns the other way, and stops, and not at other switches."""
@@ -370,15 +389,6 @@ class Python(Playing, InProcess, PlayerTest):
         said, wrong = child.communicate(timeout=PATIENCE_S)
         self.assertEqual((child.returncode, wrong), (1, "out: stopped after line 3; spindle and coolant off\n"))
         self.assertEqual(said.splitlines()[-1], "reference 0.002000 0.000000 0.000000")
-
-    def test_full_pipe(self) -> None:
-        """A pipe in which more waits than it is to hold stays as it is, which is said."""
-        os.mkfifo("out")
-        pipe = os.open("out", os.O_RDWR)
-        self.addCleanup(os.close, pipe)
-        os.write(pipe, b"P 1 0 0 50\n" * 1000)
-        child = self.begin("--untimed", "out", "first.toml", "position")
-        self.assertEqual(child.stderr.readline(), "out: the pipe stays at 65,536 bytes\n")
 
 
 class C(Playing, InC, PlayerTest):

@@ -57,6 +57,18 @@ class Sockets(InFolder):
             with self.assertRaisesRegex(NoAnswer, "^progress: the player is gone: "):
                 asked()
 
+    def test_another_version(self) -> None:
+        """The answer of a player of another version isn't taken for a report."""
+        listener = Listener("progress")
+        self.addCleanup(listener.close)
+        link = Link("progress")
+        self.addCleanup(link.close)
+        old = b"progress 1 carried 3 received 203 works reference 0.002000 0.000000 -1.000000 out /axis"
+        listener.answer(old, link.socket.getsockname())
+        with self.assertRaisesRegex(NoAnswer, "^progress: not a report of a player: .*; it is of another version: take a"
+                                              " player and a console of one version$"):
+            link.ask()
+
     def test_for_its_user_alone(self) -> None:
         """Nobody else may ask, or say that a tool is in, whatever the umask allows."""
         before = os.umask(0)

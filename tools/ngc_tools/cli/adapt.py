@@ -68,7 +68,7 @@ def main(arguments: list[str] | None = None) -> int:
 
 
 def adapt(args: argparse.Namespace) -> int:
-    """Reads, rewrites, writes and asks `ngc`. Raises OSError and Failures."""
+    """Reads, rewrites, asks `ngc` and writes. Raises OSError and Failures."""
     ngc, answers = find_ngc(args.ngc), given(args)
     if args.settings:
         look_at_settings(ngc, args.settings)
@@ -79,11 +79,11 @@ def adapt(args: argparse.Namespace) -> int:
     lines, warnings = _rewritten(args.program, text, answers)
     _centre(ngc, args, begin, lines)
     new, said = whole_text(lines, text)
+    refused = list(told(new.encode(), args.output or "the text",
+                        lambda asked: refusal(*begin.dry(ngc, asked, args.settings))))
     _write(args, new.encode(), inputs)
     changed = [*said, *changes(text.lines, lines)] or ["no line is changed"]
     print("\n".join([*warnings, *changed]), file=sys.stdout if args.output else sys.stderr)
-    refused = list(told(new.encode(), args.output or "the text",
-                        lambda asked: refusal(*begin.dry(ngc, asked, args.settings))))
     print("\n".join(refused), file=sys.stderr, end="\n" if refused else "")
     return 1 if refused else 0
 
@@ -140,8 +140,9 @@ def _is_count(word: str) -> bool:
 
 
 def _rewritten(program: str, text: ProgramText, answers: Answers) -> tuple[list[CamLine], list[str]]:
-    """The lines as they are to be written, and warnings; a person at a terminal is asked for what is missing. Raises
-    Failures."""
+    """The lines as they are to be written, and warnings. A person at a terminal is asked for what is missing; else all
+    of it is told. Raises Failures."""
+    missing: list[str] = []
     while True:
         warnings: list[str] = []
 
@@ -150,12 +151,23 @@ def _rewritten(program: str, text: ProgramText, answers: Answers) -> tuple[list[
 
         try:
             with speaking_of(program, SharedSlot):
-                return rewritten(text.lines, answers, warn), warnings
+                lines = rewritten(text.lines, answers, warn)
+            break
         except Missing as error:
-            option, what = asked_for(error)
-            if program == "-" or not sys.stdin.isatty():
-                raise Failure(f"{program}: {error.said()}: name {what}: {option}") from None
-            answers = _ask(f"{program}: {error.said()}", error, answers)
+            if program != "-" and sys.stdin.isatty():
+                answers = _ask(program, error, answers)
+                continue
+            missing.append(_needed(program, error))
+            answers = _answered(error, answers, "0 0" if error.what == "park" else "0")  # to find what else is missing
+    if missing:
+        raise Failure("\n".join(missing))
+    return lines, warnings
+
+
+def _needed(program: str, missing: Missing) -> str:
+    """Which line needs what, and the option that says it."""
+    option, what = asked_for(missing)
+    return f"{program}: {missing.said()}: name {what}: {option}"
 
 
 def asked_for(missing: Missing) -> tuple[str, str]:
@@ -167,15 +179,22 @@ def asked_for(missing: Missing) -> tuple[str, str]:
     return f"--tool {missing.tool}=SLOT", f"the slot of tool {missing.tool}, 1 to {SLOTS}"
 
 
-def _ask(line: str, missing: Missing, answers: Answers) -> Answers:
+def _ask(program: str, missing: Missing, answers: Answers) -> Answers:
     """Asks at the terminal. Raises Failure if there is no answer, or another one than is needed."""
-    option, what = asked_for(missing)
-    print(f"{shown(line)}\n{what}: ", end="", file=sys.stderr, flush=True)
-    words = sys.stdin.readline().split()
-    if len(words) != (2 if missing.what == "park" else 1):
-        raise Failure(f"{line}: name {what}: {option}")
+    print(f"{shown(f'{program}: {missing.said()}')}\n{asked_for(missing)[1]}: ", end="", file=sys.stderr, flush=True)
+    said = sys.stdin.readline()
+    if len(said.split()) != (2 if missing.what == "park" else 1):
+        raise Failure(_needed(program, missing))
     if missing.what == "tool":
-        return replace(answers, slots={**answers.slots, missing.tool: slot_number(words[0])})
+        slot_number(said.strip())
+    return _answered(missing, answers, said)
+
+
+def _answered(missing: Missing, answers: Answers, said: str) -> Answers:
+    """The answers with one more. Raises BadNumber."""
+    words = said.split()
+    if missing.what == "tool":
+        return replace(answers, slots={**answers.slots, missing.tool: int(words[0])})
     if missing.what == "lift":
         return replace(answers, lift_nm=nanometres(words[0]))
     return replace(answers, park_nm=(nanometres(words[0]), nanometres(words[1])))

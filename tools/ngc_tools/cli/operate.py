@@ -74,7 +74,7 @@ def work(args: argparse.Namespace) -> int:
 
 
 def metered(args: argparse.Namespace) -> Meter | None:
-    """The meter, if a player is named. Raises Refused if that player reads another OUT, NoAnswer, ValueError."""
+    """The meter, if a player is named. Raises CannotBegin if that player reads another OUT, NoAnswer, ValueError."""
     check_limit(args.ahead)
     if args.player is None:
         return None

@@ -181,11 +181,10 @@ def _show(player: Player, over: threading.Event) -> None:
 
 
 def live(lines: int, at_nm: tuple[int, int, int], columns: int) -> str:
-    """The line and the position in less than so many columns."""
+    """The line and the position in less than so many columns: as much as fits whole."""
     exact = f"line {lines}: {' '.join(map(millimetres, at_nm))}"
-    if len(exact) < columns:
-        return exact
-    return f"{lines}: {' '.join(millimetres(nm)[:-3] for nm in at_nm)}"[:columns - 1]
+    short = f"{lines}: {' '.join(millimetres(nm)[:-3] for nm in at_nm)}"
+    return next((text for text in (exact, short, f"line {lines}") if len(text) < columns), "")
 
 
 def _columns() -> int:

@@ -1,56 +1,70 @@
 """The words of `ngc-plot`, and what it draws."""
 import argparse
+import re
 import sys
+from dataclasses import dataclass
 from pathlib import Path
 
-from ngc_tools.formats import canonical
-from ngc_tools.job import figures
-from ngc_tools.job import moves
-from ngc_tools.formats import out
+from ngc_tools.cli.beginning import add_beginning, chosen_beginning
 from ngc_tools.cli.run import new_parser, run
-from ngc_tools.failure import Failure, speaking_of
-from ngc_tools.files import read, write_new
-from ngc_tools.job.picture import picture
+from ngc_tools.failure import Failure, WrongWords, speaking_of
+from ngc_tools.files import is_out, read, write_new
+from ngc_tools.formats.canonical import BadText, Command, read_commands
+from ngc_tools.formats.out import BadLine
 from ngc_tools.formats.position import nanometres
-from ngc_tools.ngc.run import find_ngc, settings_refusal
-from ngc_tools.formats.settings import BadSettings, Settings
+from ngc_tools.formats.settings import DEFAULT, Settings
+from ngc_tools.formats.text import shown
+from ngc_tools.job import figures, moves
+from ngc_tools.job.picture import picture
+from ngc_tools.ngc import faults
+from ngc_tools.ngc.beginning import Beginning
+from ngc_tools.ngc.run import find_ngc, refusal
 from ngc_tools.ngc.timing import timed
+from ngc_tools.ngc.usable_settings import look_at_settings
 
-ABOUT = """Draw a job as SVG: from above, from the front and from the side, traverses dashed, depth as shade.
+ABOUT = """Draw a job as SVG: from above, from the front, from the right and aslant, traverses dashed, cuts the darker
+the deeper, with the zeros, the start and the end.
 
-INPUT is what `ngc dry` prints, or an OUT of `ngc run`; without it standard input is read. Below the picture stand the
-extents, and the times by tool. With a settings file the times are exact: `ngc run` hands out the moves over a device of
-its own, and the periods are added up; an OUT has its periods already."""
+INPUT is a program, of which `ngc dry` says what it does; or what `ngc dry` printed; or an OUT of `ngc run`. Without it
+standard input is read. Below the picture stand the extents, and the times by tool. With a settings file the times are
+exact: `ngc run` hands out the moves over a device of its own, and the periods are added up; an OUT has its periods
+already.
+
+A program begins as the default controller does, with its zero at machine 0. Name where the work is by --device or
+--origin."""
 
 EXAMPLE = """example:
-  ngc dry part.ngc --settings mill.toml | ngc-plot --settings mill.toml > part.svg
+  ngc-plot part.ngc --settings mill.toml --device mill.dev --output part.svg
+  ngc-plot part.ngc --origin 30 20 -41.5 > part.svg
   ngc-plot axis.out --settings mill.toml --at 7.21 0 0 --output cut.svg
 
 An OUT doesn't say which moves are traverses, nor where the machine stood first (--from).
 
 exit status:
   0  the picture is written
-  1  it is written, and the text ends with a refused line
+  1  it is written, and ends before a line that is refused
   2  the words are wrong, a file can't be used, or ngc didn't hand out the moves"""
 
-
-class Unplottable(Failure):
-    """A text that can't be drawn; it says why."""
+_CANONICAL = re.compile(rb"(?:[A-Z]+(?:_[A-Z]+)*\(.*\)|REFUSED line [0-9]+: .*)\r?$", re.MULTILINE)
 
 
 def make_parser() -> argparse.ArgumentParser:
     """The words of the command line."""
-    words = new_parser("ngc-plot", ABOUT, EXAMPLE)
-    words.add_argument("input", metavar="INPUT", nargs="?", help="canonical text, or an OUT; - or none: standard input")
-    words.add_argument("--settings", metavar="FILE", help="the machine's settings: exact times, the travel as a frame")
-    words.add_argument("--output", "-o", metavar="FILE", help="write the SVG here, and the figures to standard output")
-    words.add_argument("--at", nargs=3, metavar=("X", "Y", "Z"), help="a cross at this point, in machine millimetres")
-    words.add_argument("--from", dest="start", nargs=3, metavar=("X", "Y", "Z"),
-                       help="where the machine stood before the first line of an OUT; without it 0 0 0")
-    words.add_argument("--force", action="store_true", help="write over a FILE that is there")
-    words.add_argument("--title", help="what stands above the picture; without it the name of INPUT")
-    words.add_argument("--ngc", metavar="PATH", help="the program ngc; without it the one beside this tool, or on PATH")
-    return words
+    parser = new_parser("ngc-plot", ABOUT, EXAMPLE)
+    parser.add_argument("input", metavar="INPUT", nargs="?",
+                        help="a program, canonical text, or an OUT; - or none: standard input")
+    parser.add_argument("--settings", metavar="FILE", help="the machine's settings: exact times, the travel as a frame")
+    add_beginning(parser)
+    parser.add_argument("--block-delete", action="store_true", help="leave out the lines that begin with a slash")
+    parser.add_argument("--output", "-o", metavar="FILE", help="write the SVG here, and the figures to standard output")
+    parser.add_argument("--force", action="store_true", help="write over a FILE that is there")
+    parser.add_argument("--at", nargs=3, metavar=("X", "Y", "Z"), help="a cross at this point, in machine millimetres")
+    parser.add_argument("--from", dest="start", nargs=3, metavar=("X", "Y", "Z"),
+                        help="where the machine stood before the first line of an OUT; without it 0 0 0")
+    parser.add_argument("--title", help="what stands above the picture; without it the name of INPUT")
+    parser.add_argument("--ngc", metavar="PATH",
+                        help="the program ngc; without it the one beside this tool, or on PATH")
+    return parser
 
 
 def main(arguments: list[str] | None = None) -> int:
@@ -58,51 +72,79 @@ def main(arguments: list[str] | None = None) -> int:
     return run(make_parser(), draw, arguments)
 
 
+@dataclass(frozen=True, slots=True)
+class Drawn:
+    """What is drawn: the steps, the work zeros, whether the times are exact, what is said of them besides, and why the
+    picture ends early, if it does."""
+
+    steps: list[moves.Step]
+    zeros: list[moves.Point]
+    is_exact: bool
+    notes: tuple[str, ...] = ()
+    refused: str = ""
+
+
 def draw(args: argparse.Namespace) -> int:
     """Reads the input, draws it, writes the SVG. Raises OSError and the failures of the parts."""
-    at, start = _point(args.at), _point(args.start)
+    at = _point(args.at)
     name = args.input if args.input not in (None, "-") else ""
     of = name or "standard input"
     text = read(name) if name else sys.stdin.buffer.read()
-    settings = _settings(args) if args.settings else None
-    refused = False
-    with speaking_of(of, Unplottable, canonical.BadText, out.BadLine):
-        if is_out(text):
-            steps = _steps_of_out(text, settings, start or (0, 0, 0), of)
-        else:
-            commands = canonical.read_commands(text)
-            refused = bool(commands) and commands[-1].name == "REFUSED"
-            steps = list(moves.of_canonical(commands))
-            steps = timed(find_ngc(args.ngc), args.settings, steps) if settings else steps
-    if refused:
-        print(text.rstrip(b"\n").rpartition(b"\n")[2].decode("latin-1"), file=sys.stderr)
+    if args.settings:
+        look_at_settings(find_ngc(args.ngc), args.settings)
+    settings = Settings.read(args.settings) if args.settings else None
+    with speaking_of(of, BadText, BadLine):
+        drawn = _of_out(args, text, settings) if is_out(text) else _of_program(args, text, of)
+    for note in (*drawn.notes, drawn.refused):
+        if note:
+            print(f"ngc-plot: {shown(of)}{'' if note == drawn.refused else ': '}{note}", file=sys.stderr)
     title = args.title if args.title is not None else Path(name).name
-    said = figures.lines(steps, settings, settings is not None)
-    _write(args, picture(steps, title, said, settings, at), said)
-    return 1 if refused else 0
+    said = figures.lines(drawn.steps, settings, drawn.is_exact)
+    _write(args, picture(drawn.steps, title, said, settings, at, drawn.zeros), said)
+    return 1 if drawn.refused else 0
 
 
-def _steps_of_out(text: bytes, settings: Settings | None, start: moves.Point, of: str) -> list[moves.Step]:
-    """The steps of an OUT. Raises Unplottable, BadLine."""
+def _of_out(args: argparse.Namespace, text: bytes, settings: Settings | None) -> Drawn:
+    """An OUT. Raises WrongWords, BadLine, BadNumber."""
+    if args.device or args.origin or args.block_delete:
+        raise WrongWords("--device, --origin and --block-delete are of a program, and this is an OUT")
+    notes = []
     if settings is None:
-        raise Unplottable("an OUT counts steps; name their settings by --settings FILE")
+        settings = DEFAULT
+        notes.append("its steps are taken as 0.001 mm; name the machine's settings by --settings FILE")
     if not text.endswith(b"\n"):
-        print(f"{of}: the part of a line at its end isn't drawn", file=sys.stderr)
-    return moves.of_out(text, settings, start)
+        notes.append("the part of a line at its end isn't drawn")
+    return Drawn(moves.of_out(text, settings, _point(args.start) or (0, 0, 0)), [], True, tuple(notes))
 
 
-def is_out(text: bytes) -> bool:
-    """Whether this is an OUT rather than canonical text: by its first bytes."""
-    return text[:2] in (b"P ", b"D ", b"S ")
+def _of_program(args: argparse.Namespace, text: bytes, of: str) -> Drawn:
+    """A program, or what was printed of one. Raises BadText, NotTimed and the failures of a dry run."""
+    before: list[Command] = []
+    first, is_program = re.match(rb"[^\n]*", text), False
+    if text and not _CANONICAL.fullmatch(first[0] if first else b""):
+        ngc, begin, is_program = find_ngc(args.ngc), chosen_beginning(args), True
+        before = begin.set_up(ngc, args.settings)
+        status, text = begin.dry(ngc, text, args.settings, args.block_delete)
+        refusal(status, text)
+    elif args.device or args.origin or args.block_delete:
+        raise WrongWords("--device, --origin and --block-delete are of a program, and this is canonical text")
+    commands = read_commands(text)
+    steps = list(moves.of_canonical(commands, before))
+    if args.settings:
+        steps = timed(find_ngc(args.ngc), args.settings, steps)
+    last = commands[-1] if commands else Command("")
+    refused = _refused(args, of, last, is_program) if last.name == "REFUSED" else ""
+    return Drawn(steps, moves.work_zeros(commands, before), bool(args.settings), (), refused)
 
 
-def _settings(args: argparse.Namespace) -> Settings:
-    """The settings, which `ngc` takes as well."""
-    settings = Settings.read(args.settings)
-    refused = settings_refusal(find_ngc(args.ngc), args.settings)
-    if refused:
-        raise BadSettings(f"{args.settings}: {refused.code} {refused.name}")
-    return settings
+def _refused(args: argparse.Namespace, of: str, last: Command, is_program: bool) -> str:
+    """Why the picture ends early, and what to do."""
+    line, code, name = last.args
+    why = (faults.sentence(str(code)) or "see docs/LANGUAGE.md").partition(". ")[0]
+    said = f":{line}: {code} {name}: {why}; the picture ends before that line"
+    if code == "X2" and chosen_beginning(args) == Beginning() and is_program:
+        return f"{said}\n  say where the work is by --device DEVICE or --origin X Y Z"
+    return f"{said}\n  ngc-check {shown(of)} says what to write" if is_program else said
 
 
 def _point(words: list[str] | None) -> moves.Point | None:
@@ -116,5 +158,5 @@ def _write(args: argparse.Namespace, svg: str, said: list[str]) -> None:
     if args.output is None:
         sys.stdout.buffer.write(svg.encode())
         return
-    write_new(args.output, svg.encode(), [args.input, args.settings], args.force)
+    write_new(args.output, svg.encode(), [args.input, args.settings, args.device], args.force)
     print("\n".join(said))

@@ -25,6 +25,8 @@ class Screen:
 
     def __init__(self) -> None:
         """Takes the signals, until `close`."""
+        if hasattr(sys.stdin, "reconfigure"):
+            sys.stdin.reconfigure(errors="surrogateescape")  # bytes that are no text end no session
         self.is_terminal = sys.stdin.isatty() and sys.stdout.isatty()
         self.can_clear = self.is_terminal and os.environ.get("TERM", "dumb") != "dumb"
         self.asked_to_hold = 0

@@ -71,7 +71,7 @@ def look_at_slots(whole: Whole, answers: Answers) -> None:
     for letter, number in sorted(whole.tools):
         slot = answers.slots.get(number, number)
         other = tools.setdefault((letter, slot), number)
-        if other != number:
+        if other != number and slot:  # slot 0 is none
             raise SharedSlot(f"{letter}{other} and {letter}{number} would both be slot {slot}; give each one of its own"
                              " by --tool NUMBER=SLOT")
 

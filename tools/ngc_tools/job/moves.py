@@ -4,7 +4,7 @@ from collections.abc import Iterable, Iterator
 from dataclasses import dataclass
 from math import isqrt
 
-from ngc_tools.formats.canonical import Command
+from ngc_tools.formats.canonical import MOTIONS, Command
 from ngc_tools.formats.out import Dwell, Pulse, Switch, read_line
 from ngc_tools.formats.position import rounded
 from ngc_tools.formats.settings import Settings
@@ -66,10 +66,21 @@ def distance(a: Point, b: Point) -> int:
     return isqrt(sum((q - p) ** 2 for p, q in zip(a, b, strict=True)))
 
 
-def of_canonical(commands: Iterable[Command]) -> Iterator[Step]:
-    """The moves and dwells of a dry run, from machine 0 on."""
+def of_canonical(commands: Iterable[Command], before: Iterable[Command] = ()) -> Iterator[Step]:
+    """The moves and dwells of a dry run. It begins where the commands `before` it end, with what they set; else at
+    machine 0."""
     at: Point = (0, 0, 0)
     plane, feed, inverse, tool = "XY", 0, 0, 0
+    for command in before:
+        match command.name:
+            case "SELECT_PLANE":
+                plane = str(command.args[0])
+            case "SET_FEED_RATE":
+                feed = int(command.args[0])
+            case "CHANGE_TOOL":
+                tool = int(command.args[0])
+            case name if name in MOTIONS:
+                at = command.point
     for command in commands:
         match command.name:
             case "SELECT_PLANE":
@@ -92,6 +103,22 @@ def of_canonical(commands: Iterable[Command]) -> Iterator[Step]:
                 arc = arc_of(command, plane)
                 yield Move(CUT, arc_points(at, command.point, arc), tool, arc, feed, inverse)
                 at, inverse = command.point, 0
+
+
+def work_zeros(commands: Iterable[Command], before: Iterable[Command] = ()) -> list[Point]:
+    """Where the program's zero is while something is cut, each place once: the origin, and above it the tool's length,
+    since the points of the moves are the spindle's."""
+    found: dict[Point, None] = {}
+    origin, length = (0, 0, 0), 0
+    for command in (*before, *commands):
+        match command.name:
+            case "SET_ORIGIN_OFFSETS":
+                origin = command.point
+            case "USE_TOOL_LENGTH_OFFSET":
+                length = int(command.args[0])
+            case "STRAIGHT_FEED" | "ARC_FEED":
+                found[origin[0], origin[1], origin[2] + length] = None
+    return list(found)
 
 
 def arc_of(command: Command, plane: str) -> Arc:

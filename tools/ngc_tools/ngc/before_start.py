@@ -8,6 +8,7 @@ from pathlib import Path
 
 from ngc_tools.failure import Failure
 from ngc_tools.formats.device import SIZE
+from ngc_tools.formats.out import LONGEST_LINE, BadLine, read_line
 
 
 class CannotBegin(Failure):
@@ -15,7 +16,7 @@ class CannotBegin(Failure):
 
 
 def look(device: str, settings: str, out: str) -> int | None:
-    """Raises Refused if `ngc run` with these three would end without a word, or stand still without a reader.
+    """Raises CannotBegin if `ngc run` with these three would end without a word, or stand still without a reader.
 
     Of a named pipe it returns an open writing end, to be closed once `ngc` has opened its own: else the reader might
     take its closing for the end."""
@@ -74,7 +75,7 @@ def _device(path: str) -> None:
 
 
 def _free(file: int, path: str, what: str) -> None:
-    """Raises Refused if another process holds the file by the system's lock."""
+    """Raises CannotBegin if another process holds the file by the system's lock."""
     try:
         fcntl.flock(file, fcntl.LOCK_EX | fcntl.LOCK_NB)
         fcntl.flock(file, fcntl.LOCK_UN)
@@ -132,20 +133,27 @@ def _open_out(path: str) -> int:
 
 
 def _whole_lines(path: str) -> None:
-    """Raises Refused if a file ends in a part of a line."""
+    """Raises CannotBegin if a file's last line isn't one of OUT, or it ends in a part of a line."""
     try:
         with open(path, "rb") as file:
             size = file.seek(0, os.SEEK_END)
-            file.seek(max(0, size - 1))
-            if file.read(1) not in (b"", b"\n"):
-                raise CannotBegin(f"{path}: it ends in a part of a line, and the next line would stand on the same one:"
-                              " give a new OUT, or cut that part off")
+            file.seek(max(0, size - 2 * LONGEST_LINE))
+            *lines, part = file.read(2 * LONGEST_LINE).split(b"\n")
     except OSError:
-        pass  # it can be written and not read
+        return  # it can be written and not read
+    try:
+        if lines:
+            read_line(lines[-1], 1)
+    except BadLine as error:
+        raise CannotBegin(f"{path}: it holds something else than lines of OUT, and pulses would be appended to it: give"
+                          f" a new OUT. Its last line is {error.cause}") from None
+    if part:
+        raise CannotBegin(f"{path}: it ends in a part of a line, and the next line would stand on the same one: give a"
+                          " new OUT, or cut that part off")
 
 
 def _raw(file: int, path: str) -> None:
-    """Raises Refused if a serial line would change what is written."""
+    """Raises CannotBegin if a serial line would change what is written."""
     _, output, _, local, *_ = termios.tcgetattr(file)
     if output & termios.OPOST or local & termios.ECHO:
         raise CannotBegin(f"{path}: a serial line that isn't raw, so it changes lines or sends them back:"

@@ -97,7 +97,9 @@ class Replay:
         self.ngc, self.settings, self.device = ngc, settings, device
 
     def find(self, parts: list[Run], lines: int) -> Found:
-        """Where the motors were after this number of lines, at least 1. Raises CannotTell, Refused, Ended, OSError.
+        """Where the motors were after this number of lines, at least 1.
+
+        Raises CannotTell, CommandRefused, Ended, OSError.
 
         The device doesn't keep whether lines with a slash were left out, so both are tried."""
         try:

@@ -146,7 +146,8 @@ class Copy:
         self._held.close()
 
     def go(self, ticks: int) -> None:
-        """Makes this number of ticks, fewer if nothing is left to do. Raises Refused if a line of the program is."""
+        """Makes this number of ticks, fewer if nothing is left to do. Raises CommandRefused if a line of the program is
+        refused, Interrupted."""
         left = ticks
         while left and not self.idle:
             self._heed()
@@ -156,7 +157,7 @@ class Copy:
 
     def reached(self, ticks: int, holds: Callable[[Status], bool]) -> tuple[int, int]:
         """Goes on by this number of ticks at once until something holds, or nothing is left to do, and perhaps further.
-        It returns how many were made before it held, and when it did. Raises Refused if a line of the program is
+        It returns how many were made before it held, and when it did. Raises CommandRefused if a line of the program is
         before that."""
         before = self.ticks
         if holds(self.console.status()):
@@ -193,6 +194,18 @@ class Copy:
         if "stopped" in replies:
             self.stops.append(self.console.status().place)
             self.console.ask("continue")
+
+    def go_to_entry(self) -> None:
+        """Goes on until an entry is stored, in counts of ticks so small that the log still has its records. Raises as
+        `go`."""
+        entries = self.console.status().entries
+        while not self.idle and self.console.status().entries == entries:
+            self.go(500)
+
+    def go_to_end(self) -> None:
+        """Goes on until nothing is left to do. Raises as `go`."""
+        while not self.idle:
+            self.go(1_000_000)
 
     def hand_out(self, lines: int) -> None:
         """Goes on until this number of lines is handed out in all, or nothing is left to do."""

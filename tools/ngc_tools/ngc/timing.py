@@ -37,6 +37,8 @@ def timed(ngc: str, settings: str | Path, steps: list[Step]) -> list[Step]:
             raise NotTimed(f"{ngc} format: status {done.returncode}")
         console = Console(ngc, folder / "device", settings, folder / "out")
         try:
+            if moves and any(moves[0].points[0]):
+                console.ask("reference " + " ".join(map(millimetres, moves[0].points[0])))
             for program in _programs(moves, Settings.read(settings)):
                 times += _run(console, program, folder / "out")
         except Ended as ended:

@@ -3,6 +3,8 @@ from ngc_tools.formats.device import Device
 from ngc_tools.ngc.commands import form_of, slot_to_give_first
 from ngc_tools.ngc.console import Status
 from ngc_tools.operator.face import REFUSED
+from ngc_tools.operator.numbers import nanometres_of
+from ngc_tools.operator.outside import breach_of_line, breach_of_point
 from ngc_tools.operator.sentences import explained
 from ngc_tools.operator.session import Session
 
@@ -22,7 +24,8 @@ def refused(session: Session, reply: str, command: str) -> bool:
     if not reply.startswith("refused"):
         return False
     cause = _cause(session, reply.split()[1], command)
-    session.face.say(f"{reply}: {cause}" if cause else explained(reply), REFUSED)
+    is_line = command.startswith("mdi")  # of a line it is said too what to write
+    session.face.say(f"{reply}: {cause}" if cause and not is_line else explained(reply, cause or ""), REFUSED)
     return True
 
 
@@ -39,8 +42,14 @@ def _cause(session: Session, code: str, command: str) -> str | None:
         return f"it isn't known where the machine stands: {_reference(session)}"
     if code == "U1":
         return form_of(command)
-    if code == "B14" and word == "tool" and isinstance(device := session.stored(), Device):
+    device = session.stored()
+    if code == "B14" and word == "tool" and isinstance(device, Device):
         return slot_to_give_first(int(rest[0]), len(device.tools_nm))
+    if code == "X2" and word == "reference":
+        return breach_of_point([nanometres_of(number) or 0 for number in rest], session.settings)
+    if code == "X2" and word == "mdi" and isinstance(device, Device):
+        line = command.removeprefix("mdi ").encode("utf-8", "surrogateescape") + b"\n"
+        return breach_of_line(session.console, device, session.settings, line, 1)
     return None
 
 

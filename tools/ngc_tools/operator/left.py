@@ -9,12 +9,16 @@ from ngc_tools.formats.settings import BadSettings
 from ngc_tools.job.figures import millimetres as rounded
 from ngc_tools.job.moves import distance
 from ngc_tools.ngc.beginning import Beginning, CannotSetUp
+from ngc_tools.ngc.console import Status
+from ngc_tools.operator.face import WARNING
 from ngc_tools.operator.modes import Difference, Restoring, differences, point_words, restoring
 from ngc_tools.operator.session import Session
 
 _TOLD = ("unit", "feed_mode", "plane", "distance", "retract", "system", "path_mode", "origin", "g92", "tool_length",
          "feed")
 """What is said after a line of one's own; the rest where the program goes on and it matters."""
+_SET_UP = ("origin", "system", "g92", "tool_length")
+"""What people set on purpose before a program begins."""
 _PUT = {0, 1, 80}  # the motion modes that a dry run can begin with
 _FEEDS = ("STRAIGHT_FEED", "ARC_FEED", "SET_FEED_RATE")
 
@@ -49,41 +53,56 @@ class Left:
             self.session.face.say(f"in force now: {text}. restore puts it back")
         self._told = text
 
-    def questions(self) -> list[str]:
-        """What a person has to know before the program goes on, in lines; none if all is as the program left it."""
-        now = self.session.stored()
-        if self.device is None or not isinstance(now, Device):
-            return []
-        said = self._place(self.device.state, now.state)
-        found = self._differences()
-        if found and self._matters(self.device, now, found):
-            said += ["in force now: " + ", ".join(map(str, found))]
-            lines = self.restoring().lines
-            said += [f"restore types: {'; '.join(lines)}"] if lines else []
-        return said
+    def agreed(self, status: Status) -> bool:
+        """Whether all is as the program left it, or a person wants to go on all the same. Within a block nothing is
+        looked at: no line was done in it."""
+        kept = self._kept_and_now()
+        if status.half != "none" or kept is None:
+            return True
+        before, now = kept
+        face = self.session.face
+        if _goes_on(before.state, now.state) and before.state.point_nm == now.state.point_nm:
+            face.say(f"{self._begins(now.state)} begins where the machine is, at {point_words(now.state.point_nm)}")
+        questions = [*self._moved_away(before.state, now.state), *self._modes(before, now)]
+        for text in questions:
+            face.say(text, WARNING)
+        return not questions or self.session.agrees("go on all the same? yes goes on: ")
 
     def restoring(self) -> Restoring:
         """The lines that put back what was in force."""
+        kept = self._kept_and_now()
+        return restoring(kept[0].state, kept[1].state, kept[1].tools_nm) if kept else Restoring((), ())
+
+    def _kept_and_now(self) -> tuple[Device, Device] | None:
+        """What was kept, and what stands now."""
         now = self.session.stored()
-        if self.device is None or not isinstance(now, Device):
-            return Restoring((), ())
-        return restoring(self.device.state, now.state, now.tools_nm)
+        return (self.device, now) if self.device is not None and isinstance(now, Device) else None
 
     def _differences(self) -> list[Difference]:
-        now = self.session.stored()
-        if self.device is None or not isinstance(now, Device):
-            return []
-        return differences(self.device.state, now.state)
+        kept = self._kept_and_now()
+        return differences(kept[0].state, kept[1].state) if kept else []
 
-    def _place(self, before: State, now: State) -> list[str]:
-        """Where the machine is, and where the next line begins, if that isn't the same place. A program that begins
-        goes from wherever the machine is."""
-        apart = distance(before.point_nm, now.point_nm)
-        if before.place != now.place or now.place == 0 or not now.point_known or before.point_nm == now.point_nm:
+    def _modes(self, before: Device, now: Device) -> list[str]:
+        """What is in force otherwise and matters, and what puts it back."""
+        found = differences(before.state, now.state)
+        if not now.state.place:
+            found = [difference for difference in found if difference.name not in _SET_UP]
+        if not found or not self._matters(before, now, found):
             return []
-        line = self.session.program.number(now.place)
-        return [f"line {line} begins at {point_words(before.point_nm)}. The machine is at"
-                f" {point_words(now.point_nm)}, {rounded(apart)} mm away, and the line would go from there"]
+        lines = restoring(before.state, now.state, now.tools_nm).lines
+        said = ["in force now: " + ", ".join(map(str, found))]
+        return [*said, f"restore types: {'; '.join(lines)}"] if lines else said
+
+    def _moved_away(self, before: State, now: State) -> list[str]:
+        """Where the machine is, and where the next line begins, if that isn't the same place."""
+        if not _goes_on(before, now) or before.point_nm == now.point_nm:
+            return []
+        away = rounded(distance(before.point_nm, now.point_nm))
+        return [f"{self._begins(now)} begins at {point_words(before.point_nm)}. The machine is at"
+                f" {point_words(now.point_nm)}, {away} mm away, and the line would go from there"]
+
+    def _begins(self, now: State) -> str:
+        return f"line {self.session.program.number(now.place)}"
 
     def _matters(self, before: Device, now: Device, found: list[Difference]) -> bool:
         """Whether what is in force makes the rest of the program another one: by a dry run of it with both, from where
@@ -105,10 +124,20 @@ class Left:
         return Beginning.of(device).dry(console.ngc, text, console.settings, self.session.delete)[1]
 
 
+def _goes_on(before: State, now: State) -> bool:
+    """Whether the program goes on with the line before which it was left, from a point that is known. One that begins
+    goes from wherever the machine is."""
+    return before.place == now.place != 0 and bool(now.point_known)
+
+
 def _moved(before: Device, now: Device) -> Device:
-    """What stood before, with the machine where it is now."""
-    moved = copy(before)
-    moved.state = replace(before.state, point_nm=now.state.point_nm)
+    """What stood before, with the machine where it is now; where a program begins, with the offsets that it has now."""
+    moved, state = copy(before), now.state
+    moved.state = replace(before.state, point_nm=state.point_nm)
+    if not state.place:
+        moved.state = replace(moved.state, origin_nm=state.origin_nm, system=state.system, g92_nm=state.g92_nm,
+                              tool_length_nm=state.tool_length_nm)
+        moved.parameters, moved.tools_nm = now.parameters, now.tools_nm
     return moved
 
 

@@ -54,7 +54,7 @@ class Loading:
 
     def _wanted(self) -> bool:
         """Whether a person wants it stored all the same."""
-        wanted = self.session.face.ask("store it all the same? yes stores it: ").strip().lower() == "yes"
+        wanted = self.session.agrees("store it all the same? yes stores it: ")
         if not wanted:
             self.session.face.say("nothing is stored")
         return wanted
@@ -107,7 +107,7 @@ def refusal_lines(text: bytes, found: Timeline) -> str:
         return ""
     refused, lines = found.refused, text.split(b"\n")
     line = Program(lines[refused.line - 1] if refused.line <= len(lines) else b"").line(0)
-    said = explained(f"refused {refused.code} {refused.name}")
+    said = explained(f"refused {refused.code} {refused.name}", found.breach)
     return f"line {refused.line}" + (f": {line}" if line else "") + f"\n  {said}"
 
 

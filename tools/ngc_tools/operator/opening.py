@@ -27,14 +27,17 @@ def say_opening(session: Session, places: Places, left: Left, found: Device | No
 
 def broken_off(session: Session, status: Status) -> str:
     """What is said of a block that the last session left half-done."""
-    many = count_segments(session)
+    many, refusal = count_segments(session)
     of = f" of {many}" if many else ""
     line = session.line(status) if status.half == "program" else "a line of yours"
     where = "the machine is where it is known to be, unless it was moved" if status.known else (
         "where the machine is: reference player, or reference X Y Z" if session.meter else
         "where the machine is: reference X Y Z")
-    return (f"power was lost, or the session ended, in {line}\n  in segment {status.segment}{of}, counted from 0."
+    said = (f"power was lost, or the session ended, in {line}\n  in segment {status.segment}{of}, counted from 0."
             f" Nothing moves by itself\n  {where}; then rehearse, resume or abandon")
+    if refusal:
+        said += f"\n  resume would be {refusal}: is {session.console.settings} other than it was?"
+    return said
 
 
 def _say_steps(session: Session) -> None:

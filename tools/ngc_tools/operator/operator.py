@@ -121,7 +121,7 @@ class Operator:
     def _go_on(self, command: str, typed: Typed) -> None:
         """Starts the program, or goes on with what waits."""
         status = self.console.status()
-        if not typed.anyway and not (self.places.agree(status, f"{typed.word} {ANYWAY}") and self._as_left(status)):
+        if not typed.anyway and not (self.places.agree(status, f"{typed.word} {ANYWAY}") and self.left.agreed(status)):
             return
         timeline = self.loading.timeline(command == "start" and not status.place)
         if refused(self.session, self.console.ask(command)[0], command):
@@ -134,16 +134,6 @@ class Operator:
         ended = self._run_on()
         if ended != "refused" or self.console.status().place != status.place:
             self.left.forget()
-
-    def _as_left(self, status: Status) -> bool:
-        """Whether all is as the program left it, or a person wants to go on all the same. Within a block it is."""
-        questions = self.left.questions() if status.half == "none" else []
-        for text in questions:
-            self.face.say(text, WARNING)
-        return not questions or self._yes("go on all the same? yes goes on: ")
-
-    def _yes(self, question: str) -> bool:
-        return self.face.ask(question).strip().lower() == "yes"
 
     def _mdi(self, line: str, anyway: bool) -> None:
         """Does a line of one's own, and says how all stands then."""
@@ -160,7 +150,7 @@ class Operator:
         if status.half == "none":
             self.left.keep()
         reply = self.console.ask(b"mdi " + line.encode("utf-8", "surrogateescape"))[0]
-        if refused(self.session, reply, "mdi"):
+        if refused(self.session, reply, f"mdi {line}"):
             self._near(line)
             return None
         self.session.own = line
@@ -213,7 +203,7 @@ class Operator:
         self.face.say(TAKEN_UP.format(half=self.session.half(status), place=place(status)), WARNING)
         if not self._switched():
             self._hold()
-        elif self._yes(SWITCHED):
+        elif self.session.agrees(SWITCHED):
             self._run_on()
         else:
             self._hold()
@@ -242,7 +232,8 @@ class Operator:
     def _quit(self, _: Typed) -> None:
         """Ends the session, once a person knows what stays half-done and what stays on."""
         status = self.console.status()
-        if self.ending.leaves_half(status) and not self._yes("quit? yes ends the session, anything else doesn't: "):
+        question = "quit? yes ends the session, anything else doesn't: "
+        if self.ending.leaves_half(status) and not self.session.agrees(question):
             return
         if left_on := self.ending.left_on():
             self._offer_off(status, left_on)
@@ -253,7 +244,7 @@ class Operator:
         if not self.ending.can_switch(status):
             within = "Within a block no M5 is done. " if status.half != "none" else ""
             self.face.say(f"still on: {left_on}. {within}{self.ending.how_off()}", WARNING)
-        elif self._yes(f"still on: {left_on}. Switch off? yes does M5 and M9, anything else doesn't: "):
+        elif self.session.agrees(f"still on: {left_on}. Switch off? yes does M5 and M9, anything else doesn't: "):
             for line in ("M5", "M9"):
                 self._line_done(line, True)
             Look(self.session).after_work()

@@ -1,19 +1,19 @@
 """Whether the motors are where `ngc` takes them to be: its point and the player's, compared in whole steps."""
 import re
 
-from ngc_tools.formats.position import Position, nanometres
+from ngc_tools.formats.position import Position
 from ngc_tools.job.figures import millimetres as rounded
 from ngc_tools.job.moves import distance
 from ngc_tools.ngc.console import Status
 from ngc_tools.operator.causes import taken
 from ngc_tools.operator.face import SAID, WARNING
 from ngc_tools.operator.modes import point_words
+from ngc_tools.operator.numbers import nanometres_of
 from ngc_tools.operator.sentences import PLAYER_SILENT
 from ngc_tools.operator.session import Session
 from ngc_tools.operator.work import Work
 from ngc_tools.player.progress import NoAnswer, Report
 
-_NUMBER = re.compile(r"([-+]?)(\d*)\.?(\d*)")
 _STOPS = re.compile(r"(?:N\d{1,5})?(?:M0*[59])+", re.IGNORECASE)
 
 
@@ -113,13 +113,3 @@ class Places:
             return
         if report and not self._same(report.at.split(), at.split()):
             self.session.face.say(f"the player still says X Y Z {report.at}: start it anew with --at {at}", WARNING)
-
-
-def nanometres_of(text: str) -> int | None:
-    """Millimetres with any number of decimals, rounded half away from zero as `ngc` does, in nanometres; None for
-    another text."""
-    match = _NUMBER.fullmatch(text)
-    if match is None or not match[2] + match[3] or not text.isascii():
-        return None
-    size = nanometres(f"{match[2] or 0}.{match[3][:6]}") + (match[3][6:7] >= "5")
-    return -size if match[1] == "-" else size

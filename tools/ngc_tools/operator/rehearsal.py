@@ -63,8 +63,7 @@ class Rehearsal:
         """How many segments the half-done block has; 0 if the copy's log doesn't tell it. Raises as `lines`."""
         with self._approached() as copy:
             entries = copy.console.status().entries
-            while not copy.idle and copy.console.status().entries == entries:
-                copy.go(500)
+            copy.go_to_entry()
             return _segments(copy.device(), entries)
 
     def _resumed(self) -> list[str]:
@@ -93,6 +92,7 @@ class Rehearsal:
         entries = self._device.state.entries + len(commands) - 1  # a reference is one
 
         def make(counted: bool) -> Copy:
+            """A copy that begins with the commands."""
             return Copy(self.ngc, self.settings, self.image, commands, counted, self.interrupted)
 
         return first(make, lambda status: status.entries > entries)
@@ -129,15 +129,12 @@ class Rehearsal:
 
     def _rest(self, copy: Copy) -> tuple[list[str], Device]:
         """The block and what comes after it, and the copy's device right after the block."""
-        entries = copy.console.status().entries
         copy.tally = Tally(copy.tally.position, copy.tally.slot)  # what is counted begins here
         after = copy.device()
         try:
-            while not copy.idle and copy.console.status().entries == entries:
-                copy.go(500)  # so few that the log still has the block's records
+            copy.go_to_entry()
             after = copy.device()
-            while not copy.idle:
-                copy.go(1_000_000)
+            copy.go_to_end()
         except CommandRefused as error:
             self.refused = True
             return [*self._figures(copy), self._refusal(error)], after
@@ -149,10 +146,8 @@ class Rehearsal:
         low, high = tally.extents
         each = (f"{axis} {rounded(a)} to {rounded(b)}" for axis, a, b in zip("XYZ", low, high, strict=True))
         said = [f"from there to the end: {duration(self.rest_us)}; {'   '.join(each)} mm"]
-        for slot, us in tally.us.items():
-            said.append(f"    {f'tool {slot}' if slot else 'no tool'}: {duration(us)}")
-        for place in copy.stops:
-            said.append(f"    it stops before line {program.number(place)}, for continue")
+        said += [f"    {f'tool {slot}' if slot else 'no tool'}: {duration(us)}" for slot, us in tally.us.items()]
+        said += [f"    it stops before line {program.number(place)}, for continue" for place in copy.stops]
         status = copy.console.status()
         if copy.idle and status.place:
             said.append(f"then start goes on with line {program.number(status.place)}: {program.line(status.place)}")

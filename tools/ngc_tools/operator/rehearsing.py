@@ -36,14 +36,17 @@ def rehearse(session: Session, words: list[str]) -> None:
         face.say(f"it can't be rehearsed: {error}", WARNING)
 
 
-def count_segments(session: Session) -> int:
-    """How many segments the half-done block has; 0 if that can't be told."""
+def count_segments(session: Session) -> tuple[int, str]:
+    """How many segments the half-done block has, 0 if that can't be told; and the refusal, if `resume` is refused under
+    these settings."""
     device = session.stored()
     if not isinstance(device, Device):
-        return 0
+        return 0, ""
     try:
         rehearsal = Rehearsal(session.console.ngc, session.console.settings, device.image, None,
                               session.face.interrupted)
-        return rehearsal.count_segments()
-    except (Interrupted, CommandRefused, Ended, OSError, BadSettings):
-        return 0
+        return rehearsal.count_segments(), ""
+    except CommandRefused as error:
+        return 0, error.reply
+    except (Interrupted, Ended, OSError, BadSettings):
+        return 0, ""

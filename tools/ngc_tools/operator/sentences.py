@@ -34,9 +34,12 @@ yes goes on, anything else holds: """
 NOT_MOVED = "nothing has moved. continue goes on; after quit the block is still half-done"
 
 
-def explained(refusal: str) -> str:
-    """A refusal, as `refused K1 Busy`, the sentence that says what it means, and of a line what to write instead."""
+def explained(refusal: str, cause: str = "") -> str:
+    """A refusal, as `refused K1 Busy`, the cause or else the sentence that says what it means, and of a line what to
+    write instead."""
     code = refusal.split()[1] if len(refusal.split()) > 1 else ""
     fault = faults.fault(code)
-    said = f"{fault.holds}\n  {fault.cure}" if fault else faults.SESSION.get(code) or faults.SETTINGS.get(code)
+    if fault:
+        return f"{refusal}: {cause or fault.holds}\n  {fault.cure}"
+    said = cause or faults.SESSION.get(code) or faults.SETTINGS.get(code)
     return refusal + (f": {said}" if said else "")

@@ -8,6 +8,7 @@ from ngc_tools.formats.settings import Settings
 from ngc_tools.ngc.console import Console, Status
 from ngc_tools.operator.face import REFUSED, WARNING, Face, axes
 from ngc_tools.operator.meter import Meter
+from ngc_tools.operator.outside import breach_of_line
 from ngc_tools.operator.sentences import explained
 from ngc_tools.player.progress import NoAnswer, Report
 
@@ -63,6 +64,10 @@ class Session:
         self.face.moved(report)
         return report
 
+    def agrees(self, question: str) -> bool:
+        """Whether a person answers with a typed yes; anything else, nothing too, is a no."""
+        return self.face.ask(question).strip().lower() == "yes"
+
     def line(self, status: Status) -> str:
         """The program's line at the place."""
         return f"line {self.program.number(status.place)}: {self.program.line(status.place)}"
@@ -79,7 +84,16 @@ class Session:
         """Shows a refusal, that of a program's line with the line."""
         if not reply.startswith("refused"):
             return False
-        of_line = status is not None and re.match(r"refused [EBCYX]\d", reply)
-        where = f"{self.line(status)}\n  " if of_line else ""
-        self.face.say(where + explained(reply), REFUSED)
+        where = cause = ""
+        if status is not None and re.match(r"refused [EBCYX]\d", reply):
+            where = f"{self.line(status)}\n  "
+            cause = self._cause(reply, status)
+        self.face.say(where + explained(reply, cause), REFUSED)
         return True
+
+    def _cause(self, reply: str, status: Status) -> str:
+        """Where the program's line at the place leaves the travel, if that is why it is refused."""
+        device = self.stored()
+        if not reply.startswith("refused X2") or not isinstance(device, Device):
+            return ""
+        return breach_of_line(self.console, device, self.settings, self.program.text[status.place:], 1)

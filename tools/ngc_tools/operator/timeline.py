@@ -13,19 +13,21 @@ from ngc_tools.ngc.beginning import Beginning
 from ngc_tools.ngc.console import Console
 from ngc_tools.ngc.run import Refusal, refusal
 from ngc_tools.operator.display import in_force_on
+from ngc_tools.operator.outside import breach_of_line
 
 
 @dataclass(frozen=True, slots=True)
 class Timeline:
     """`views` has what is in force on each line that prints something, and `ends_us` when it ends, by its number from
-    1. `extents` are those of all moves; `refused` is the line at which `ngc` would stop, `notes` what the dry run
-    couldn't begin with."""
+    1. `extents` are those of all moves; `refused` is the line at which `ngc` would stop, `breach` where it leaves the
+    travel, if that is why; `notes` are what the dry run couldn't begin with."""
 
     views: dict[int, InForce]
     ends_us: dict[int, int]
     total_us: int
     extents: Box | None
     refused: Refusal | None
+    breach: str
     notes: tuple[str, ...]
 
     def view(self, number: int) -> InForce | None:
@@ -54,10 +56,13 @@ def timeline(console: Console, device: Device, text: bytes, settings: Settings, 
 
     acts = acts_of(by_line(Lines(text), run), in_force_on(device.state), device.state.point_nm)
     refused = refusal(*beginning.dry(console.ngc, text, console.settings, block_delete))
-    return _folded(acts, settings, refused, beginning.notes)
+    breach = ""
+    if refused and refused.code == "X2":
+        breach = breach_of_line(console, device, settings, text, refused.line)
+    return _folded(acts, settings, (refused, breach, beginning.notes))
 
 
-def _folded(acts: Iterable[Act], settings: Settings, refused: Refusal | None, notes: tuple[str, ...]) -> Timeline:
+def _folded(acts: Iterable[Act], settings: Settings, said: tuple[Refusal | None, str, tuple[str, ...]]) -> Timeline:
     """Goes through what the lines do."""
     views: dict[int, InForce] = {}
     ends: dict[int, int] = {}
@@ -68,7 +73,7 @@ def _folded(acts: Iterable[Act], settings: Settings, refused: Refusal | None, no
         total += _lasts_us(step, settings)
         ends[act.line] = total
         moves += [step] if isinstance(step, Move) else []
-    return Timeline(views, ends, total, box(moves), refused, notes)
+    return Timeline(views, ends, total, box(moves), *said)
 
 
 def _step(act: Act) -> Step | None:

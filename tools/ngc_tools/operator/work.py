@@ -79,16 +79,20 @@ class Work:
             replies = session.console.ask(f"tick {count}")
             self.chunk.lasted(time.monotonic() - begun)
             status = session.console.status()
-            ended = [reply.split()[0] for reply in replies if reply.split()[0] in ENDS]
             self._show_messages(status)
-            for reply in replies:
-                session.is_refusal(reply, status)
-            if ended:
-                return ended[0]
+            if ended := self._ended(replies, status):
+                return ended
             session.face.live(self._under_way(status))
             if session.face.interrupted():
                 return None
         return None
+
+    def _ended(self, replies: list[str], status: Status) -> str | None:
+        """What ended the work of a tick command, if something did; shows refusals."""
+        ended = [reply.split()[0] for reply in replies if reply.split()[0] in ENDS]
+        for reply in replies:
+            self.session.is_refusal(reply, status)
+        return ended[0] if ended else None
 
     def room(self) -> int:
         """How many ticks may be given now; 0 if somebody wants to hold, or the player is gone."""

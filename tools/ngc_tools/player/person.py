@@ -44,8 +44,11 @@ class Person:
             return b""
         if not select.select([self._file], [], [], seconds)[0]:
             return b""
-        typed = b""
-        with suppress(OSError):
+        try:
             typed = os.read(self._file, 4096)
+        except BlockingIOError:
+            return b""
+        except OSError:  # the terminal is gone
+            typed = b""
         self.is_gone = typed == b""
         return typed

@@ -182,8 +182,16 @@ class Link:
                 self._look()
                 continue
             if answer.startswith(question + b" "):
-                return Report.read(answer[len(question) + 1:])
+                return self._understood(answer[len(question) + 1:])
         raise NoAnswer(f"{self.path}: the player doesn't answer")
+
+    def _understood(self, answer: bytes) -> Report:
+        """Reads an answer. Raises NoAnswer for that of a player of another version."""
+        try:
+            return Report.read(answer)
+        except ValueError as error:
+            raise NoAnswer(f"{self.path}: {error}; it is of another version: take a player and a console of one"
+                           " version") from None
 
     def _send(self, text: bytes) -> None:
         """Sends a datagram, and waits for room for it. Raises NoAnswer."""
