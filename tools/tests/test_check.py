@@ -646,8 +646,8 @@ class Words(InFolder):
         self.assertEqual(self.failed("p.ngc", "--ngc", ngc(), "--settings", "bad.toml"), "    tools_nm is missing: an"
                          " array of at most 128 whole numbers of nanometres, 0 to 1,000,000,000")
         Path("odd.ngc").write_bytes(b"\xff\xfeM\x002")
-        self.assertEqual(self.failed("odd.ngc", "--ngc", ngc()), "ngc-check: odd.ngc: it begins as UTF-16 does, and byte 4"
-                         " isn't UTF-16: save it in UTF-8")
+        self.assertEqual(self.failed("odd.ngc", "--ngc", ngc()), "ngc-check: odd.ngc: it begins as UTF-16 does, and"
+                         " byte 4 isn't UTF-16: save it in UTF-8")
         os.mkfifo("pipe")
         self.assertEqual(self.failed("p.ngc", "--device", "pipe", "--ngc", ngc()), "ngc-check: pipe: Illegal seek")
         self.assertEqual(self.failed("p.ngc", "--device", "p.ngc", "--ngc", ngc()),
