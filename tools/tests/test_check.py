@@ -473,8 +473,8 @@ class Heights(Warned):
 class Reliance(Warned):
     """What an operator, or the run before, leaves."""
 
-    STOP = ("warning: after this stop it relies on {}, from line {} on: what is typed at the stop, as G91 to lift the"
-            " tool, stays in force; write the modes again after it")
+    STOP = ("warning: after this stop it relies on {}, from line {} on: what is typed at the stop, as G91 or G0 to"
+            " lift the tool, stays in force; write the modes again after it")
 
     def test_stops(self) -> None:
         """Modes that aren't named again after M0, M1 or M60; a motion by G53 doesn't mind."""
@@ -482,6 +482,8 @@ class Reliance(Warned):
             self.assertEqual(self.warnings(HEAD + f"G0 X1 Y0 Z5\n{stop}\nG0 X2\nG81 Z-1 R1\nM2\n"), [
                 f"4: {self.STOP.format('the unit, the distance mode, the plane and the way that cycles end', 5)}"])
         self.assertEqual(self.warnings(HEAD + "G0 X1 Y0 Z5\nM0\nG21\nG90 G0 X2\nM2\n"), [])
+        self.assertEqual(self.warnings(HEAD + "G0 X1 Y0 Z5\nG1 Z4\nM0\nG21\nG90 X2\nM2\n"),
+                         [f"5: {self.STOP.format('the motion mode', 7)}"])
         self.assertEqual(self.warnings("G21 G90 G17 G54 G94\nG0 X10 Y10\nM0\nG0 X20 Y20\nM3 G1 X25 F600\nM2\n")[:1],
                          [f"3: {self.STOP.format('the unit and the distance mode', 4)}"])
 
@@ -644,8 +646,8 @@ class Words(InFolder):
         self.assertEqual(self.failed("p.ngc", "--ngc", ngc(), "--settings", "bad.toml"), "    tools_nm is missing: an"
                          " array of at most 128 whole numbers of nanometres, 0 to 1,000,000,000")
         Path("odd.ngc").write_bytes(b"\xff\xfeM\x002")
-        self.assertEqual(self.failed("odd.ngc", "--ngc", ngc()), "ngc-check: odd.ngc: it begins as UTF-16 does, and byte 4"
-                         " isn't UTF-16: save it in UTF-8")
+        self.assertEqual(self.failed("odd.ngc", "--ngc", ngc()), "ngc-check: odd.ngc: it begins as UTF-16 does, and"
+                         " byte 4 isn't UTF-16: save it in UTF-8")
         os.mkfifo("pipe")
         self.assertEqual(self.failed("p.ngc", "--device", "pipe", "--ngc", ngc()), "ngc-check: pipe: Illegal seek")
         self.assertEqual(self.failed("p.ngc", "--device", "p.ngc", "--ngc", ngc()),

@@ -181,8 +181,8 @@ bad.toml: S5 OutOfLimits: a number is beyond its limits
         self.assertEqual(str(caught.exception), "bad.toml: S5 OutOfLimits: a number is beyond its limits\n    line 5:"
                          " period_us = 0 (S5): it takes a whole number of microseconds, 1 to 1,000,000")
         Path("p.ngc").write_text("M2\n")
-        for words in (("ngc-adapt", "p.ngc", "--settings", "bad.toml"), ("ngc-split", "p.ngc", "--settings", "bad.toml"),
-                      ("ngc-rehearse", "mill.dev", "bad.toml")):
+        for words in (("ngc-adapt", "p.ngc", "--settings", "bad.toml"),
+                      ("ngc-split", "p.ngc", "--settings", "bad.toml"), ("ngc-rehearse", "mill.dev", "bad.toml")):
             done = self.tool(*words, "--ngc", ngc())
             self.assertEqual(done.returncode, 2, words)
             self.assertIn("period_us = 0 (S5): it takes", done.stderr)

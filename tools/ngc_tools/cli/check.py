@@ -166,8 +166,8 @@ class Listing:
         """Prints why the text as a whole can't be read."""
         self.count += 1
         print(f"{shown(self.path)}: {why}")
-        print(wrapped("mend: save it in UTF-8, with newlines at the ends of its lines, as ngc-adapt does. What follows is"
-                      " said of that text"))
+        print(wrapped("mend: save it in UTF-8, with newlines at the ends of its lines, as ngc-adapt does. What follows"
+                      " is said of that text"))
 
     def refused(self, finding: Finding, breach: str | None, is_placed: bool) -> None:
         """Prints a refusal: its fault and cause, the line, the carets, what to write, how it goes on. `breach` says how

@@ -84,7 +84,7 @@ def lengths(lines: Lines, acts: list[Act], tools_nm: Sequence[int]) -> Iterator[
 
 def slot_of(lines: Lines, line: int) -> int | None:
     """The slot that a line names by H, None where it isn't a plain number."""
-    found = _SLOT.search(lines.words(line))
+    found = _SLOT.search(lines.code(line))
     return int(found[1]) if found else None
 
 

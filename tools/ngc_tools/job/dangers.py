@@ -83,7 +83,7 @@ def _homes(lines: Lines, printed: Printed) -> list[Danger]:
     """G28 and G30 by their text, if the line then prints a traverse."""
     found = []
     for line in range(1, len(lines.all) + 1):
-        code = _HOME.search(lines.words(line))
+        code = _HOME.search(lines.code(line))
         moves = [command for command in printed.get(line, []) if command.name == "STRAIGHT_TRAVERSE"]
         if code and moves:
             x, y, z = map(millimetres, moves[-1].point)

@@ -23,7 +23,6 @@ _PIECE = re.compile(
     rb"|[A-Za-z][ \t]*(?:[-+]?[ \t]*\[[^;()]*?\](?![^\[;()]*\])|[-+]?[0-9. \t]*[0-9.]|[-+]?[ \t]*#[ \t]*[0-9.]+)?|.",
     re.DOTALL)
 
-
 _ASIDE = re.compile(rb"\([^()]*\)|[ \t]")
 
 # A line is refused by the first fault that holds in this order; E2 is looked at before E1.
@@ -88,8 +87,8 @@ class Lines:
         line = self.all[number - 1]
         return line[:-2] if line.endswith(b"\r\n") else line.removesuffix(b"\n")
 
-    def words(self, number: int) -> bytes:
-        """The words of line `number`, without comments and blanks."""
+    def code(self, number: int) -> bytes:
+        """Line `number` without comments and blanks."""
         return _ASIDE.sub(b"", self.body(number))
 
     def beginning(self, number: int, body: bytes) -> bytes:

@@ -28,6 +28,7 @@ _MODES = (
     _Mode("the plane", (17, 18, 19), "G17, G18 or G19"),
     _Mode("the way that cycles end", (98, 99), "G98 or G99"),
 )
+_MOTION = _Mode("the motion mode", (80,), "G0 or G1")  # after G80 a line that relies on one is refused
 
 
 def modes(lines: Lines, printed: Printed, run: Run, begun: tuple[int, ...]) -> Iterator[Danger]:
@@ -56,7 +57,7 @@ def after_stops(lines: Lines, printed: Printed, run: Run) -> Iterator[Danger]:
     if not stops:
         return
     found: dict[str, int] = {}
-    for mode in _MODES:
+    for mode in (*_MODES, _MOTION):
         for code in mode.codes:
             changed = by_line(lines, run, after=dict.fromkeys(stops, b"G%d\n" % code))
             kept = {number: printed[number] if number in stops else each for number, each in changed.items()}
@@ -68,7 +69,7 @@ def after_stops(lines: Lines, printed: Printed, run: Run) -> Iterator[Danger]:
     first = min(found.values())
     stop = max(number for number in stops if number < first)
     yield Danger(stop, "stop", f"after this stop it relies on {_listed(list(found))}, from line {first} on: what is"
-                 " typed at the stop, as G91 to lift the tool, stays in force; write the modes again after it")
+                 " typed at the stop, as G91 or G0 to lift the tool, stays in force; write the modes again after it")
 
 
 def dropped_offset(lines: Lines, printed: Printed, run: Run, g92_nm: Point) -> Iterator[Danger]:

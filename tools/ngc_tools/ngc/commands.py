@@ -50,7 +50,7 @@ def form_of(line: str) -> str | None:
     same = [form for form in FORMS if words and form.word == words[0].lower()]
     if not same:
         return None
-    return str(same[0]) if len(same) == 1 else f"{' or '.join(form.form for form in same)}"
+    return str(same[0]) if len(same) == 1 else " or ".join(form.form for form in same)
 
 
 def slot_to_give_first(slot: int, slots: int) -> str | None:
