@@ -121,7 +121,7 @@ class Tools(Documents):
     """docs/TOOLS.md."""
 
     def test_player(self) -> None:
-        """A pipe with a player; player.c is built, and its words are those of the page."""
+        """A pipe with a player; tools/player is built, and its words are those of the page."""
         text, tried = self.chapter("TOOLS.md", "ngc-player")
         (synopsis, _), (fifo, _), (play, record), (build, _), (words, _) = tried
         self.same_options("ngc-player", text, synopsis)
