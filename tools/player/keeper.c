@@ -106,7 +106,11 @@ static bool make(struct keeper *keeper, const struct record *record, struct caus
     if (error == 0 && (sync_all(keeper->file) != 0 || rename(beside, keeper->path) != 0)) {
         error = errno;
     }
-    return error == 0 || fail(keeper, error, why);
+    if (error != 0) {
+        unlink(beside);
+        return fail(keeper, error, why);
+    }
+    return true;
 }
 
 bool keeper_begin(struct keeper *keeper, const struct record *record, struct cause *why) {

@@ -38,11 +38,15 @@ static void stop(int number) {
 static void heed_signals(void) {
     const struct sigaction heed = {.sa_handler = stop};
     const struct sigaction ignore = {.sa_handler = SIG_IGN};
+    struct sigaction before;
     sigaction(SIGINT, &heed, NULL);
     sigaction(SIGTERM, &heed, NULL);
-    sigaction(SIGHUP, &heed, NULL);
     sigaction(SIGQUIT, &heed, NULL);
     sigaction(SIGPIPE, &ignore, NULL);
+    sigaction(SIGHUP, NULL, &before);
+    if (before.sa_handler != SIG_IGN) { /* as under nohup */
+        sigaction(SIGHUP, &heed, NULL);
+    }
 }
 
 /* The other threads have no rank of the real-time scheduler: only the pulses have to be in time. */

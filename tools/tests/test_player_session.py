@@ -258,13 +258,35 @@ class Sessions:
         for number in (signal.SIGINT, signal.SIGTERM, signal.SIGHUP, signal.SIGQUIT):
             for name in ("pins", "position"):
                 Path(name).unlink(missing_ok=True)
-            child = self.begin("--untimed", "--pins", "pins", "out", "first.toml", "position")
+            child = self.begin("--untimed", "--pins", "pins", "out", "first.toml", "position",
+                               preexec_fn=lambda: signal.signal(signal.SIGHUP, signal.SIG_DFL))
             with open("out", "wb", buffering=0) as pipe:
                 pipe.write(ON)
                 self.wait_for("it is on", lambda: os.path.exists("pins") and Path("pins").read_bytes() == ON)
                 child.send_signal(number)
                 self.assertEqual(self.ended(child), (1, "out: stopped after line 1; spindle and coolant off\n"))
             self.assertEqual(Path("pins").read_bytes(), ON + b"off\n")
+
+    def test_without_a_terminal(self) -> None:
+        """Under nohup it goes on when its terminal is closed."""
+        child, link, pipe = self.session(preexec_fn=lambda: signal.signal(signal.SIGHUP, signal.SIG_IGN))
+        child.send_signal(signal.SIGHUP)
+        os.write(pipe, b"P 1 0 0 50\n")
+        self.wait_for("it works", lambda: link.ask().carried == 1)
+        link.end()
+        os.close(pipe)
+        self.assertEqual(self.ended(child), (0, ""))
+
+    def test_full_disk(self) -> None:
+        """Where its first record has no room it says so, leaves nothing behind, and moves nothing."""
+        if not self.takes_preloads:
+            self.skipTest("no preloads")
+        Path("out").write_text("P 1 0 0 50\n")
+        full = "#include <errno.h>\nint fsync(int file) { (void)file; errno = ENOSPC; return -1; }\n"
+        done = self.play("--untimed", env=preloaded("full", full))
+        self.assertEqual((done.returncode, done.stderr.partition(": ")[2]), (2, "position: No space left on device\n"))
+        self.assertEqual([name for name in os.listdir() if "position" in name], [])
+        self.assertEqual(Path("pins").read_bytes(), b"")
 
     def test_file_ends(self) -> None:
         """At a file's end nothing stays on."""

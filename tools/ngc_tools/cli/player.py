@@ -169,8 +169,10 @@ def _heed_signals(player: Player) -> None:
     def stop(*_: object) -> None:
         player.stopping = True
 
-    for number in (signal.SIGINT, signal.SIGTERM, signal.SIGHUP, signal.SIGQUIT):
+    for number in (signal.SIGINT, signal.SIGTERM, signal.SIGQUIT):
         signal.signal(number, stop)
+    if signal.getsignal(signal.SIGHUP) != signal.SIG_IGN:  # as under nohup
+        signal.signal(signal.SIGHUP, stop)
 
 
 def _show(player: Player, voice: Voice, over: threading.Event) -> None:

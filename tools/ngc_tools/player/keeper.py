@@ -56,10 +56,14 @@ class RecordFile:
         self._hold(file)
         if os.path.exists(self.path):  # another player was quicker
             self._refuse()
-        os.truncate(file, 0)
-        os.pwrite(file, text, 0)
-        os.fsync(file)
-        os.rename(beside, self.path)
+        try:
+            os.truncate(file, 0)
+            os.pwrite(file, text, 0)
+            os.fsync(file)
+            os.rename(beside, self.path)
+        except OSError:
+            os.unlink(beside)
+            raise
         _sync_folder(folder or ".")
         self._file = file
 
