@@ -11,6 +11,7 @@ import tempfile
 import time
 import traceback
 import unittest
+import warnings
 from collections.abc import Callable, Iterable
 from contextlib import suppress
 from dataclasses import dataclass
@@ -72,6 +73,7 @@ def begin(name: str, words: Iterable[str], before: Callable[[], object]) -> int:
             os.dup2(os.open(path, os.O_RDWR | os.O_CREAT | os.O_TRUNC, 0o666), number)
         for stream, number, mode in (("stdin", 0, "r"), ("stdout", 1, "w"), ("stderr", 2, "w")):
             setattr(sys, stream, open(number, mode, closefd=False))
+        warnings.simplefilter("ignore")  # as outside of tests
         tempfile.mkdtemp = noted(tempfile.mkdtemp)
         before()
         own = ("--ngc", ngc()) if name in ASKS else ()

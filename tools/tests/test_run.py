@@ -135,11 +135,11 @@ class Ends(unittest.TestCase):
 
     def test_closed_streams(self) -> None:
         """A stream that is closed is /dev/null: no file gets its number, nothing is lost but what is written there."""
-        body = ("number = os.open({!r}, os.O_RDONLY); os.write(3, b'%d' % number) if number > 2 else 0; print('x');"
-                " print('y', file=sys.stderr); return len(sys.stdin.read())").format(__file__)
         for closed in ("<&-", ">&-", "2>&-", "<&- >&- 2>&-"):
             reader, writer = os.pipe()
-            words = ["sh", "-c", f'exec "$0" "$@" 3>&{writer} {closed}', sys.executable, "-c", SCRIPT.format(body)]
+            body = (f"number = os.open({__file__!r}, os.O_RDONLY); os.write({writer}, b'%d' % number); print('x');"
+                    " print('y', file=sys.stderr); return len(sys.stdin.read())")
+            words = ["sh", "-c", f'exec "$0" "$@" {closed}', sys.executable, "-c", SCRIPT.format(body)]
             done = subprocess.run(words, input=b"", capture_output=True, pass_fds=(writer,), timeout=60)
             os.close(writer)
             with os.fdopen(reader) as file:
