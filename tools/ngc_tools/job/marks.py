@@ -49,6 +49,10 @@ def _cross(at: Pair) -> list[str]:
             line((x - arm, y + arm), (x + arm, y - arm), stroke(_CROSS, 2 * PIXEL))]
 
 
+Mark = tuple[str, Callable[[Pair], list[str]], Point]
+"""What a mark means, how it is drawn, and where."""
+
+
 @dataclass(frozen=True, slots=True)
 class Marks:
     """Points that are marked: where the job starts and ends, the work zeros, and a point that somebody named."""
@@ -57,7 +61,7 @@ class Marks:
     zeros: tuple[Point, ...]
     at: Point | None
 
-    def each(self) -> list[tuple[str, Callable[[Pair], list[str]], Point]]:
+    def each(self) -> list[Mark]:
         """The marks, each with what it means, how it is drawn, and where."""
         origin = (0, 0, 0)
         found = [("work zero", _zero_of_work, zero) for zero in self.zeros if zero != origin]
@@ -81,10 +85,25 @@ class Marks:
         return said
 
 
+Item = tuple[int, Callable[[Pair], list[str]], str]
+"""Of the legend: the width of what is drawn, how it is drawn, and what it means."""
+
+
 def legend(marks: Marks, kinds: set[str], deepest: int, has_travel: bool, room: Box) -> tuple[list[str], int]:
     """What lines and marks mean, in rows from the upper end of a place on, and where they end. `kinds` are those of the
     moves, `deepest` is the height down to which is cut."""
-    items: list[tuple[int, Callable[[Pair], list[str]], str]] = []
+    said, x, y = [], room.x, room.y
+    for width, draw, words in [*_lines(kinds, deepest, has_travel), *map(_marked, marks.each())]:
+        whole = width + len(words) * _LETTER
+        if x > room.x and x + whole > room.right:
+            x, y = room.x, y + _ROW
+        said += [*draw((x, y)), text((x + width, y + 4 * PIXEL), _LABEL, words)]
+        x += whole + _APART
+    return said, y + _ROW
+
+
+def _lines(kinds: set[str], deepest: int, has_travel: bool) -> list[Item]:
+    items: list[Item] = []
     if kinds - {TRAVERSE}:
         what = "cut" if CUT in kinds else "move"
         items.append((76 * PIXEL, _shades, f"{what}, the darker the deeper, down to Z {millimetres(deepest)}"))
@@ -92,18 +111,14 @@ def legend(marks: Marks, kinds: set[str], deepest: int, has_travel: bool, room: 
         items.append((36 * PIXEL, _dashes, "traverse"))
     if has_travel:
         items.append((36 * PIXEL, _travel, "end of the travel"))
-    for name, draw, point in marks.each():
-        at = " ".join(f"{axis} {millimetres(nm)}" for axis, nm in zip("XYZ", point, strict=True))
-        said = name if point == (0, 0, 0) and "machine" in name else f"{name}: {at}"
-        items.append((26 * PIXEL, lambda place, draw=draw: draw((place[0] + 9 * PIXEL, place[1])), said))
-    said, x, y = [], room.x, room.y
-    for width, draw, words in items:
-        whole = width + len(words) * _LETTER
-        if x > room.x and x + whole > room.right:
-            x, y = room.x, y + _ROW
-        said += [*draw((x, y)), text((x + width, y + 4 * PIXEL), _LABEL, words)]
-        x += whole + _APART
-    return said, y + _ROW
+    return items
+
+
+def _marked(mark: Mark) -> Item:
+    name, draw, point = mark
+    at = " ".join(f"{axis} {millimetres(nm)}" for axis, nm in zip("XYZ", point, strict=True))
+    said = name if point == (0, 0, 0) and "machine" in name else f"{name}: {at}"
+    return 26 * PIXEL, lambda place: draw((place[0] + 9 * PIXEL, place[1])), said
 
 
 def _shades(at: Pair) -> list[str]:

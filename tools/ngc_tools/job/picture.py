@@ -170,21 +170,27 @@ def _flat(view: Flat, job: Job) -> list[str]:
 
 def _grid(view: Flat) -> tuple[str, list[str]]:
     """The data of lines at round lengths, and their numbers, beside the frame."""
-    place, (right, up), scale = view.box, view.low_nm, view.nm_per_thousand
-    columns, apart = ticks(right, view.high_nm[0], scale, 62 * PIXEL)
-    data, numbers = "", []
-    for nm in columns:
-        x = place.x + scaled(nm - right, scale)
-        data += f"M{x} {place.y} {x} {place.below}"
-        if place.x + 8 * PIXEL < x < place.right - 8 * PIXEL:
-            numbers.append(text((x, place.below + 14 * PIXEL), _LABEL, _short(nm, apart), "middle"))
-    rows, apart = ticks(up, view.high_nm[1], scale, 26 * PIXEL)
-    for nm in rows:
-        y = place.below - scaled(nm - up, scale)
-        data += f"M{place.x} {y} {place.right} {y}"
-        if place.y + 4 * PIXEL < y < place.below - 4 * PIXEL:
-            numbers.append(text((place.x - 6 * PIXEL, y + 4 * PIXEL), _LABEL, _short(nm, apart), "end"))
-    return data, numbers
+    columns, below = _columns(view)
+    rows, aside = _rows(view)
+    return columns + rows, below + aside
+
+
+def _columns(view: Flat) -> tuple[str, list[str]]:
+    place, low = view.box, view.low_nm[0]
+    found, apart = ticks(low, view.high_nm[0], view.nm_per_thousand, 62 * PIXEL)
+    at = {nm: place.x + scaled(nm - low, view.nm_per_thousand) for nm in found}
+    numbers = [text((x, place.below + 14 * PIXEL), _LABEL, _short(nm, apart), "middle") for nm, x in at.items()
+               if place.x + 8 * PIXEL < x < place.right - 8 * PIXEL]
+    return "".join(f"M{x} {place.y} {x} {place.below}" for x in at.values()), numbers
+
+
+def _rows(view: Flat) -> tuple[str, list[str]]:
+    place, low = view.box, view.low_nm[1]
+    found, apart = ticks(low, view.high_nm[1], view.nm_per_thousand, 26 * PIXEL)
+    at = {nm: place.below - scaled(nm - low, view.nm_per_thousand) for nm in found}
+    numbers = [text((place.x - 6 * PIXEL, y + 4 * PIXEL), _LABEL, _short(nm, apart), "end") for nm, y in at.items()
+               if place.y + 4 * PIXEL < y < place.below - 4 * PIXEL]
+    return "".join(f"M{place.x} {y} {place.right} {y}" for y in at.values()), numbers
 
 
 def _aslant(view: Oblique, job: Job) -> list[str]:

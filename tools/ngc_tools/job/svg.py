@@ -23,12 +23,12 @@ class Box:
 
     @property
     def right(self) -> int:
-        """Where it ends."""
+        """Its right end."""
         return self.x + self.width
 
     @property
     def below(self) -> int:
-        """Where it ends."""
+        """Its lower end."""
         return self.y + self.height
 
     def has(self, point: Pair) -> bool:
@@ -37,9 +37,9 @@ class Box:
 
     def clipped(self, content: Iterable[str]) -> list[str]:
         """What is drawn in it; what would stand out is cut off."""
-        place = f"{self.x} {self.y} {self.width} {self.height}"
-        x, y, width, height = place.split()
-        return [f'<svg x="{x}" y="{y}" width="{width}" height="{height}" viewBox="{place}">', *content, "</svg>"]
+        place = f'x="{self.x}" y="{self.y}" width="{self.width}" height="{self.height}"'
+        shown_there = f"{self.x} {self.y} {self.width} {self.height}"
+        return [f'<svg {place} viewBox="{shown_there}">', *content, "</svg>"]
 
 
 def rectangle(box: Box, style: str) -> str:
@@ -57,9 +57,9 @@ def line(start: Pair, end: Pair, style: str) -> str:
     return path(f"M{start[0]} {start[1]} {end[0]} {end[1]}", style)
 
 
-def stroke(colour: str, pixels_100: int, more: str = "") -> str:
+def stroke(colour: str, width: int, more: str = "") -> str:
     """The style of a line, its width in hundredths of a pixel."""
-    return f'stroke="{colour}" stroke-width="{pixels_100}"' + (f" {more}" if more else "")
+    return f'stroke="{colour}" stroke-width="{width}"' + (f" {more}" if more else "")
 
 
 def text(at: Pair, size: int, said: str, anchor: str = "start", family: str = "sans-serif") -> str:
@@ -78,6 +78,7 @@ def arrow(at: Pair, along: Pair, colour: str) -> str:
     """A small arrow head at a point, that points along a direction."""
     size = isqrt(along[0] ** 2 + along[1] ** 2) or 1
     x, y = along[0] * 4 * PIXEL // size, along[1] * 4 * PIXEL // size
-    tip, left, right = (at[0] + x, at[1] + y), (at[0] - x - y * 3 // 4, at[1] - y + x * 3 // 4), \
-        (at[0] - x + y * 3 // 4, at[1] - y - x * 3 // 4)
-    return f'<path fill="{colour}" d="M{tip[0]} {tip[1]} {left[0]} {left[1]} {right[0]} {right[1]}Z"/>'
+    tip = f"{at[0] + x} {at[1] + y}"
+    left = f"{at[0] - x - y * 3 // 4} {at[1] - y + x * 3 // 4}"
+    right = f"{at[0] - x + y * 3 // 4} {at[1] - y - x * 3 // 4}"
+    return f'<path fill="{colour}" d="M{tip} {left} {right}Z"/>'

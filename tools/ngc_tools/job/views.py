@@ -171,20 +171,23 @@ def _between(start: Point, end: Point, part: Fraction) -> Point:
 def arrows(view: View, moves: Iterable[Move], colours: dict[bool, str]) -> list[str]:
     """Arrow heads along the path, one each so often; `colours` are those of cuts and, for True, of traverses."""
     said, taken, since = [], set(), {True: ARROWS_APART, False: ARROWS_APART}
-    for move in moves:
-        is_traverse = move.kind == TRAVERSE
-        for start, end in zip(move.points, move.points[1:]):
-            a, b = view.place(start), view.place(end)
-            along = (b[0] - a[0], b[1] - a[1])
-            length = isqrt(along[0] ** 2 + along[1] ** 2)
-            since[is_traverse] += length
-            middle = ((a[0] + b[0]) // 2, (a[1] + b[1]) // 2)
-            around = _around(middle)
-            if since[is_traverse] >= ARROWS_APART and length and view.box.has(middle) and not taken & around:
-                taken.add((middle[0] // _CELL, middle[1] // _CELL))
-                since[is_traverse] = 0
-                said.append(arrow(middle, along, colours[is_traverse]))
+    for is_traverse, start, end in _chords(view, moves):
+        along = (end[0] - start[0], end[1] - start[1])
+        length = isqrt(along[0] ** 2 + along[1] ** 2)
+        since[is_traverse] += length
+        middle = ((start[0] + end[0]) // 2, (start[1] + end[1]) // 2)
+        is_due = length and since[is_traverse] >= ARROWS_APART and view.box.has(middle)
+        if is_due and not taken & _around(middle):
+            taken.add((middle[0] // _CELL, middle[1] // _CELL))
+            since[is_traverse] = 0
+            said.append(arrow(middle, along, colours[is_traverse]))
     return said
+
+
+def _chords(view: View, moves: Iterable[Move]) -> Iterator[tuple[bool, Pair, Pair]]:
+    """The chords of all moves on the page, each with whether it is of a traverse."""
+    return ((move.kind == TRAVERSE, view.place(start), view.place(end))
+            for move in moves for start, end in zip(move.points, move.points[1:]))
 
 
 def _around(point: Pair) -> set[Pair]:
