@@ -692,6 +692,15 @@ class Ends(Core):
                          " the player does it at once")
         self.assertTrue(self.operator.over)
 
+    def test_end_of_input(self) -> None:
+        """At the end of the input nobody is asked: what stays on is said, and how it goes off."""
+        self.begin()
+        self.do("M3 S100 M7")
+        self.operator.ending.say()
+        self.assertEqual(self.face.said[-1], (WARNING, "still on: the spindle, clockwise at 100 and mist. Switch that off"
+                                                       " at the machine"))
+        self.assertEqual(self.face.asked, [])
+
     def test_resume_no(self) -> None:
         """After a no the spindle that came on is named, and how it goes off."""
         self.run_ngc("mdi S70 M3\ntick 9\nmdi G0 X1\ntick 4\n", "before")
