@@ -192,6 +192,11 @@ class Scripted(InFolder):
         self.assertEqual(Path("out2").read_text(), "S 1 1000.000000 0 0 0 0\nP -1 0 0 50\n" + "P 1 0 0 50\n" * 5
                          + "S 0 1000.000000 0 0 0 0\n")
 
+    def test_control_characters(self) -> None:
+        """What is typed reaches no terminal as it is."""
+        done = self.tool("ngc-operate", *operate("mill.dev", "first.toml", "out"), text="load \x1b[2Jx\nquit\n")
+        self.assertIn("ngc> \\x1b[2Jx: No such file or directory\n", done.stdout)
+
     def test_bytes_that_are_no_text(self) -> None:
         """A byte that isn't UTF-8 ends no session: it goes to `ngc` as it is."""
         words = [sys.executable, str(TOOLS / "ngc-operate"), *operate("mill.dev", "first.toml", "out")]

@@ -446,6 +446,23 @@ class LeftBehind(Core):
         self.begin(found=Device.read("mill.dev"))
         self.assertEqual(self.do("run", answers=("no",))[0], asked)
         self.assertEqual(self.status().does, "idle")
+        self.end()
+        self.begin(found=Device.read("mill.dev"))  # the log was begun anew meanwhile
+        self.do("G0 Y0")
+        self.assertEqual(self.do("run", answers=("no",))[0],
+                         "line 3 comes next, and the device doesn't tell any more where it begins. The machine is at X"
+                         " 0.000500 Y 0.000000 Z 0.000000, and the line would go from there")
+        self.load("M2\n")
+        self.do("run")
+        self.assertEqual(self.face.asked, [])
+
+    def test_quit_at_a_stop(self) -> None:
+        """A session that ended at a stop, with nothing done since: the next one asks nothing."""
+        self.stop("G0 X0.002")
+        self.end()
+        self.begin(found=Device.read("mill.dev"))
+        self.do("run")
+        self.assertEqual((self.face.asked, self.status().at[0]), ([], "0.002000"))
 
     def test_g92(self) -> None:
         """A G92 offset that the program's end drops is told of, with the lines that keep the zero point."""
@@ -691,6 +708,15 @@ class Ends(Core):
                          " that off once the session has ended and the seconds of its --off-after are over; Ctrl-C in"
                          " the player does it at once")
         self.assertTrue(self.operator.over)
+
+    def test_end_of_input(self) -> None:
+        """At the end of the input nobody is asked: what stays on is said, and how it goes off."""
+        self.begin()
+        self.do("M3 S100 M7")
+        self.operator.ending.say()
+        said = "still on: the spindle, clockwise at 100 and mist. Switch that off at the machine"
+        self.assertEqual(self.face.said[-1], (WARNING, said))
+        self.assertEqual(self.face.asked, [])
 
     def test_resume_no(self) -> None:
         """After a no the spindle that came on is named, and how it goes off."""

@@ -28,7 +28,8 @@ from ngc_tools.formats.settings import Settings
 ABOUT = """A console for people over `ngc run`: programs by name, G-code as typed, Enter or Ctrl-C holds.
 
 With --player it is metered: it gives ticks only while the player is at most --ahead lines behind, so that a loss of
-power costs at most so many lines."""
+power costs at most so many lines. And nothing moves from where the player says that the motors aren't, unless that is
+asked for by `anyway`."""
 
 EXAMPLE = """example:
   ngc format mill.dev                                   (once; it OVERWRITES mill.dev)
@@ -40,7 +41,7 @@ EXAMPLE = """example:
 
 exit status:
   0  the session was ended by quit, or by the end of the input
-  2  the words are wrong; or `ngc run` can't be started, or ended by a failure: the text says why"""
+  2  the words are wrong, `ngc run` can't be started or failed, a signal came, the terminal is gone: the text says why"""
 
 
 def make_parser() -> argparse.ArgumentParser:

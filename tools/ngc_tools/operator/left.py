@@ -10,7 +10,7 @@ from ngc_tools.job.figures import millimetres as rounded
 from ngc_tools.job.moves import distance
 from ngc_tools.ngc.beginning import Beginning, CannotSetUp
 from ngc_tools.ngc.console import Status
-from ngc_tools.operator.face import WARNING
+from ngc_tools.operator.face import WARNING, axes
 from ngc_tools.operator.modes import Difference, Restoring, differences, point_words, restoring
 from ngc_tools.operator.session import Session
 
@@ -24,22 +24,30 @@ _FEEDS = ("STRAIGHT_FEED", "ARC_FEED", "SET_FEED_RATE")
 
 
 class Left:
-    """`device` is what stood as the program left it, None where nothing was done since."""
+    """`device` is what stood as the program left it, None where nothing was done since. `is_lost` says that the session
+    begins before a line of the program, and that nothing tells where this line begins."""
 
     def __init__(self, session: Session) -> None:
         self.session = session
         self.device: Device | None = None
+        self.is_lost = False
         self._told = ""
 
-    def keep(self, device: Device | None = None) -> None:
+    def find(self, found: Device) -> None:
+        """Takes how the program was left from the log of a device, as it stood before `ngc` was started."""
+        if found.state.place:
+            self.device = begins_at(found)
+            self.is_lost = self.device is None
+
+    def keep(self) -> None:
         """Something is about to be done between two lines of the program; what stands now is kept, once."""
         if self.device is None:
-            found = device or self.session.stored()
+            found = self.session.stored()
             self.device = found if isinstance(found, Device) else None
 
     def forget(self) -> None:
         """The program goes on."""
-        self.device, self._told = None, ""
+        self.device, self.is_lost, self._told = None, False, ""
 
     def differs(self) -> bool:
         """Whether something is in force otherwise than the program left it."""
@@ -56,17 +64,19 @@ class Left:
     def agreed(self, status: Status) -> bool:
         """Whether all is as the program left it, or a person wants to go on all the same. Within a block nothing is
         looked at: no line was done in it."""
-        kept = self._kept_and_now()
-        if status.half != "none" or kept is None:
+        if status.half != "none":
             return True
-        before, now = kept
-        face = self.session.face
-        if _goes_on(before.state, now.state) and before.state.point_nm == now.state.point_nm:
-            face.say(f"{self._begins(now.state)} begins where the machine is, at {point_words(now.state.point_nm)}")
-        questions = [*self._moved_away(before.state, now.state), *self._modes(before, now)]
+        questions = self._lost(status) if self.is_lost and status.place else self._moved_away()
+        questions += self._modes()
         for text in questions:
-            face.say(text, WARNING)
+            self.session.face.say(text, WARNING)
         return not questions or self.session.agrees("go on all the same? yes goes on: ")
+
+    def _lost(self, status: Status) -> list[str]:
+        """What is asked where nothing tells where the next line begins."""
+        line = f"line {self.session.program.number(status.place)}"
+        return [f"{line} comes next, and the device doesn't tell any more where it begins. The machine is at"
+                f" {axes(status.at)}, and the line would go from there"]
 
     def restoring(self) -> Restoring:
         """The lines that put back what was in force."""
@@ -82,8 +92,12 @@ class Left:
         kept = self._kept_and_now()
         return differences(kept[0].state, kept[1].state) if kept else []
 
-    def _modes(self, before: Device, now: Device) -> list[str]:
+    def _modes(self) -> list[str]:
         """What is in force otherwise and matters, and what puts it back."""
+        kept = self._kept_and_now()
+        if kept is None:
+            return []
+        before, now = kept
         found = differences(before.state, now.state)
         if not now.state.place:
             found = [difference for difference in found if difference.name not in _SET_UP]
@@ -93,16 +107,18 @@ class Left:
         said = ["in force now: " + ", ".join(map(str, found))]
         return [*said, f"restore types: {'; '.join(lines)}"] if lines else said
 
-    def _moved_away(self, before: State, now: State) -> list[str]:
-        """Where the machine is, and where the next line begins, if that isn't the same place."""
-        if not _goes_on(before, now) or before.point_nm == now.point_nm:
+    def _moved_away(self) -> list[str]:
+        """Where the next line begins and where the machine is, if that is another place; says it if it is the same."""
+        kept = self._kept_and_now()
+        if kept is None or not _goes_on(kept[0].state, kept[1].state):
             return []
-        away = rounded(distance(before.point_nm, now.point_nm))
-        return [f"{self._begins(now)} begins at {point_words(before.point_nm)}. The machine is at"
-                f" {point_words(now.point_nm)}, {away} mm away, and the line would go from there"]
-
-    def _begins(self, now: State) -> str:
-        return f"line {self.session.program.number(now.place)}"
+        begins, at = (device.state.point_nm for device in kept)
+        line = f"line {self.session.program.number(kept[1].state.place)}"
+        if begins == at:
+            self.session.face.say(f"{line} begins where the machine is, at {point_words(at)}")
+            return []
+        return [f"{line} begins at {point_words(begins)}. The machine is at {point_words(at)},"
+                f" {rounded(distance(begins, at))} mm away, and the line would go from there"]
 
     def _matters(self, before: Device, now: Device, found: list[Difference]) -> bool:
         """Whether what is in force makes the rest of the program another one: by a dry run of it with both, from where

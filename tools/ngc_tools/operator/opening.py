@@ -4,7 +4,7 @@ from ngc_tools.formats.device import Device
 from ngc_tools.formats.position import nanometres
 from ngc_tools.ngc.console import Status
 from ngc_tools.operator.face import WARNING
-from ngc_tools.operator.left import Left, begins_at
+from ngc_tools.operator.left import Left
 from ngc_tools.operator.look import Look
 from ngc_tools.operator.places import Places
 from ngc_tools.operator.rehearsing import count_segments
@@ -18,8 +18,8 @@ def say_opening(session: Session, places: Places, left: Left, found: Device | No
         session.face.say(f"stored: a program of {session.program.count} lines")
     if status.half != "none":
         session.face.say(broken_off(session, status), WARNING)
-    elif found is not None and (kept := begins_at(found)):
-        left.keep(kept)
+    elif found is not None:
+        left.find(found)
     Look(session).after_work()
     _say_steps(session)
     places.warn(status)
