@@ -662,6 +662,12 @@ class Shown(Core):
         self.assertRegex(view.more[0], r"^work X-?[0-2]\.\d{3} Y0\.000 Z0\.00\d$")
         self.assertEqual(self.do("G0 Z1")[-2], "work X3.000 Y0.000 Z1.000; G55 at X10 Y0 Z-5, tool length 2.5")
 
+    def test_where_unknown(self) -> None:
+        """Without a player nobody knows the work point within a block."""
+        self.run_ngc("mdi G0 X1\ntick 4\n", "before")
+        self.begin()
+        self.assertEqual(self.do("where")[1], "the work point isn't known; G54")
+
     def test_fitted(self) -> None:
         """What is under way fits a line of any width: the line and the motors first."""
         status = Status(0, 0, ("0", "0", "0"), True, "none", 0, "running")
@@ -714,7 +720,8 @@ class Ends(Core):
         self.begin()
         self.do("M3 S100 M7")
         self.operator.ending.say()
-        said = "still on: the spindle, clockwise at 100 and mist. Switch that off at the machine"
+        said = ("still on: the spindle, clockwise at 100 and mist, as it was handed out last. Switch that off at the"
+                " machine")
         self.assertEqual(self.face.said[-1], (WARNING, said))
         self.assertEqual(self.face.asked, [])
 
