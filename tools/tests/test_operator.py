@@ -168,9 +168,10 @@ class Faces(Core):
         self.assertTrue(operator.load("a name", text))
         self.assertFalse(operator.load("long", b"M5\n" * 43_691 + b"M2\n"))
         operator.do("run")
-        self.assertEqual([kind for kind, _ in self.face.said], [SAID, SAID, SAID, REFUSED, MESSAGE, WHERE])
+        self.assertEqual([kind for kind, _ in self.face.said], [SAID, SAID, REFUSED, MESSAGE, WHERE])
         self.assertEqual(self.face.said[1][1], "done 1: a name, 32 bytes, 4 lines")
-        self.assertEqual(self.face.said[4][1], "message, line 3: hello")
+        self.assertIn("refused J5 ProgramTooLong", self.face.said[2][1])
+        self.assertEqual(self.face.said[3][1], "message, line 3: hello")
         self.assertIn("line 2: G0 X0.1", [view.line for view in self.face.views if view])
         self.assertIsNone(self.face.views[-1])
         status, report = operator.look()
@@ -662,6 +663,12 @@ class Shown(Core):
         self.assertRegex(view.more[0], r"^work X-?[0-2]\.\d{3} Y0\.000 Z0\.00\d$")
         self.assertEqual(self.do("G0 Z1")[-2], "work X3.000 Y0.000 Z1.000; G55 at X10 Y0 Z-5, tool length 2.5")
 
+    def test_where_unknown(self) -> None:
+        """Without a player nobody knows the work point within a block."""
+        self.run_ngc("mdi G0 X1\ntick 4\n", "before")
+        self.begin()
+        self.assertEqual(self.do("where")[1], "the work point isn't known; G54")
+
     def test_fitted(self) -> None:
         """What is under way fits a line of any width: the line and the motors first."""
         status = Status(0, 0, ("0", "0", "0"), True, "none", 0, "running")
@@ -714,7 +721,8 @@ class Ends(Core):
         self.begin()
         self.do("M3 S100 M7")
         self.operator.ending.say()
-        said = "still on: the spindle, clockwise at 100 and mist. Switch that off at the machine"
+        said = ("still on: the spindle, clockwise at 100 and mist, as it was handed out last. Switch that off at the"
+                " machine")
         self.assertEqual(self.face.said[-1], (WARNING, said))
         self.assertEqual(self.face.asked, [])
 

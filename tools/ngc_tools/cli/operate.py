@@ -41,7 +41,7 @@ EXAMPLE = """example:
 
 exit status:
   0  the session was ended by quit, or by the end of the input
-  2  the words are wrong, `ngc run` can't be started or failed, a signal came, the terminal is gone: the text says why"""
+  2  the words are wrong, `ngc run` can't be started or failed, a signal came, the terminal is gone: it says why"""
 
 
 def make_parser() -> argparse.ArgumentParser:

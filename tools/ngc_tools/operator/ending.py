@@ -37,7 +37,8 @@ class Ending:
         if report:
             return on_words(report.outputs)
         device = self.session.stored()
-        return on_words(outputs_on(device.state)) if isinstance(device, Device) else ""
+        words = on_words(outputs_on(device.state)) if isinstance(device, Device) else ""
+        return f"{words}, as it was handed out last" if words else ""
 
     def can_switch(self, status: Status) -> bool:
         """Whether a line of one's own is taken now, as M5 is."""

@@ -2,7 +2,7 @@
 from dataclasses import dataclass
 
 from ngc_tools.formats.canonical import BadText
-from ngc_tools.formats.device import Device, NoDevice
+from ngc_tools.formats.device import MOST_LARGE_PROGRAM, MOST_PROGRAM, Device, NoDevice
 from ngc_tools.formats.lines import Program
 from ngc_tools.formats.program_text import NotText, ProgramText
 from ngc_tools.formats.settings import BadSettings, Settings
@@ -35,7 +35,9 @@ class Loading:
 
     def agreed(self, name: str, text: bytes) -> bool:
         """Whether a program is to be stored: says what a dry run says of it, and asks where a line would be refused."""
-        face = self.session.face
+        face, device = self.session.face, self.session.stored()
+        if isinstance(device, Device) and len(text) > (MOST_LARGE_PROGRAM if device.is_large else MOST_PROGRAM):
+            return True  # `ngc` refuses it at once: J5
         if why := unreadable(name, text):
             face.say(f"{why}. Nothing is stored", REFUSED)
             return False

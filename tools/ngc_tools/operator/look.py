@@ -75,8 +75,8 @@ class Look:
         """The work point, offsets, modes and outputs."""
         state = stored.state
         at = self._at(status, report)
-        work = f"work {work_words(in_force_on(state), at)}; " if at else ""
-        yield work + offsets_words(state)
+        work = f"work {work_words(in_force_on(state), at)}" if at else "the work point isn't known"
+        yield f"{work}; {offsets_words(state)}"
         yield (f"G{state.motion} G{state.plane} G{state.unit} G{state.distance} G{state.feed_mode};"
                f" F{trimmed(state.feed_nm_per_min)} mm/min; {outputs_words(outputs_on(state))}")
 

@@ -12,7 +12,8 @@ from ngc_tools.operator.session import Session
 
 
 def say_opening(session: Session, places: Places, left: Left, found: Device | None) -> None:
-    """Says it. `found` is the device as it stood before `ngc` was started: its log tells how the program was left."""
+    """Says what a session begins with. `found` is the device as it stood before `ngc` was started: its log tells how
+    the program was left."""
     status = session.console.status()
     if session.program.text:
         session.face.say(f"stored: a program of {session.program.count} lines")
@@ -41,7 +42,7 @@ def broken_off(session: Session, status: Status) -> str:
 
 
 def _say_steps(session: Session) -> None:
-    """Says it if the player counts in other steps than those of the settings, as far as its point shows it."""
+    """Warns of a player that counts in other steps than those of the settings, as far as its point shows it."""
     report = session.report()
     if report and any(nanometres(number) % step for number, step
                       in zip(report.at.split(), session.settings.step_nm, strict=True)):

@@ -19,7 +19,7 @@ def place(status: Status) -> str:
 
 
 class Nothing:
-    """What is shown of a device that can't be read."""
+    """Stands for a device that can't be read."""
 
     program = b""
     slot = 0
