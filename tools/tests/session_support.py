@@ -151,13 +151,13 @@ class Terminal:
         while time.monotonic() < until:
             try:
                 os.write(self.file, key)
-                while select.select([self.file], [], [], 0.3)[0]:
-                    piece = os.read(self.file, 4096)
-                    if not piece:
-                        return got
-                    got += piece
             except OSError:
-                return got
+                return got + self.read_to(b"never")
+            while select.select([self.file], [], [], 0.3)[0]:
+                try:
+                    got += os.read(self.file, 4096)
+                except OSError:
+                    return got
         raise AssertionError(f"it doesn't end: {got!r}")
 
     def status(self) -> int:

@@ -517,9 +517,9 @@ class AtTerminal(InFolder):
         self.player.lazy = self.player.waits = True
         self.player.tool = 7
         terminal.send(b"G1 F60 X3\n")
-        waits = (b"the player waits for tool 7 to be put in: press Enter there once that is done; or hold here, and"
-                 b" then: go\r\n")
-        self.assertEqual(terminal.read_to(b"then: go\r\n"), b"G1 F60 X3\r\n" + waits)
+        waits = (b"the player waits for tool 7 to be put in: once that is done, type go here, or press Enter"
+                 b" there\r\n")
+        self.assertEqual(terminal.read_to(b"there\r\n"), b"G1 F60 X3\r\n" + waits)
         terminal.send(b"\n")
         terminal.read_to(PROMPT)
         for typed in (b"go\n", b"continue\n"):
@@ -527,6 +527,12 @@ class AtTerminal(InFolder):
             shown = terminal.read_to(PROMPT)
         self.assertEqual(shown.decode().split("\r\n")[:2],
                          ["continue", "idle; X 3.000000 Y 0.000000 Z 0.000000"])
+        self.player.lazy = self.player.waits = True
+        self.player.tool = 0
+        terminal.send(b"G0 X4\n")
+        terminal.read_to(b"for the tool to be taken out: once that is done, type go here, or press Enter there\r\n")
+        terminal.send(b"Go\n")
+        self.assertIn(b"\r\nidle; X 4.000000 Y 0.000000 Z 0.000000\r\n", terminal.read_to(PROMPT))
         self.player.close()
         terminal.send(b"go\n")
         self.assertTrue(terminal.read_to(PROMPT).startswith(b"go\r\nprogress: the player is gone: "))

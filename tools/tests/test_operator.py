@@ -28,6 +28,7 @@ class ListFace:
         self.views: list[UnderWay | None] = []
         self.asked: list[str] = []
         self.answers = list(answers)
+        self.given: list[str] = []
         self.holds_at = 0
         self.looks = 0
 
@@ -51,6 +52,11 @@ class ListFace:
         """The next answer."""
         self.asked.append(question)
         return self.answers.pop(0) if self.answers else ""
+
+    def asides(self) -> list[str]:
+        """Those that a test gave."""
+        found, self.given = self.given, []
+        return found
 
     def interrupted(self) -> bool:
         """Whether it holds now."""
@@ -662,6 +668,14 @@ class Shown(Core):
         self.assertEqual(view.more[1:], ("F60 S1000 T1", "about 0:05 left", "0:00 done"))
         self.assertRegex(view.more[0], r"^work X-?[0-2]\.\d{3} Y0\.000 Z0\.00\d$")
         self.assertEqual(self.do("G0 Z1")[-2], "work X3.000 Y0.000 Z1.000; G55 at X10 Y0 Z-5, tool length 2.5")
+
+    def test_asides(self) -> None:
+        """Optional stop may be set while a program runs."""
+        self.begin()
+        self.load("G21 G90\nG1 X0.5 F600\nM1\nG0 X0.6\nM2\n")
+        self.face.given = ["optional on"]
+        self.do("run")
+        self.assertEqual((self.status().does, self.status().at[0]), ("stopped", "0.500000"))
 
     def test_where_unknown(self) -> None:
         """Without a player nobody knows the work point within a block."""

@@ -9,7 +9,7 @@ import time
 from types import FrameType
 
 from ngc_tools.formats.text import shown
-from ngc_tools.operator.face import SAID, WARNING, UnderWay
+from ngc_tools.operator.face import ASIDES, SAID, WARNING, UnderWay
 from ngc_tools.player.progress import Report
 
 _ENDING = (signal.SIGTERM, signal.SIGHUP)
@@ -35,6 +35,7 @@ class Screen:
         self._live = False
         self._shown = 0.0
         self._said: set[str] = set()
+        self._asides: list[str] = []
         heeded = {signal.SIGINT: self._note, **dict.fromkeys(_ENDING, self._end)}
         self._before = {number: signal.signal(number, handler) for number, handler in heeded.items()
                         if signal.getsignal(number) != signal.SIG_IGN}  # as under nohup
@@ -113,14 +114,28 @@ class Screen:
             return ""
 
     def interrupted(self) -> bool:
-        """Whether Enter or Ctrl-C was pressed since the last prompt, or the session has to end."""
+        """Whether Enter or Ctrl-C was pressed since the last prompt, or the session has to end. Another line than an
+        aside is Enter too."""
         if self.is_terminal and not self.ending and select.select([sys.stdin], [], [], 0)[0]:
-            try:
-                os.read(sys.stdin.fileno(), 4096)
-            except OSError as error:
-                self._asked(f"the terminal is gone: {error.strerror}")
-            self.asked_to_hold += 1
+            text = self._typed()
+            if text.split()[:1] and text.split()[0].lower() in ASIDES:
+                self._asides.append(text)
+            else:
+                self.asked_to_hold += 1
         return self.asked_to_hold > 0 or self.ending != ""
+
+    def asides(self) -> list[str]:
+        """The asides that were typed since."""
+        found, self._asides = self._asides, []
+        return found
+
+    def _typed(self) -> str:
+        """A line that is typed while something runs."""
+        try:
+            return os.read(sys.stdin.fileno(), 4096).decode("utf-8", "replace")
+        except OSError as error:
+            self._asked(f"the terminal is gone: {error.strerror}")
+            return ""
 
     def _note(self, _number: int, _frame: FrameType | None) -> None:
         """Ctrl-C: raises at a prompt, else asks to hold."""

@@ -1,4 +1,5 @@
 """Where people see a session and are asked. The operator's core knows no screen: it speaks to a face."""
+from collections.abc import Iterable
 from dataclasses import dataclass
 from typing import Protocol
 
@@ -8,6 +9,10 @@ from ngc_tools.player.progress import Report
 SAID, WHERE, MESSAGE, REFUSED, WARNING = "said", "where", "message", "refused", "warning"
 """The kinds of what is said: an answer; what the machine does, which a face may show all the time anyway; a message of
 the program; a refusal; what is dangerous or failed."""
+
+
+ASIDES = ("go", "optional", "delete")
+"""The words of the commands that are taken while something runs, besides the wish to hold."""
 
 
 def axes(at: list[str] | tuple[str, ...]) -> str:
@@ -60,3 +65,6 @@ class Face(Protocol):
 
     def interrupted(self) -> bool:
         """Whether somebody wants to hold since the last command was given."""
+
+    def asides(self) -> Iterable[str]:
+        """The commands of `ASIDES` that somebody gave since while something runs, each once."""

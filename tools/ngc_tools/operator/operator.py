@@ -36,7 +36,7 @@ class Operator:
         """Raises BadSettings or OSError if the settings of the console can't be read."""
         self.console, self.face = console, face
         self.session = Session(console, face, meter, Settings.read(console.settings))
-        self.work = Work(self.session)
+        self.work = Work(self.session, self.do)
         self.places = Places(self.session, self.work)
         self.left = Left(self.session)
         self.loading = Loading(self.session)

@@ -1,5 +1,6 @@
 """The work of a session: ticks, in small counts, until there is nothing to do or somebody wants to hold."""
 import time
+from collections.abc import Callable
 from dataclasses import dataclass
 
 from ngc_tools.formats.position import nanometres
@@ -53,8 +54,9 @@ _NOTHING_SHOWN = _Shown(-1, "", None, ())
 class Work:
     """Gives the ticks of a session."""
 
-    def __init__(self, session: Session) -> None:
-        self.session = session
+    def __init__(self, session: Session, aside: Callable[[str], None]) -> None:
+        """`aside` does a command that is given while something runs."""
+        self.session, self.aside = session, aside
         self.chunk = Chunk()
         self.timeline: Timeline | None = None  # of the program that runs, if it is known
         self._shown = _NOTHING_SHOWN
@@ -83,9 +85,16 @@ class Work:
             if ended := self._ended(replies, status):
                 return ended
             session.face.live(self._under_way(status))
-            if session.face.interrupted():
+            if not self._wanted():
                 return None
         return None
+
+    def _wanted(self) -> bool:
+        """Does what is given meanwhile; whether nobody wants to hold."""
+        held = self.session.face.interrupted()
+        for command in self.session.face.asides():
+            self.aside(command)
+        return not held
 
     def _ended(self, replies: list[str], status: Status) -> str | None:
         """What ended the work of a tick command, if something did; shows refusals."""
@@ -98,7 +107,7 @@ class Work:
         """How many ticks may be given now; 0 if somebody wants to hold, or the player is gone."""
         session = self.session
         if not session.meter:
-            return 0 if session.face.interrupted() else self.chunk.ticks
+            return self.chunk.ticks if self._wanted() else 0
         try:
             return min(session.meter.room(self._goes_on), MOST_TICKS)
         except NoAnswer as error:
@@ -125,9 +134,8 @@ class Work:
         face.moved(report)
         if report.waits:
             what = f"tool {report.tool} to be put in" if report.tool else "the tool to be taken out"
-            face.once(f"the player waits for {what}: press Enter there once that is done; or hold here, and then: go",
-                      WHERE)
-        return not face.interrupted()
+            face.once(f"the player waits for {what}: once that is done, type go here, or press Enter there", WHERE)
+        return self._wanted()
 
     def _show_messages(self, status: Status) -> None:
         """Shows the messages of the lines that the place has passed."""
