@@ -1,6 +1,7 @@
 """The operator's core, without a terminal: what it compares, asks and says before something moves."""
 import sys
 import unittest
+from dataclasses import replace
 from pathlib import Path
 
 sys.path.insert(0, str(Path(__file__).resolve().parent))
@@ -676,6 +677,23 @@ class Shown(Core):
         self.face.given = ["optional on"]
         self.do("run")
         self.assertEqual((self.status().does, self.status().at[0]), ("stopped", "0.500000"))
+
+    def test_tools_asked_for(self) -> None:
+        """Each time that the player waits for a tool is told once, also for the same tool again."""
+        link = FileLink()
+        self.begin(link)
+        real, waits = link.ask, iter([None, None, 1, 1, None, 2, 2, None, 1, 0])
+
+        def asked() -> Report:
+            """Answers as real, but waits for these tools in turn."""
+            report, tool = real(), next(waits, None)
+            return report if tool is None else replace(report, waits=True, tool=tool)
+
+        link.ask = asked
+        said = [text.partition(":")[0] for text in self.do("G1 X3 F600") if text.startswith("the player waits")]
+        put_in = "the player waits for tool {} to be put in"
+        self.assertEqual(said, [put_in.format(1), put_in.format(2), put_in.format(1),
+                                "the player waits for the tool to be taken out"])
 
     def test_where_unknown(self) -> None:
         """Without a player nobody knows the work point within a block."""

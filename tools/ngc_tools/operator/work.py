@@ -60,6 +60,7 @@ class Work:
         self.chunk = Chunk()
         self.timeline: Timeline | None = None  # of the program that runs, if it is known
         self._shown = _NOTHING_SHOWN
+        self._waited: int | None = None  # the tool that the player was waiting for as it was asked last
 
     def go(self) -> str | None:
         """Gives ticks until there is nothing to do, or somebody wants to hold.
@@ -67,6 +68,7 @@ class Work:
         It returns what ended them: idle, stopped, held or refused; None for a wish to hold, or a player that is gone.
         After all but a refusal it waits until the motors are through."""
         self.session.gone = False
+        self._waited = None
         self._shown = _NOTHING_SHOWN
         ended = self._ticks()
         self.session.face.live(None)
@@ -129,12 +131,13 @@ class Work:
         return False
 
     def _goes_on(self, report: Report) -> bool:
-        face = self.session.face
         self.session.motors = report.at
-        face.moved(report)
-        if report.waits:
+        self.session.face.moved(report)
+        waited, self._waited = self._waited, report.tool if report.waits else None
+        if report.waits and waited != report.tool:
             what = f"tool {report.tool} to be put in" if report.tool else "the tool to be taken out"
-            face.once(f"the player waits for {what}: once that is done, type go here, or press Enter there", WHERE)
+            self.session.face.say(f"the player waits for {what}: once that is done, type go here, or press Enter there",
+                                  WHERE)
         return self._wanted()
 
     def _show_messages(self, status: Status) -> None:
