@@ -93,8 +93,8 @@ class Examples(InFolder):
                 shown = self.operate(delete + "run\n" * 3 + "quit\n")
                 ends = " ".join(f"{axis} {millimetres(nm)}" for axis, nm in zip("XYZ", (x, y, z), strict=True))
                 self.assertIn(f"idle; {ends}; next line ", shown)
-                said = self.said("ngc-player", "--untimed", "--no-ask-tool", "--at", "0", "0", "0", "out", "coarse.toml",
-                                 "position")
+                said = self.said("ngc-player", "--untimed", "--no-ask-tool", "--at", "0", "0", "0", "out",
+                                 "coarse.toml", "position")
                 self.assertEqual(said.splitlines()[-1], Position(STEP_NM, (x, y, z)).reference())
                 for path in ("out", "position", "mill.dev"):
                     Path(path).unlink()

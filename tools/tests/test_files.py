@@ -10,7 +10,7 @@ from unittest import mock
 
 sys.path.insert(0, str(Path(__file__).resolve().parent))
 
-from session_support import FIRST, TOOLS, InFolder, ngc  # noqa: E402
+from session_support import FIRST, TOOLS, InFolder  # noqa: E402
 
 from ngc_tools import files  # noqa: E402
 from ngc_tools.files import NotWritten, kind, read, write_new  # noqa: E402

@@ -65,8 +65,8 @@ class Sockets(InFolder):
         self.addCleanup(link.close)
         old = b"progress 1 carried 3 received 203 works reference 0.002000 0.000000 -1.000000 out /axis"
         listener.answer(old, link.socket.getsockname())
-        with self.assertRaisesRegex(NoAnswer, "^progress: not a report of a player: .*; it is of another version: take a"
-                                              " player and a console of one version$"):
+        with self.assertRaisesRegex(NoAnswer, "^progress: not a report of a player: .*; it is of another version: take"
+                                              " a player and a console of one version$"):
             link.ask()
 
     def test_for_its_user_alone(self) -> None:

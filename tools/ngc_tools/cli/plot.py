@@ -7,7 +7,7 @@ from pathlib import Path
 
 from ngc_tools.cli.beginning import add_beginning, chosen_beginning
 from ngc_tools.cli.run import new_parser, run
-from ngc_tools.failure import Failure, WrongWords, speaking_of
+from ngc_tools.failure import WrongWords, speaking_of
 from ngc_tools.files import is_out, read, write_new
 from ngc_tools.formats.canonical import BadText, Command, read_commands
 from ngc_tools.formats.out import BadLine

@@ -18,8 +18,8 @@ from ngc_tools.ngc.worlds import LineRefused, two_worlds
 ABOUT = f"""Part a program that is longer than a device takes ({MOST_PROGRAM:,} bytes; {MOST_LARGE_PROGRAM:,} where it
 is large) into programs that are run one after the other. It is parted after traverses (G0) that end above the work:
 where the tool's tip is no lower than any point at which a cut begins or ends. Each part but the first begins with the
-modes in force, and goes to that place in program coordinates, Z first; each but the last ends with M2. So the parts hold over
-any work offset and any tool length.
+modes in force, and goes to that place in program coordinates, Z first; each but the last ends with M2. So the parts
+hold over any work offset and any tool length.
 
 Before anything is written, what they do is compared with the whole: with --device by `ngc run` over a copy of it, each
 pulse; else by `ngc dry` at two work offsets and two tool lengths, each motion with its feed, tool, spindle and
