@@ -19,7 +19,8 @@ int64_t schedule_now(void);
 void schedule_pause(struct schedule *schedule);
 
 /* A line begins now; the next one is due once it has lasted its time. Lateness of less than a tenth of that time is
- * made up for; by more, all lines after it move. So nothing comes sooner after a pulse than nine tenths of its period. */
+ * made up for; by more, all lines after it move. So nothing comes sooner after a pulse than nine tenths of its
+ * period. */
 void schedule_begin(struct schedule *schedule, const struct line *line);
 
 #endif
