@@ -22,11 +22,11 @@ SANITIZERS = ("-O0", "-g", "-fsanitize=address,undefined", "-fno-sanitize-recove
 
 
 @cache
-def built(*options: str, compiler: str = "cc", pins: Path | None = None) -> str:
-    """The path of a player in C, built without a warning."""
+def built(*options: str, compiler: str = "cc", pins: Path | None = None, sources: tuple[Path, ...] = ()) -> str:
+    """The path of a player in C, or of what else these sources are, built without a warning."""
     folder = tempfile.mkdtemp(prefix="ngc-player-")
     atexit.register(shutil.rmtree, folder)
-    sources = [path for path in SOURCES if not pins or path.name != "pins.c"] + ([pins] if pins else [])
+    sources = sources or [path for path in SOURCES if not pins or path.name != "pins.c"] + ([pins] if pins else [])
     command = [compiler, *STANDARD, *options, *sources, "-I", TOOLS / "player", "-o", f"{folder}/player"]
     done = subprocess.run(command, capture_output=True, text=True)
     if done.returncode:
