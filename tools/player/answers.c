@@ -69,6 +69,8 @@ static void report(struct player *player, char *text, size_t room, const char *q
     int tool = atomic_load(&player->tool);
     if (tool != NO_TOOL) {
         snprintf(does, sizeof does, "waits tool %d", tool);
+    } else if (atomic_load(&player->stands_held)) {
+        snprintf(does, sizeof does, "held");
     }
     player_lock(player);
     bool took = source_take_all(&player->source);
@@ -113,11 +115,23 @@ static bool is_word(const char *text, size_t size, const char *word) {
     return size == strlen(word) && memcmp(text, word, size) == 0;
 }
 
+/* Reads "percent N", 1 to 100. */
+static bool read_percent(const char *text, size_t size, int *percent) {
+    struct scan scan = {text, text + size};
+    uint64_t number = 0;
+    if (!scan_word(&scan, "percent ") || !scan_whole(&scan, 3, &number, NULL) || !scan_is_over(&scan)) {
+        return false;
+    }
+    *percent = (int)number;
+    return number >= 1 && number <= 100;
+}
+
 /* Does what a datagram asks for; others are left alone. */
 static void heed(struct player *player, const char *text, size_t size, const struct sockaddr_un *from,
                  socklen_t named) {
     static char answer[2 * PATH_MAX];
     int64_t nm[3];
+    int percent = 0;
     if (is_question(text, size)) {
         atomic_store(&player->has_ended, false);
         atomic_store(&player->asked_at, schedule_now());
@@ -125,6 +139,12 @@ static void heed(struct player *player, const char *text, size_t size, const str
         sendto(player->socket, answer, strlen(answer), MSG_DONTWAIT, (const struct sockaddr *)from, named);
     } else if (is_word(text, size, "go")) {
         atomic_store(&player->tool, NO_TOOL);
+    } else if (is_word(text, size, "hold")) {
+        atomic_store(&player->is_held, true);
+    } else if (is_word(text, size, "release")) {
+        atomic_store(&player->is_held, false);
+    } else if (read_percent(text, size, &percent)) {
+        atomic_store(&player->percent, percent);
     } else if (is_word(text, size, "end")) {
         atomic_store(&player->has_ended, true);
     } else if (size > 3 && memcmp(text, "at ", 3) == 0 && place_read(text + 3, size - 3, nm)) {

@@ -7,7 +7,9 @@
 #include <stdlib.h>
 #include <string.h>
 
+#include "machine.h"
 #include "pins.h"
+#include "times.h"
 
 /* Whether the lines of the record are taken as carried out, by what it says of OUT; false, with the cause, where that
  * can't be told. `goes_on` is set where they are. */
@@ -70,10 +72,12 @@ static bool begin_record(struct player *player, const struct options *options, s
     return true;
 }
 
-bool player_begin(struct player *player, const struct options *options, struct settings *settings, struct cause *why) {
+bool player_begin(struct player *player, const struct options *options, struct settings *settings,
+                  struct pace_limits *limits, struct cause *why) {
     static struct record first;
     const char *const others[] = {options->out, options->settings, options->position, NULL};
     if (!settings_read(options->settings, settings, why)
+        || (options->machine != NULL && !machine_read(options->machine, settings->step_nm, limits, why))
         || !source_open(&player->source, options->out, options->pipe_bytes, why)) {
         return false;
     }
@@ -82,8 +86,12 @@ bool player_begin(struct player *player, const struct options *options, struct s
         return because(why, "%s: %s", options->out, strerror(errno));
     }
     if (!begin_record(player, options, why) || !pins_begin(options->pins, others, why)
-        || (options->socket != NULL && !answers_open(player, options->socket, why))) {
+        || (options->socket != NULL && !answers_open(player, options->socket, why))
+        || (options->times != NULL && !times_begin(options->times, why))) {
         return false;
+    }
+    if (options->machine == NULL && !options->is_untimed) {
+        say("%s: no --machine: no ramps, and no motor follows full rates from rest", options->out);
     }
     player_record(player, &first);
     return keeper_begin(&player->keeper, &first, why);

@@ -18,11 +18,12 @@
 
 #include "beginning.h"
 #include "play.h"
+#include "times.h"
 #include "waits.h"
 
 enum { NS_PER_MS = 1000000 };
 
-static struct player player = {.socket = -1, .wake = -1, .stopped = "", .tool = NO_TOOL};
+static struct player player = {.socket = -1, .wake = -1, .stopped = "", .tool = NO_TOOL, .percent = 100};
 
 static int fail(const struct cause *why) {
     say("player: %s", why->text);
@@ -106,6 +107,15 @@ static bool tell(const struct play *play) {
     return true;
 }
 
+/* The rest of the file of --times; whether all of it is written. */
+static bool end_times(const char *path) {
+    int error = times_end();
+    if (error != 0) {
+        say("player: %s: %s", path, strerror(error));
+    }
+    return error == 0;
+}
+
 /* A standard stream that is closed is /dev/null from here on, before a file can take its number. */
 static void open_streams(void) {
     for (int number = STDIN_FILENO; number <= STDERR_FILENO; number++) {
@@ -131,14 +141,15 @@ static int run(struct play *play, const struct options *options) {
     if (!begin_threads(&keeper, &answers, &why)) {
         return fail(&why);
     }
-    play->schedule.due = schedule_now();
+    schedule_start(&play->schedule, !options->is_untimed, options->machine == NULL);
     int status = play_out(play);
     atomic_store(&player.over, true);
     pthread_join(keeper, NULL);
     if (player.socket >= 0) {
         pthread_join(answers, NULL);
     }
-    return keep_last(options->position) && tell(play) ? status : 2;
+    bool is_kept = keep_last(options->position);
+    return end_times(options->times) && is_kept && tell(play) ? status : 2;
 }
 
 int main(int count, char **given) {
@@ -154,7 +165,7 @@ int main(int count, char **given) {
     heed_signals();
     prctl(PR_SET_TIMERSLACK, 1, 0, 0, 0);
     player.wake = eventfd(0, EFD_NONBLOCK | EFD_CLOEXEC);
-    bool has_begun = player_begin(&player, &options, &settings, &why);
+    bool has_begun = player_begin(&player, &options, &settings, &play.limits, &why);
     play.player = &player;
     play.options = &options;
     play.least_us = (uint64_t)settings.period_us;

@@ -8,15 +8,16 @@
 
 #include "record.h"
 
-static const char usage[] = "usage: player [-u] [-n] [-r] [-t] [-a X Y Z] [-o SECONDS] [-b BYTES] [-s SOCKET] [-p PINS]"
-                            " OUT SETTINGS POSITION";
+static const char usage[] = "usage: player [-unrt] [-a X Y Z] [-o SECONDS] [-b BYTES] [-s SOCKET] [-p PINS] [-m FILE]"
+                            " [-i FILE] OUT SETTINGS POSITION";
 
 static const struct option words[] = {
     {"untimed", no_argument, NULL, 'u'},        {"anew", no_argument, NULL, 'n'},
     {"restored", no_argument, NULL, 'r'},       {"no-ask-tool", no_argument, NULL, 't'},
     {"at", required_argument, NULL, 'a'},       {"off-after", required_argument, NULL, 'o'},
     {"pipe", required_argument, NULL, 'b'},     {"progress", required_argument, NULL, 's'},
-    {"pins", required_argument, NULL, 'p'},     {NULL, 0, NULL, 0},
+    {"pins", required_argument, NULL, 'p'},     {"machine", required_argument, NULL, 'm'},
+    {"times", required_argument, NULL, 'i'},    {NULL, 0, NULL, 0},
 };
 
 /* Seconds, as "2.5", in nanoseconds. */
@@ -86,6 +87,12 @@ static bool read_option(int option, int count, char **given, struct options *opt
     case 'p':
         options->pins = optarg;
         return true;
+    case 'm':
+        options->machine = optarg;
+        return true;
+    case 'i':
+        options->times = optarg;
+        return true;
     default:
         return because(why, "%s", usage);
     }
@@ -94,12 +101,12 @@ static bool read_option(int option, int count, char **given, struct options *opt
 bool options_read(int count, char **given, struct options *options, struct cause *why) {
     *options = (struct options){.pipe_bytes = 4096, .off_after_ns = INT64_C(10000000000)};
     opterr = 0;
-    int option = getopt_long(count, given, "unrta:o:b:s:p:", words, NULL);
+    int option = getopt_long(count, given, "unrta:o:b:s:p:m:i:", words, NULL);
     while (option != -1) {
         if (!read_option(option, count, given, options, why)) {
             return false;
         }
-        option = getopt_long(count, given, "unrta:o:b:s:p:", words, NULL);
+        option = getopt_long(count, given, "unrta:o:b:s:p:m:i:", words, NULL);
     }
     if (count - optind != 3) {
         return because(why, "%s", usage);

@@ -18,6 +18,8 @@ struct options {
     int pipe_bytes;
     const char *socket;
     const char *pins;
+    const char *machine;
+    const char *times;
     const char *out;
     const char *settings;
     const char *position;

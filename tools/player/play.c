@@ -8,10 +8,11 @@
 #include <sys/eventfd.h>
 
 #include "pins.h"
+#include "play_parts.h"
+#include "times.h"
 #include "waits.h"
 
-/* How a play ends. */
-enum end { AT_OUTS_END, STOPPED, FAILED };
+enum { NS_PER_US = 1000 };
 
 /* Counts a line of so many bytes that is carried out. */
 static void count(struct play *play, const struct line *line, size_t size) {
@@ -30,22 +31,22 @@ static void count(struct play *play, const struct line *line, size_t size) {
     play->counts.switches += line->kind == 'S';
 }
 
-static bool carry_out(struct play *play, const struct line *line, const char *text, size_t size) {
+bool is_tool_in(struct play *play, const struct line *line) {
     bool changes_tool = line->kind == 'S' && line->outputs.slot != play->player->outputs.slot;
-    if (changes_tool && !play->options->asks_no_tool && !await_tool(play, line->outputs.slot)) {
-        return false;
-    }
-    if (play->options->is_untimed ? has_to_stop(play) : !wait_until_due(play)) {
-        return false;
-    }
-    schedule_begin(&play->schedule, line);
+    return !changes_tool || play->options->asks_no_tool || await_tool(play, line->outputs.slot);
+}
+
+bool carry_out(struct play *play, const struct line *line, const char *text, size_t size, uint64_t lasts_ns) {
+    struct schedule *schedule = &play->schedule;
+    times_add(schedule->due - schedule->begun, text, size);
+    schedule_begin(schedule, lasts_ns);
     int error = pins_set(line, text, size);
     if (error != 0) {
         note_stop(play, "pins");
         return because(&play->why, "the pins: %s", strerror(error));
     }
     if (line->kind == 'S') {
-        schedule_pause(&play->schedule); /* as long as the tool and the spindle took */
+        schedule_pause(schedule); /* as long as the tool and the spindle took */
     }
     count(play, line, size);
     return true;
@@ -75,8 +76,7 @@ static enum end end_of_session(struct play *play, bool *has_ended) {
     return STOPPED;
 }
 
-/* Takes the next line, if one stands in OUT. */
-static bool take_line(struct play *play, char *line, size_t *size) {
+bool take_line(struct play *play, char *line, size_t *size) {
     player_lock(play->player);
     bool is_there = source_next(&play->player->source, line, size);
     while (!is_there && source_read(&play->player->source, HAND_BYTES)) {
@@ -86,9 +86,25 @@ static bool take_line(struct play *play, char *line, size_t *size) {
     return is_there;
 }
 
+enum end await_more(struct play *play, bool *has_ended) {
+    struct player *shared = play->player;
+    int file = shared->source.is_pipe ? shared->source.file : -1;
+    struct pollfd on[2] = {{file, POLLIN, 0}, {shared->wake, POLLIN, 0}};
+    poll(on, 2, shared->source.is_pipe ? SLICE_MS : 0);
+    if (on[1].revents & POLLIN) {
+        eventfd_t events;
+        eventfd_read(shared->wake, &events);
+        return AT_OUTS_END;
+    }
+    if (!shared->source.is_pipe || (on[0].revents & (POLLHUP | POLLIN)) == POLLHUP) {
+        return end_of_session(play, has_ended);
+    }
+    play->left_at = 0;
+    return AT_OUTS_END;
+}
+
 /* The next line, with its newline, once there is one; a size of 0 at the end of OUT. */
 static enum end next_line(struct play *play, char *line, size_t *size) {
-    struct player *shared = play->player;
     bool has_ended = false;
     enum end end = AT_OUTS_END;
     *size = 0;
@@ -100,33 +116,19 @@ static enum end next_line(struct play *play, char *line, size_t *size) {
             play->left_at = 0;
             return AT_OUTS_END;
         }
-        int file = shared->source.is_pipe ? shared->source.file : -1;
-        struct pollfd on[2] = {{file, POLLIN, 0}, {shared->wake, POLLIN, 0}};
-        poll(on, 2, shared->source.is_pipe ? SLICE_MS : 0);
-        if (on[1].revents & POLLIN) {
-            eventfd_t events;
-            eventfd_read(shared->wake, &events);
-        } else if (!shared->source.is_pipe || (on[0].revents & (POLLHUP | POLLIN)) == POLLHUP) {
-            end = end_of_session(play, &has_ended);
-        } else {
-            play->left_at = 0;
-        }
+        end = await_more(play, &has_ended);
         schedule_pause(&play->schedule); /* nothing was there */
     }
     return end;
 }
 
-/* Stops at a line that isn't one. */
-static enum end stop_at_line(struct play *play, const char *what) {
-    struct cause cause;
-    snprintf(cause.text, sizeof cause.text, "%s", what);
+enum end stop_at_line(struct play *play, const struct cause *what) {
     note_stop(play, "line");
-    because(&play->why, ":%" PRIu64 ": %.*s; stopped,", play->player->lines + 1, CAUSE_ROOM - 64, cause.text);
+    because(&play->why, ":%" PRIu64 ": %.*s; stopped,", play->player->lines + 1, CAUSE_ROOM - 64, what->text);
     return STOPPED;
 }
 
-/* At OUT's end: a part of a line isn't carried out. */
-static enum end end_of_out(struct play *play) {
+enum end end_of_out(struct play *play) {
     char quoted[QUOTED];
     struct cause what;
     size_t size = 0;
@@ -138,10 +140,21 @@ static enum end end_of_out(struct play *play) {
         return AT_OUTS_END;
     }
     because(&what, "OUT ends in a part of a line: %s", quoted);
-    return stop_at_line(play, what.text);
+    return stop_at_line(play, &what);
 }
 
-/* Carries out lines until OUT ends, or it has to stop. */
+/* How long a line lasts, in nanoseconds, as OUT says. */
+static uint64_t lasts_ns(const struct line *line) {
+    uint64_t us = line->kind == 'S' ? 0 : line->us;
+    return us < UINT64_MAX / NS_PER_US ? us * NS_PER_US : UINT64_MAX;
+}
+
+/* Whether a line can be carried out now, at its time; false where the play has to stop before. */
+static bool is_ready(struct play *play, const struct line *line) {
+    return is_tool_in(play, line) && (play->options->is_untimed ? !has_to_stop(play) : wait_until_due(play));
+}
+
+/* Carries out lines, each in its own time, until OUT ends, or it has to stop. */
 static enum end carry_out_all(struct play *play) {
     char text[LONGEST_LINE + 2];
     struct line line;
@@ -157,10 +170,13 @@ static enum end carry_out_all(struct play *play) {
         }
         size_t length = size - (text[size - 1] == '\n');
         if (!line_read(text, length, play->least_us, &line, &what)) {
-            return stop_at_line(play, what.text);
+            return stop_at_line(play, &what);
         }
-        if (!carry_out(play, &line, text, size)) {
-            return strcmp(play->player->stopped, "pins") == 0 ? FAILED : STOPPED;
+        if (!is_ready(play, &line)) {
+            return STOPPED;
+        }
+        if (!carry_out(play, &line, text, size, lasts_ns(&line))) {
+            return FAILED;
         }
     }
 }
@@ -181,7 +197,7 @@ static bool switch_off(struct play *play) {
 }
 
 int play_out(struct play *play) {
-    enum end end = carry_out_all(play);
+    enum end end = play->options->machine != NULL ? carry_out_paced(play) : carry_out_all(play);
     bool was_on = outputs_are_on(&play->player->outputs);
     if (end == AT_OUTS_END && !was_on) {
         return 0;

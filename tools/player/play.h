@@ -3,6 +3,7 @@
 #define PLAY_H
 
 #include "options.h"
+#include "pace.h"
 #include "player.h"
 #include "schedule.h"
 
@@ -17,6 +18,8 @@ struct play {
     struct player *player;
     const struct options *options;
     uint64_t least_us;
+    struct pace_limits limits; /* of the motors, with --machine */
+    bool is_moving;            /* by the pacer: it can't stop at once */
     struct schedule schedule;
     struct counts counts;
     int64_t left_at;  /* since when nobody writes OUT any more; 0 */

@@ -35,6 +35,9 @@ struct player {
 
     atomic_int tool;          /* the slot that a person is asked for, or NO_TOOL */
     atomic_int record_error;  /* why the record can't be kept any more; 0 */
+    atomic_bool is_held;      /* somebody asks for a rest */
+    atomic_bool stands_held;  /* it has come to rest for that */
+    atomic_int percent;       /* of OUT's rates */
     atomic_bool over;         /* the other threads are to end */
     atomic_bool has_ended;    /* whoever asks said that the session is over */
     _Atomic int64_t asked_at; /* when the last question came; 0 */

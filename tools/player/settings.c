@@ -1,16 +1,12 @@
-#define _POSIX_C_SOURCE 200809L
 #include "settings.h"
 
-#include <errno.h>
-#include <fcntl.h>
 #include <stdio.h>
 #include <string.h>
-#include <unistd.h>
 
 #include "scan.h"
 #include "toml.h"
 
-enum { KEYS = 6, MOST_BYTES = 1 << 16 };
+enum { KEYS = 6 };
 
 struct key {
     const char *name;
@@ -118,40 +114,10 @@ static bool check(const struct toml *toml, const struct table *table) {
     return !table->values[TOOLS].is_too_long || refuse_value(toml, table, TOOLS, "S6");
 }
 
-/* The bytes of a file of settings; its size, or -1 with the cause. */
-static ssize_t read_file(const char *path, char text[MOST_BYTES], struct cause *why) {
-    int file = open(path, O_RDONLY | O_CLOEXEC);
-    ssize_t size = 0;
-    ssize_t got = file < 0 ? -1 : 1;
-    while (got > 0 && size < MOST_BYTES) {
-        got = read(file, text + size, (size_t)(MOST_BYTES - size));
-        if (got < 0 && errno == EINTR) {
-            got = 1;
-            continue;
-        }
-        size += got > 0 ? got : 0;
-    }
-    if (got < 0) {
-        because(why, "%s: %s", path, strerror(errno));
-    } else if (size == MOST_BYTES) {
-        because(why, "%s: more than %d bytes of settings", path, MOST_BYTES - 1);
-    }
-    if (file >= 0) {
-        close(file);
-    }
-    return got < 0 || size == MOST_BYTES ? -1 : size;
-}
-
 bool settings_read(const char *path, struct settings *settings, struct cause *why) {
-    static char text[MOST_BYTES];
     static struct table table;
-    ssize_t size = read_file(path, text, why);
-    if (size < 0) {
-        return false;
-    }
-    struct toml toml = {{text, text + size}, 1, path, why};
-    scan_word(&toml.scan, "\xef\xbb\xbf");
-    if (!toml_pass_space(&toml)) {
+    struct toml toml;
+    if (!toml_open(&toml, path, why) || !toml_pass_space(&toml)) {
         return false;
     }
     while (!scan_is_over(&toml.scan)) {

@@ -1,8 +1,49 @@
+#define _POSIX_C_SOURCE 200809L
 #include "toml.h"
 
+#include <errno.h>
+#include <fcntl.h>
 #include <string.h>
+#include <unistd.h>
 
 #include "utf8.h"
+
+enum { MOST_BYTES = 1 << 16 };
+
+/* The bytes of a file; its size, or -1 with the cause. */
+static ssize_t read_file(const char *path, char text[MOST_BYTES], struct cause *why) {
+    int file = open(path, O_RDONLY | O_CLOEXEC);
+    ssize_t size = 0;
+    ssize_t got = file < 0 ? -1 : 1;
+    while (got > 0 && size < MOST_BYTES) {
+        got = read(file, text + size, (size_t)(MOST_BYTES - size));
+        if (got < 0 && errno == EINTR) {
+            got = 1;
+            continue;
+        }
+        size += got > 0 ? got : 0;
+    }
+    if (got < 0) {
+        because(why, "%s: %s", path, strerror(errno));
+    } else if (size == MOST_BYTES) {
+        because(why, "%s: more than %d bytes of settings", path, MOST_BYTES - 1);
+    }
+    if (file >= 0) {
+        close(file);
+    }
+    return got < 0 || size == MOST_BYTES ? -1 : size;
+}
+
+bool toml_open(struct toml *toml, const char *path, struct cause *why) {
+    static char text[MOST_BYTES];
+    ssize_t size = read_file(path, text, why);
+    if (size < 0) {
+        return false;
+    }
+    *toml = (struct toml){{text, text + size}, 1, path, why};
+    scan_word(&toml->scan, "\xef\xbb\xbf");
+    return true;
+}
 
 bool toml_refuse(const struct toml *toml, const char *what) {
     return because(toml->why, "%s:%d: %s", toml->path, toml->line, what);
@@ -148,4 +189,26 @@ bool toml_read_value(struct toml *toml, struct value *value) {
         return false;
     }
     return scan_is_over(scan) || pass_line_end(toml) || toml_refuse(toml, "more than a value after a key");
+}
+
+void toml_pass_line(struct toml *toml) {
+    struct scan *scan = &toml->scan;
+    while (!scan_is_over(scan) && *scan->at != '\n') {
+        scan->at++;
+    }
+}
+
+bool toml_read_table(struct toml *toml, struct scan *name) {
+    struct scan *scan = &toml->scan;
+    name->at = scan->at;
+    while (!scan_is_over(scan) && *scan->at != ']' && *scan->at != '\n') {
+        scan->at++;
+    }
+    name->end = scan->at;
+    if (!scan_word(scan, "]")) {
+        return toml_refuse(toml, "not in the form [TABLE]");
+    }
+    pass_blanks(scan);
+    return pass_comment(toml)
+        && (scan_is_over(scan) || pass_line_end(toml) || toml_refuse(toml, "more than a table's name in a line"));
 }

@@ -1,4 +1,4 @@
-/* A file of lines KEY = NUMBER and KEY = [NUMBER, NUMBER]: as much of TOML as settings need. */
+/* A file of lines KEY = NUMBER and KEY = [NUMBER, NUMBER], and of tables of them: as much of TOML as settings need. */
 #ifndef TOML_H
 #define TOML_H
 
@@ -26,6 +26,9 @@ struct value {
     int64_t numbers[MOST_VALUES];
 };
 
+/* Reads a file, over the one that was open before. Returns false, with the cause. */
+bool toml_open(struct toml *toml, const char *path, struct cause *why);
+
 /* Says what is wrong with the line at which the reader is; returns false. */
 bool toml_refuse(const struct toml *toml, const char *what);
 
@@ -38,5 +41,11 @@ bool toml_read_key(struct toml *toml, struct scan *key);
 
 /* Reads a value and the end of its line. */
 bool toml_read_value(struct toml *toml, struct value *value);
+
+/* Reads the name of a table and the end of its line; the [ before it is passed. */
+bool toml_read_table(struct toml *toml, struct scan *name);
+
+/* Passes what is left of a line, whatever it says. */
+void toml_pass_line(struct toml *toml);
 
 #endif

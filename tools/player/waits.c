@@ -11,10 +11,10 @@
 
 enum { SLICE_NS = SLICE_MS * 1000000 };
 
-static atomic_bool is_asked_to_stop;
+static atomic_int stops; /* how often it is asked to stop */
 
 void stop_soon(void) {
-    atomic_store(&is_asked_to_stop, true);
+    atomic_fetch_add(&stops, 1);
 }
 
 void note_stop(struct play *play, const char *word) {
@@ -23,8 +23,16 @@ void note_stop(struct play *play, const char *word) {
     player_unlock(play->player);
 }
 
+bool is_rest_asked(const struct play *play) {
+    return atomic_load(&stops) > 0 || atomic_load(&play->player->record_error) != 0;
+}
+
 bool has_to_stop(struct play *play) {
-    if (atomic_load(&is_asked_to_stop)) {
+    int asked = atomic_load(&stops);
+    if (play->is_moving && asked < 2) {
+        return false;
+    }
+    if (asked > 0) {
         note_stop(play, "signal");
         return !because(&play->why, "stopped after line %" PRIu64 ";", play->player->lines);
     }

@@ -11,7 +11,10 @@ enum { SLICE_MS = 20 }; /* how long it sleeps at most before it looks whether it
 /* Notes what stops the play, in a word, and why, in `play->why`. */
 void note_stop(struct play *play, const char *word);
 
-/* Whether the play has to stop: somebody asks for it, or the record can't be kept. */
+/* Whether the play is to come to rest and stop then: somebody asks for it, or the record can't be kept. */
+bool is_rest_asked(const struct play *play);
+
+/* Whether the play has to stop now: where it moves only if it is asked for once more. Notes why. */
 bool has_to_stop(struct play *play);
 
 /* Waits until the next line is due; false where the play has to stop before. */
@@ -23,7 +26,7 @@ bool have_seconds_passed(struct play *play);
 /* Waits until a person says that the tool is in, by Enter or over the socket; false where the play has to stop. */
 bool await_tool(struct play *play, unsigned slot);
 
-/* Asks the play to stop, from a signal's handler. */
+/* Asks the play to stop, and once more to stop at once, from a signal's handler. */
 void stop_soon(void);
 
 #endif

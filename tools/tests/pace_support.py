@@ -19,7 +19,8 @@ DRIVE = TOOLS / "tests" / "pace_drive.c"
 @cache
 def drive() -> str:
     """The path of a program that paces in C, under the sanitizers where the compiler has them."""
-    parts = [path for path in SOURCES if path.name.startswith("pace") or path.stem in ("line", "scan", "cause", "utf8")]
+    parts = [path for path in SOURCES if path.stem.startswith("pace_")
+             or path.stem in ("pace", "line", "scan", "cause", "utf8")]
     return built(*(SANITIZERS if has_sanitizers() else ()), sources=(DRIVE, *parts))
 
 

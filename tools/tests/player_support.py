@@ -18,6 +18,7 @@ from ngc_tools.player.progress import Link, NoAnswer
 
 SOURCES = sorted((TOOLS / "player").glob("*.c"))
 STANDARD = ("-std=c11", "-Wall", "-Wextra", "-Wconversion", "-Werror", "-pthread")
+NO_RAMPS = "out: no --machine: no ramps, and no motor follows full rates from rest\n"
 SANITIZERS = ("-O0", "-g", "-fsanitize=address,undefined", "-fno-sanitize-recover=all")
 
 

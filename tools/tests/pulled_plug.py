@@ -246,16 +246,19 @@ class Session:
 
     def _start_player(self) -> int:
         words = [self.fifo, self.folder / "settings.toml", self.record]
+        said, how = self.folder / "said", os.O_WRONLY | os.O_CREAT | os.O_APPEND
         if self.options.player:
             given = ["-t", "-b", self.options.pipe, "-s", self.socket, "-p", self.log, *words]
             command = [str(word) for word in (self.options.player, *given)]
-            quiet = [(os.POSIX_SPAWN_OPEN, 1, os.devnull, os.O_WRONLY, 0)]
+            quiet = [(os.POSIX_SPAWN_OPEN, 1, os.devnull, os.O_WRONLY, 0),
+                     (os.POSIX_SPAWN_OPEN, 2, str(said), how, 0o600)]
             return os.posix_spawn(command[0], command, os.environ, file_actions=quiet)
         given = [*words, "--no-ask-tool", "--pipe", self.options.pipe, "--progress", self.socket, "--pins", self.log]
         child = os.fork()
         if child == 0:
             try:
                 os.dup2(os.open(os.devnull, os.O_WRONLY), 1)
+                os.dup2(os.open(said, how, 0o600), 2)
                 os._exit(play([str(word) for word in given]))
             finally:
                 os._exit(3)

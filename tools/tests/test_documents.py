@@ -123,7 +123,8 @@ class Tools(Documents):
     def test_player(self) -> None:
         """A pipe with a player; tools/player is built, and its words are those of the page."""
         text, tried = self.chapter("TOOLS.md", "ngc-player")
-        (synopsis, _), (fifo, _), (play, record), (build, _), (words, _) = tried
+        (synopsis, _), (fifo, _), (play, shown), (build, _), (words, _) = tried
+        record = shown[shown.index("out /"):]
         self.same_options("ngc-player", text, synopsis)
         self.shell(fifo)
         child = self.begin(play)

@@ -13,7 +13,8 @@ from pathlib import Path
 
 sys.path.insert(0, str(Path(__file__).resolve().parent))
 
-from player_support import SOURCES, InC, InProcess, PlayerTest, Sanitized, built, preloaded, record  # noqa: E402
+from player_support import (NO_RAMPS, SOURCES, InC, InProcess, PlayerTest, Sanitized, built, preloaded,  # noqa: E402
+                            record)
 from session_support import PATIENCE_S  # noqa: E402
 
 from ngc_tools.cli.player import live  # noqa: E402
@@ -101,7 +102,7 @@ class Playing:
         """Each line of a file reaches the pins, and the record says so."""
         Path("out").write_text(LINES)
         done = self.play()
-        self.assertEqual((done.returncode, done.stderr), (0, ""))
+        self.assertEqual((done.returncode, done.stderr), (0, NO_RAMPS))
         first, times, last = done.stdout.splitlines()
         self.assertEqual(first, "out: 8 lines carried out, 3 pulses, 1 waits, 4 switches")
         self.assertRegex(times, r"^late at most \d+ us, slower by \d+\.\d ms in all")
@@ -242,7 +243,8 @@ class Playing:
             self.assertEqual(report.at, "0.002000 0.000000 0.000000")
             child.send_signal(signal.SIGTERM)
             said, wrong = child.communicate(timeout=PATIENCE_S)
-        self.assertEqual((child.returncode, wrong), (1, "out: stopped after line 3; spindle and coolant off\n"))
+        stopped = "out: stopped after line 3; spindle and coolant off\n"
+        self.assertEqual((child.returncode, wrong), (1, NO_RAMPS + stopped))
         self.assertEqual(said.splitlines()[-1], "reference 0.002000 0.000000 0.000000")
         self.assertIn("\nstopped signal\n", record())
         with self.assertRaisesRegex(NoAnswer, "^progress: the player is gone"):
@@ -274,7 +276,7 @@ class Playing:
                 time.sleep(0.01)
             self.wait_for("it is through", lambda: link.ask().carried == 300)
             link.end()
-        self.assertEqual((child.communicate(timeout=PATIENCE_S)[1], child.returncode), ("", 0))
+        self.assertEqual((child.communicate(timeout=PATIENCE_S)[1], child.returncode), (NO_RAMPS, 0))
         self.assertEqual(Path("pins").read_text(), "P 1 0 0 1000\n" * 300)
 
     def test_one_record(self) -> None:
@@ -387,7 +389,8 @@ class Python(Playing, InProcess, PlayerTest):
         self.wait_for("the others are", lambda: link.ask().carried == 3)
         child.send_signal(signal.SIGINT)
         said, wrong = child.communicate(timeout=PATIENCE_S)
-        self.assertEqual((child.returncode, wrong), (1, "out: stopped after line 3; spindle and coolant off\n"))
+        stopped = "out: stopped after line 3; spindle and coolant off\n"
+        self.assertEqual((child.returncode, wrong), (1, NO_RAMPS + stopped))
         self.assertEqual(said.splitlines()[-1], "reference 0.002000 0.000000 0.000000")
 
 
@@ -404,8 +407,8 @@ class C(Playing, InC, PlayerTest):
 
     def test_its_own_words(self) -> None:
         """What it says of words that aren't its own."""
-        usage = ("usage: player [-u] [-n] [-r] [-t] [-a X Y Z] [-o SECONDS] [-b BYTES] [-s SOCKET] [-p PINS] OUT"
-                 " SETTINGS POSITION")
+        usage = ("usage: player [-unrt] [-a X Y Z] [-o SECONDS] [-b BYTES] [-s SOCKET] [-p PINS] [-m FILE]"
+                 " [-i FILE] OUT SETTINGS POSITION")
         Path("out").write_text(LINES)
         for words in (("out", "first.toml"), ("out", "first.toml", "position", "more"), ("-x",), ("-a", "1", "2")):
             self.assertEqual(self.refused(*words), usage)

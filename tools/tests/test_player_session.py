@@ -12,7 +12,7 @@ from pathlib import Path
 
 sys.path.insert(0, str(Path(__file__).resolve().parent))
 
-from player_support import InC, PlayerTest, Sanitized, preloaded, record, sector  # noqa: E402
+from player_support import NO_RAMPS, InC, PlayerTest, Sanitized, preloaded, record, sector  # noqa: E402
 from session_support import PATIENCE_S, TOOLS, Terminal, ngc  # noqa: E402
 
 from ngc_tools.formats.out import OFF, Switch  # noqa: E402
@@ -198,8 +198,8 @@ class Sessions:
         console.stdin.flush()
         self.wait_for("the spindle is on", lambda: link.ask().outputs == Switch(1, 10**9, False, False, 0, 0))
         console.kill()
-        self.assertEqual(self.ended(player),
-                         (1, "axis: the console is gone without a word, after line 2; spindle and coolant off\n"))
+        gone = "axis: the console is gone without a word, after line 2; spindle and coolant off\n"
+        self.assertEqual(self.ended(player), (1, NO_RAMPS.replace("out:", "axis:") + gone))
         self.assertIn("\noutputs S 0 1000.000000 0 0 0 0\n", record())
 
     def test_console_comes_back(self) -> None:
@@ -250,7 +250,7 @@ class Sessions:
         child = self.begin("--progress", "progress", "out", "first.toml", "position")
         self.linked()
         open("out", "wb").close()
-        self.assertEqual(self.ended(child), (0, ""))
+        self.assertEqual(self.ended(child), (0, NO_RAMPS))
 
     def test_signals(self) -> None:
         """Ctrl-C, `kill`, a closed terminal and Ctrl-\\ stop it with spindle and coolant off."""
@@ -293,8 +293,8 @@ class Sessions:
         Path("out").write_bytes(ON + b"P 1 0 0 50\nD 300000\n")
         begun = time.monotonic()
         done = self.play()
-        self.assertEqual((done.returncode, done.stderr),
-                         (0, "out: ended with spindle or coolant on; spindle and coolant off\n"))
+        ended = "out: ended with spindle or coolant on; spindle and coolant off\n"
+        self.assertEqual((done.returncode, done.stderr), (0, NO_RAMPS + ended))
         self.assertGreater(time.monotonic() - begun, 0.3)
         self.assertEqual(record(), f"lines 3\nbytes 41\n{OFF_RECORD}")
 
@@ -349,7 +349,9 @@ class Python(Sessions, PlayerTest):
         Path("out").write_text("P 1 0 0 50\nD 300000\nS 0 0.000000 0 0 2 2\nD 300000\nD 0\n")
         terminal = Terminal(str(TOOLS / "ngc-player"), "out", "first.toml", "position")
         shown = terminal.read_to(b"press Enter\r\n")
-        self.assertEqual(shown, b"\rline 2: 0.001000 0.000000 0.000000\r\nline 3: put in tool 2, then press Enter\r\n")
+        notice = NO_RAMPS.strip().encode()
+        self.assertEqual(shown, notice + b"\r\n\rline 2: 0.001000 0.000000 0.000000\r\n"
+                         b"line 3: put in tool 2, then press Enter\r\n")
         terminal.send(b"\n")
         shown = terminal.read_to(b"never")
         self.assertIn(b"\rline 4: 0.001000 0.000000 0.000000\r\nout: 5 lines carried out, ", shown)

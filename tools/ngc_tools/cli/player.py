@@ -14,11 +14,15 @@ from ngc_tools.formats.record import check_path, machine_nm
 from ngc_tools.formats.settings import Settings
 from ngc_tools.player.answers import Answers
 from ngc_tools.player.keeper import Keeper, RecordFile
+from ngc_tools.player.machine import read_limits
+from ngc_tools.player.manner import Manner, Stopped
+from ngc_tools.player.paced import PacedPlayer
 from ngc_tools.player.person import Person, Voice
 from ngc_tools.player.pins import Pins
-from ngc_tools.player.player import Manner, Player, Stopped, save_wakeups
+from ngc_tools.player.player import Player, save_wakeups
 from ngc_tools.player.progress import Listener
 from ngc_tools.player.source import PIPE_BYTES, Source, where_to_begin
+from ngc_tools.player.times import Times
 
 ABOUT = """Carry out the lines of OUT, each in its time, and keep in POSITION what was carried out.
 
@@ -76,6 +80,9 @@ def make_parser() -> argparse.ArgumentParser:
                         help=f"make the pipe as small as this (default {PIPE_BYTES:,})")
     parser.add_argument("--progress", metavar="SOCKET", help="tell there how far it is, to whoever asks")
     parser.add_argument("--pins", metavar="FILE", help="append there each line as it is carried out")
+    parser.add_argument("--machine", metavar="FILE", help="go by ramps: its table [motion] says what the motors allow")
+    parser.add_argument("--times", metavar="FILE", help="write there, to a new file, each line with the nanosecond at"
+                        " which it is due")
     parser.add_argument("--untimed", action="store_true", help="keep no times")
     parser.add_argument("--live", action="store_true", help="show the position, also where the output is no terminal")
     return parser
@@ -97,6 +104,7 @@ def prepared(args: argparse.Namespace, voice: Voice, stack: ExitStack) -> Player
     """The player, with its record and its socket, which `stack` lets go. Raises Failure or OSError."""
     at_nm = tuple(map(machine_nm, args.at)) if args.at else None
     settings = Settings.read(args.settings)
+    limits = read_limits(args.machine, settings.step_nm) if args.machine else None
     source = Source(args.out, args.pipe, args.follow)
     stack.callback(source.close)
     check_path(os.path.realpath(args.out))
@@ -111,9 +119,15 @@ def prepared(args: argparse.Namespace, voice: Voice, stack: ExitStack) -> Player
     position = Position(settings.step_nm, begun.at_nm if at_nm is None else at_nm)
     pins = Pins(args.pins, (args.out, args.settings, args.position))
     stack.callback(pins.close)
+    times = Times(args.times) if args.times else None
+    if times:
+        stack.callback(times.close)
     manner = Manner(settings.period_us, not args.untimed, args.spindle, args.off_after,
-                    None if args.no_ask_tool else Person(sys.stdin, voice))
-    player = Player(source, position, begun, pins, manner)
+                    None if args.no_ask_tool else Person(sys.stdin, voice), times)
+    parts = (source, position, begun, pins, manner)
+    player = PacedPlayer(*parts, limits) if limits else Player(*parts)
+    if limits is None and manner.timed:
+        voice.say(f"{args.out}: no --machine: no ramps, and no motor follows full rates from rest")
     stack.callback(player.close)
     if args.progress:
         listener = Listener(args.progress)
@@ -167,7 +181,7 @@ def tell(player: Player, out: str) -> None:
 
 def _heed_signals(player: Player) -> None:
     def stop(*_: object) -> None:
-        player.stopping = True
+        player.stops += 1
 
     for number in (signal.SIGINT, signal.SIGTERM, signal.SIGQUIT):
         signal.signal(number, stop)

@@ -7,7 +7,7 @@ from contextlib import suppress
 from typing import Protocol
 
 from ngc_tools.formats.record import machine_nm
-from ngc_tools.player.progress import QUESTION, Listener, Report
+from ngc_tools.player.progress import PERCENT, QUESTION, Listener, Report
 
 
 class Asked(Protocol):
@@ -21,6 +21,12 @@ class Asked(Protocol):
 
     def go(self) -> None:
         """The tool is in."""
+
+    def hold(self, is_held: bool) -> None:
+        """Comes to rest, or goes on."""
+
+    def override(self, percent: int) -> None:
+        """Goes at so many percent of OUT's rates."""
 
 
 class Answers:
@@ -76,6 +82,10 @@ class Answers:
                 self._listener.answer(text + b" " + self._player.report().text(), sender)
         elif text == b"go":
             self._player.go()
+        elif text in (b"hold", b"release"):
+            self._player.hold(text == b"hold")
+        elif match := PERCENT.fullmatch(text):
+            self._player.override(int(match[1]))
         elif text == b"end":
             self.ended = True
         elif text.startswith(b"at ") and (place := _place(text[3:])):

@@ -4,13 +4,13 @@ import os
 import select
 import threading
 import time
-from dataclasses import dataclass
 
-from ngc_tools.formats.out import BadLine, Line, Pulse, Switch, quoted, read_line
+from ngc_tools.formats.out import BadLine, Line, Switch, quoted, read_line
 from ngc_tools.formats.position import Position
 from ngc_tools.formats.record import Record, stopped
 from ngc_tools.player.answers import Answers
 from ngc_tools.player.keeper import Keeper
+from ngc_tools.player.manner import Counts, Manner, Stopped
 from ngc_tools.player.person import Person
 from ngc_tools.player.pins import Pins
 from ngc_tools.player.progress import Report
@@ -18,44 +18,6 @@ from ngc_tools.player.schedule import Schedule
 from ngc_tools.player.source import Source
 
 SLICE_NS = 20_000_000  # how long it sleeps at most before it looks whether it is to stop
-
-
-class Stopped(Exception):
-    """The player stops before OUT's end; the text says why, and `word` is kept in the record."""
-
-    def __init__(self, word: str, text: str) -> None:
-        super().__init__(text)
-        self.word = word
-
-
-@dataclass(slots=True)
-class Counts:
-    """What was carried out by this player."""
-
-    pulses: int = 0
-    waits: int = 0
-    switches: int = 0
-
-    def add(self, line: Line) -> None:
-        """Counts a line."""
-        if isinstance(line, Pulse):
-            self.pulses += 1
-        elif isinstance(line, Switch):
-            self.switches += 1
-        else:
-            self.waits += 1
-
-
-@dataclass(frozen=True, slots=True)
-class Manner:
-    """How OUT is carried out: by its times, at which least period, with which waits. `person` says that a tool
-    is in; None leaves tool changes to the pins."""
-
-    least_period_us: int
-    timed: bool = True
-    spindle_us: int = 0  # how long the spindle takes to start, to stop, or to turn the other way
-    off_after_us: int = 10_000_000  # how long spindle and coolant stay on once nobody asks for more
-    person: Person | None = None
 
 
 class Player:
@@ -71,12 +33,16 @@ class Player:
         self.out = begun.out
         self.lines, self.size = begun.lines, begun.size
         self.counts = Counts()
-        self.schedule = Schedule()
+        self.schedule = Schedule(manner.timed)
         self.keeper: Keeper | None = None
         self.stopped_by = ""  # what has stopped it, in a word
         self.answers: Answers | None = None
-        self.stopping = False
+        self.stops = 0  # how often it is asked to stop
+        self.is_held = False  # somebody asks for a rest
+        self.percent = 100  # of OUT's rates
         self._lock = threading.Lock()  # of `source`, `position` and `lines`
+        self._is_moving = False  # it can't stop at once
+        self._stands_held = False  # it has come to rest for a hold
         self._tool: int | None = None  # the slot that a person is asked for
         self._left_ns = 0  # since when nobody writes OUT any more
         self._wake = os.eventfd(0, os.EFD_NONBLOCK | os.EFD_CLOEXEC)
@@ -128,7 +94,7 @@ class Player:
             tool = self._tool
             self._take_all()
             return Report(self.lines, self.source.received, tool is not None, str(self.position), self.out,
-                          self.outputs, tool or 0)
+                          self.outputs, tool or 0, self._stands_held and tool is None)
 
     def stand_at(self, at_nm: tuple[int, int, int]) -> None:
         """Takes where the machine stands, as after its axes were moved by hand, if nothing is behind."""
@@ -145,6 +111,14 @@ class Player:
     def go(self) -> None:
         """The tool is in."""
         self._tool = None
+
+    def hold(self, is_held: bool) -> None:
+        """Comes to rest, or goes on."""
+        self.is_held = is_held
+
+    def override(self, percent: int) -> None:
+        """Goes at so many percent of OUT's rates, 1 to 100."""
+        self.percent = percent
 
     # the play
 
@@ -206,21 +180,36 @@ class Player:
             raise Stopped("console", f"the console is gone without a word, after line {self.lines}")
         return True
 
+    def _is_rest_asked(self) -> bool:
+        """Whether it is to come to rest and stop then."""
+        return self.stops > 0 or bool(self.keeper and self.keeper.failed)
+
     def _heed(self) -> None:
-        """Raises Stopped if it is asked to stop, or can't keep its record any more."""
-        if self.stopping:
+        """Raises Stopped if it is asked to stop, or can't keep its record any more: while it moves only if it is asked
+        once more."""
+        if self._is_moving and self.stops < 2:
+            return
+        if self.stops:
             raise Stopped("signal", f"stopped after line {self.lines}")
         if self.keeper and self.keeper.failed:
             raise Stopped("record", f"stopped after line {self.lines}: the record can't be kept")
 
     def _carry_out(self, text: bytes) -> None:
         line = read_line(text, self.lines + 1, self.manner.least_period_us)
-        if isinstance(line, Switch) and line.slot != self.outputs.slot and self.manner.person:
-            self._await_tool(line.slot, self.manner.person)
+        self._await_tool_of(line)
+        self._await_due()
+        self._carry_out_now(text, line, line.lasts_us * 1000)
+
+    def _await_due(self) -> None:
+        """Waits until the next line is due."""
         if self.manner.timed:
             self._wait_until(self.schedule.due)
         self._heed()
-        self.schedule.begun(line.lasts_us)
+
+    def _carry_out_now(self, text: bytes, line: Line, lasts_ns: int) -> None:
+        if self.manner.times:
+            self.manner.times.add(self.schedule.due - self.schedule.started, text)
+        self.schedule.begun(lasts_ns)
         self.pins.set(text)
         if isinstance(line, Switch):
             turns = line.spindle != self.outputs.spindle
@@ -243,6 +232,11 @@ class Player:
         while (rest := due - time.monotonic_ns()) > 0:
             time.sleep(min(rest, SLICE_NS) / 1e9)
             self._heed()
+
+    def _await_tool_of(self, line: Line) -> None:
+        """Waits for the tool that a line changes to, if a person has to put it in."""
+        if isinstance(line, Switch) and line.slot != self.outputs.slot and self.manner.person:
+            self._await_tool(line.slot, self.manner.person)
 
     def _await_tool(self, slot: int, person: Person) -> None:
         """Waits until a person says that the tool is in, by Enter or over the socket."""

@@ -7,6 +7,11 @@
     to take the tool out. N is the asker's own number, so that a late answer is known as one.
 `go`
     The tool is in.
+`hold`, `release`
+    The motors come to rest from the next pulse on, by ramps, with the outputs as they are, and `release` goes on. At
+    rest `held` stands in the place of `works`. A player without `--machine` has no ramps, and doesn't heed them.
+`percent N`
+    From the next pulse on at most so many percent, 1 to 100, of OUT's rates; heeded as `hold` is. It begins with 100.
 `at X Y Z`
     The machine stands there, in machine millimetres. It is taken while nothing is behind; the next report shows it.
 `end`
@@ -29,8 +34,9 @@ from ngc_tools.files import naming
 from ngc_tools.formats.out import OFF, BadLine, Switch, read_line
 
 QUESTION = re.compile(rb"progress [0-9]{1,20}")
+PERCENT = re.compile(rb"percent ([1-9][0-9]?|100)")
 _LONGEST = 128  # bytes of a datagram to a player
-_REPORT = re.compile(r"carried (\d+) received (\d+) (works|waits tool (\d{1,3})) reference (\S+ \S+ \S+)"
+_REPORT = re.compile(r"carried (\d+) received (\d+) (works|held|waits tool (\d{1,3})) reference (\S+ \S+ \S+)"
                      r" outputs (S \d \S+ \d \d \d+ \d+) out (.*)", re.DOTALL)
 
 
@@ -51,6 +57,7 @@ class Report:
     out: str
     outputs: Switch = OFF
     tool: int = 0
+    is_held: bool = False  # it stands, since it is to
 
     @property
     def behind(self) -> int:
@@ -59,7 +66,7 @@ class Report:
 
     def text(self) -> bytes:
         """What is answered."""
-        state = f"waits tool {self.tool}" if self.waits else "works"
+        state = f"waits tool {self.tool}" if self.waits else "held" if self.is_held else "works"
         said = (f"carried {self.carried} received {self.received} {state} reference {self.at}"
                 f" outputs {self.outputs} out {self.out}")
         return said.encode("utf-8", "surrogateescape")
@@ -72,7 +79,7 @@ class Report:
         if match is None or outputs is None:
             raise ValueError(f"not a report of a player: {answer[:80]!r}")
         return Report(int(match[1]), int(match[2]), match[4] is not None, match[5], match[7], outputs,
-                      int(match[4] or 0))
+                      int(match[4] or 0), match[3] == "held")
 
 
 def _switch(text: str) -> Switch | None:

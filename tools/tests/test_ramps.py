@@ -1,0 +1,197 @@
+"""Both players with --machine: ramps, holds and overrides, and the file of --times."""
+import os
+import signal
+import subprocess
+import sys
+import unittest
+from pathlib import Path
+
+sys.path.insert(0, str(Path(__file__).resolve().parent))
+
+from player_support import NO_RAMPS, InC, InProcess, PlayerTest, Sanitized  # noqa: E402
+
+MOTION = """[motion]
+accel_mm_s2 = [500, 500, 500] # of each axis
+slack_steps = 2
+most_percent = 100
+
+[wait] # of others
+spindle_s = [4, 3]
+stop_at = ["tool", "spindle"]
+"""
+LONG = "P 1 0 0 50\n" * 4000  # 10 mm at 3,000 mm a minute, 400 steps a mm: 0.2 s at full rate, 0.1 s in ramps
+REFUSED = {
+    "": "the table [motion] is missing: it says what the motors allow",
+    "[motions]\n": "the table [motion] is missing: it says what the motors allow",
+    "[motion]\n": "motion: accel_mm_s2 is missing: three whole numbers from 1 to 1000000",
+    "[motion]\naccel = [1, 1, 1]\n": "motion has a key that isn't one of its five: accel",
+    "[motion]\naccel_mm_s2 = [1, 1]\n": "motion: accel_mm_s2 takes three whole numbers from 1 to 1000000",
+    "[motion]\naccel_mm_s2 = [0, 1, 1]\n": "motion: accel_mm_s2 takes three whole numbers from 1 to 1000000",
+    "[motion]\naccel_mm_s2 = 500\n": "motion: accel_mm_s2 takes three whole numbers from 1 to 1000000",
+}
+BESIDES = {
+    "rate_mm_min = [0, 0, 100001]\n": "motion: rate_mm_min takes three whole numbers from 0 to 100000",
+    "start_mm_min = [-1, 0, 0]\n": "motion: start_mm_min takes three whole numbers from 0 to 100000",
+    "slack_steps = 65\n": "motion: slack_steps takes a whole number from 1 to 64",
+    "slack_steps = [2]\n": "motion: slack_steps takes a whole number from 1 to 64",
+    "most_percent = 101\n": "motion: most_percent takes 100",
+}
+
+
+class Ramps(PlayerTest):
+    """What both players do."""
+
+    def setUp(self) -> None:
+        """A machine with 400 steps a mm, and 4,000 pulses of X."""
+        super().setUp()
+        settings = Path("first.toml").read_text()
+        Path("first.toml").write_text(settings.replace("[1000, 1000, 1000]", "[2500, 2500, 2500]"))
+        Path("motion.toml").write_text(MOTION)
+        Path("out").write_text(LONG)
+
+    def times(self, path: str = "times") -> list[int]:
+        """The nanoseconds of a file of --times."""
+        return [int(line.split()[0]) for line in Path(path).read_text().splitlines()]
+
+    def test_times(self) -> None:
+        """Each line behind its time, by ramps: the same with the machine's clock and without one, but for lateness."""
+        Path("out").write_text("S 1 0.000000 0 0 0 0\n" + LONG + "D 1000\n" + LONG)
+        done = self.play("--untimed", "--machine", "motion.toml", "--times", "times")
+        self.assertEqual((done.returncode, done.stderr), (0, "out: ended with spindle or coolant on; spindle and"
+                                                            " coolant off\n"))
+        text = Path("times").read_text()
+        self.assertEqual([line.partition(" ")[2] for line in text.splitlines()], Path("out").read_text().splitlines())
+        times = self.times()
+        self.assertEqual(times[:2], [0, 0])
+        self.assertAlmostEqual(times[4001] / 1e9, 0.3, delta=0.003)  # N / v + v / a
+        self.assertEqual(times[4002], times[4001] + 1_000_000)
+        self.assertEqual(times[-1] - times[4002], times[4000] - times[1])
+        self.assertEqual(Path("pins").read_text(), Path("out").read_text() + "off\n")
+
+    def test_times_without_ramps(self) -> None:
+        """The times are those of OUT."""
+        Path("out").write_text("P 1 0 0 50\nD 7\nS 0 0.000000 0 0 0 0\nP 1 0 0 60\nP 1 0 0 50\n")
+        self.assertEqual(self.play("--untimed", "--times", "times").stderr, "")
+        self.assertEqual(self.times(), [0, 50_000, 57_000, 57_000, 117_000])
+        again = self.play("--untimed", "--anew", "--times", "times")
+        self.assertEqual(again.returncode, 2)
+        self.assertIn("times: File exists", again.stderr)
+
+    def test_rate(self) -> None:
+        """An axis of at most 1,500 mm a minute takes 10 / 25 s and 25 / 500 s."""
+        Path("motion.toml").write_text("[motion]\naccel_mm_s2 = [500, 500, 500]\nrate_mm_min = [1500, 0, 0]\n")
+        Path("out").write_text(LONG + "D 1\n")
+        self.play("--untimed", "--machine", "motion.toml", "--times", "times")
+        self.assertAlmostEqual(self.times()[-1] / 1e9, 0.45, delta=0.0045)
+
+    def test_notice(self) -> None:
+        """Without a machine's file it says that no motor follows full rates."""
+        Path("out").write_text("P 1 0 0 50\n")
+        self.assertEqual(self.play().stderr, NO_RAMPS)
+        self.assertEqual(self.play("--anew", "--machine", "motion.toml").stderr, "")
+
+    def test_refused(self) -> None:
+        """By name and key."""
+        wrong = REFUSED | {f"[motion]\naccel_mm_s2 = [500, 500, 500]\n{text}": said for text, said in BESIDES.items()}
+        for text, said in wrong.items():
+            Path("wrong.toml").write_text(text)
+            told = self.refused("--machine", "wrong.toml", "out", "first.toml", "position")
+            self.assertEqual(told, f"wrong.toml: {said}", text)
+        self.assertFalse(Path("position").exists())
+
+    def test_too_small(self) -> None:
+        """What is less than some steps a second is refused too: 1 mm of a step of 1 mm."""
+        settings = Path("first.toml").read_text()
+        Path("first.toml").write_text(settings.replace("[2500, 2500, 2500]", "[2500, 2500, 1000000]"))
+        for text, said in (("accel_mm_s2 = [9, 9, 2]\n", "accel_mm_s2 is less than 3 steps a second, each second"),
+                           ("accel_mm_s2 = [9, 9, 3]\nrate_mm_min = [0, 0, 59]\n",
+                            "rate_mm_min is less than a step a second")):
+            Path("wrong.toml").write_text("[motion]\n" + text)
+            told = self.refused("--machine", "wrong.toml", "out", "first.toml", "position")
+            self.assertEqual(told, f"wrong.toml: motion: {said}")
+
+    def test_bad_line(self) -> None:
+        """What stands before a line that isn't one is carried out to its rest."""
+        Path("out").write_text(LONG + "P 2 0 0 50\n" + LONG)
+        done = self.play("--untimed", "--machine", "motion.toml")
+        self.assertEqual(done.returncode, 1)
+        self.assertIn("out:4001: not a line of OUT: 'P 2 0 0 50'; stopped, spindle and coolant off", done.stderr)
+        self.assertIn("reference 10.000000 0.000000 0.000000\n", done.stdout)
+
+    def fed(self, *words: str) -> tuple[subprocess.Popen[str], int]:
+        """A player of a pipe, and the pipe, into which 40 mm were written."""
+        os.mkfifo("axis")
+        names = ("axis", "first.toml", "position")
+        child = self.begin("--no-ask-tool", "--machine", "motion.toml", "--pipe", "1048576", "--progress", "progress",
+                           *words, *names)
+        link = self.linked()
+        pipe = os.open("axis", os.O_WRONLY)
+        os.write(pipe, LONG.encode() * 4)
+        self.wait_for("it moves", lambda: link.ask().carried > 1500)
+        self.link = link
+        return child, pipe
+
+    def test_hold(self) -> None:
+        """It comes to rest and says so, and goes on; slower by an override. Nothing is lost."""
+        child, pipe = self.fed()
+        self.link._send(b"hold")
+        self.wait_for("it is held", lambda: self.link.ask().is_held)
+        stands = self.link.ask().carried
+        self.assertLess(stands, 16_000)
+        self.assertEqual((self.link.ask().carried, self.link.ask().is_held), (stands, True))
+        self.link._send(b"percent 50")
+        self.link._send(b"release")
+        self.wait_for("it goes on", lambda: self.link.ask().carried > stands)
+        self.assertFalse(self.link.ask().is_held)
+        self.link.end()
+        os.close(pipe)
+        said = child.communicate(timeout=60)
+        self.assertEqual(child.returncode, 0, said)
+        self.assertIn("reference 40.000000 0.000000 0.000000\n", said[0])
+
+    def test_signal(self) -> None:
+        """The first signal brings it to rest by a ramp: each of the last pulses takes longer than the one before."""
+        child, pipe = self.fed("--times", "times")
+        child.send_signal(signal.SIGTERM)
+        said = child.communicate(timeout=60)
+        os.close(pipe)
+        self.assertEqual(child.returncode, 1, said)
+        self.assertRegex(said[1], r"axis: stopped after line \d+; spindle and coolant off\n")
+        times = self.times()
+        self.assertLess(len(times), 16_000)
+        slower = [after - before for before, after in zip(times[-200:], times[-199:])]
+        self.assertGreater(slower[-1], 1_000_000)  # at rest from 447 pulses a second, and from 773 one before
+        self.assertIn("\nstopped signal", Path("position").read_text())
+
+
+class RampsInPython(InProcess, Ramps):
+    """ngc-player."""
+
+
+class RampsInC(InC, Ramps):
+    """tools/player."""
+
+
+class RampsSanitized(Sanitized, Ramps):
+    """tools/player under the sanitizers."""
+
+
+class Same(InC, PlayerTest):
+    """Both players side by side."""
+
+    def test_times(self) -> None:
+        """The times of both are the same, to the nanosecond."""
+        Path("motion.toml").write_text(MOTION)
+        Path("out").write_text((LONG[:11 * 700] + "P 1 1 0 70\n" * 500 + "D 3\nP 0 0 -1 90\n") * 3)
+        self.play("--untimed", "--machine", "motion.toml", "--times", "c")
+        Path("position").unlink()
+        words = ("--untimed", "--no-ask-tool", "--machine", "motion.toml", "--times", "python", "out", "first.toml",
+                 "position")
+        self.assertEqual(self.tool("ngc-player", *words).returncode, 0)
+        self.assertEqual(Path("c").read_bytes(), Path("python").read_bytes())
+
+
+del Ramps
+
+if __name__ == "__main__":
+    unittest.main()
