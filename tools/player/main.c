@@ -30,9 +30,13 @@ static int fail(const struct cause *why) {
     return 2;
 }
 
+/* A terminal that is closed may say so twice. */
 static void stop(int number) {
-    (void)number;
-    stop_soon();
+    if (number == SIGHUP) {
+        stop_at_rest();
+    } else {
+        stop_soon();
+    }
 }
 
 /* Signals come to this thread alone, before which they wake it. */

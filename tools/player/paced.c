@@ -106,6 +106,9 @@ static enum end await_lines(struct play *play, bool *is_over) {
         pace_end(&pace);
         return AT_OUTS_END;
     }
+    if (is_known && is_held && is_left_held(play)) {
+        return STOPPED;
+    }
     if (is_known) {
         doze(play, is_held);
         schedule_pause(&play->schedule);

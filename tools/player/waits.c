@@ -17,6 +17,11 @@ void stop_soon(void) {
     atomic_fetch_add(&stops, 1);
 }
 
+void stop_at_rest(void) {
+    int none = 0;
+    atomic_compare_exchange_strong(&stops, &none, 1);
+}
+
 void note_stop(struct play *play, const char *word) {
     player_lock(play->player);
     play->player->stopped = word;
@@ -71,13 +76,26 @@ bool have_seconds_passed(struct play *play) {
     return now >= since + play->options->off_after_ns;
 }
 
-/* Whether the console died while a person is asked for a tool. */
-static bool is_console_gone(struct play *play, const char *what) {
+/* Whether the console died, some time ago. */
+static bool is_left_alone(struct play *play) {
     if (atomic_load(&play->player->asked_at) == 0 || !play->player->source.is_pipe || !is_left(play)) {
         play->left_at = 0;
         return false;
     }
-    if (!have_seconds_passed(play)) {
+    return have_seconds_passed(play);
+}
+
+bool is_left_held(struct play *play) {
+    if (!is_left_alone(play)) {
+        return false;
+    }
+    note_stop(play, "console");
+    return !because(&play->why, "the console is gone, and it is held after line %" PRIu64 ";", play->player->lines);
+}
+
+/* Whether the console died while a person is asked for a tool. */
+static bool is_console_gone(struct play *play, const char *what) {
+    if (!is_left_alone(play)) {
         return false;
     }
     note_stop(play, "console");

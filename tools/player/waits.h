@@ -26,7 +26,13 @@ bool have_seconds_passed(struct play *play);
 /* Waits until a person says that the tool is in, by Enter or over the socket; false where the play has to stop. */
 bool await_tool(struct play *play, unsigned slot);
 
-/* Asks the play to stop, and once more to stop at once, from a signal's handler. */
+/* Whether nobody can release a hold any more, as the console is gone: then the play has to stop. */
+bool is_left_held(struct play *play);
+
+/* Asks the play to come to rest and stop, and asked once more to stop at once; from a signal's handler. */
 void stop_soon(void);
+
+/* The same, but not at once, however often. */
+void stop_at_rest(void);
 
 #endif

@@ -1,5 +1,6 @@
 """Both players with --machine: ramps, holds and overrides, and the file of --times."""
 import os
+import re
 import signal
 import subprocess
 import sys
@@ -118,8 +119,8 @@ class Ramps(PlayerTest):
         self.assertIn("out:4001: not a line of OUT: 'P 2 0 0 50'; stopped, spindle and coolant off", done.stderr)
         self.assertIn("reference 10.000000 0.000000 0.000000\n", done.stdout)
 
-    def fed(self, *words: str) -> tuple[subprocess.Popen[str], int]:
-        """A player of a pipe, and the pipe, into which 40 mm were written."""
+    def fed(self, *words: str, least: int = 1500) -> tuple[subprocess.Popen[str], int]:
+        """A player of a pipe, and the pipe, into which 40 mm were written, once more than `least` lines are made."""
         os.mkfifo("axis")
         names = ("axis", "first.toml", "position")
         child = self.begin("--no-ask-tool", "--machine", "motion.toml", "--pipe", "1048576", "--progress", "progress",
@@ -127,7 +128,7 @@ class Ramps(PlayerTest):
         link = self.linked()
         pipe = os.open("axis", os.O_WRONLY)
         os.write(pipe, LONG.encode() * 4)
-        self.wait_for("it moves", lambda: link.ask().carried > 1500)
+        self.wait_for("it moves", lambda: link.ask().carried > least)
         self.link = link
         return child, pipe
 
@@ -162,6 +163,31 @@ class Ramps(PlayerTest):
         slower = [after - before for before, after in zip(times[-200:], times[-199:])]
         self.assertGreater(slower[-1], 1_000_000)  # at rest from 447 pulses a second, and from 773 one before
         self.assertIn("\nstopped signal", Path("position").read_text())
+
+
+    def test_second_signal(self) -> None:
+        """It stops in the midst of its motion: at 1 mm/s2 a rest would take as many pulses as it has made."""
+        Path("motion.toml").write_text("[motion]\naccel_mm_s2 = [1, 1, 1]\n")
+        child, pipe = self.fed(least=300)
+        carried = self.link.ask().carried
+        child.send_signal(signal.SIGTERM)
+        child.send_signal(signal.SIGINT)
+        said = child.communicate(timeout=60)
+        os.close(pipe)
+        self.assertEqual(child.returncode, 1, said)
+        lines = int(re.search(r"stopped after line (\d+);", said[1])[1])
+        self.assertLess(lines, carried + 200)
+
+    def test_held_and_left(self) -> None:
+        """Where nobody can release it any more it ends, with spindle and coolant off."""
+        child, pipe = self.fed("--off-after", "0.2")
+        self.link._send(b"hold")
+        self.wait_for("it is held", lambda: self.link.ask().is_held)
+        os.close(pipe)
+        said = child.communicate(timeout=60)
+        self.assertEqual(child.returncode, 1, said)
+        self.assertRegex(said[1], r"axis: the console is gone, and it is held after line \d+; spindle and coolant off\n")
+        self.assertIn("\nstopped console", Path("position").read_text())
 
 
 class RampsInPython(InProcess, Ramps):

@@ -180,8 +180,8 @@ def tell(player: Player, out: str) -> None:
 
 
 def _heed_signals(player: Player) -> None:
-    def stop(*_: object) -> None:
-        player.stops += 1
+    def stop(number: int, _: object) -> None:
+        player.stops = max(1, player.stops + (number != signal.SIGHUP))  # a closed terminal may say so twice
 
     for number in (signal.SIGINT, signal.SIGTERM, signal.SIGQUIT):
         signal.signal(number, stop)

@@ -94,6 +94,8 @@ class PacedPlayer(Player):
         if self._ahead and not is_held and time.monotonic_ns() - self._newest_ns >= _STARVES_NS:
             self._pace.end()
             return False
+        if self._ahead and is_held:
+            self._heed_console(f"it is held after line {self.lines}")
         if self._ahead:
             time.sleep(0.005)
             self.schedule.pause()

@@ -252,11 +252,11 @@ class Player:
                 raise Stopped("tool", f"line {self.lines + 1} asks to {what}, and nobody can say that it is done: start"
                               " the player at a terminal or with --progress; --no-ask-tool is for a tool changer")
             self._heed()
-            self._heed_console(what)
+            self._heed_console(f"line {self.lines + 1} asks to {what}")
         self.schedule.pause()
 
     def _heed_console(self, what: str) -> None:
-        """Raises Stopped if the console died while a person is asked for a tool."""
+        """Raises Stopped if the console died while it waits for a person."""
         ready = dict(self._poll.poll(0)).get(self.source.file, 0)
         if not self.answers or not self.answers.asked_ns or not self._is_left(ready):
             self._left_ns = 0
@@ -264,7 +264,7 @@ class Player:
         self._left_ns = self._left_ns or time.monotonic_ns()
         since = max(self._left_ns, self.answers.asked_ns)
         if time.monotonic_ns() >= since + self.manner.off_after_us * 1000:
-            raise Stopped("console", f"the console is gone, and line {self.lines + 1} asks to {what}")
+            raise Stopped("console", f"the console is gone, and {what}")
 
     def _switch_off(self) -> None:
         """Turns spindle and coolant off, if they are on or it stops before OUT's end."""
