@@ -6,7 +6,7 @@
 #include "scan.h"
 #include "toml.h"
 
-enum { KEYS = 5, HALF = 64, LEAST_ACCEL = 3, NM_PER_MM = 1000000, S_PER_MIN = 60 };
+enum { KEYS = 5, HALF = 64, LEAST_ACCEL = 3, GREATEST_ACCEL = 1000000000, NM_PER_MM = 1000000, S_PER_MIN = 60 };
 
 struct key {
     const char *name;
@@ -130,6 +130,9 @@ bool machine_read(const char *path, const int64_t step_nm[3], struct pace_limits
         limits->start[axis] = in_whole_steps(motion.values[START].numbers[axis], step_nm[axis], S_PER_MIN);
         if (limits->accel[axis] < LEAST_ACCEL) {
             return because(why, "%s: motion: accel_mm_s2 is less than 3 steps a second, each second", path);
+        }
+        if (limits->accel[axis] > GREATEST_ACCEL) {
+            return because(why, "%s: motion: accel_mm_s2 is more than 1000000000 steps a second, each second", path);
         }
         if (rate > 0 && limits->rate[axis] == 0) {
             return because(why, "%s: motion: rate_mm_min is less than a step a second", path);

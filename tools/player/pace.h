@@ -14,7 +14,7 @@ enum { PACE_ROOM = 8192 }; /* lines that may be known; a power of two */
 
 /* What motors allow, by axes. */
 struct pace_limits {
-    uint64_t accel[3]; /* steps a second, each second: at least 3 */
+    uint64_t accel[3]; /* steps a second, each second: 3 to 1,000,000,000 */
     uint64_t rate[3];  /* steps a second; 0 for as many as are asked for */
     uint64_t start[3]; /* steps a second: a rate at which a motor can start and stop at once */
     uint64_t half;     /* most pulses on each side of a corner in which it is taken: at least 1 */

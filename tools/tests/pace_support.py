@@ -107,8 +107,9 @@ def some_limits(chance: random.Random) -> Limits:
 def excess(lines: list[str], times: list[int], accel: tuple[int, int, int]) -> float:
     """By how many steps the axes leave all motions of these accelerations, in steps a second, each second.
 
-    It knows the steps and their times alone. Where an axis may follow a motion x within e steps, its position q meets
-    |q(t + 2L) - 2 q(t + L) + q(t)| <= a L^2 + 4 e for each t and L. The greatest e that one of them needs is returned."""
+    It knows the steps and their times alone. Where an axis may follow a motion within e steps, its position q meets
+    |q(t + 2L) - 2 q(t + L) + q(t)| <= a L^2 + 4 e for each t and L. Returned is the greatest e that one of them
+    needs."""
     worst, at = 0.0, 0
     steps: list[tuple[list[float], list[int]]] = [([], [0]) for _ in range(3)]
     for line, ns in zip(lines, times, strict=True):

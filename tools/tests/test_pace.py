@@ -15,6 +15,7 @@ from session_support import FIRST, TOOLS, InFolder  # noqa: E402
 from ngc_tools.formats.out import read_line  # noqa: E402
 from ngc_tools.player.pace import FULL, ROOM, Pace  # noqa: E402
 from ngc_tools.player.pace_path import Limits  # noqa: E402
+from ngc_tools.player.schedule import Schedule  # noqa: E402
 
 EXAMPLES = sorted((TOOLS.parent / "examples").glob("*.ngc"))
 COARSE = (FIRST.replace("[1000, 1000, 1000]", "[50000, 50000, 50000]").replace("[50000000]", "[50000000, 62500000, 0]")
@@ -131,6 +132,41 @@ class OfStreams(unittest.TestCase):
         self.assertEqual(times[1500], 50_000)
         self.assertEqual(set(times[3000:]), {125_000})
         self.assertEqual(sum(ns == 50_000 for ns in times[2000:]), 0)  # from the next line on
+
+
+    def test_followed_when_disturbed(self) -> None:
+        """Motors can follow holds, releases and overrides in the midst of a motion, and a starved reader."""
+        lines = (["P 1 0 0 50"] * 3000 + ["P 1 1 0 50"] * 3000 + ["P 0 -1 0 50"] * 2000) * 2
+        pace, times, given = Pace(FINE_LIMITS), [], 0
+        for count, line in enumerate(lines):
+            pace.push(read_line(line, 1))
+            if count % 3000 > 1500:
+                percent = 30 if count % 2000 < 700 else 100
+                wanted = 0 if count % 1700 < 400 else pace.wanted(percent)
+                ns = pace.next(wanted)
+                given += ns is not None
+                times += [] if ns is None else [ns]
+                if ns is None and times:
+                    times[-1] += 50_000  # it stands meanwhile
+        pace.end()
+        while (ns := pace.next()) is not None:
+            times.append(ns)
+        self.assertGreater(given, 3000)
+        self.assertLess(excess(lines, times, FINE_LIMITS.accel), 2 * FINE_LIMITS.slack)
+
+
+class Lateness(unittest.TestCase):
+    """Of lines that come late."""
+
+    def test_moves_all(self) -> None:
+        """With ramps a late line isn't made up for: it would be a leap of the rate. Without them a tenth is."""
+        for makes_up, moved in ((False, 1_000_000), (True, 0)):
+            schedule = Schedule(True, makes_up)
+            schedule.due -= 1_000_000
+            due = schedule.due
+            schedule.begun(100_000_000_000)
+            self.assertGreaterEqual(schedule.due, due + moved + 100_000_000_000)
+            self.assertEqual(schedule.due == due + 100_000_000_000, makes_up)
 
 
 class Promises(unittest.TestCase):

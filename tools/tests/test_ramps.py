@@ -100,12 +100,15 @@ class Ramps(PlayerTest):
             self.assertEqual(told, f"wrong.toml: {said}", text)
         self.assertFalse(Path("position").exists())
 
-    def test_too_small(self) -> None:
-        """What is less than some steps a second is refused too: 1 mm of a step of 1 mm."""
+    def test_steps(self) -> None:
+        """What is less than some steps a second is refused too, and what is beyond all motors: of steps of 1 mm, and of
+        10 nm."""
         settings = Path("first.toml").read_text()
-        Path("first.toml").write_text(settings.replace("[2500, 2500, 2500]", "[2500, 2500, 1000000]"))
+        Path("first.toml").write_text(settings.replace("[2500, 2500, 2500]", "[10, 2500, 1000000]"))
         for text, said in (("accel_mm_s2 = [9, 9, 2]\n", "accel_mm_s2 is less than 3 steps a second, each second"),
-                           ("accel_mm_s2 = [9, 9, 3]\nrate_mm_min = [0, 0, 59]\n",
+                           ("accel_mm_s2 = [10001, 9, 3]\n",
+                            "accel_mm_s2 is more than 1000000000 steps a second, each second"),
+                           ("accel_mm_s2 = [10000, 9, 3]\nrate_mm_min = [0, 0, 59]\n",
                             "rate_mm_min is less than a step a second")):
             Path("wrong.toml").write_text("[motion]\n" + text)
             told = self.refused("--machine", "wrong.toml", "out", "first.toml", "position")
@@ -135,13 +138,13 @@ class Ramps(PlayerTest):
     def test_hold(self) -> None:
         """It comes to rest and says so, and goes on; slower by an override. Nothing is lost."""
         child, pipe = self.fed()
-        self.link._send(b"hold")
+        self.link.hold()
         self.wait_for("it is held", lambda: self.link.ask().is_held)
         stands = self.link.ask().carried
         self.assertLess(stands, 16_000)
         self.assertEqual((self.link.ask().carried, self.link.ask().is_held), (stands, True))
-        self.link._send(b"percent 50")
-        self.link._send(b"release")
+        self.link.override(50)
+        self.link.release()
         self.wait_for("it goes on", lambda: self.link.ask().carried > stands)
         self.assertFalse(self.link.ask().is_held)
         self.link.end()
@@ -181,12 +184,12 @@ class Ramps(PlayerTest):
     def test_held_and_left(self) -> None:
         """Where nobody can release it any more it ends, with spindle and coolant off."""
         child, pipe = self.fed("--off-after", "0.2")
-        self.link._send(b"hold")
+        self.link.hold()
         self.wait_for("it is held", lambda: self.link.ask().is_held)
         os.close(pipe)
         said = child.communicate(timeout=60)
         self.assertEqual(child.returncode, 1, said)
-        self.assertRegex(said[1], r"axis: the console is gone, and it is held after line \d+; spindle and coolant off\n")
+        self.assertRegex(said[1], r"axis: the console is gone, and it is held after line \d+; spindle and coolant off$")
         self.assertIn("\nstopped console", Path("position").read_text())
 
 

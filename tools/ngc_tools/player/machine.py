@@ -13,7 +13,7 @@ _TAKES = {"accel_mm_s2": "three whole numbers from 1 to 1000000", "rate_mm_min":
           "start_mm_min": "three whole numbers from 0 to 100000", "slack_steps": "a whole number from 1 to 64",
           "most_percent": "100"}
 _DEFAULTS = {"rate_mm_min": [0, 0, 0], "start_mm_min": [0, 0, 0], "slack_steps": 2}
-_LEAST_ACCEL = 3  # steps a second, each second
+_LEAST_ACCEL, _GREATEST_ACCEL = 3, 10**9  # steps a second, each second
 
 
 class BadMachine(Failure):
@@ -28,6 +28,8 @@ def read_limits(path: str | Path, step_nm: Axes) -> Limits:
     rate = _steps(motion["rate_mm_min"], step_nm, 60)
     if min(accel) < _LEAST_ACCEL:
         raise BadMachine(f"{path}: motion: accel_mm_s2 is less than 3 steps a second, each second")
+    if max(accel) > _GREATEST_ACCEL:
+        raise BadMachine(f"{path}: motion: accel_mm_s2 is more than 1000000000 steps a second, each second")
     if any(mm and not steps for mm, steps in zip(motion["rate_mm_min"], rate)):
         raise BadMachine(f"{path}: motion: rate_mm_min is less than a step a second")
     return Limits(accel, rate, _steps(motion["start_mm_min"], step_nm, 60), slack=motion["slack_steps"])

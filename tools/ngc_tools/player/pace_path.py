@@ -16,9 +16,9 @@ Rise = tuple[int, int]  # so many steps over so many pulses
 
 @dataclass(frozen=True, slots=True)
 class Limits:
-    """What motors allow, by axes, in steps and seconds: accelerations of at least 3, rates of which 0 is any, and rates
-    at which a motor can start and stop at once. A corner is taken in at most `half` pulses on each side, and a motor
-    may be `slack` steps off its pulses, 1 to 1,000."""
+    """What motors allow, by axes, in steps and seconds: accelerations of 3 to 1,000,000,000, rates of which 0 is any,
+    and rates at which a motor can start and stop at once. A corner is taken in at most `half` pulses on each side, and
+    a motor may be `slack` steps off its pulses, 1 to 1,000."""
 
     accel: Axes
     rate: Axes = (0, 0, 0)

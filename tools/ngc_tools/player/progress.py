@@ -230,6 +230,18 @@ class Link:
         report shows whether it did. Raises NoAnswer."""
         self._send(b"at " + place.encode())
 
+    def hold(self) -> None:
+        """Tells a player to come to rest. Raises NoAnswer."""
+        self._send(b"hold")
+
+    def release(self) -> None:
+        """Tells a player that is held to go on. Raises NoAnswer."""
+        self._send(b"release")
+
+    def override(self, percent: int) -> None:
+        """Tells a player to go at so many percent of OUT's rates, 1 to 100. Raises NoAnswer."""
+        self._send(b"percent %d" % percent)
+
     def end(self) -> None:
         """Tells a player that the session is over, before OUT is closed. Raises NoAnswer."""
         self._send(b"end")
