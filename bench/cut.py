@@ -40,7 +40,7 @@ here = os.path.dirname(os.path.dirname(os.path.abspath(__file__)))
 sys.dont_write_bytecode = True
 sys.path.insert(0, os.path.join(here, "tools"))
 import jobs
-from ngc_tools.device import LARGE_SIZE, SIZE, Device
+from ngc_tools.formats.device import LARGE_SIZE, SIZE, Device
 
 STATUS = re.compile(r"status entries (\d+) place (\d+) at (\S+ \S+ \S+) (known|unknown) half (none|\S+ \d+) (\w+)\n")
 OFF = "S 0 0.000000 0 0 0 0\n"

@@ -1,6 +1,6 @@
 #!/usr/bin/env python3
 """Compares the tables of docs/DEVICE.md with the definitions, the reader and the writer of crates/ng_layout, and with
-tools/ngc_tools/device.py: all must have the same numbers at the same bytes, in the same widths, with the same codes and
+tools/ngc_tools/formats/device.py: all must have the same numbers at the same bytes, in the same widths, with the same codes and
 ranges.
 
     bench/device_table.py
@@ -14,7 +14,7 @@ from pathlib import Path
 root = Path(__file__).resolve().parent.parent
 sys.dont_write_bytecode = True
 sys.path.insert(0, str(root / "tools"))
-from ngc_tools import device as tool
+from ngc_tools.formats import device as tool
 
 layout = root / "crates/ng_layout"
 document = (root / "docs/DEVICE.md").read_text()
@@ -86,7 +86,7 @@ def tooled():
     """The places that the tools read in a state field."""
     found = (
         [(200, 256, False)]
-        if "image[byte + 200:byte + 456]" in (root / "tools/ngc_tools/device.py").read_text()
+        if "image[byte + 200:byte + 456]" in (root / "tools/ngc_tools/formats/device.py").read_text()
         else []
     )
     for field in tool.STATE.values():

@@ -29,7 +29,7 @@ from pathlib import Path
 HERE = Path(__file__).resolve().parent.parent
 sys.dont_write_bytecode = True
 sys.path.insert(0, str(HERE / "tools"))
-from ngc_tools.device import LARGE_SIZE, MOST_LARGE_PROGRAM, SECTOR, Device
+from ngc_tools.formats.device import LARGE_SIZE, MOST_LARGE_PROGRAM, SECTOR, Device
 
 SETTINGS = """step_nm = [1000000, 1000000, 1000000]
 low_nm = [-1000000000, -1000000000, -1000000000]

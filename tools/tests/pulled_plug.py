@@ -25,13 +25,13 @@ sys.path.insert(0, str(Path(__file__).resolve().parent))
 
 from session_support import FIRST  # noqa: E402
 
-from ngc_tools.console import Console, Ended, Status  # noqa: E402
-from ngc_tools.meter import Meter  # noqa: E402
-from ngc_tools.out import parse  # noqa: E402
-from ngc_tools.player_main import main as play  # noqa: E402
-from ngc_tools.position import Position, millimetres  # noqa: E402
-from ngc_tools.progress import Link, NoAnswer  # noqa: E402
-from ngc_tools.record import Record  # noqa: E402
+from ngc_tools.ngc.console import Console, Ended, Status  # noqa: E402
+from ngc_tools.operator.meter import Meter  # noqa: E402
+from ngc_tools.formats.out import read_line  # noqa: E402
+from ngc_tools.cli.player import main as play  # noqa: E402
+from ngc_tools.formats.position import Position, millimetres  # noqa: E402
+from ngc_tools.player.progress import Link, NoAnswer  # noqa: E402
+from ngc_tools.formats.record import Record  # noqa: E402
 
 STEP_NM = (1000, 1000, 1000)
 
@@ -76,7 +76,7 @@ def steps_after(lines: list[bytes], start: tuple[int, ...] = (0, 0, 0)) -> tuple
     """Where pulses lead, in steps."""
     position = Position(STEP_NM)
     position.steps = list(start)
-    return tuple(position.take_all(parse(line, number) for number, line in enumerate(lines, 1)).steps)
+    return tuple(position.take_all(read_line(line, number) for number, line in enumerate(lines, 1)).steps)
 
 
 def run_uncut(ngc: str, folder: Path, text: bytes) -> Uncut:
@@ -246,16 +246,19 @@ class Session:
 
     def _start_player(self) -> int:
         words = [self.fifo, self.folder / "settings.toml", self.record]
+        said, how = self.folder / "said", os.O_WRONLY | os.O_CREAT | os.O_APPEND
         if self.options.player:
-            given = ["-b", self.options.pipe, "-s", self.socket, "-p", self.log, *words]
+            given = ["-t", "-b", self.options.pipe, "-s", self.socket, "-p", self.log, *words]
             command = [str(word) for word in (self.options.player, *given)]
-            quiet = [(os.POSIX_SPAWN_OPEN, 1, os.devnull, os.O_WRONLY, 0)]
+            quiet = [(os.POSIX_SPAWN_OPEN, 1, os.devnull, os.O_WRONLY, 0),
+                     (os.POSIX_SPAWN_OPEN, 2, str(said), how, 0o600)]
             return os.posix_spawn(command[0], command, os.environ, file_actions=quiet)
-        given = [*words, "--pipe", self.options.pipe, "--progress", self.socket, "--pins", self.log]
+        given = [*words, "--no-ask-tool", "--pipe", self.options.pipe, "--progress", self.socket, "--pins", self.log]
         child = os.fork()
         if child == 0:
             try:
                 os.dup2(os.open(os.devnull, os.O_WRONLY), 1)
+                os.dup2(os.open(said, how, 0o600), 2)
                 os._exit(play([str(word) for word in given]))
             finally:
                 os._exit(3)
@@ -299,6 +302,7 @@ class Session:
                 self.timer.join()
             self.drain()
             self.console.status()
+            self.link.end()
         except (Ended, NoAnswer):
             self.kill()
             return False
@@ -385,7 +389,7 @@ def main() -> int:
     parser.add_argument("--ahead", type=int, default=100)
     parser.add_argument("--unmetered", action="store_true")
     parser.add_argument("--pipe", type=int, default=4096)
-    parser.add_argument("--player", help="the player of tools/player.c, in place of ngc-player")
+    parser.add_argument("--player", help="the player of tools/player, in place of ngc-player")
     parser.add_argument("--longest", type=float, default=0.3, help="a cut comes after so many seconds at most")
     given = parser.parse_args()
     options = Options(given.ngc, None if given.unmetered else given.ahead, given.pipe, given.player, given.longest)

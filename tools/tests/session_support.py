@@ -1,10 +1,13 @@
 """What tests share: the paths of `ngc` and of the tools, a folder, the settings of docs/SESSION.md's first session."""
+import fcntl
 import os
 import pty
 import select
+import struct
 import subprocess
 import sys
 import tempfile
+import termios
 import time
 import unittest
 from collections.abc import Callable
@@ -96,10 +99,11 @@ class InFolder(unittest.TestCase):
 class Terminal:
     """A program on a pseudo-terminal."""
 
-    def __init__(self, *words: str, kind: str = "dumb") -> None:
-        """Starts it; a terminal of the kind `dumb` can't clear lines."""
+    def __init__(self, *words: str, kind: str = "dumb", columns: int = 0) -> None:
+        """Starts it; a terminal of the kind `dumb` can't clear lines. One of 0 columns doesn't say how wide it is."""
         self.pid, self.file = pty.fork()
         if self.pid == 0:
+            fcntl.ioctl(0, termios.TIOCSWINSZ, struct.pack("HHHH", 24, columns, 0, 0))
             os.environ.update(TERM=kind, PYTHONUNBUFFERED="1", INPUTRC="/dev/null")
             os.execv(sys.executable, [sys.executable, *words])
 
@@ -133,19 +137,27 @@ class Terminal:
                 return self.read_to(end)
         raise AssertionError(f"nothing comes of {key!r}")
 
+    def end_by(self, number: int) -> bytes:
+        """Sends a signal, again where nothing is shown for two seconds, as `press` does. Returns what is shown then."""
+        for _ in range(PATIENCE_S // 2):
+            os.kill(self.pid, number)
+            if select.select([self.file], [], [], 2)[0]:
+                return self.read_to(b"never")
+        raise AssertionError(f"it doesn't end by signal {number}")
+
     def send_to_end(self, key: bytes) -> bytes:
         """Presses a key again and again until the program ends; returns what is shown meanwhile."""
         got, until = b"", time.monotonic() + PATIENCE_S
         while time.monotonic() < until:
             try:
                 os.write(self.file, key)
-                while select.select([self.file], [], [], 0.3)[0]:
-                    piece = os.read(self.file, 4096)
-                    if not piece:
-                        return got
-                    got += piece
             except OSError:
-                return got
+                return got + self.read_to(b"never")
+            while select.select([self.file], [], [], 0.3)[0]:
+                try:
+                    got += os.read(self.file, 4096)
+                except OSError:
+                    return got
         raise AssertionError(f"it doesn't end: {got!r}")
 
     def status(self) -> int:

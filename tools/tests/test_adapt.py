@@ -1,4 +1,4 @@
-"""ngc-adapt: ten headers of CAM systems, each rule, arcs by radius, what is asked, what stays; all texts by hand."""
+"""ngc-adapt: ten headers of CAM systems, arcs by radius, what is asked, what is told, and files; all texts by hand."""
 import sys
 import unittest
 from decimal import Decimal
@@ -6,11 +6,10 @@ from pathlib import Path
 
 sys.path.insert(0, str(Path(__file__).resolve().parent))
 
-from session_support import TOOLS, InFolder, Terminal, ngc, told  # noqa: E402
+from session_support import FIRST, TOOLS, InFolder, Terminal, ngc, told  # noqa: E402
 
-from ngc_tools.adapt_main import main  # noqa: E402
-from ngc_tools.cam import Line, Missing, Places, rewritten  # noqa: E402
-from ngc_tools.radius_arcs import Ends, centre  # noqa: E402
+from ngc_tools.cli.adapt import main  # noqa: E402
+from ngc_tools.job.radius_arcs import Ends, centre  # noqa: E402
 
 CAM = Path(__file__).resolve().parent / "cam"
 CHANGED = {  # the numbers of the changed lines
@@ -57,11 +56,6 @@ M2
 """
 
 
-def adapted(*lines: str, lift: str | None = "5", park: tuple[str, str] | None = None) -> list[str]:
-    """Lines as they are written for `ngc`, arcs aside."""
-    return [line.text for line in rewritten(list(lines), Places(lift, park), lambda number, why: None)]
-
-
 def written(path: Path, *words: str) -> tuple[int, str, str]:
     """The status, standard output and standard error of `ngc-adapt`, which writes out.ngc."""
     return told(main, str(path), "--ngc", ngc(), "--output", "out.ngc", *words)
@@ -72,10 +66,9 @@ class Headers(InFolder):
 
     def test_ten(self) -> None:
         """Each is written as expected, with a list of its changed lines, and `ngc` accepts it."""
-        self.assertEqual(sorted(CHANGED), sorted(path.name for path in CAM.iterdir() if path.suffix != ".expected"))
         for name, numbers in CHANGED.items():
             with self.subTest(name):
-                status, said, error = written(CAM / name, "--lift", "-2", "--park", "-10", "20.5")
+                status, said, error = written(CAM / name, "--lift", "-2", "--park", "-10", "20.5", "--force")
                 self.assertEqual((error, status), ("", 0))
                 self.assertEqual(Path("out.ngc").read_bytes(), (CAM / f"{name}.expected").read_bytes())
                 listed = [line for line in said.splitlines() if line.startswith("line ")]
@@ -91,65 +84,7 @@ class Headers(InFolder):
     def test_once_more(self) -> None:
         """What was adapted stays as it is."""
         for name in CHANGED:
-            self.assertEqual(written(CAM / f"{name}.expected"), (0, "no line is changed\n", ""))
-
-
-class Rules(unittest.TestCase):
-    """Each rule, and what it leaves."""
-
-    def test_comments(self) -> None:
-        """Those after ;, and those within others."""
-        self.assertEqual(adapted("G0 X1 ; up (a bit)", ";", "; alone", "(a (b) c) G1 (d)", "(;)", ";;x"),
-                         ["G0 X1 (up [a bit])", "", "(alone)", "(a [b] c) G1 (d)", "(;)", "(;x)"])
-
-    def test_program_number(self) -> None:
-        """At the head alone; subroutines stay."""
-        self.assertEqual(adapted("%", "N1 O0007(X)", "G0 X1"), ["%", "N1 (O0007)(X)", "G0 X1"])
-        for line in ("O100 sub", "O<up> call", "O100 G0 X1"):
-            self.assertEqual(adapted(line), [line])
-        self.assertEqual(adapted("G21", "O1000")[1], "O1000")
-
-    def test_codes(self) -> None:
-        """Of the words that change, and of those that look alike."""
-        for old, new in (("G71", "G21"), ("G70 G91.1", "G20"), ("g71 G21 X1", "G21 X1"), ("G71 P1 Q2", "G71 P1 Q2"),
-                         ("G91.10 X1", "X1"), ("G90.1", "G90.1"), ("G64P.1Q.2", "G64"), ("G64 G4 P1", "G64 G4 P1"),
-                         ("G61.1 P1", "G61.1 P1"), ("G00 G80", "G80"), ("/N5 G0 G80 G40", "/N5 G80 G40"),
-                         ("G0 G80 X1", "G0 G80 X1"), ("G41 D1 X1", "G41 D1 X1"), ("X[#1+2]G64P[1]", "X[#1+2]G64"),
-                         ("T1 M6 U5 &", "T1 M6 U5 &"), ("G0X1G91.1Y2", "G0X1Y2"), ("  G91.1 X1", "  X1")):
-            self.assertEqual(adapted(old), [new])
-
-    def test_offsets(self) -> None:
-        """An offset of 0 outside of the plane goes, one within it stays, and so does one that isn't 0."""
-        for plane, letter in ((17, "K"), (18, "J"), (19, "I")):
-            for other in "IJK":
-                gone = "" if other == letter else f" {other}0.0"
-                self.assertEqual(adapted(f"G{plane}", "G2 X1", f"X2 {other}0.0", f"X2 {other}1")[2:],
-                                 [f"X2{gone}", f"X2 {other}1"])
-        self.assertEqual(adapted("G1 X1 K0"), ["G1 X1 K0"])
-
-    def test_home(self) -> None:
-        """Z alone, or X and Y alone, under G91; and the motion that was in force."""
-        self.assertEqual(adapted("G91 G28 Z0 M5", "G30 Z0.", "G0 G28 Z0"),
-                         ["G91 G53 G0 Z5 M5", "G53 G0 Z5", "G0 G53 Z5"])
-        self.assertEqual(adapted("G1 X1 F5", "G91 G28 Z0", "G90 F9", "N1X2", "X3"),
-                         ["G1 X1 F5", "G91 G53 G0 Z5", "G90 F9", "N1G1X2", "X3"])
-        self.assertEqual(adapted("G91", "G28 Z0", "X2")[2], "G80 X2")
-        self.assertEqual(adapted("G0 X1", "G91 G28 Z0", "X2")[2], "X2")
-        self.assertEqual(adapted("G1 X1", "G91 G28 Z0", "G0 X2", "X3")[2:], ["G0 X2", "X3"])
-        self.assertEqual(adapted("G91 G28 X0 Y0", park=("1", "-2")), ["G91 G53 G0 X1 Y-2"])
-        warned: list[int] = []
-        stay = ["G28", "G28 Z0", "G91 G28 Z1", "G28 X0 Y0 Z0", "G30"]
-        lines = rewritten(stay, Places("5", ("1", "2")), lambda number, why: warned.append(number))
-        self.assertEqual(([line.text for line in lines], warned), (stay, [1, 2, 3, 4, 5]))
-        for text, what in (("G91 G28 Z0", "lift"), ("G91 G28 Y0", "park")):
-            with self.assertRaises(Missing) as caught:
-                adapted(text, lift=None)
-            self.assertEqual(caught.exception.what, what)
-
-    def test_pieces(self) -> None:
-        """A line that is cut is the line."""
-        for text in ("", " \t", "G0X1 (a)Y 2 ", "/N1 G 0 1 X+.5", "(open", "#1=[2*[3]] X#1", "a\x80(\xff)", "%"):
-            self.assertEqual(Line.cut(text).text, text)
+            self.assertEqual(written(CAM / f"{name}.expected", "--force"), (0, "no line is changed\n", ""))
 
 
 class Arcs(InFolder):
@@ -175,76 +110,139 @@ class Arcs(InFolder):
         done = self.tool("ngc-adapt", "arcs.ngc", "--ngc", ngc())
         self.assertEqual(done.stdout, CENTRED)
         self.assertEqual(done.returncode, 1)
-        self.assertIn("arcs.ngc:8: B11 RadiusArc: G2 X1 R0.49\n", done.stderr)
+        self.assertIn("\nthe text:8: B11 RadiusArc: G2 X1 R0.49\n    mend: write the arc by its centre", done.stderr)
 
 
 class Words(InFolder):
-    """What is asked, what is refused, and files."""
+    """What is asked, what is told, and files."""
+
+    def adapt(self, text: str | bytes, *words: str) -> tuple[int, str, str, bytes | None]:
+        """Adapts part.nc: the status, both outputs, and what out.ngc is then."""
+        Path("part.nc").write_bytes(text.encode() if isinstance(text, str) else text)
+        Path("out.ngc").unlink(missing_ok=True)
+        status, said, error = told(main, "part.nc", "--ngc", ngc(), "-o", "out.ngc", *words)
+        return status, said, error, Path("out.ngc").read_bytes() if Path("out.ngc").exists() else None
 
     def test_needed(self) -> None:
-        """Without a height nothing is written."""
-        name = str(CAM / "fusion_grbl.nc")
-        done = self.tool("ngc-adapt", name, "--ngc", ngc(), "-o", "out.ngc")
-        self.assertEqual((done.returncode, done.stdout), (2, ""))
-        self.assertEqual(done.stderr, f"{name}: line 6: G28 G91 Z0.: name the machine Z that the tool is lifted to:"
-                                      " --lift Z\n")
-        done = self.tool("ngc-adapt", name, "--ngc", ngc(), "--lift", "0")
-        self.assertIn("line 25: G28 G91 X0. Y0.: name the machine X and Y", done.stderr)
-        self.assertFalse(Path("out.ngc").exists())
+        """Without heights, places and slots nothing is written; each is named with its line."""
+        text = "G21 G91\nG28 Z0\nG28 X0\nT201 M6\nG43 H300\n"
+        needed = ["2: G28 Z0: name the machine Z that the tool is lifted to, in millimetres: --lift Z\n",
+                  "3: G28 X0: name the machine X and Y that the table is brought to, in millimetres: --park X Y\n",
+                  "4: T201 M6: name the slot of tool 201, 1 to 128: --tool 201=SLOT\n",
+                  "5: G43 H300: name the slot of tool 300, 1 to 128: --tool 300=SLOT\n"]
+        words: list[str] = []
+        for number, more in enumerate((["--lift", "0"], ["--park", "0", "0"], ["--tool", "201=1"], [])):
+            wanted = "ngc-adapt: " + "".join(f"part.nc: line {line}" for line in needed[number:])
+            self.assertEqual(self.adapt(text, *words), (2, "", wanted, None))
+            words += more
+
+    def test_slots(self) -> None:
+        """By the table, in the list; what is no table."""
+        status, said, error, new = self.adapt("T201 M6\nG43 H201\nM2\n", "--tool", "201=1", "--tool", "7=2")
+        self.assertEqual((status, error, new), (0, "", b"T1 M6\nG43 H1\nM2\n"))
+        self.assertTrue(said.startswith("line 1: tool 201 is in slot 1\n  - T201 M6\n  + T1 M6\n"))
+        for wrong in ("201", "201=0", "201=129", "=1", "201=x", "-1=1", "1=1=1", "0=1"):
+            self.assertEqual(self.adapt("M2\n", "--tool", wrong)[0], 2, wrong)
+        self.assertIn("each number once", self.adapt("M2\n", "--tool", "7=1", "--tool", "7=2")[2])
+        for text, table in (("T201\nT202\nM2\n", ("201=1", "202=1")), ("T1\nT201 M6\nM2\n", ("201=1",))):
+            words = [word for pair in table for word in ("--tool", pair)]
+            self.assertRegex(self.adapt(text, *words)[2], "part.nc: T[0-9]+ and T20[12] would both be slot 1; give")
 
     def test_asked(self) -> None:
         """At a terminal it asks, and an answer that is no number is refused."""
-        for answers, status in (((b"-2\n", b"-10 20.5\n"), 0), ((b"high\n",), 2), ((b"\n",), 2)):
-            Path("out.ngc").unlink(missing_ok=True)
-            terminal = Terminal(str(TOOLS / "ngc-adapt"), str(CAM / "fusion_grbl.nc"), "--ngc", ngc(), "-o", "out.ngc")
-            for answer in answers:
-                terminal.read_to(b"unit: ")
+        Path("part.nc").write_text("G21 G91 G28 Z0\nT201\nG28 X0\nM2\n")
+        for answers, status in (((b"-2\n", b"1\n", b"-10 20.5\n"), 0), ((b"high\n",), 2), ((b"\n",), 2),
+                                ((b"1 2\n",), 2), ((b"1\n", b"129\n"), 2)):
+            terminal = Terminal(str(TOOLS / "ngc-adapt"), "part.nc", "--ngc", ngc(), "-o", "out.ngc")
+            for answer, question in zip(answers, (b"in millimetres: ", b"1 to 128: ", b"in millimetres: ")):
+                terminal.read_to(question)
                 terminal.send(answer)
             terminal.read_to(b"never")
-            self.assertEqual(terminal.status(), status)
+            self.assertEqual(terminal.status(), status, answers)
+            self.assertEqual(Path("out.ngc").exists(), status == 0)
             if status == 0:
-                self.assertEqual(Path("out.ngc").read_bytes(), (CAM / "fusion_grbl.nc.expected").read_bytes())
+                self.assertEqual(Path("out.ngc").read_text(), "G21 G91 G53 G0 Z-2\nT1\nG53 G0 X-10\nM2\n")
+                Path("out.ngc").unlink()
 
     def test_refused(self) -> None:
-        """The text is written, the refused line is told, and nothing unknown is dropped."""
-        Path("part.nc").write_text("G21\nG41 D1 X1\nM2\n")
-        done = self.tool("ngc-adapt", "part.nc", "--ngc", ngc(), "-o", "out.ngc")
-        self.assertEqual((done.returncode, done.stdout), (1, "no line is changed\n"))
-        self.assertIn("part.nc:2: B3 LeftOutCode: G41 D1 X1\n  leave it out", done.stderr)
-        self.assertEqual(Path("out.ngc").read_text(), "G21\nG41 D1 X1\nM2\n")
-        Path("part.nc").write_text("G21\n")
-        self.assertIn("part.nc:2: X3 NoProgramEnd: (the end)",
-                      self.tool("ngc-adapt", "part.nc", "--ngc", ngc()).stderr)
+        """The text is written, each refused line is told, and nothing unknown is dropped."""
+        text = "G21\nG41 D1 X1\nG52 X5\nG41\nM2\n"
+        status, said, error, new = self.adapt(text)
+        self.assertEqual((status, said, new), (1, "no line is changed\n", text.encode()))
+        self.assertEqual(error, """\
+out.ngc:2: B3 LeftOutCode: G41 D1 X1
+    mend: let the CAM system compensate the cutter's radius (in computer)
+out.ngc:3: B2 UnknownCode: G52 X5
+    mend: G52 moves the work zero for the lines after it: let the post-processor add that to their coordinates; \
+leave the whole line out only where it is 0 on each axis
+out.ngc:4: B3 LeftOutCode: G41
+Mend these, and check again: ngc-check out.ngc
+""")
+        error = self.adapt("G52 X5\n" * 12 + "M2\n")[2]
+        self.assertEqual((error.count("B2 UnknownCode"), error.splitlines()[-1]),
+                         (10, "and more: ngc-check out.ngc lists each"))
+
+    def test_beginning(self) -> None:
+        """Where the work zero lies counts for what is refused, and not for where arcs lie; nor do slots."""
+        Path("low.toml").write_text(FIRST.replace("high_nm = [1000000000, 1000000000, 1000000000]",
+                                                  "high_nm = [1000000000, 1000000000, 0]"))
+        text = "G21 G17 F100\nG0 Z5\nG2 X2 R1\nM2\n"
+        status, _, error, _ = self.adapt(text, "--settings", "low.toml")
+        self.assertEqual((status, error.split("\n")[0]), (1, "out.ngc:2: X2 OutsideTravel: G0 Z5"))
+        status, _, error, new = self.adapt(text.replace("G0 Z5", "T9"), "--settings", "low.toml")
+        self.assertEqual((status, error.split("\n")[0]), (1, "out.ngc:2: B14 BadSlot: T9"))
+        self.assertEqual(new, b"G21 G17 F100\nT9\nG2 X2 I1 J0\nM2\n")
+        status, _, error, new = self.adapt(text, "--settings", "low.toml", "--origin", "0", "0", "-5")
+        self.assertEqual((status, error, new), (0, "", b"G21 G17 F100\nG0 Z5\nG2 X2 I1 J0\nM2\n"))
 
     def test_warning(self) -> None:
         """A G28 that stays is warned of."""
-        Path("part.nc").write_text("G28\nM2\n")
-        done = self.tool("ngc-adapt", "part.nc", "--ngc", ngc())
-        self.assertEqual(done.stderr, "line 1: WARNING: G28 moves all three axes to the home, in one straight line; it"
-                                      " is left as it is\nno line is changed\n")
+        self.assertEqual(self.adapt("G28\nM2\n")[1], "line 1: WARNING: G28 moves all three axes to the home, in one"
+                         " straight line; it is left as it is\nno line is changed\n")
 
     def test_whole_text(self) -> None:
-        """A byte order mark, a missing newline, carriage returns, bytes from 128 on."""
-        Path("part.nc").write_bytes(b"\xef\xbb\xbfG21 ;\xfc\r\nM30\r")
-        done = self.tool("ngc-adapt", "part.nc", "--ngc", ngc(), "-o", "out.ngc")
-        self.assertEqual((done.returncode, done.stderr), (0, ""))
-        self.assertEqual(Path("out.ngc").read_bytes(), b"G21 (\xfc)\r\nM30\r\n")
-        self.assertTrue(done.stdout.startswith("line 1: the byte order mark before it is left out\na newline is put"))
+        """A mark, a missing newline and end, carriage returns, other encodings: all is written as `ngc` reads it."""
+        for old, new, said in (
+                (b"\xef\xbb\xbfG21 ;\xc3\xbc\r\nM30\r", "G21 (\xfc)\r\nM30\r\n", "the byte order mark before line 1"),
+                ("G21 (\u20ac)\nM2\n".encode("utf-16"), "G21 (\u20ac)\nM2\n", "it is UTF-16, and is written in UTF-8"),
+                (b"G21 (\xfc)\rM2\r", "G21 (\xfc)\nM2\n", "letters beyond ASCII are read as Windows-1252")):
+            status, said_now, error, written_now = self.adapt(old)
+            self.assertEqual((status, error, written_now), (0, "", new.encode()))
+            self.assertTrue(said_now.startswith(f"the text: {said}"), said_now)
+        self.assertEqual(self.adapt("G21\n(end)")[1].splitlines()[:2], [
+            "a newline is put at the end",
+            "line 3: M2 is put there, since the text has neither M2 nor M30: see that nothing of it is missing"])
+        self.assertEqual(self.adapt(b"\xff\xfeG")[:3], (
+            2, "", "ngc-adapt: part.nc: it begins as UTF-16 does, and byte 2 isn't UTF-16: save it in UTF-8\n"))
+
+    def test_shown(self) -> None:
+        """What a terminal would obey is escaped in the list, and stays in the text; letters are what they are."""
+        text = b"; x \x1b[31mred\x1b[2K\n;\xc3\x9c\nG52 X1 (\x1b[2J)\nM2\n"
+        status, said, error, new = self.adapt(text)
+        self.assertEqual((status, new), (1, b"(x \x1b[31mred\x1b[2K)\n(\xc3\x9c)\nG52 X1 (\x1b[2J)\nM2\n"))
+        self.assertNotIn("\x1b", said + error)
+        self.assertIn("  - ; x \\x1b[31mred\\x1b[2K\n  + (x \\x1b[31mred\\x1b[2K)\n", said)
+        self.assertIn("  - ;\xdc\n  + (\xdc)\n", said)
+        self.assertIn("G52 X1 (\\x1b[2J)\n", error)
 
     def test_files(self) -> None:
-        """What can't be used is named."""
-        done = self.tool("ngc-adapt", "none.nc", "--ngc", ngc())
-        self.assertEqual((done.returncode, done.stderr), (2, "none.nc: No such file or directory\n"))
-        Path("part.nc").write_text("M2\n")
-        done = self.tool("ngc-adapt", "part.nc", "--ngc", ngc(), "-o", "none/out.ngc")
-        self.assertEqual((done.returncode, done.stderr), (2, "none/out.ngc: No such file or directory\n"))
-        done = self.tool("ngc-adapt", "part.nc", "--ngc", ngc(), "--lift", "1e3")
-        self.assertEqual(done.returncode, 2)
+        """What can't be used is named, and nothing that is needed is written over."""
+        self.assertEqual(self.adapt("M2\n", "--lift", "1e3")[0], 2)
         Path("first.toml").write_text("period_us = 1\n")
-        done = self.tool("ngc-adapt", "part.nc", "--ngc", ngc(), "--settings", "first.toml")
-        self.assertEqual((done.returncode, done.stderr), (2, "first.toml: S2 MissingKey\n"))
-        done = self.tool("ngc-adapt", "part.nc", "--settings", "none.toml", "--ngc", ngc())
-        self.assertEqual((done.returncode, done.stderr), (2, "none.toml: No such file or directory\n"))
+        for words, error in ((("none.nc",), "none.nc: No such file or directory"),
+                             (("part.nc", "-o", "none/out.ngc"), "none/out.ngc: No such file or directory"),
+                             (("part.nc", "--settings", "none.toml"), "none.toml: No such file or directory"),
+                             (("part.nc", "-o", "part.nc", "--force"), "part.nc: it is what is read here"),
+                             (("part.nc", "-o", "first.toml", "--force"), "first.toml: it is settings"),
+                             (("part.nc", "-o", "old.ngc"), "old.ngc: it is there already; --force writes over it")):
+            Path("old.ngc").write_text("old")
+            done = told(main, *words, "--ngc", ngc())
+            self.assertEqual(done[:2], (2, ""))
+            self.assertTrue(done[2].startswith(f"ngc-adapt: {error}"), done[2])
+        self.assertIn("first.toml: S2 MissingKey", told(main, "part.nc", "--settings", "first.toml", "--ngc", ngc())[2])
+        self.assertEqual((Path("old.ngc").read_text(), Path("part.nc").read_text()), ("old", "M2\n"))
+        self.assertEqual(told(main, "part.nc", "-o", "old.ngc", "--force", "--ngc", ngc())[0], 0)
+        self.assertEqual(Path("old.ngc").read_text(), "M2\n")
 
 
 if __name__ == "__main__":

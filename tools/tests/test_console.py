@@ -7,9 +7,9 @@ sys.path.insert(0, str(Path(__file__).resolve().parent))
 
 from session_support import InFolder, ngc  # noqa: E402
 
-from ngc_tools.console import Console, Ended, Status  # noqa: E402
-from ngc_tools.meter import Meter  # noqa: E402
-from ngc_tools.progress import Report  # noqa: E402
+from ngc_tools.ngc.console import Console, Ended, Status  # noqa: E402
+from ngc_tools.operator.meter import Meter  # noqa: E402
+from ngc_tools.player.progress import Report  # noqa: E402
 
 
 class Consoles(InFolder):
@@ -39,6 +39,16 @@ class Consoles(InFolder):
         console = Console(ngc(), "mill.dev", "first.toml", "pulses")
         status = console.status()
         self.assertEqual((status.half, status.segment, status.known, status.does), ("mdi", 0, False, "idle"))
+        self.assertEqual(console.quit(), 0)
+
+    def test_one_line(self) -> None:
+        """A command with a newline in it would be two, so it isn't given at all."""
+        self.device()
+        console = Console(ngc(), "mill.dev", "first.toml", "pulses")
+        for command in ("mdi G0 X1\ntick 100", b"mdi M5\n"):
+            with self.assertRaises(ValueError):
+                console.ask(command)
+        self.assertEqual(console.status().does, "idle")
         self.assertEqual(console.quit(), 0)
 
     def test_refused_at_the_start(self) -> None:

@@ -12,7 +12,7 @@ sys.path.insert(0, str(Path(__file__).resolve().parent))
 
 from session_support import TOOLS, InFolder, ngc  # noqa: E402
 
-from ngc_tools.device import LARGE_SIZE, LOG_END, SECTOR, SIZE, Device, Held, NoDevice, copied  # noqa: E402
+from ngc_tools.formats.device import LARGE_SIZE, LOG_END, SECTOR, SIZE, Device, Held, NoDevice, copied  # noqa: E402
 
 ROOT = TOOLS.parent
 DATA = ROOT / "crates" / "ngc_cases" / "data"
@@ -207,17 +207,17 @@ class Script(InFolder):
         image = stored("examples/device2.hex")
         Path("damaged.dev").write_bytes(image[:512 * 88 + 152] + b"\3" + image[512 * 88 + 153:])
         status, printed, said = self.read_device("damaged.dev")
-        self.assertEqual((status, said), (1, "damaged (J3): sector 88: spindle 3\n"))
+        self.assertEqual((status, said), (1, "ngc-device: damaged.dev: damaged (J3): sector 88: spindle 3\n"))
         self.assertIn("spindle: 3\n", printed)
         Path("short.dev").write_bytes(image[:-1])
         self.assertEqual(self.read_device("short.dev"), (
-            1, "", "short.dev isn't a device (J2): 875,519 bytes, and a device has 875,520 or more\n"))
-        self.assertEqual(self.read_device("none.dev"), (2, "", "none.dev can't be read: No such file or directory\n"))
+            1, "", "ngc-device: short.dev: not a device (J2): 875,519 bytes, and a device has 875,520 or more\n"))
+        self.assertEqual(self.read_device("none.dev"), (2, "", "ngc-device: none.dev: No such file or directory\n"))
         self.assertEqual(self.read_device()[0], 2)
         alone = Path(shutil.copy(ROOT / "examples" / "read_device.py", self.folder))
         self.assertEqual(self.read_device("short.dev", script=alone), (
-            2, "", f"{alone}: no folder above it has tools/ngc_tools/device.py, by which it reads: leave it in its"
-                   " checkout\n"))
+            2, "", f"{alone}: no folder above it has tools/ngc_tools/cli/device.py, by which it reads: leave it"
+                   " in its checkout\n"))
 
 
 class Large(InFolder):

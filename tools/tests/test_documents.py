@@ -14,7 +14,7 @@ sys.path.insert(0, str(Path(__file__).resolve().parent))
 from session_support import PATIENCE_S, TOOLS, InFolder, Terminal, ngc  # noqa: E402
 from test_rehearse import HOLE, OUT  # noqa: E402
 
-from ngc_tools.record import Record  # noqa: E402
+from ngc_tools.formats.record import Record  # noqa: E402
 
 DOCS = TOOLS.parent / "docs"
 CAM = Path(__file__).resolve().parent / "cam"
@@ -27,7 +27,8 @@ CHAPTERS = {
     "TOOLS.md": ("ngc-player: carry out OUT", "ngc-operate: a console for people",
                  "After a loss of power, with these two", "The plug is pulled",
                  "ngc-check: each refused line, and what is dangerous", "ngc-plot: a picture, extents, times",
-                 "ngc-rehearse: what a resume would do", "ngc-adapt: CAM text as ngc accepts it",
+                 "ngc-rehearse: what a resume would do", "ngc-device: what a device stands for",
+                 "ngc-adapt: CAM text as ngc accepts it",
                  "ngc-split: a program above the device's limit"),
     "RECOVERY.md": ("A half-done block",), "POST_PROCESSOR.md": ("",), "OUTPUT.md": (),
     "SESSION.md": ("The device", "A first session"),
@@ -120,9 +121,10 @@ class Tools(Documents):
     """docs/TOOLS.md."""
 
     def test_player(self) -> None:
-        """A pipe with a player; player.c is built, and its words are those of the page."""
+        """A pipe with a player; tools/player is built, and its words are those of the page."""
         text, tried = self.chapter("TOOLS.md", "ngc-player")
-        (synopsis, _), (fifo, _), (play, record), (build, _), (words, _) = tried
+        (synopsis, _), (fifo, _), (play, shown), (build, _), (words, _) = tried
+        record = shown[shown.index("out /"):]
         self.same_options("ngc-player", text, synopsis)
         self.shell(fifo)
         child = self.begin(play)
@@ -146,8 +148,8 @@ class Tools(Documents):
         player = self.begin(play)
         terminal = self.operate(operate)
         shown = b""
-        for typed in re.findall(r"^ngc> (.*\n)", session, re.MULTILINE):
-            shown += terminal.read_to(b"ngc> ")
+        for prompt, typed in re.findall(r"^(ngc> |.*\? yes .*: )(.*\n)", session, re.MULTILINE):
+            shown += terminal.read_to(prompt.encode())
             terminal.send(typed.encode())
         shown += terminal.read_to(b"never")
         self.assertEqual((terminal.status(), player.wait(PATIENCE_S)), (0, 0))
@@ -167,7 +169,7 @@ class Tools(Documents):
         player = self.begin(play)
         terminal = self.operate(operate)
         shown = b""
-        for line, end in zip(typed.splitlines(True), (b"ngc> ", b"ngc> "), strict=True):
+        for line, end in zip(typed.splitlines(True), (b"ngc> ",) * 3, strict=True):
             shown += terminal.read_to(end)
             terminal.send(line.removeprefix("ngc> ").encode())
         shown += terminal.read_to(b"holds: ")
@@ -194,17 +196,18 @@ class Tools(Documents):
         self.same_options("ngc-check", text, synopsis + only)
         shutil.copy(CAM / "freecad_linuxcnc.ngc", "part.ngc")
         self.assertEqual(self.shell(check, status=1), said)
-        report, wrong = report[:report.index("mill.toml")], report[report.index("mill.toml"):]
+        report, wrong = report.split("ngc-check: mill.toml")
         self.assertEqual(self.shell(first), report)
         self.assertIn("6,000 mm/min", self.shell(only.replace("FILE", "first.toml")))
         Path("mill.toml").write_text(Path("mill.toml").read_text().replace("period_us = 40", "period_us = 50.0"))
-        self.assertEqual(self.shell(only.replace("FILE", "mill.toml") + " 2>&1", status=2), wrong)
+        error = self.shell(only.replace("FILE", "mill.toml") + " 2>&1", status=2)
+        self.assertEqual(error, "ngc-check: mill.toml" + wrong)
 
     def test_plot(self) -> None:
-        """A pipe, and a picture beside an example with its figures."""
+        """A program where the work is, and a picture beside an example with its figures."""
         text, ((synopsis, _), (pipe, _), (ring, said)) = self.chapter("TOOLS.md", "ngc-plot")
         self.same_options("ngc-plot", text, synopsis)
-        shutil.copy("examples/mill.ngc", "part.ngc")
+        shutil.copy("examples/pocket.ngc", "part.ngc")
         self.assertEqual(self.shell(pipe), "")
         ElementTree.parse("part.svg")
         os.unlink("examples/ring.svg")
@@ -220,6 +223,16 @@ class Tools(Documents):
         self.run_ngc(f"load {len(HOLE)}\n{HOLE}start\n" + f"tick {OUT + 100}\n")
         self.assertEqual(self.shell(resume), said)
         self.assertTrue(self.shell(carried).startswith(where + "\n" + said[:said.index("the approach")]))
+
+    def test_device(self) -> None:
+        """The half-done block that docs/DEVICE.md speaks of first."""
+        text, ((command, _),) = self.chapter("TOOLS.md", "ngc-device")
+        self.same_options("ngc-device", text, command)
+        self.device()
+        self.run_ngc("mdi G0 X0.002\ntick 2\n")
+        said = self.shell(command.replace("DEVICE", "mill.dev"))
+        self.assertIn("half-done block: 2\n", said)
+        self.assertIn("its text: G0 X0.002\n", said)
 
     def test_adapt(self) -> None:
         """The list of what is changed."""
@@ -289,6 +302,7 @@ class Others(Documents):
         self.assertEqual(self.shell(dry, status=1).splitlines()[-1], "REFUSED line 11: B4 GroupTwice")
         self.assertRegex(self.shell(check, status=1), r"(?s)^part.ngc:11: B4 .*\npart.ngc:12: B2 ")
         shutil.copy(CAM / "fusion_mach3.tap", "part.nc")
+        Path("part.ngc").unlink()
         self.assertIn("+ G53 G0 G91 Z0\n", self.shell(adapt.replace(" Z ", " 0 ")))
         self.assertRegex(self.shell(split), r"^part.ngc: \d+ bytes: ngc run takes it as it is\n$")
         head, end = (blocks(chapters("POST_PROCESSOR.md")[f"The {what} of a program"])[0] for what in ("head", "end"))

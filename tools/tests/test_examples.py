@@ -9,11 +9,11 @@ sys.path.insert(0, str(Path(__file__).resolve().parent))
 
 from session_support import FIRST, TOOLS, InFolder, ngc, told  # noqa: E402
 
-from ngc_tools.adapt_main import main as adapt  # noqa: E402
-from ngc_tools.canonical import MOTIONS, Command, parse  # noqa: E402
-from ngc_tools.position import Position, millimetres  # noqa: E402
-from ngc_tools.rehearse_main import main as rehearse  # noqa: E402
-from ngc_tools.split_main import main as split  # noqa: E402
+from ngc_tools.cli.adapt import main as adapt  # noqa: E402
+from ngc_tools.formats.canonical import MOTIONS, Command, read_commands  # noqa: E402
+from ngc_tools.formats.position import Position, millimetres  # noqa: E402
+from ngc_tools.cli.rehearse import main as rehearse  # noqa: E402
+from ngc_tools.cli.split import main as split  # noqa: E402
 
 EXAMPLES = TOOLS.parent / "examples"
 NAMES = sorted(path.stem for path in EXAMPLES.glob("*.ngc"))
@@ -21,16 +21,19 @@ STEP_NM = (50_000, 50_000, 50_000)  # so that there are few pulses
 COARSE = (FIRST.replace("[1000, 1000, 1000]", str(list(STEP_NM))).replace("period_us = 50\n", "period_us = 1\n")
           .replace("[50000000]", "[50000000, 62500000, 0]"))
 HOME, TURN = "relies on", "a full turn of radius"
-# The lines that rely on the unit, the distance mode, the way that cycles end; and the circles, which are meant.
-WARNED = {"bores": [(9, HOME)], "first": [(1, HOME)] * 2, "parameters": [(5, HOME)] * 2, "percent": [(3, HOME)],
-          "pocket": [(2, HOME)], "ring": [(13, TURN), (15, TURN)]}
+STILL, DEEP = "it cuts with the spindle stopped", "a traverse sideways at Z -"
+# The lines that rely on the unit, the distance mode, the way that cycles end; programs without M3, which show other
+# things; ways through what a pocket's rings before have cut free; and the circles, which are meant.
+WARNED = {"bores": [(9, HOME)], "face": [(5, STILL)], "first": [(1, HOME)] * 2,
+          "parameters": [(5, HOME), (5, HOME), (7, STILL)], "percent": [(3, HOME), (6, STILL)],
+          "pocket": [(2, HOME), (6, STILL), (26, DEEP), (47, DEEP)], "ring": [(13, TURN), (15, TURN)]}
 # Known otherwise, of lengths and rates: 7.001 mm at 6,000 mm a minute, and what was once added up of two others.
 SECONDS = {"first": "0.070 s", "bolts": "2 min 10.6", "pocket": "53.3"}
 
 
 def moves(name: str) -> list[Command]:
     """The motions of the text beside an example."""
-    return [command for command in parse((EXAMPLES / f"{name}.txt").read_bytes()) if command.name in MOTIONS]
+    return [command for command in read_commands((EXAMPLES / f"{name}.txt").read_bytes()) if command.name in MOTIONS]
 
 
 class Examples(InFolder):
@@ -75,7 +78,7 @@ class Examples(InFolder):
         for name in NAMES:
             path = EXAMPLES / f"{name}.ngc"
             words, size = (str(path), "--settings", "coarse.toml"), len(path.read_bytes())
-            self.assertEqual(self.called(adapt, *words, "--output", "x.ngc"), "no line is changed\n")
+            self.assertEqual(self.called(adapt, *words, "--output", "x.ngc", "--force"), "no line is changed\n")
             self.assertEqual(Path("x.ngc").read_bytes(), path.read_bytes(), name)
             self.assertEqual(self.called(split, *words), f"{path}: {size:,} bytes: ngc run takes it as it is\n")
 
@@ -90,7 +93,8 @@ class Examples(InFolder):
                 shown = self.operate(delete + "run\n" * 3 + "quit\n")
                 ends = " ".join(f"{axis} {millimetres(nm)}" for axis, nm in zip("XYZ", (x, y, z), strict=True))
                 self.assertIn(f"idle; {ends}; next line ", shown)
-                said = self.said("ngc-player", "--untimed", "--at", "0", "0", "0", "out", "coarse.toml", "position")
+                said = self.said("ngc-player", "--untimed", "--no-ask-tool", "--at", "0", "0", "0", "out",
+                                 "coarse.toml", "position")
                 self.assertEqual(said.splitlines()[-1], Position(STEP_NM, (x, y, z)).reference())
                 for path in ("out", "position", "mill.dev"):
                     Path(path).unlink()

@@ -5,6 +5,7 @@ import os
 import re
 import signal
 import socket
+import subprocess
 import sys
 import threading
 import tty
@@ -16,11 +17,13 @@ sys.path.insert(0, str(Path(__file__).resolve().parent))
 
 from session_support import TOOLS, InFolder, Terminal, ngc, told  # noqa: E402
 
-from ngc_tools import faults  # noqa: E402
-from ngc_tools.lines import Program  # noqa: E402
-from ngc_tools.operate import HELP, REFUSALS, explained  # noqa: E402
-from ngc_tools.operate_main import main  # noqa: E402
-from ngc_tools.progress import Listener, Report  # noqa: E402
+from ngc_tools.ngc import faults  # noqa: E402
+from ngc_tools.formats.lines import Program  # noqa: E402
+from ngc_tools.formats.out import OFF, Switch, read_line  # noqa: E402
+from ngc_tools.formats.position import Position, nanometres  # noqa: E402
+from ngc_tools.operator.sentences import HELP, explained  # noqa: E402
+from ngc_tools.cli.operate import main  # noqa: E402
+from ngc_tools.player.progress import Listener, Report  # noqa: E402
 
 PROMPT = b"ngc> "
 PART = """G21 G90 G17
@@ -31,64 +34,89 @@ M0
 G1 X1
 M2
 """
+TRIED = """\
+by a dry run from here, in machine millimetres:
+    moves   X 0.000 to 0.500   Y 0.000 to 0.000   Z 0.000 to 0.000
+    travel  X -1000.000 to 1000.000   Y -1000.000 to 1000.000   Z -1000.000 to 1000.000
+    about 0.005 s
+it would stop at line 6: G1 X1
+  refused X1 NoFeed: {X1}
+  ngc-check lists each such line
+store it all the same? yes stores it: """
 SESSION = """\
 not metered: out is a file, which takes any number of lines ahead of the motors
 idle; X 0.000000 Y 0.000000 Z 0.000000
-ngc> done 1: part.ngc, 62 bytes, 7 lines
+ngc> """ + TRIED + """done 1: part.ngc, 62 bytes, 7 lines
 ngc> message, line 4: turn the part
 stopped; the tool in the spindle is none. run goes on
 stopped; X 0.500000 Y 0.000000 Z 0.000000; next line 6 of 7: G1 X1
 ngc> stopped; the tool in the spindle is none. run goes on
 stopped; X 0.500000 Y 1.000000 Z 0.000000; next line 6 of 7: G1 X1
-ngc> line 6: G1 X1
+ngc> line 6 begins at X0.5 Y0 Z0. The machine is at X0.5 Y1 Z0, 1.000 mm away, and the line would go from there
+go on all the same? yes goes on: line 6: G1 X1
   refused X1 NoFeed: {X1}
 stopped; X 0.500000 Y 1.000000 Z 0.000000; next line 6 of 7: G1 X1
 ngc> stopped; the tool in the spindle is none. run goes on
 stopped; X 2.000000 Y 1.000000 Z 0.000000; next line 6 of 7: G1 X1
-ngc> idle; X 1.000000 Y 1.000000 Z 0.000000; next line 1 of 7: G21 G90 G17
+in force now: F100 mm/min (F0 mm/min before). restore puts it back
+ngc> line 6 begins at X0.5 Y0 Z0. The machine is at X2 Y1 Z0, 1.803 mm away, and the line would go from there
+in force now: G1 (G0 before), F100 mm/min (F0 mm/min before)
+restore types: G53 G0 X2.000000; F0
+go on all the same? yes goes on: idle; X 1.000000 Y 1.000000 Z 0.000000; next line 1 of 7: G21 G90 G17
 ngc> refused E1 Unreadable: {E1}
-nor is halp a command: help? help lists them
+nor is halp a command; did you mean help? help lists them
 ngc> ngc> status entries 10 place 0 at 1.000000 1.000000 0.000000 known half none idle
 idle; X 1.000000 Y 1.000000 Z 0.000000; next line 1 of 7: G21 G90 G17
-ngc> refused U1 BadCommand: not a command, or a number of it isn't in range: help
+work X1.000 Y1.000 Z0.000; G54
+G1 G17 G21 G90 G94; F100 mm/min; spindle stands; no coolant; no tool
+about 0:00 in all
+ngc> refused U1 BadCommand: {U1}
 ngc> done 11
-ngc> refused K4 NothingHalfDone: no block is half-done
+ngc> refused K4 NothingHalfDone: no block is half-done: run goes on with the program
 ngc> taken
 ngc> done 12
 ngc> idle
 ngc> none.ngc: No such file or directory
-ngc> refused X2 OutsideTravel: {X2}
+ngc> refused X2 OutsideTravel: X 5,000 is outside the travel, which ends at 1,000 (high_nm of the settings)
 ngc> """
 HELD = """\
 metered: OUT is at most 50 lines ahead of the player, which is what a loss of power can cost
 idle; X 0.000000 Y 0.000000 Z 0.000000
 the motors are at X 0.000000 Y 0.000000 Z 0.000000, 0 lines behind
 ngc> load part.ngc
+""" + TRIED + """yes
 done 1: part.ngc, 62 bytes, 7 lines
 ngc> run
 message, line 4: turn the part
 stopped; the tool in the spindle is none. run goes on
 stopped; X 0.500000 Y 0.000000 Z 0.000000; next line 6 of 7: G1 X1
-the motors are at X 0.000000 Y 0.000000 Z 0.000000, 0 lines behind
+the motors are at X 0.500000 Y 0.000000 Z 0.000000, 0 lines behind
 ngc> g1 f60 x3
 
 held; up to 50 lines that are handed out are still carried out
 held; X 0.500000 Y 0.000000 Z 0.000000 before the block; segment 0 of your line g1 f60 x3
-the motors are at X 0.000000 Y 0.000000 Z 0.000000, 49 lines behind
+the motors are at X 0.500000 Y 0.000000 Z 0.000000, 49 lines behind
 ngc> continue
 ^Cheld; up to 50 lines that are handed out are still carried out
 held; X 0.500000 Y 0.000000 Z 0.000000 before the block; segment 0 of your line g1 f60 x3
-the motors are at X 0.000000 Y 0.000000 Z 0.000000, 49 lines behind
+the motors are at X 0.500000 Y 0.000000 Z 0.000000, 49 lines behind
 ngc> quit
 segment 0 of your line g1 f60 x3 stays half-done: it is taken up or given up in the next session
-quit? yes ends the session: yes
+quit? yes ends the session, anything else doesn't: 
+ngc> quit
+segment 0 of your line g1 f60 x3 stays half-done: it is taken up or given up in the next session
+quit? yes ends the session, anything else doesn't: yes
+still on: the spindle, clockwise at 1000. Within a block no M5 is done. {OFF}
 """
 TYPED = """load part.ngc
+yes
 RUN
 G0 Y1
 run
+yes
  g1 f100 x2
  Run\x20
+yes
 halp
 
 status
@@ -109,6 +137,15 @@ def operate(*words: str) -> list[str]:
     return ["--ngc", ngc(), *words]
 
 
+def sentences() -> dict[str, str]:
+    """What is said of some faults, by their codes."""
+    said = {code: f"{faults.fault(code).holds}\n  {faults.fault(code).cure}" for code in ("X1", "X2", "E1")}
+    return said | {
+        "U1": "reference X Y Z: three machine coordinates in millimetres, without letters, as in `reference 7.21 0 -5`",
+        "OFF": "The player switches that off once the session has ended and the seconds of its --off-after are over;"
+               " Ctrl-C in the player does it at once"}
+
+
 class Scripted(InFolder):
     """Commands from a pipe."""
 
@@ -123,18 +160,21 @@ class Scripted(InFolder):
     def test_session(self) -> None:
         """A session, to the byte."""
         done = self.tool("ngc-operate", *operate("mill.dev", "first.toml", "out"), text=TYPED)
-        sentences = {code: f"{faults.fault(code).holds}\n  {faults.fault(code).cure}" for code in ("X1", "X2", "E1")}
-        self.assertEqual((done.stdout, done.stderr, done.returncode), (SESSION.format(**sentences), "", 0))
+        self.assertEqual((done.stdout, done.stderr, done.returncode), (SESSION.format(**sentences()), "", 0))
 
     def test_resume(self) -> None:
         """A half-done block: the switch, the question, the approach, the block, the rest of the program."""
         self.run_ngc("load 22\nM3 S1000\nG0 X0.005\nM2\nstart\ntick 10\n", "before")
-        typed = "run\nresume\nreference 0.001 0 0\nresume\nno\nquit\nyes\n"
+        typed = "run\nresume\nreference 0.001 0 0\nresume\nno\nquit\n\nquit\nyes\n"
         done = self.tool("ngc-operate", *operate("mill.dev", "first.toml", "out"), text=typed)
-        head = ("stored: a program of 3 lines\n"
-                "not metered: out is a file, which takes any number of lines ahead of the motors\n"
+        head = ("not metered: out is a file, which takes any number of lines ahead of the motors\n"
+                "stored: a program of 3 lines\n"
+                "power was lost, or the session ended, in line 2: G0 X0.005\n"
+                "  in segment 0 of 1, counted from 0. Nothing moves by itself\n"
+                "  where the machine is: reference X Y Z; then rehearse, resume or abandon\n"
                 "idle; X 0.000000 Y 0.000000 Z 0.000000 before the block; segment 0 of line 2: G0 X0.005\n"
-                "ngc> refused K1 Busy: a block is under way or half-done, the program runs, or it is held\n"
+                "ngc> refused K1 Busy: segment 0 of line 2: G0 X0.005 is half-done. rehearse says what resume would do;"
+                " reference X Y Z, then resume or abandon\n"
                 "ngc> refused K3 PlaceUnknown: it isn't known where the machine stands: reference X Y Z\n"
                 "where does the machine stand? reference X Y Z\n"
                 "ngc> done 3\n")
@@ -151,6 +191,19 @@ class Scripted(InFolder):
         self.assertIn(asked + "idle; X 0.005000 Y 0.000000 Z 0.000000; next line 1 of 3: M3 S1000\n", done.stdout)
         self.assertEqual(Path("out2").read_text(), "S 1 1000.000000 0 0 0 0\nP -1 0 0 50\n" + "P 1 0 0 50\n" * 5
                          + "S 0 1000.000000 0 0 0 0\n")
+
+    def test_control_characters(self) -> None:
+        """What is typed reaches no terminal as it is."""
+        done = self.tool("ngc-operate", *operate("mill.dev", "first.toml", "out"), text="load \x1b[2Jx\nquit\n")
+        self.assertIn("ngc> \\x1b[2Jx: No such file or directory\n", done.stdout)
+
+    def test_bytes_that_are_no_text(self) -> None:
+        """A byte that isn't UTF-8 ends no session: it goes to `ngc` as it is."""
+        words = [sys.executable, str(TOOLS / "ngc-operate"), *operate("mill.dev", "first.toml", "out")]
+        environment = {**os.environ, "PYTHONIOENCODING": "utf-8:strict"}
+        done = subprocess.run(words, input=b"G0 X0.001 (\xff)\nquit\n", capture_output=True, env=environment)
+        self.assertEqual((done.returncode, done.stderr), (0, b""))
+        self.assertIn(b"idle; X 0.001000 Y 0.000000 Z 0.000000\n", done.stdout)
 
     def test_tool_at_a_stop(self) -> None:
         """The tool in the spindle is named at M0."""
@@ -194,6 +247,8 @@ class Scripted(InFolder):
              " reader: start the player first"),
             (("mill.dev", "first.toml", "part"), "part: it ends in a part of a line, and the next line would stand on"
              " the same one: give a new OUT, or cut that part off"),
+            (("mill.dev", "first.toml", "part.ngc"), "part.ngc: it holds something else than lines of OUT, and pulses"
+             " would be appended to it: give a new OUT. Its last line is not a line of OUT: 'M2'"),
             (("mill.dev", "first.toml", "out", "--player", "none"), "none: no player listens there: No such file or"
              " directory"),
         ]
@@ -204,11 +259,11 @@ class Scripted(InFolder):
     def test_not_permitted(self) -> None:
         """What the system doesn't permit, or a file system can't do."""
         words = operate("mill.dev", "first.toml", "out")
-        with patch("ngc_tools.checks.os.access", return_value=False), patch("ngc_tools.operate_main.find_ngc"):
+        with patch("ngc_tools.ngc.before_start.os.access", return_value=False), patch("ngc_tools.cli.operate.find_ngc"):
             wanted = f"ngc-operate: out: OUT can't be made in {self.folder}: permission denied\n"
             self.assertEqual(told(main, *words), (2, "", wanted))
         no_locks = OSError(errno.ENOLCK, "No locks available")
-        with patch("ngc_tools.checks.fcntl.flock", side_effect=no_locks):
+        with patch("ngc_tools.ngc.before_start.fcntl.flock", side_effect=no_locks):
             self.assertEqual(told(main, *words), (2, "", "ngc-operate: mill.dev: the device can't be locked: No locks"
                                                          " available\n"))
 
@@ -223,10 +278,11 @@ class Scripted(InFolder):
             self.assertEqual(done.returncode, 2)
 
     def test_refused_settings(self) -> None:
-        """What `ngc` refuses itself is said with its sentence."""
+        """The key that is to blame, and what it takes."""
         Path("first.toml").write_text(Path("first.toml").read_text().replace("period_us = 50", "period_us = 0"))
         done = self.tool("ngc-operate", *operate("mill.dev", "first.toml", "out"))
-        wanted = ("ngc-operate: ngc ended with status 2: refused S5 OutOfLimits: a number is beyond its limits\n")
+        wanted = ("ngc-operate: first.toml: S5 OutOfLimits: a number is beyond its limits\n    line 5: period_us = 0"
+                  " (S5): it takes a whole number of microseconds, 1 to 1,000,000\n")
         self.assertEqual((done.stderr, done.returncode), (wanted, 2))
 
     def test_words(self) -> None:
@@ -243,12 +299,20 @@ ngc> ticks are given by run, continue, resume and a line of G-code, in small cou
 ngc> where does the machine stand? reference X Y Z
 ngc> no player is known: --player SOCKET
 ngc> load FILE: which file?
-ngc> done 1: part.ngc, 41 bytes, 5 lines
+ngc> by a dry run from here, in machine millimetres:
+    moves   X 0.000 to 1.000   Y 0.000 to 0.000   Z 0.000 to 0.000
+    travel  X -1000.000 to 1000.000   Y -1000.000 to 1000.000   Z -1000.000 to 1000.000
+    about 0.010 s
+done 1: part.ngc, 41 bytes, 5 lines
 ngc> taken
 ngc> taken
 ngc> stopped; the tool in the spindle is none. run goes on
 stopped; X 0.000000 Y 0.000000 Z 0.000000; next line 3 of 5: (MSG, kept)
 ngc> stopped; X 0.000000 Y 0.000000 Z 0.000000; next line 3 of 5: (MSG, kept)
+work X0.000 Y0.000 Z0.000; G54
+G80 G17 G21 G90 G94; F0 mm/min; spindle stands; no coolant; no tool
+it stops at M1; lines with a slash are left out
+about 0:00 done, 0:00 left
 ngc> message, line 3: kept
 idle; X 1.000000 Y 0.000000 Z 0.000000; next line 1 of 5: /(MSG, left out)
 ngc> taken
@@ -270,43 +334,61 @@ ngc> """)
         words = operate("mill.dev", "first.toml", "/dev/full")
         done = self.tool("ngc-operate", *words, text="G0 X0.001\nstart\nquit\n")
         self.assertIn("not metered: /dev/full is no pipe, which takes any number of lines", done.stdout)
-        self.assertIn(f"refused J1 DeviceFailed: {REFUSALS['J1']}\n", done.stdout)
-        self.assertIn(f"refused K5 Broken: {REFUSALS['K5']}\n", done.stdout)
+        self.assertIn(f"refused J1 DeviceFailed: {faults.SESSION['J1']}\n", done.stdout)
+        self.assertIn(f"refused K5 Broken: {faults.SESSION['K5']}\n", done.stdout)
         self.assertEqual((done.stderr, done.returncode), (
             "ngc-operate: ngc ended with status 2: the device or OUT failed in this session\n", 2))
 
 
 class FakePlayer:
-    """A player that reads what stands in OUT, and carries out nothing until it is told to."""
+    """A player that reads what stands in OUT, and carries out nothing until it is told to. It takes where it stands by
+    the word `at`, if it `heeds` it; `words` are those that it was told besides questions."""
 
     def __init__(self) -> None:
         self.listener = Listener("progress")
         os.mkfifo("axis")
         self.pipe = os.open("axis", os.O_RDONLY | os.O_NONBLOCK)
         self.got = b""
+        self.carried = 0
+        self.position = Position((1000, 1000, 1000))
+        self.outputs = OFF
         self.lazy = self.waits = False
+        self.heeds = True
+        self.tool = 0
+        self.words: list[bytes] = []
         self.most_behind = self.asked = 0
         self.end = threading.Event()
         self.thread = threading.Thread(target=self._work)
         self.thread.start()
 
     def _work(self) -> None:
-        carried = 0
         while not self.end.wait(0.0005):
             while asked := self.listener.next():
+                if asked[0].startswith(b"progress"):
+                    self._answer(*asked)
+                    continue
+                self.words.append(asked[0])
                 if asked[0] == b"go":
                     self.waits = self.lazy = False
-                    continue
-                try:
-                    self.got += os.read(self.pipe, 65536)
-                except BlockingIOError:
-                    pass
-                received = self.got.count(b"\n")
-                self.most_behind = max(self.most_behind, received - carried)
-                self.asked += 1
-                carried = carried if self.lazy else received
-                report = Report(carried, received, self.waits, "0.000000 0.000000 0.000000", os.path.abspath("axis"))
-                self.listener.answer(asked[0] + b" " + report.text(), asked[1])
+                if asked[0].startswith(b"at ") and self.heeds:
+                    self.position = Position((1000, 1000, 1000), list(map(nanometres, asked[0].decode().split()[1:])))
+
+    def _answer(self, question: bytes, sender: str | bytes) -> None:
+        try:
+            self.got += os.read(self.pipe, 65536)
+        except BlockingIOError:
+            pass
+        lines = self.got.split(b"\n")[:-1]
+        self.most_behind = max(self.most_behind, len(lines) - self.carried)
+        self.asked += 1
+        for line in [] if self.lazy else lines[self.carried:]:
+            what = read_line(line, 1)
+            self.position.take(what)
+            self.outputs = what if isinstance(what, Switch) else self.outputs
+            self.carried += 1
+        report = Report(self.carried, len(lines), self.waits, str(self.position), os.path.abspath("axis"), self.outputs,
+                        self.tool)
+        self.listener.answer(question + b" " + report.text(), sender)
 
     def close(self) -> None:
         """Ends it, once."""
@@ -336,9 +418,9 @@ class AtTerminal(InFolder):
         words = operate("mill.dev", "first.toml", "axis", "--player", "progress", "--ahead", "50")
         terminal = Terminal(str(TOOLS / "ngc-operate"), *words)
         shown = terminal.read_to(PROMPT)
-        for typed in (b"load part.ngc\n", b"run\n"):
+        for typed, end in ((b"load part.ngc\n", b"stores it: "), (b"yes\n", PROMPT), (b"run\n", PROMPT)):
             terminal.send(typed)
-            shown += terminal.read_to(PROMPT)
+            shown += terminal.read_to(end)
         self.player.lazy = True
         for typed, key in ((b"g1 f60 x3\n", b"\n"), (b"continue\n", b"\x03")):
             enough = self.player.asked + 5  # it asks once as the work begins, then as long as it waits for room
@@ -348,13 +430,13 @@ class AtTerminal(InFolder):
                           lambda: self.player.most_behind > 40 and self.player.asked > enough)
             terminal.send(key)
             shown += terminal.read_to(PROMPT)
-        terminal.send(b"quit\n")
-        shown += terminal.read_to(b"session: ")
-        terminal.send(b"yes\n")
-        shown += terminal.read_to(b"never")
+        for typed, end in ((b"quit\n", b"doesn't: "), (b"\n", PROMPT), (b"quit\n", b"doesn't: "), (b"yes\n", b"never")):
+            terminal.send(typed)
+            shown += terminal.read_to(end)
         self.assertEqual(terminal.status(), 0)
         self.assertLessEqual(self.player.most_behind, 50)
-        self.assertEqual(shown.decode(), HELD.replace("\n", "\r\n"))
+        self.assertEqual(self.player.words, [b"end"])
+        self.assertEqual(shown.decode(), HELD.format(**sentences()).replace("\n", "\r\n"))
 
     def test_player_dies(self) -> None:
         """Where the player is gone nothing more is handed out."""
@@ -369,7 +451,8 @@ class AtTerminal(InFolder):
         shown = terminal.read_to(PROMPT).decode().split("\r\n")
         self.assertEqual(shown[0], "G1 F60 X3")
         self.assertTrue(shown[1].startswith(gone), shown)
-        rest = "; nothing more is handed out. Quit, and start a player and this again"
+        rest = ("; nothing more is handed out. Once it answers again, run goes on; if it is gone, quit, and start a"
+                " player and this again")
         self.assertTrue(shown[1].endswith(rest), shown)
         self.assertEqual(shown[2:4], ["held", "held; X 0.000000 Y 0.000000 Z 0.000000 before the block; segment 0 of"
                                       " your line G1 F60 X3"])
@@ -377,15 +460,66 @@ class AtTerminal(InFolder):
         terminal.read_to(b"never")
         self.assertEqual(terminal.status(), 0)
 
+    def test_signals(self) -> None:
+        """A terminal that is closed, and a kill, hold what is under way, tell the player, and end with status 2."""
+        words = operate("mill.dev", "first.toml", "axis", "--player", "progress")
+        for number, typed in ((signal.SIGTERM, b"G1 F60 X3\n"), (signal.SIGHUP, b"")):
+            self.player.lazy, self.player.words = bool(typed), []
+            terminal = Terminal(str(TOOLS / "ngc-operate"), *words)
+            terminal.read_to(PROMPT)
+            if typed:
+                terminal.send(typed)
+                self.wait_for("it waits for the player", lambda: self.player.most_behind > 90)
+            shown = terminal.end_by(number).decode()
+            self.assertEqual(terminal.status(), 2)
+            self.assertEqual(self.player.words, [b"end"])
+            stays = ("held; segment 0 of your line G1 F60 X3 stays half-done" if typed else
+                     "idle; segment 0 of a line of yours stays half-done")
+            self.assertTrue(shown.endswith(f"ngc-operate: {number.name} came: {stays}\r\n"), shown)
+
+    def test_closed_terminal(self) -> None:
+        """Where the terminal itself is gone nothing is left behind that holds the device."""
+        words = operate("mill.dev", "first.toml", "axis", "--player", "progress")
+        terminal = Terminal(str(TOOLS / "ngc-operate"), *words)
+        terminal.read_to(PROMPT)
+        self.player.lazy = True
+        terminal.send(b"G1 F60 X3\n")
+        self.wait_for("it waits for the player", lambda: self.player.most_behind > 90)
+        os.close(terminal.file)
+        self.assertEqual(os.waitstatus_to_exitcode(os.waitpid(terminal.pid, 0)[1]), 2)
+        self.assertEqual(self.player.words, [b"end"])
+        self.assertIn("half mdi 0", self.run_ngc("status\n", "after")[0])
+
+    def test_narrow(self) -> None:
+        """At a terminal of 40 columns no line is wider, the live one neither."""
+        words = operate("mill.dev", "first.toml", "axis", "--player", "progress")
+        terminal = Terminal(str(TOOLS / "ngc-operate"), *words, kind="xterm", columns=40)
+        shown = terminal.read_to(PROMPT)
+        Path("part.ngc").write_text("G21 G90 (a long comment, so that the line is too long)\n"
+                                    "G1 X9 Y0.5 Z0.5 F60 (and one more)\nM2\n")
+        for typed in (b"help\n", b"load part.ngc\n"):
+            terminal.send(typed)
+            shown += terminal.read_to(PROMPT)
+        self.player.lazy = True
+        terminal.send(b"run\n")
+        shown += terminal.read_to(b"line 2: G1 X9 Y..  X0.000 Y0.000 Z0.000")
+        terminal.send(b"\n")
+        shown += terminal.read_to(PROMPT)
+        lines = re.split(r"[\r\n]+", re.sub(r"\x1b\[[?0-9;]*[A-Za-z]", "", shown.decode()))
+        self.assertGreater(len(lines), 40)
+        self.assertEqual([line for line in lines if len(line) > 40], [])
+
     def test_tool_change(self) -> None:
         """A player that waits for a tool is told of; a hold, and go."""
         words = operate("mill.dev", "first.toml", "axis", "--player", "progress")
         terminal = Terminal(str(TOOLS / "ngc-operate"), *words)
         terminal.read_to(PROMPT)
         self.player.lazy = self.player.waits = True
+        self.player.tool = 7
         terminal.send(b"G1 F60 X3\n")
-        waits = b"the player waits for a tool: press Enter there once it is in; or hold here, and then: go\r\n"
-        self.assertEqual(terminal.read_to(b"then: go\r\n"), b"G1 F60 X3\r\n" + waits)
+        waits = (b"the player waits for tool 7 to be put in: once that is done, type go here, or press Enter"
+                 b" there\r\n")
+        self.assertEqual(terminal.read_to(b"there\r\n"), b"G1 F60 X3\r\n" + waits)
         terminal.send(b"\n")
         terminal.read_to(PROMPT)
         for typed in (b"go\n", b"continue\n"):
@@ -393,6 +527,12 @@ class AtTerminal(InFolder):
             shown = terminal.read_to(PROMPT)
         self.assertEqual(shown.decode().split("\r\n")[:2],
                          ["continue", "idle; X 3.000000 Y 0.000000 Z 0.000000"])
+        self.player.lazy = self.player.waits = True
+        self.player.tool = 0
+        terminal.send(b"G0 X4\n")
+        terminal.read_to(b"for the tool to be taken out: once that is done, type go here, or press Enter there\r\n")
+        terminal.send(b"Go\n")
+        self.assertIn(b"\r\nidle; X 4.000000 Y 0.000000 Z 0.000000\r\n", terminal.read_to(PROMPT))
         self.player.close()
         terminal.send(b"go\n")
         self.assertTrue(terminal.read_to(PROMPT).startswith(b"go\r\nprogress: the player is gone: "))
@@ -434,9 +574,10 @@ class AtTerminal(InFolder):
         terminal.send(b"load part.ngc\n")
         terminal.read_to(PROMPT)
         self.player.lazy = True
-        for typed, line in ((b"run\n", b"line 2: G1 X9 F60"), (b"g1 y1\n", b"your line: g1 y1")):
+        for typed, line in ((b"run\n", b"line 2: G1 X9 F60  X 0.000000 Y 0.000000 Z 0.000000  F60  about 0:09 left"),
+                            (b"g1 y1\n", b"your line: g1 y1  X 9.000000 Y 0.000000 Z 0.000000")):
             terminal.send(typed)
-            terminal.read_to(b"\r\x1b[K" + line + b"  X 0.000000 Y 0.000000 Z 0.000000")
+            terminal.read_to(b"\r\x1b[K" + line)
             terminal.send(b"\n")
             self.assertIn(b"\r\x1b[Kheld; up to 100 lines", terminal.read_to(PROMPT))
             self.player.lazy = False
@@ -448,7 +589,8 @@ class AtTerminal(InFolder):
         """A history; Ctrl-C at the prompt ends nothing; where `ngc` is killed that is said."""
         terminal = Terminal(str(TOOLS / "ngc-operate"), *operate("mill.dev", "first.toml", "out"))
         terminal.read_to(PROMPT)
-        where = b"where\r\nidle; X 0.000000 Y 0.000000 Z 0.000000\r\n" + PROMPT
+        where = (b"where\r\nidle; X 0.000000 Y 0.000000 Z 0.000000\r\nwork X0.000 Y0.000 Z0.000; G54\r\n"
+                 b"G80 G17 G21 G90 G94; F0 mm/min; spindle stands; no coolant; no tool\r\n" + PROMPT)
         for typed in (b"where\n", b"\x10\n"):  # Ctrl-P takes the line before
             terminal.send(typed)
             self.assertEqual(terminal.read_to(PROMPT), where)
@@ -477,7 +619,7 @@ class AtTerminal(InFolder):
                          " that. Ctrl-C three times ends ngc, as a loss of power would\r\n")
         said = terminal.send_to_end(b"\x03").decode()
         self.assertTrue(said.startswith("^C^C^C"), said)
-        self.assertTrue(said.endswith("ngc-operate: ended; a block that was under way is half-done\r\n"), said)
+        self.assertIn("ngc-operate: ended; a block that was under way is half-done\r\n", said)
         self.assertEqual(terminal.status(), 2)
 
     def test_serial_line(self) -> None:
@@ -498,18 +640,19 @@ class AtTerminal(InFolder):
         """A program isn't started where the player says that the motors are elsewhere than `ngc` takes them to be."""
         self.run_ngc("mdi G0 X1\ntick 9999\n", "before")
         done = self.tool("ngc-operate", *operate("mill.dev", "first.toml", "axis", "--player", "progress"),
-                         text="load part.ngc\nrun\nreference 0 0 0\nrun\nquit\n")
+                         text="load part.ngc\nyes\nrun\nreference 0 0 0\nrun\nquit\nno\n")
         lines = done.stdout.splitlines()
         self.assertIn("the player says: reference 0.000000 0.000000 0.000000", lines)
-        self.assertIn("ngc> the motors are at X 0.000000 Y 0.000000 Z 0.000000, and ngc takes them to be at X 1.000000"
-                      " Y 0.000000 Z 0.000000: reference 0.000000 0.000000 0.000000 first", lines)
+        self.assertIn("ngc> the player says that the motors are at X0 Y0 Z0, and ngc takes them to be at X1 Y0 Z0:"
+                      " 1.000 mm apart. Nothing is done.", lines)
+        self.assertIn("  reference player takes the player's point; run anyway goes on from ngc's", lines)
         self.assertIn("ngc> message, line 4: turn the part", lines)
 
     def test_motors_between_steps(self) -> None:
         """A point between two steps is the same place as the step that the motors went to."""
         self.run_ngc("mdi G0 X-0.0004\ntick 9999\n", "before")
         done = self.tool("ngc-operate", *operate("mill.dev", "first.toml", "axis", "--player", "progress"),
-                         text="load part.ngc\nrun\nquit\n")
+                         text="load part.ngc\nyes\nrun\nquit\nno\n")
         self.assertNotIn("reference", done.stdout)
         self.assertIn("idle; X -0.000400 Y 0.000000 Z 0.000000\n", done.stdout)
         self.assertIn("ngc> message, line 4: turn the part\n", done.stdout)

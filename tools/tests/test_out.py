@@ -7,9 +7,9 @@ sys.path.insert(0, str(Path(__file__).resolve().parent))
 
 from session_support import InFolder  # noqa: E402
 
-from ngc_tools.out import BadLine, Dwell, Pulse, Switch, parse  # noqa: E402
-from ngc_tools.position import Position, millimetres, nanometres  # noqa: E402
-from ngc_tools.record import BadRecord, Record  # noqa: E402
+from ngc_tools.formats.out import BadLine, Dwell, Pulse, Switch, read_line  # noqa: E402
+from ngc_tools.formats.position import Position, millimetres, nanometres  # noqa: E402
+from ngc_tools.formats.record import BadRecord, Record  # noqa: E402
 
 
 class Lines(unittest.TestCase):
@@ -17,12 +17,12 @@ class Lines(unittest.TestCase):
 
     def test_lines(self) -> None:
         """What each line says."""
-        self.assertEqual(parse("P 1 0 -1 50", 1), Pulse(1, 0, -1, 50))
-        self.assertEqual(parse(b"D 0", 1), Dwell(0))
-        self.assertEqual(parse("D 9999999999999", 1), Dwell(9_999_999_999_999))
-        self.assertEqual(parse("S 2 1000.500000 0 1 128 3", 1),
+        self.assertEqual(read_line("P 1 0 -1 50", 1), Pulse(1, 0, -1, 50))
+        self.assertEqual(read_line(b"D 0", 1), Dwell(0))
+        self.assertEqual(read_line("D 9999999999999", 1), Dwell(9_999_999_999_999))
+        self.assertEqual(read_line("S 2 1000.500000 0 1 128 3", 1),
                          Switch(2, 1_000_500_000, False, True, 128, 3))
-        self.assertEqual(str(parse("S 0 0.000000 1 0 0 0", 1)), "S 0 0.000000 1 0 0 0")
+        self.assertEqual(str(read_line("S 0 0.000000 1 0 0 0", 1)), "S 0 0.000000 1 0 0 0")
 
     def test_other_lines(self) -> None:
         """A line that isn't exactly one of them is refused, with its number."""
@@ -36,14 +36,14 @@ class Lines(unittest.TestCase):
                  "P 1 0 0 \N{DEVANAGARI DIGIT FIVE}0"]
         for line in wrong:
             with self.assertRaises(BadLine, msg=line) as caught:
-                parse(line, 7)
+                read_line(line, 7)
             self.assertEqual(caught.exception.number, 7)
 
     def test_period(self) -> None:
         """A pulse lasts as long as the settings' period at least."""
-        self.assertEqual(parse("P 0 1 0 50", 1, 50).lasts_us, 50)
+        self.assertEqual(read_line("P 0 1 0 50", 1, 50).lasts_us, 50)
         with self.assertRaisesRegex(BadLine, "^line 3: a period of 49 us, and period_us of the settings is 50$"):
-            parse("P 0 1 0 49", 3, 50)
+            read_line("P 0 1 0 49", 3, 50)
 
 
 class Positions(unittest.TestCase):
@@ -53,7 +53,7 @@ class Positions(unittest.TestCase):
         """Pulses count; waits and switches move nothing."""
         position = Position((5000, 1000, 2500), (10_000, -1000, 0))
         lines = ["P 1 0 -1 50", "D 5", "S 0 0.000000 0 0 0 0", "P 1 -1 -1 50"]
-        position.take_all(parse(line, number) for number, line in enumerate(lines, 1))
+        position.take_all(read_line(line, number) for number, line in enumerate(lines, 1))
         self.assertEqual(position.steps, [4, -2, -2])
         self.assertEqual(position.reference(), "reference 0.020000 -0.002000 -0.005000")
 

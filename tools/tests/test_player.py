@@ -1,23 +1,26 @@
-"""ngc-player, and player.c beside it: what is carried out, when, what is kept, and what is told."""
+"""ngc-player, and tools/player beside it: what is carried out, when, what is kept, and what is told."""
 import fcntl
 import os
 import random
 import re
+import shutil
 import signal
 import subprocess
 import sys
-import tempfile
 import time
 import unittest
 from pathlib import Path
 
 sys.path.insert(0, str(Path(__file__).resolve().parent))
 
-from session_support import FIRST, PATIENCE_S, TOOLS, InFolder  # noqa: E402
+from player_support import (NO_RAMPS, SOURCES, InC, InProcess, PlayerTest, Sanitized, built, preloaded,  # noqa: E402
+                            record)
+from session_support import PATIENCE_S  # noqa: E402
 
-from ngc_tools.out import BadLine, parse  # noqa: E402
-from ngc_tools.progress import Link, NoAnswer, Report  # noqa: E402
-from ngc_tools.record import Record  # noqa: E402
+from ngc_tools.cli.player import live  # noqa: E402
+from ngc_tools.formats.out import BadLine, read_line  # noqa: E402
+from ngc_tools.formats.record import Record  # noqa: E402
+from ngc_tools.player.progress import NoAnswer, Report  # noqa: E402
 
 LINES = """S 0 1000.000000 0 0 2 0
 S 0 1000.000000 0 0 2 2
@@ -29,16 +32,22 @@ P 0 0 -1 60
 S 0 1000.000000 0 0 2 2
 """
 RECORD = "lines 8\nbytes 137\noutputs S 0 1000.000000 0 0 2 2\nreference 0.002000 -0.001000 -0.001000\n"
-SHORT = {"--untimed": "-u", "--anew": "-n", "--pipe": "-b", "--progress": "-s", "--pins": "-p"}
 # A disk that is full from its third sync on.
 FULL = """#include <errno.h>
 int fdatasync(int file) { static int calls; (void)file; if (++calls < 3) return 0; errno = ENOSPC; return -1; }
 """
-
-
-def record(path: str = "position") -> str:
-    """A record's text after its first line, without the blanks at its end."""
-    return Path(path).read_text().split("\n", 1)[1].rstrip(" \n") + "\n"
+# Pins that fail at one line, and take what comes after it.
+BAD_PINS = """#define _GNU_SOURCE
+#include <dlfcn.h>
+#include <errno.h>
+#include <string.h>
+#include <sys/types.h>
+ssize_t write(int file, const void *text, size_t size) {
+    ssize_t (*real)(int, const void *, size_t) = dlsym(RTLD_NEXT, "write");
+    if (size > 5 && memcmp(text, "P 0 1", 5) == 0) { errno = EIO; return -1; }
+    return real(file, text, size);
+}
+"""
 
 
 def damaged(line: str, chance: random.Random) -> str:
@@ -55,7 +64,7 @@ def accepted(text: bytes) -> tuple[list[bytes], int]:
     *lines, part = text.split(b"\n")
     for number, line in enumerate(lines, 1):
         try:
-            parse(line, number, 50)
+            read_line(line, number, 50)
         except BadLine:
             return lines[:number - 1], number
     return lines, len(lines) + 1 if part else 0
@@ -86,55 +95,14 @@ int pthread_join(pthread_t thread, void **value) {
 """
 
 
-def preloaded(name: str, text: str) -> dict[str, str]:
-    """The environment in which functions of the C library are those of this text, in the folder of the test."""
-    Path(f"{name}.c").write_text(text)
-    subprocess.run(["cc", "-shared", "-fPIC", f"{name}.c", "-o", f"{name}.so"], check=True)
-    return {**os.environ, "LD_PRELOAD": f"{os.getcwd()}/{name}.so"}
-
-
-class Both:
+class Playing:
     """What the player in Python and the one in C have to do alike."""
-
-    wrong = ["P 1 0 0", "P 1 0 0 49", "", "x" * 5000]
-    asked = ""  # what is said where it is asked to stop after three lines
-
-    def words(self, *words: str) -> list[str]:
-        """The command line, by the long names of ngc-player's options."""
-        raise NotImplementedError
-
-    def play(self, *words: str) -> subprocess.CompletedProcess[str]:
-        """Plays `out` to its end."""
-        command = self.words(*words, "--pins", "pins", "out", "first.toml", "position")
-        return subprocess.run(command, capture_output=True, text=True, timeout=PATIENCE_S)
-
-    def begin(self, *words: str) -> subprocess.Popen[str]:
-        """Starts it."""
-        child = subprocess.Popen(self.words(*words), stdin=subprocess.PIPE, stdout=subprocess.PIPE,
-                                 stderr=subprocess.PIPE, text=True)
-        self.addCleanup(self._end, child)
-        return child
-
-    def linked(self, path: str = "progress") -> Link:
-        """A link to the player, once it listens."""
-        found: list[Link] = []
-
-        def tried() -> bool:
-            try:
-                found.append(Link(path, PATIENCE_S))
-            except NoAnswer:
-                return False
-            return True
-
-        self.wait_for("the player listens", tried)
-        self.addCleanup(found[0].close)
-        return found[0]
 
     def test_file(self) -> None:
         """Each line of a file reaches the pins, and the record says so."""
         Path("out").write_text(LINES)
         done = self.play()
-        self.assertEqual((done.returncode, done.stderr), (0, ""))
+        self.assertEqual((done.returncode, done.stderr), (0, NO_RAMPS))
         first, times, last = done.stdout.splitlines()
         self.assertEqual(first, "out: 8 lines carried out, 3 pulses, 1 waits, 4 switches")
         self.assertRegex(times, r"^late at most \d+ us, slower by \d+\.\d ms in all")
@@ -150,46 +118,73 @@ class Both:
         with open("out", "a") as file:
             file.write("P 0 1 0 50\n")
         done = self.play("--untimed")
-        self.assertEqual((done.returncode, done.stdout.splitlines()[-1]), (0, "reference 0.002000 0.000000 -0.001000"))
+        self.assertEqual((done.returncode, done.stderr), (0, ""))
+        self.assertEqual(done.stdout.splitlines()[-1], "reference 0.002000 0.000000 -0.001000")
         self.assertEqual(Path("pins").read_text(), LINES + "P 0 1 0 50\n")
         self.assertEqual(record().split("\n")[0], "lines 9")
-        Path("out").write_text("P 1 0 0 50\n")
-        done = self.play("--untimed")
-        self.assertEqual(done.returncode, 2)
-        self.assertIn("not the file whose first 9 lines are carried out", done.stderr)
-        done = self.play("--untimed", "--anew")
-        self.assertEqual((done.returncode, done.stdout.splitlines()[-1]), (0, "reference 0.003000 0.000000 -0.001000"))
 
-    def test_another_file(self) -> None:
+    def test_another_name(self) -> None:
         """A new OUT is carried out from its first line; the position goes on."""
         Path("out").write_text(LINES)
         self.play("--untimed")
         Path("other").write_text("P 1 1 1 50\n")
-        command = self.words("--untimed", "other", "first.toml", "position")
-        done = subprocess.run(command, capture_output=True, text=True)
+        done = self.play("--untimed", "other", "first.toml", "position")
         self.assertEqual(done.stdout.splitlines()[-1], "reference 0.003000 0.000000 0.000000")
         self.assertEqual(record().split("\n")[0], "lines 1")
 
-    def test_wrong_line(self) -> None:
-        """It stops at the first line that isn't one of OUT, with its number, and turns spindle and coolant off."""
-        for wrong in self.wrong:
-            for name in ("pins", "position"):
-                Path(name).unlink(missing_ok=True)
-            Path("out").write_text("S 1 5.000000 1 1 0 0\nP 1 0 0 50\n" + wrong + "\nP 1 0 0 50\n", newline="")
-            done = self.play("--untimed")
-            self.assertEqual(done.returncode, 1, wrong)
-            self.assertTrue(done.stderr.startswith("out:3: "), done.stderr)
-            self.assertEqual(Path("pins").read_text(), "S 1 5.000000 1 1 0 0\nP 1 0 0 50\noff\n", wrong)
-            self.assertEqual(record(), "lines 2\nbytes 32\noutputs S 0 5.000000 0 0 0 0\n"
-                             "reference 0.001000 0.000000 0.000000\n")
+    def test_new_file_of_an_old_name(self) -> None:
+        """Where OUT is another file than before, it says so and moves nothing, also where both begin alike."""
+        short, long = "P 1 0 0 50\n" * 100, "P 1 0 0 50\n" * 300
+        Path("out").write_text(short)
+        self.play("--untimed")
+        os.unlink("out")
+        Path("out").write_text(long)  # it may well get the inode of the one before
+        another = ("out: another file than the one whose first 100 lines are carried out, though it begins with the"
+                   " same lines; --anew begins with its first line, --restored goes on after line 100, where it is a"
+                   " copy")
+        self.assertEqual(self.refused("out", "first.toml", "position"), another)
+        shutil.copy("out", "copy")
+        os.rename("copy", "out")
+        self.assertEqual(self.refused("out", "first.toml", "position"), another)
+        other = "out: not the file whose first 100 lines are carried out; --anew begins with its first line"
+        for text in (short[11:], "D 1000000\n" * 120, long.replace("1 0", "0 1"), ""):
+            Path("out").write_text(text)
+            self.assertEqual(self.refused("out", "first.toml", "position"), other)
+        Path("out").write_text(long)
+        done = self.play("--untimed", "--restored")
+        self.assertEqual((done.returncode, done.stdout.splitlines()[-1]), (0, "reference 0.300000 0.000000 0.000000"))
+        Path("out").write_text(short)
+        done = self.play("--untimed", "--anew")
+        self.assertEqual((done.returncode, done.stdout.splitlines()[-1]), (0, "reference 0.400000 0.000000 0.000000"))
+
+    def test_same_file_by_another_name(self) -> None:
+        """A file that was given another name isn't carried out twice."""
+        Path("out").write_text(LINES)
+        self.play("--untimed")
+        os.rename("out", "other")
+        with open("other", "a") as file:
+            file.write("P 0 1 0 50\n")
+        done = self.play("--untimed", "other", "first.toml", "position")
+        self.assertEqual((done.returncode, done.stderr),
+                         (0, f"other: it was {self.folder}/out: goes on after line 8\n"))
+        self.assertEqual(done.stdout.splitlines()[-1], "reference 0.002000 0.000000 -0.001000")
+
+    def test_older_record(self) -> None:
+        """A record without the mark of its file is taken, and that is said."""
+        Path("out").write_text(LINES)
+        Path("position").write_bytes(f"out {self.folder}/out\n{RECORD}".encode().ljust(511) + b"\n")
+        done = self.play("--untimed")
+        self.assertEqual((done.returncode, done.stderr),
+                         (0, "out: goes on after line 8; an older record doesn't say whether it is the same file\n"))
+        self.assertEqual(done.stdout.splitlines()[-1], "reference 0.002000 -0.001000 -0.001000")
 
     def test_part_of_a_line(self) -> None:
         """A line counts once its newline is there."""
         Path("out").write_text("P 1 0 0 50\nP 1 0 0 50")
         done = self.play("--untimed")
         self.assertEqual((done.returncode, done.stdout.splitlines()[-1]), (1, "reference 0.001000 0.000000 0.000000"))
-        self.assertRegex(done.stderr, "^out:2: OUT ends in a part of a line(: 'P 1 0 0 50')?; stopped, spindle and"
-                                      " coolant off\n$")
+        self.assertEqual(done.stderr, "out:2: OUT ends in a part of a line: 'P 1 0 0 50'; stopped, spindle and coolant"
+                                      " off\n")
 
     def test_times(self) -> None:
         """No line comes before its time: 100 pulses of 2 ms, of which each may come a tenth sooner, and a wait."""
@@ -197,6 +192,13 @@ class Both:
         begun = time.monotonic()
         self.assertEqual(self.play().returncode, 0)
         self.assertGreater(time.monotonic() - begun, 0.2 * 0.9 + 0.2 * 0.9)
+
+    def test_longest_waits(self) -> None:
+        """Times as long as a line can say, one after the other."""
+        Path("out").write_text("D 18446744073709551615\nP 1 0 0 18446744073709551615\n" * 5)
+        done = self.play("--untimed")
+        self.assertEqual((done.returncode, done.stderr, done.stdout.splitlines()[-1]),
+                         (0, "", "reference 0.005000 0.000000 0.000000"))
 
     def test_run(self) -> None:
         """Over a named pipe, which it makes small, from `ngc run` itself."""
@@ -206,14 +208,24 @@ class Both:
         self.linked()
         writer = os.open("out", os.O_WRONLY)
         self.assertEqual(fcntl.fcntl(writer, fcntl.F_GETPIPE_SZ), 4096)
-        self.run_ngc("mdi M3 S1000\ntick 9\nmdi G0 X1 Y-0.5\ntick 9999\n")
+        self.run_ngc("mdi M3 S1000\ntick 9\nmdi G0 X1 Y-0.5\ntick 9999\nmdi M5\ntick 9\n")
         os.close(writer)
         said, wrong = child.communicate(timeout=PATIENCE_S)
         self.assertEqual((child.returncode, wrong), (0, ""))
-        self.assertEqual(said.splitlines(), ["out: 1002 lines carried out, 1000 pulses, 0 waits, 2 switches",
+        self.assertEqual(said.splitlines(), ["out: 1003 lines carried out, 1000 pulses, 0 waits, 3 switches",
                                              "reference 1.000000 -0.500000 0.000000"])
-        self.assertEqual(record().split("\n")[2], "outputs S 1 1000.000000 0 0 0 0")
+        self.assertEqual(record(), "lines 1003\nbytes 11572\noutputs S 0 1000.000000 0 0 0 0\n"
+                                   "reference 1.000000 -0.500000 0.000000\n")
         self.assertFalse(os.path.exists("progress"))
+
+    def test_full_pipe(self) -> None:
+        """A pipe in which more waits than it is to hold stays as it is, which is said."""
+        os.mkfifo("out")
+        pipe = os.open("out", os.O_RDWR)
+        self.addCleanup(os.close, pipe)
+        os.write(pipe, b"P 1 0 0 50\n" * 1000)
+        child = self.begin("--untimed", "out", "first.toml", "position")
+        self.assertEqual(child.stderr.readline(), "out: the pipe stays at 65,536 bytes\n")
 
     def test_progress(self) -> None:
         """It tells how many lines it has carried out of those that stand in OUT, while it waits and while it works."""
@@ -231,8 +243,10 @@ class Both:
             self.assertEqual(report.at, "0.002000 0.000000 0.000000")
             child.send_signal(signal.SIGTERM)
             said, wrong = child.communicate(timeout=PATIENCE_S)
-        self.assertEqual((child.returncode, wrong), (1, self.asked))
+        stopped = "out: stopped after line 3; spindle and coolant off\n"
+        self.assertEqual((child.returncode, wrong), (1, NO_RAMPS + stopped))
         self.assertEqual(said.splitlines()[-1], "reference 0.002000 0.000000 0.000000")
+        self.assertIn("\nstopped signal\n", record())
         with self.assertRaisesRegex(NoAnswer, "^progress: the player is gone"):
             link.ask()
 
@@ -249,45 +263,29 @@ class Both:
         self.assertEqual(record(), "lines 2\nbytes 24\noutputs S 0 0.000000 0 0 0 0\n"
                          "reference 0.000000 0.001000 0.000000\n")
 
+    def test_stopped_and_continued(self) -> None:
+        """A player that is stopped by the shell and goes on carries out each line once."""
+        os.mkfifo("out")
+        child = self.begin("--pins", "pins", "--progress", "progress", "out", "first.toml", "position")
+        link = self.linked()
+        with open("out", "wb", buffering=0) as pipe:
+            pipe.write(b"P 1 0 0 1000\n" * 300)
+            for _ in range(10):
+                child.send_signal(signal.SIGSTOP)
+                child.send_signal(signal.SIGCONT)
+                time.sleep(0.01)
+            self.wait_for("it is through", lambda: link.ask().carried == 300)
+            link.end()
+        self.assertEqual((child.communicate(timeout=PATIENCE_S)[1], child.returncode), (NO_RAMPS, 0))
+        self.assertEqual(Path("pins").read_text(), "P 1 0 0 1000\n" * 300)
+
     def test_one_record(self) -> None:
         """A record has one player at a time."""
         os.mkfifo("out")
         self.begin("--progress", "progress", "out", "first.toml", "position")
         self.linked()
         Path("other").write_text(LINES)
-        command = self.words("--untimed", "other", "first.toml", "position")
-        done = subprocess.run(command, capture_output=True, text=True)
-        self.assertEqual(done.returncode, 2)
-        self.assertIn("player: position: another player keeps it", done.stderr)
-
-    def refused(self, *words: str) -> str:
-        """What is said, after the player's name, at status 2."""
-        done = subprocess.run(self.words("--untimed", *words), capture_output=True, text=True)
-        self.assertEqual((done.returncode, done.stdout), (2, ""), words)
-        self.assertRegex(done.stderr, "^(ngc-)?player: .*\n$")
-        return done.stderr.partition(": ")[2].removesuffix("\n")
-
-    def test_cannot(self) -> None:
-        """Files that can't be used are named, with status 2."""
-        Path("out").write_text(LINES)
-        Path("bad").write_text("nothing\n")
-        gone, no_record = "No such file or directory", "not a record of ngc-player"
-        for words, wanted in (
-                (("none", "first.toml", "position"), f"none: {gone}"),
-                (("out", "none", "position"), f"none: {gone}"),
-                (("out", "bad", "position"), "bad: (not TOML: .*|no line 'step_nm = ..')"),
-                (("out", "first.toml", "bad"), f"bad: {no_record}.*"),
-                (("out", "first.toml", "/dev/full"), f"/dev/full: {no_record}.*"),
-                (("out", "first.toml", "none/position"), f"none/position: {gone}"),
-                (("--pins", "none/pins", "out", "first.toml", "position"), f"none/pins: {gone}"),
-                (("--progress", "none/progress", "out", "first.toml", "position"), f"none/progress: {gone}"),
-                (("--progress", "p" * 200, "out", "first.toml", "position"), f"{'p' * 200}: .*too long.*")):
-            self.assertRegex(self.refused(*words), f"^{wanted}$", words)
-        deep = Path(*["d" * 100] * 5)
-        deep.mkdir(parents=True)
-        (deep / "out").write_text(LINES)
-        self.assertEqual(self.refused(str(deep / "out"), "first.toml", "position"),
-                         f"{self.folder / deep}/out: too long a path for a record of 512 bytes")
+        self.assertEqual(self.refused("other", "first.toml", "position"), "position: another player keeps it")
 
     def test_two_players(self) -> None:
         """A socket has one player; that of a dead one is taken over."""
@@ -296,53 +294,67 @@ class Both:
         self.linked()
         Path("other").write_text(LINES)
         second = ("--progress", "progress", "other", "first.toml", "position2")
-        self.assertRegex(self.refused(*second), "^progress: (another player listens there|Address already in use)$")
+        self.assertEqual(self.refused(*second), "progress: another player listens there")
         first.kill()
         first.wait()
-        self.assertRegex(self.refused("--progress", "other", *second[2:]),
-                         "^other: (it is there, and is no socket|Address already in use)$")
+        self.assertEqual(self.refused("--progress", "other", *second[2:]), "other: it is there, and is no socket")
         self.assertEqual(Path("other").read_text(), LINES)
-        command = self.words("--untimed", *second)
-        self.assertEqual(subprocess.run(command, capture_output=True).returncode, 0)
+        self.assertEqual(self.run_player("--untimed", "--no-ask-tool", *second).returncode, 0)
 
     def test_record_fails(self) -> None:
         """Where the record can't be written any more it stops, in the midst of a wait too."""
-        Path("out").write_text("S 1 5.000000 0 0 0 0\n" + "P 1 0 0 60000\n" * 3 + "D 3600000000\n")
-        command = self.words("--pins", "pins", "out", "first.toml", "position")
-        done = subprocess.run(command, capture_output=True, text=True, timeout=PATIENCE_S, env=preloaded("full", FULL))
+        if not self.takes_preloads:
+            self.skipTest("no preloads")
+        Path("out").write_text("S 1 5.000000 0 0 0 0\n" + "P 1 0 0 60000\n" * 3 + "D 3600000000\nP 1 0 0 50\n")
+        done = self.play(env=preloaded("full", FULL))
         self.assertEqual(done.returncode, 2, done.stderr)
         self.assertRegex(done.stderr, "player: position: No space left on device\n$")
         self.assertEqual(Path("pins").read_text().splitlines()[-1], "off")
 
+    def test_pins_fail(self) -> None:
+        """Where the pins fail it stops with spindle and coolant off, and the record says how far it came."""
+        Path("out").write_text("S 1 5.000000 0 1 0 0\nP 1 0 0 50\nP 0 1 0 50\nP 1 0 0 50\n")
+        self.assertIn("switch spindle and coolant off by hand", self.play("--pins", "/dev/full").stderr)
+        self.assertIn("\nstopped pins\n", record())
+        if not self.takes_preloads:
+            return
+        os.unlink("position")
+        done = self.play(env=preloaded("pins", BAD_PINS))
+        self.assertEqual((done.returncode, done.stdout), (2, done.stdout))
+        self.assertRegex(done.stderr, "player: (the )?pins: Input/output error\n$")
+        self.assertEqual(Path("pins").read_text().splitlines(), ["S 1 5.000000 0 1 0 0", "P 1 0 0 50", "off"])
+        self.assertEqual(record(), "lines 2\nbytes 32\noutputs S 0 5.000000 0 0 0 0\n"
+                         "reference 0.001000 0.000000 0.000000\nstopped pins\n")
 
-class Python(Both, InFolder):
+    def test_at(self) -> None:
+        """Where the machine stands can be told."""
+        Path("out").write_text(LINES)
+        done = self.play("--untimed", "--at", "10", "0", "-5.5")
+        self.assertEqual((done.stdout.splitlines()[-1], done.stderr), ("reference 10.002000 -0.001000 -5.501000", ""))
+
+    def test_by_chance(self) -> None:
+        """With bytes changed by chance it takes the lines that `read_line` takes, up to the first that is none."""
+        chance = random.Random(7)
+        for _ in range(self.chances):
+            whole = chance.choices(("P 1 0 -1 50", "D 100", "S 1 1000.000000 0 0 2 128"), k=20)
+            lines = [damaged(line, chance) for line in whole]
+            text = "\n".join(lines) + chance.choice(("\n", ""))
+            Path("out").write_text(text, encoding="latin-1", newline="")
+            for name in ("pins", "position"):
+                Path(name).unlink(missing_ok=True)
+            done = self.play("--untimed")
+            taken, wrong = accepted(text.encode("latin-1"))
+            pins = b"".join(line + b"\n" for line in taken)
+            ends_on = next((line for line in reversed(taken) if line.startswith(b"S")), b"S 0").startswith(b"S 1")
+            self.assertEqual(Path("pins").read_bytes(), pins + b"off\n" * (ends_on or wrong > 0), text)
+            said = (1, f"out:{wrong}") if wrong else (0, "out" if ends_on else "")
+            self.assertEqual((done.returncode, done.stderr.partition(": ")[0]), said, text)
+
+
+class Python(Playing, InProcess, PlayerTest):
     """tools/ngc-player."""
 
-    asked = "out: stopped after line 3, spindle and coolant off\n"
-
-    def words(self, *words: str) -> list[str]:
-        """As they are."""
-        return [sys.executable, str(TOOLS / "ngc-player"), *words]
-
-    def test_ask_tool(self) -> None:
-        """Told so, it waits at a tool change until somebody presses Enter, or says go; not where the tool is in."""
-        os.mkfifo("out")
-        child = self.begin("--untimed", "--ask-tool", "--progress", "progress", "out", "first.toml", "position")
-        link = self.linked()
-        with open("out", "wb", buffering=0) as pipe:
-            pipe.write(b"S 0 0.000000 0 0 2 0\nS 0 0.000000 0 0 2 2\nP 1 0 0 50\n")
-            self.wait_for("it waits", lambda: link.ask().waits)
-            self.assertEqual((link.ask().carried, link.ask().received), (1, 3))
-            self.assertEqual(child.stderr.readline(), "line 2: put in tool 2, then press Enter\n")
-            child.stdin.write("\n")
-            child.stdin.flush()
-            self.wait_for("it goes on", lambda: link.ask().carried == 3)
-            pipe.write(b"S 1 5.000000 0 0 2 2\nS 0 5.000000 0 0 0 0\nP 1 0 0 50\n")
-            self.wait_for("it waits", lambda: link.ask().waits)
-            self.assertEqual(child.stderr.readline(), "line 5: take the tool out, then press Enter\n")
-            link.go()
-            self.wait_for("it goes on", lambda: link.ask().carried == 6)
-        self.assertEqual(child.wait(PATIENCE_S), 0)
+    chances = 60
 
     def test_live(self) -> None:
         """It shows the line and the position while it works."""
@@ -351,6 +363,13 @@ class Python(Both, InFolder):
         self.assertEqual(done.returncode, 0)
         self.assertIn("line 2: 0.001000 0.000000 0.000000", done.stderr)
 
+    def test_narrow(self) -> None:
+        """The live line has less letters than the terminal columns, so that it never wraps."""
+        place = (40_550_000, 30_000_000, -5_000_000)
+        self.assertEqual(live(10110, place, 80), "line 10110: 40.550000 30.000000 -5.000000")
+        self.assertEqual(live(10110, place, 41), "10110: 40.550 30.000 -5.000")
+        self.assertEqual([live(10110, place, columns) for columns in (20, 10, 0)], ["line 10110", "", ""])
+
     def test_spindle(self) -> None:
         """Told so, it waits while the spindle starts, turns the other way, and stops, and not at other switches."""
         Path("out").write_text("S 1 5.000000 0 0 0 0\nS 1 5.000000 0 1 0 0\nS 2 5.000000 0 1 0 0\n"
@@ -358,15 +377,6 @@ class Python(Both, InFolder):
         begun = time.monotonic()
         self.assertEqual(self.play("--untimed", "--spindle", "0.2").returncode, 0)
         self.assertGreater(time.monotonic() - begun, 0.6)
-
-    def test_at(self) -> None:
-        """Where the machine stands can be told."""
-        Path("out").write_text(LINES)
-        done = self.play("--untimed", "--at", "10", "0", "-5.5")
-        self.assertEqual(done.stdout.splitlines()[-1], "reference 10.002000 -0.001000 -5.501000")
-        done = self.play("--untimed", "--at", "ten", "0", "0")
-        self.assertEqual((done.returncode, done.stderr),
-                         (2, "ngc-player: not a number of millimetres with at most six decimals: ten\n"))
 
     def test_follow(self) -> None:
         """Told so, it waits for more at a file's end, until it is asked to stop."""
@@ -379,97 +389,75 @@ class Python(Both, InFolder):
         self.wait_for("the others are", lambda: link.ask().carried == 3)
         child.send_signal(signal.SIGINT)
         said, wrong = child.communicate(timeout=PATIENCE_S)
-        self.assertEqual((child.returncode, wrong), (1, self.asked))
+        stopped = "out: stopped after line 3; spindle and coolant off\n"
+        self.assertEqual((child.returncode, wrong), (1, NO_RAMPS + stopped))
         self.assertEqual(said.splitlines()[-1], "reference 0.002000 0.000000 0.000000")
 
-    def test_full_pipe(self) -> None:
-        """A pipe in which more waits than it is to hold stays as it is, which is said."""
-        os.mkfifo("out")
-        pipe = os.open("out", os.O_RDWR)
-        self.addCleanup(os.close, pipe)
-        os.write(pipe, b"P 1 0 0 50\n" * 1000)
-        child = self.begin("--untimed", "out", "first.toml", "position")
-        self.assertEqual(child.stderr.readline(), "out: the pipe stays at 65,536 bytes\n")
 
-    def test_what_is_wrong(self) -> None:
-        """A line that isn't one is shown, its bytes escaped and its end left out where it is long."""
-        for line, shown in (("x\xff\0", "'x\\xff\\x00'"), ("y" * 100, f"'{'y' * 60}...'")):
-            Path("out").write_text(line + "\n", encoding="latin-1")
-            Path("position").unlink(missing_ok=True)
-            self.assertEqual(self.play("--untimed").stderr,
-                             f"out:1: not a line of OUT: {shown}; stopped, spindle and coolant off\n")
+class C(Playing, InC, PlayerTest):
+    """tools/player."""
 
+    chances = 60
 
-class C(Both, InFolder):
-    """tools/player.c, built by cc."""
-
-    asked = "out:4: asked to stop; stopped, spindle and coolant off\n"
-    wrong = [*Both.wrong, "P 1 0 0 50P 1 0 0 50", "S 0 0 0 0 0 0", "D -1", "P 2 0 0 50", "P 1 0 0 50\r", "P 1 0 0 50\0",
-             "D 18446744073709551616", "D 1 ", "S 0 0.000000 0 0 129 0", "P -0 0 0 50", "D 00", "S 3 0.000000 0 0 0 0"]
-
-    @classmethod
-    def setUpClass(cls) -> None:
-        """Builds it without a warning."""
-        cls.build = tempfile.TemporaryDirectory(prefix="ngc-player-")
-        cls.addClassCleanup(cls.build.cleanup)
-        cls.program = os.path.join(cls.build.name, "player")
-        options = ["-std=c99", "-Wall", "-Wextra", "-Werror", "-O2", "-pthread"]
-        built = subprocess.run(["cc", *options, TOOLS / "player.c", "-o", cls.program], capture_output=True, text=True)
-        if built.returncode:
-            raise AssertionError("tools/player.c isn't built:\n" + built.stderr)
-
-    def words(self, *words: str) -> list[str]:
-        """By their short names."""
-        return [self.program, *(SHORT.get(word, word) for word in words)]
+    def test_builds(self) -> None:
+        """It is built without a warning, by clang too where that is there."""
+        built("-O2")
+        if shutil.which("clang"):
+            built("-O2", compiler="clang")
 
     def test_its_own_words(self) -> None:
-        """Of the settings it reads two keys; its own words."""
+        """What it says of words that aren't its own."""
+        usage = ("usage: player [-unrt] [-a X Y Z] [-o SECONDS] [-b BYTES] [-s SOCKET] [-p PINS] [-m FILE]"
+                 " [-i FILE] OUT SETTINGS POSITION")
         Path("out").write_text(LINES)
-        for old, new, said in (("[1000, 1000, 1000]", "[1000, 0, 1000]", "step_nm"),
-                               ("= 50\n", "= fast\n", "period_us"), ("= 50\n", "= 1000001\n", "period_us")):
-            Path("bad.toml").write_text(FIRST.replace(old, new))
-            self.assertEqual(self.refused("out", "bad.toml", "position"),
-                             f"bad.toml: {said}: not a whole number from 1 to 1000000")
-        for words in (("out", "first.toml"), ("out", "first.toml", "position", "more")):
-            self.assertEqual(self.refused(*words), "usage: player [-u] [-n] [-b BYTES] [-s SOCKET] [-p PINS] OUT"
-                                                   " SETTINGS POSITION")
-        self.assertRegex(self.refused("-p", "/dev/full", "out", "first.toml", "position"), "^the pins: No space left")
-        done = subprocess.run([self.program, "-x"], capture_output=True)
-        self.assertEqual(done.returncode, 2)
+        for words in (("out", "first.toml"), ("out", "first.toml", "position", "more"), ("-x",), ("-a", "1", "2")):
+            self.assertEqual(self.refused(*words), usage)
 
     def test_allocates_nothing(self) -> None:
         """From its first wait on it asks for no memory, also where it is asked how far it is."""
         os.mkfifo("out")
-        child = subprocess.Popen([self.program, "-s", "progress", "-p", "pins", "out", "first.toml", "position"],
-                                 env=preloaded("memory", NO_MEMORY), stdout=subprocess.PIPE, text=True)
+        child = self.begin("-s", "progress", "-p", "pins", "-t", "out", "first.toml", "position",
+                           env=preloaded("memory", NO_MEMORY))
         link = self.linked()
         with open("out", "wb", buffering=0) as pipe:
             pipe.write(LINES.encode() + b"D 20000\n" * 5)
             self.wait_for("it is through", lambda: link.ask().carried == 13)
+            link.end()
         self.assertEqual(child.communicate(timeout=PATIENCE_S)[0].splitlines()[0],
                          "out: 13 lines carried out, 3 pulses, 6 waits, 4 switches")
         self.assertEqual(child.returncode, 0)
 
-    def test_length(self) -> None:
-        """It has less than 300 lines."""
-        self.assertLess(len((TOOLS / "player.c").read_text().splitlines()), 300)
+    def test_own_pins(self) -> None:
+        """A machine's own pins.c takes the place of the one that is there; it is asked for each line, and for `off`."""
+        Path("mine.c").write_text("""#include <stdio.h>
+#include "pins.h"
+bool pins_begin(const char *path, const char *const *others, struct cause *why) {
+    (void)others;
+    return path != NULL || because(why, "the port of the motors: --pins PORT");
+}
+int pins_set(const struct line *line, const char *text, size_t size) {
+    (void)text;
+    (void)size;
+    printf("%c %d\\n", line->kind, line->step[0]);
+    return 0;
+}
+int pins_off(void) {
+    puts("off");
+    return 0;
+}
+""")
+        program = built("-O0", pins=self.folder / "mine.c")
+        Path("out").write_text("S 1 5.000000 0 0 0 0\nP 1 0 0 50\n")
+        words = ["-u", "out", "first.toml", "position"]
+        done = subprocess.run([program, *words], capture_output=True, text=True)
+        self.assertEqual((done.returncode, done.stderr), (2, "player: the port of the motors: --pins PORT\n"))
+        done = subprocess.run([program, "-p", "port", *words], capture_output=True, text=True)
+        self.assertEqual(done.stdout.splitlines()[:3], ["S 0", "P 1", "off"])
 
-    def test_by_chance(self) -> None:
-        """With bytes changed by chance it takes the lines that `parse` takes, up to the first that is none."""
-        chance = random.Random(7)
-        for _ in range(60):
-            whole = chance.choices(("P 1 0 -1 50", "D 100", "S 1 1000.000000 0 0 2 128"), k=20)
-            lines = [damaged(line, chance) for line in whole]
-            text = "\n".join(lines) + chance.choice(("\n", ""))
-            Path("out").write_text(text, encoding="latin-1", newline="")
-            for name in ("pins", "position"):
-                Path(name).unlink(missing_ok=True)
-            done = self.play("--untimed")
-            taken, wrong = accepted(text.encode("latin-1"))
-            pins = b"".join(line + b"\n" for line in taken) + b"off\n" * bool(wrong)
-            self.assertEqual(Path("pins").read_bytes(), pins, text)
-            said = (1, f"out:{wrong}") if wrong else (0, "")
-            self.assertEqual((done.returncode, done.stderr.partition(": ")[0]), said, text)
+    def test_parts(self) -> None:
+        """Each part has less than 300 lines."""
+        for path in SOURCES:
+            self.assertLess(len(path.read_text().splitlines()), 300, path.name)
 
     def test_alike(self) -> None:
         """Over the lines of a program with an arc, a cycle, a wait and switches both leave the same pins and record."""
@@ -483,11 +471,17 @@ class C(Both, InFolder):
         self.assertEqual(ours[0], Path("out").read_text())
         for name in ("pins", "position"):
             Path(name).unlink()
-        words = ["--untimed", "--pins", "pins", "out", "first.toml", "position"]
+        words = ["--untimed", "--no-ask-tool", "--pins", "pins", "out", "first.toml", "position"]
         self.assertEqual(self.tool("ngc-player", *words).returncode, 0)
         self.assertEqual((Path("pins").read_text(), Path("position").read_bytes()), ours)
         self.assertEqual(Record.read("position").at_nm, (0, -500_000, 1_000_000))
         self.assertGreater(len(re.findall("^P", ours[0], re.M)), 5000)
+
+
+class CSanitized(Playing, Sanitized, PlayerTest):
+    """tools/player under sanitizers."""
+
+    chances = 20
 
 
 if __name__ == "__main__":

@@ -9,7 +9,7 @@ sys.path.insert(0, str(Path(__file__).resolve().parent))
 
 from session_support import TOOLS, InFolder, ngc  # noqa: E402
 
-from ngc_tools.run import dry  # noqa: E402
+from ngc_tools.ngc.run import dry  # noqa: E402
 
 sys.path.insert(0, str(TOOLS / "posts"))
 

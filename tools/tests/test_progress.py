@@ -9,11 +9,14 @@ sys.path.insert(0, str(Path(__file__).resolve().parent))
 
 from session_support import InFolder  # noqa: E402
 
-from ngc_tools.causes import cause  # noqa: E402
-from ngc_tools.progress import Link, Listener, NoAnswer, Report  # noqa: E402
+from ngc_tools.files import cause  # noqa: E402
+from ngc_tools.formats.out import Switch  # noqa: E402
+from ngc_tools.player.progress import Link, Listener, NoAnswer, Report  # noqa: E402
 
-REPORT = Report(3, 203, True, "0.002000 0.000000 -1.000000", "/a b/axis")
-TEXT = b"carried 3 received 203 waits reference 0.002000 0.000000 -1.000000 out /a b/axis"
+REPORT = Report(3, 203, True, "0.002000 0.000000 -1.000000", "/a b/axis",
+                Switch(1, 1_000_000_000, False, True, 3, 2), 3)
+TEXT = (b"carried 3 received 203 waits tool 3 reference 0.002000 0.000000 -1.000000 outputs S 1 1000.000000 0 1 3 2"
+        b" out /a b/axis")
 
 
 class Reports(unittest.TestCase):
@@ -22,7 +25,12 @@ class Reports(unittest.TestCase):
     def test_report(self) -> None:
         """As text and back; other text isn't a report."""
         self.assertEqual((REPORT.text(), Report.read(TEXT), REPORT.behind), (TEXT, REPORT, 200))
-        for text in (b"", b"carried 3", TEXT.replace(b"waits", b"sleeps"), b"x" + TEXT):
+        works = Report(3, 3, False, REPORT.at, "/axis")
+        self.assertEqual(works.text(), b"carried 3 received 3 works reference 0.002000 0.000000 -1.000000"
+                                       b" outputs S 0 0.000000 0 0 0 0 out /axis")
+        self.assertEqual(Report.read(works.text()), works)
+        for text in (b"", b"carried 3", TEXT.replace(b"waits", b"sleeps"), TEXT.replace(b" tool 3", b""), b"x" + TEXT,
+                     TEXT.replace(b" outputs S 1 1000.000000 0 1 3 2", b""), TEXT.replace(b"S 1 ", b"S 7 ")):
             with self.assertRaisesRegex(ValueError, "^not a report of a player: "):
                 Report.read(text)
 
@@ -49,8 +57,38 @@ class Sockets(InFolder):
             with self.assertRaisesRegex(NoAnswer, "^progress: the player is gone: "):
                 asked()
 
+    def test_another_version(self) -> None:
+        """The answer of a player of another version isn't taken for a report."""
+        listener = Listener("progress")
+        self.addCleanup(listener.close)
+        link = Link("progress")
+        self.addCleanup(link.close)
+        old = b"progress 1 carried 3 received 203 works reference 0.002000 0.000000 -1.000000 out /axis"
+        listener.answer(old, link.socket.getsockname())
+        with self.assertRaisesRegex(NoAnswer, "^progress: not a report of a player: .*; it is of another version: take"
+                                              " a player and a console of one version$"):
+            link.ask()
+
+    def test_for_its_user_alone(self) -> None:
+        """Nobody else may ask, or say that a tool is in, whatever the umask allows."""
+        before = os.umask(0)
+        self.addCleanup(os.umask, before)
+        listener = Listener("progress")
+        self.addCleanup(listener.close)
+        self.assertEqual(os.stat("progress").st_mode & 0o777, 0o600)
+
+    def test_full_queue(self) -> None:
+        """A player that is too busy to take questions isn't gone."""
+        listener = Listener("progress")
+        self.addCleanup(listener.close)
+        link = Link("progress", patience_s=0.2)
+        self.addCleanup(link.close)
+        with self.assertRaisesRegex(NoAnswer, "^progress: the player doesn't answer$"):
+            for _ in range(5000):
+                link.go()
+
     def test_asker_is_gone(self) -> None:
-        """Whoever doesn't read the answer goes without; a socket that was removed is no harm."""
+        """Whoever has no name, or doesn't read the answer, goes without; a socket that was removed is no harm."""
         listener = Listener("progress")
         link = Link("progress", patience_s=0.01)
         with self.assertRaises(NoAnswer):
@@ -58,6 +96,7 @@ class Sockets(InFolder):
         link.close()
         _, sender = listener.next() or (b"", b"")
         listener.answer(TEXT, sender)
+        listener.answer(TEXT, None)
         os.unlink("progress")
         listener.close()
 

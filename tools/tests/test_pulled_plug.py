@@ -1,17 +1,16 @@
 """Power is lost for controller and player together, over a named pipe: what is never carried out is bounded.
 
-NGC_MOMENTS says how many moments are tried (default 200, an eighth of them with player.c)."""
+NGC_MOMENTS says how many moments are tried (default 200, an eighth of them with tools/player)."""
 import os
-import subprocess
 import sys
-import tempfile
 import unittest
 from pathlib import Path
 
 sys.path.insert(0, str(Path(__file__).resolve().parent))
 
+from player_support import built  # noqa: E402
 from pulled_plug import Options, pull  # noqa: E402
-from session_support import TOOLS, ngc  # noqa: E402
+from session_support import ngc  # noqa: E402
 
 MOMENTS = int(os.environ.get("NGC_MOMENTS", "200"))
 
@@ -28,12 +27,9 @@ class PulledPlug(unittest.TestCase):
         self.assertGreaterEqual(result.finished + result.ended_short, 1)
 
     def test_c(self) -> None:
-        """Metered by 20 lines, player.c."""
-        with tempfile.TemporaryDirectory(prefix="ngc-player-") as folder:
-            program = f"{folder}/player"
-            subprocess.run(["cc", "-std=c99", "-O2", "-pthread", TOOLS / "player.c", "-o", program], check=True)
-            wanted = MOMENTS // 8
-            result = pull(Options(ngc(), 20, 4096, program, 0.3), wanted, seed=2)
+        """Metered by 20 lines, the player in C."""
+        wanted = MOMENTS // 8
+        result = pull(Options(ngc(), 20, 4096, built("-O2"), 0.3), wanted, seed=2)
         self.assertEqual((len(result.lost), max(result.lost) <= 20), (wanted, True))
         self.assertGreaterEqual(result.finished + result.ended_short, 1)
 

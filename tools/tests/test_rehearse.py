@@ -1,5 +1,6 @@
 """ngc-rehearse: what it says, by hand; where the motors were, compared with OUT itself; what it refuses."""
 import fcntl
+import signal
 import subprocess
 import sys
 import tempfile
@@ -12,10 +13,10 @@ sys.path.insert(0, str(Path(__file__).resolve().parent))
 from session_support import FIRST, InFolder, ngc, told  # noqa: E402
 from test_device import DATA, stored  # noqa: E402
 
-from ngc_tools.console import Console  # noqa: E402
-from ngc_tools.out import parse  # noqa: E402
-from ngc_tools.position import Position  # noqa: E402
-from ngc_tools.rehearse_main import main  # noqa: E402
+from ngc_tools.ngc.console import Console  # noqa: E402
+from ngc_tools.formats.out import read_line  # noqa: E402
+from ngc_tools.formats.position import Position  # noqa: E402
+from ngc_tools.cli.rehearse import main  # noqa: E402
 
 HOLE = """G21 G90 G17 G94
 T1 M6
@@ -77,6 +78,17 @@ from there to the end: 0.025 s; X 0.000 to 0.500   Y 0.000 to 0.000   Z 0.000 to
 """
 
 
+def _parent(folder: Path) -> str:
+    """The process whose `ngc run` works in a folder, by its arguments; nothing if there is none."""
+    for process in Path("/proc").glob("[0-9]*"):
+        try:
+            if str(folder).encode() in (process / "cmdline").read_bytes():
+                return (process / "stat").read_text().rpartition(")")[2].split()[1]
+        except OSError:
+            continue
+    return ""
+
+
 class Rehearsals(InFolder):
     """Sessions that are cut, and what is said of their devices."""
 
@@ -132,6 +144,26 @@ class Rehearsals(InFolder):
         self.hole(OUT + 100)
         self.assertEqual(self.rehearse("2", "-6", "5"), RESUMED)
 
+    def test_broken_off(self) -> None:
+        """Ctrl-C and a kill in the midst leave no folder behind."""
+        self.session("G21 G90 F60000\n" + "G1 X900\nG1 X-900\n" * 20 + "M2\n", "start", cut=False)
+        for number in (signal.SIGINT, signal.SIGTERM, signal.SIGHUP):
+            before = set(Path("/dev/shm").glob("ngc-rehearse-*"))
+            child = self.start("ngc-rehearse", "mill.dev", "first.toml", "--ngc", ngc())
+            found: list[Path] = []
+
+            def begun() -> bool:
+                """Whether this one has its folder."""
+                found[:] = [path for path in Path("/dev/shm").glob("ngc-rehearse-*") if path not in before
+                            and f"/{child.pid}/" in f"/{_parent(path)}/"]
+                return bool(found)
+
+            self.wait_for("it rehearses", begun)
+            child.send_signal(number)
+            child.communicate()
+            self.assertNotEqual(child.returncode, 0)
+            self.assertEqual([path for path in found if path.exists()], [])
+
     def test_without_a_point(self) -> None:
         """Where the segment begins is said also where nobody says where the machine stands."""
         self.hole(OUT + 100)
@@ -166,7 +198,7 @@ class Rehearsals(InFolder):
         self.session("", "reference 0.7 0 0", "resume", "tick 3000", "mdi S500 M3", "tick 20", "mdi G91", "tick 5",
                      "mdi G0 X1 Y-1", "tick 2000", "mdi G90 G0 X2", "tick 400", "hold", "status", "continue",
                      lines=700 + 1 + 2000 + 2 + 1000 + 900)
-        whole = [parse(line, 1) for line in Path("out").read_bytes().splitlines()]
+        whole = [read_line(line, 1) for line in Path("out").read_bytes().splitlines()]
         for lines in (1, 701, 702, 2702, 3704, 4603):
             position = Position((1000, 1000, 1000), (700_000, 0, 0)).take_all(whole[:lines])
             self.assertIn(f"; {position.reference()}\n", self.rehearse("--carried-out", str(lines)))
@@ -175,7 +207,7 @@ class Rehearsals(InFolder):
         """A line typed between two blocks of a program that is held."""
         self.session("G0 X1\nG0 Y1\nG0 X0\nM2\n", "start", "tick 1003", "hold", "mdi G0 Z1", "tick 1100", "continue",
                      lines=3500)
-        whole = [parse(line, 1) for line in Path("out").read_bytes().splitlines()]
+        whole = [read_line(line, 1) for line in Path("out").read_bytes().splitlines()]
         for lines in (1001, 2000, 2001, 3500):
             position = Position((1000, 1000, 1000)).take_all(whole[:lines])
             self.assertIn(f"; {position.reference()}\n", self.rehearse("--carried-out", str(lines)))
@@ -185,7 +217,8 @@ class Rehearsals(InFolder):
         self.session("G91\n" + "G0 X0.002\n" * 700 + "M2\n", cut=False)
         Path("before.dev").write_bytes(Path("mill.dev").read_bytes())
         self.session("", "start", lines=1301)
-        self.assertEqual(self.refused(1, "--carried-out", "1290"), "mill.dev: the session handed out fewer lines\n")
+        self.assertEqual(self.refused(1, "--carried-out", "1290"),
+                         "ngc-rehearse: mill.dev: the session handed out fewer lines\n")
         said = self.rehearse("--carried-out", "1290", "--before", "before.dev")
         self.assertIn("the motors were in line 646 of 702: G0 X0.002\nsegment 0, line 2 of its 2; reference 1.290000",
                       said)
@@ -196,8 +229,9 @@ class Rehearsals(InFolder):
         self.session("G91 G0 Z0.003 F60\nG81 X0.001 Z-0.001 R-0.001 L400\nM2\n", cut=False)
         Path("before.dev").write_bytes(Path("mill.dev").read_bytes())
         self.session("", "start", lines=1500)
-        self.assertEqual(self.refused(1, "--carried-out", "3"), "mill.dev: the log begins within a block: it was full;"
-                                                                " name a copy of before by --before COPY\n")
+        self.assertEqual(self.refused(1, "--carried-out", "3"),
+                         "ngc-rehearse: mill.dev: the log begins within a block: it was full;"
+                         " name a copy of before by --before COPY\n")
         self.assertIn("the motors were in line 2 of 3: G81 X0.001 Z-0.001 R-0.001 L400\n",
                       self.rehearse("--carried-out", "1499", "--before", "before.dev"))
 
@@ -213,14 +247,15 @@ NEVER CUT: 400 lines from there up to the end of what was handed out
 no block is half-done: resume has nothing to do
 there is no program
 """)
-        self.assertEqual(self.refused(1, "--carried-out", "1001"), "mill.dev: the session handed out fewer lines\n")
+        self.assertEqual(self.refused(1, "--carried-out", "1001"),
+                         "ngc-rehearse: mill.dev: the session handed out fewer lines\n")
 
     def test_nothing_handed_out(self) -> None:
         """A session that moved nothing."""
         self.session("", "mdi G91", "tick 5", cut=False)
         self.assertEqual(self.refused(1, "--carried-out", "1"),
-                         "mill.dev: the log tells of nothing that was handed out since the device was written anew;"
-                         " name a copy of before by --before COPY\n")
+                         "ngc-rehearse: mill.dev: the log tells of nothing that was handed out since the device was"
+                         " written anew; name a copy of before by --before COPY\n")
 
     def test_block_delete(self) -> None:
         """Whether lines with a slash were left out isn't on the device; the log tells it."""
@@ -272,28 +307,30 @@ there is no program
     def test_refused(self) -> None:
         """Each refusal, by `ngc` and of the files."""
         self.hole(OUT + 100)
-        self.assertEqual(self.refused(1, "0", "0", "2000"), "mill.dev: reference 0 0 2000: refused X2 OutsideTravel\n")
+        self.assertEqual(self.refused(1, "0", "0", "2000"),
+                         "ngc-rehearse: mill.dev: reference 0 0 2000: refused X2 OutsideTravel\n")
         self.assertIn("N is at least 1", self.refused(1, "--carried-out", "0"))
         self.assertIn("three numbers, or none", self.refused(2, "1", "2"))
         self.assertIn("goes with --carried-out", self.refused(2, "--before", "mill.dev"))
         self.assertEqual(self.refused(2, "--carried-out", "5", "--before", "none.dev"),
-                         "none.dev: No such file or directory\n")
+                         "ngc-rehearse: none.dev: No such file or directory\n")
         Path("first.toml").write_text(FIRST.replace("high_nm = [1000000000", "high_nm = [1500000"))
-        self.assertEqual(self.refused(1, "1", "2", "5"), "mill.dev: resume: refused X2 OutsideTravel\n")
+        self.assertEqual(self.refused(1, "1", "2", "5"), "ngc-rehearse: mill.dev: resume: refused X2 OutsideTravel\n")
         Path("first.toml").write_text(FIRST.replace("period_us = 50", "period_us = 0"))
-        self.assertEqual(self.refused(2), "first.toml: S5 OutOfLimits\n")
+        self.assertIn("ngc-rehearse: first.toml: S5 OutOfLimits: a number is beyond its limits\n"
+                      "    line 5: period_us = 0", self.refused(2))
         Path("first.toml").write_text(FIRST)
         with open("mill.dev", "rb") as file:
             fcntl.flock(file, fcntl.LOCK_EX)
-            self.assertEqual(self.refused(2), "mill.dev: a session holds the device: end it by quit\n")
+            self.assertEqual(self.refused(2), "ngc-rehearse: mill.dev: a session holds the device: end it by quit\n")
         Path("mill.dev").write_bytes(bytes(1710 * 512))
         self.assertIn("mill.dev: not a device: it isn't formatted", self.refused(2))
         Path("mill.dev").unlink()
-        self.assertEqual(self.refused(2), "mill.dev: No such file or directory\n")
+        self.assertEqual(self.refused(2), "ngc-rehearse: mill.dev: No such file or directory\n")
         Path("mill.dev").mkdir()
-        self.assertEqual(self.refused(2), "mill.dev: Is a directory\n")
+        self.assertEqual(self.refused(2), "ngc-rehearse: mill.dev: Is a directory\n")
         Path("first.toml").unlink()
-        self.assertEqual(self.refused(2), "first.toml: No such file or directory\n")
+        self.assertEqual(self.refused(2), "ngc-rehearse: first.toml: No such file or directory\n")
 
     def test_large(self) -> None:
         """A large device is copied whole: a program that stands past 131,072 bytes goes on there."""
@@ -316,7 +353,7 @@ there is no program
         image[512 * 88 + 152] = 9
         Path("mill.dev").write_bytes(image)
         self.assertEqual(self.refused(2), "mill.dev: damaged: sector 88: spindle 9\n"
-                                          "mill.dev: ngc ended with status 2: refused J3 Damaged\n")
+                                          "ngc-rehearse: mill.dev: ngc ended with status 2: refused J3 Damaged\n")
 
     def test_line_refused(self) -> None:
         """A line that is refused later in the job is told, with status 1."""

@@ -7,8 +7,10 @@ sys.path.insert(0, str(Path(__file__).resolve().parent))
 
 from session_support import FIRST, InFolder, ngc  # noqa: E402
 
-from ngc_tools import settings_report  # noqa: E402
-from ngc_tools.settings import BadSettings, Settings  # noqa: E402
+from ngc_tools.ngc import settings_report  # noqa: E402
+from ngc_tools.formats.settings import LIMITS, BadSettings, Settings, toml_line  # noqa: E402
+from ngc_tools.ngc.run import settings_refusal  # noqa: E402
+from ngc_tools.ngc.usable_settings import look_at_settings  # noqa: E402
 
 MILL = Path(__file__).resolve().parents[2] / "examples" / "mill.toml"
 
@@ -23,15 +25,23 @@ class Read(InFolder):
             3_000_000_000, 40, (50_000_000, 62_500_000, 0)))
 
     def test_errors_name_path_and_key(self) -> None:
-        """What can't be put into the dataclass."""
+        """Each fault names the key and what it takes; no control character of a key or a value is shown."""
+        whole = "a whole number of microseconds, 1 to 1,000,000"
         cases = {
-            FIRST.replace("period_us = 50\n", ""): "bad.toml: period_us is missing",
-            FIRST.replace("= 50\n", "= 50.0\n"): "bad.toml: period_us isn't a whole number: 50.0",
-            FIRST.replace("= 50\n", "= true\n"): "bad.toml: period_us isn't a whole number: True",
-            FIRST.replace("[1000, 1000, 1000]", "[1000, 1000]"):
-                "bad.toml: step_nm isn't three whole numbers, of X, Y and Z: [1000, 1000]",
-            FIRST.replace("[50000000]", "50000000"): "bad.toml: tools_nm isn't an array of whole numbers: 50000000",
+            FIRST.replace("period_us = 50\n", ""): f"bad.toml: period_us is missing (S2): {whole}",
+            FIRST + '"\\u001b[2J" = 1\n': 'bad.toml: "\\u001b[2J" isn\'t one of the six keys (S3)',
+            FIRST.replace("= 50\n", "= 50.0\n"): f"bad.toml: period_us = 50.0 (S4): it takes {whole}",
+            FIRST.replace("= 50\n", "= true\n"): f"bad.toml: period_us = true (S4): it takes {whole}",
+            FIRST.replace("= 50\n", '= "\x7f"\n'.replace("\x7f", "\\u009b")):
+                f'bad.toml: period_us = "\\x9b" (S4): it takes {whole}',
+            FIRST.replace("= 50\n", "= 0\n"): f"bad.toml: period_us = 0 (S5): it takes {whole}",
+            FIRST.replace("[1000, 1000, 1000]", "[1000, 1000]"): "bad.toml: step_nm = [1000, 1000] (S4): it takes three"
+                " whole numbers of nanometres, 10 to 1,000,000",
+            FIRST.replace("[50000000]", str([0] * 129)): f"bad.toml: tools_nm = {[0] * 129} (S6): it takes an array of"
+                " at most 128 whole numbers of nanometres, 0 to 1,000,000,000",
             "step_nm\n": "bad.toml: not TOML: Expected '=' after a key in a key/value pair (at line 1, column 8)",
+            "a = " + "[" * 4_000: "bad.toml: not TOML that ngc takes: nested too deeply",
+            "\n" + "a." * 3_000: "bad.toml: line 2 has more than 4,096 bytes",
         }
         for text, said in cases.items():
             Path("bad.toml").write_text(text)
@@ -43,6 +53,26 @@ class Read(InFolder):
             Settings.read("bad.toml")
         with self.assertRaises(OSError):
             Settings.read("none.toml")
+
+    def test_what_ngc_takes(self) -> None:
+        """Values within and beyond each limit, of each type: they are taken where `ngc` takes them, and refused with
+        the same fault."""
+        edges = {"step_nm": (10, 10**6), "low_nm": (-10**10, 0), "high_nm": (0, 10**10),
+                 "traverse_nm_per_min": (1, 10**11), "period_us": (1, 10**6), "tools_nm": (0, 10**9)}
+        others: list[object] = [1.0, True, "1", [], [1.5], [[1]], {"a": 1}]
+        for key, (low, high) in edges.items():
+            is_one = key in ("traverse_nm_per_min", "period_us")
+            each = [value if is_one else [value] * 3 for value in (low - 1, low, high, high + 1)]
+            for value in [*each, *others, *([[low] * 128, [low] * 129] if key == "tools_nm" else [])]:
+                Path("edge.toml").write_text("".join(f"{toml_line(name, value if name == key else of)}\n"
+                                                     for name, of in settings_report.GOOD.items()))
+                refused = settings_refusal(ngc(), "edge.toml")
+                try:
+                    Settings.read("edge.toml")
+                    self.assertIsNone(refused, (key, value))
+                except BadSettings as error:
+                    self.assertIsNotNone(refused, (key, value))
+                    self.assertIn(f"({refused.code})", str(error), (key, value))
 
     def test_fastest(self) -> None:
         """docs/SETTINGS.md: 5,000 nm and 40 us allow 7,500 mm a minute, 2,500 nm 3,750."""
@@ -123,12 +153,13 @@ bad.toml: S4 WrongType: a value isn't of its type
 """,
             FIRST.replace("= 50\n", "= true\n").replace("= 6000000000\n", "= {a = '1'}\n"): """\
 bad.toml: S4 WrongType: a value isn't of its type
-    line 4: traverse_nm_per_min = {"a" = "1"} (S4): it takes a whole number of nanometres a minute, 1 to 100,000,000,000
+    line 4: traverse_nm_per_min = {a = "1"} (S4): it takes a whole number of nanometres a minute, 1 to 100,000,000,000
     line 5: period_us = true (S4): it takes a whole number of microseconds, 1 to 1,000,000
 """,
-            FIRST + '"\\u0066eed" = 2\n': """\
+            FIRST + '"\\u0066eed" = 2\n"\\u009b2J" = 1\n': """\
 bad.toml: S3 UnknownKey: there is another key
     feed isn't one of the six keys
+    "\\x9b2J" isn't one of the six keys
 """,
             FIRST.replace("[1000, 1000, 1000]", "[1000, 1000, 5]"): """\
 bad.toml: S5 OutOfLimits: a number is beyond its limits
@@ -137,18 +168,32 @@ bad.toml: S5 OutOfLimits: a number is beyond its limits
         }
         for text, said in cases.items():
             Path("bad.toml").write_text(text)
-            self.assertEqual(self.only("bad.toml"), (2, "", said))
+            self.assertEqual(self.only("bad.toml"), (2, "", f"ngc-check: {said}"))
         Path("bad.toml").write_text(FIRST.replace("[50000000]", str([1] * 129)))
         self.assertEqual(self.only("bad.toml")[2].splitlines()[0],
-                         "bad.toml: S6 TooManyTools: there are more than 128 tool lengths")
+                         "ngc-check: bad.toml: S6 TooManyTools: there are more than 128 tool lengths")
+
+    def test_each_tool_names_the_key(self) -> None:
+        """The key and its limits, of a value that `ngc` alone calls S5 OutOfLimits."""
+        Path("bad.toml").write_text(FIRST.replace("= 50\n", "= 0\n"))
+        with self.assertRaises(BadSettings) as caught:
+            look_at_settings(ngc(), "bad.toml")
+        self.assertEqual(str(caught.exception), "bad.toml: S5 OutOfLimits: a number is beyond its limits\n    line 5:"
+                         " period_us = 0 (S5): it takes a whole number of microseconds, 1 to 1,000,000")
+        Path("p.ngc").write_text("M2\n")
+        for words in (("ngc-adapt", "p.ngc", "--settings", "bad.toml"),
+                      ("ngc-split", "p.ngc", "--settings", "bad.toml"), ("ngc-rehearse", "mill.dev", "bad.toml")):
+            done = self.tool(*words, "--ngc", ngc())
+            self.assertEqual(done.returncode, 2, words)
+            self.assertIn("period_us = 0 (S5): it takes", done.stderr)
 
     def test_no_file(self) -> None:
         """Where `ngc` says nothing, the path and the cause."""
-        self.assertEqual(self.only("none.toml"), (2, "", "none.toml: No such file or directory\n"))
+        self.assertEqual(self.only("none.toml"), (2, "", "ngc-check: none.toml: No such file or directory\n"))
 
     def test_limits_are_those_of_the_page(self) -> None:
         """The limits that are said stand in docs/SETTINGS.md's table."""
         page = Path(__file__).resolve().parents[2] / "docs" / "SETTINGS.md"
         rows = dict(re.findall(r"^\| `(\w+)` \| [^|]* \| ([^|;]*)[^|]* \|", page.read_text(), re.MULTILINE))
-        for key, said in settings_report.LIMITS.items():
+        for key, said in LIMITS.items():
             self.assertTrue(said.endswith(rows[key].strip()), (key, rows[key]))

@@ -1,9 +1,11 @@
 """What all tools have in common: help, wrong words, how they find `ngc`, an output that nobody reads."""
 import ast
 import os
+import re
 import shutil
 import subprocess
 import sys
+import tomllib
 import unittest
 from pathlib import Path
 
@@ -28,7 +30,7 @@ def imported(path: Path) -> set[str]:
 
 
 class Tools(InFolder):
-    """Each of the seven."""
+    """Each of the eight."""
 
     def run_tool(self, name: str, *words: str, path: str = "", tools: Path = TOOLS) -> tuple[int, str, str]:
         """Runs a tool with this PATH: the exit status and what it writes."""
@@ -38,15 +40,27 @@ class Tools(InFolder):
 
     def test_help(self) -> None:
         """An example and what each exit status means, on standard output."""
-        self.assertEqual(len(NAMES), 7)
+        self.assertEqual(len(NAMES), 8)
         for name in NAMES:
             status, said, error = self.run_tool(name, "--help")
             self.assertEqual((status, error), (0, ""), name)
             example, _, statuses = said.partition("\nexample:\n")[2].partition("\nexit status:\n")
             self.assertIn(f"  {name} ", example)
             self.assertRegex(statuses, r"(?s)^  0  .*\n  2  ")
-            self.assertEqual("--ngc PATH" in said, name != "ngc-player")
+            self.assertEqual("--ngc PATH" in said, name not in ("ngc-player", "ngc-device"))
             self.assertTrue((TOOLS / name).stat().st_mode & 0o111, name)
+
+    def test_entry_points(self) -> None:
+        """What `pip install` puts on PATH is what the scripts call, and all of its folders are packages."""
+        points = tomllib.loads((TOOLS / "pyproject.toml").read_text())["project"]["scripts"]
+        called = {}
+        for name in NAMES:
+            module, = re.findall(r"^from (ngc_tools\.cli\.\w+) import main\b", (TOOLS / name).read_text(), re.MULTILINE)
+            called[name] = f"{module}:main"
+        self.assertEqual(points, called)
+        folders = {path.parent for path in TOOLS.glob("ngc_tools/**/*.py")}
+        self.assertGreater(len(folders), 6)
+        self.assertEqual([folder for folder in folders if not (folder / "__init__.py").is_file()], [])
 
     def test_wrong_words(self) -> None:
         """Status 2, on standard error, with the tool's name."""
@@ -65,17 +79,16 @@ class Tools(InFolder):
         shutil.copytree(TOOLS, "tools", ignore=shutil.ignore_patterns("tests", "__pycache__"))
         os.symlink(ngc(), "tools/ngc")
         for name, words in WORDS.items():
-            prefix = "ngc-operate: " if name == "ngc-operate" else ""
-            self.assertEqual(self.run_tool(name, *words), (2, "", prefix + NOT_FOUND), name)
+            self.assertEqual(self.run_tool(name, *words), (2, "", f"{name}: {NOT_FOUND}"), name)
             on_path = self.run_tool(name, *words, path=str(self.folder / "bin"))
             self.assertEqual(on_path[0], 0, on_path)
             self.assertEqual(self.run_tool(name, *words, tools=self.folder / "tools"), on_path, name)
             self.assertEqual(self.run_tool(name, *words, "--ngc", "first.toml"),
-                             (2, "", f"{prefix}first.toml: not a program that can be run\n"), name)
+                             (2, "", f"{name}: first.toml: not a program that can be run\n"), name)
 
     def test_imports(self) -> None:
         """Python's standard library alone."""
-        paths = [*TOOLS.glob("ngc-*"), *TOOLS.glob("ngc_tools/*.py"), *TOOLS.glob("posts/*.py")]
+        paths = [*TOOLS.glob("ngc-*"), *TOOLS.glob("ngc_tools/**/*.py"), *TOOLS.glob("posts/*.py")]
         self.assertGreater(len(paths), 40)
         for path in paths:
             others = imported(path) - {*sys.stdlib_module_names, "ngc_tools"}

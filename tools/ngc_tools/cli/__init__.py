@@ -1,0 +1,1 @@
+"""The words of each tool, and what it prints."""

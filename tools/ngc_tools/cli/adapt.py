@@ -1,0 +1,235 @@
+"""The words of `ngc-adapt`, and what it writes."""
+import argparse
+import sys
+import tempfile
+from collections.abc import Callable, Iterator, Sequence
+from dataclasses import replace
+
+from ngc_tools import files
+from ngc_tools.cli.beginning import add_beginning, chosen_beginning
+from ngc_tools.cli.run import new_parser, run
+from ngc_tools.failure import BadNumber, Failure, WrongWords, speaking_of
+from ngc_tools.formats.device import SLOTS
+from ngc_tools.formats.position import nanometres
+from ngc_tools.formats.program_text import NotText, ProgramText
+from ngc_tools.formats.settings import DEFAULT, Settings
+from ngc_tools.formats.text import shown
+from ngc_tools.job.cam import rewritten, whole_text
+from ngc_tools.job.cam_homes import Answers, Missing
+from ngc_tools.job.cam_line import CamLine
+from ngc_tools.job.cam_program import SharedSlot
+from ngc_tools.job.outside import widest
+from ngc_tools.job.radius_arcs import centred
+from ngc_tools.job.refused import Lines, find_all
+from ngc_tools.ngc import cures
+from ngc_tools.ngc.beginning import Beginning
+from ngc_tools.ngc.run import Refusal, find_ngc, refusal
+from ngc_tools.ngc.usable_settings import look_at_settings
+
+ABOUT = """Write a CAM system's text as `ngc` accepts it, and list each line that is changed.
+
+Comments, program and block numbers, units, G91.1, tolerances, arcs by radius, full circles without an end, G0 and G1
+without an axis, words of a rotary axis that stays at 0, tool numbers above 128, G28 and G30 of Z or of X and Y under
+G91, and a missing M2: each is written as `ngc` takes it, with the same motions. docs/TOOLS.md has the table. All other
+words stay as they are, and each line stays a line. `ngc dry` decides of what comes out."""
+
+EXAMPLE = """example:
+  ngc-adapt part.nc --lift 0 --settings mill.toml --output part.ngc
+
+exit status:
+  0  ngc accepts what is written
+  1  it is written, and ngc refuses a line of it
+  2  the words are wrong, a file can't be used, or a height, a place or a slot is needed; nothing is written"""
+
+_MOST = 10  # refused lines that are told
+
+
+def make_parser() -> argparse.ArgumentParser:
+    """The words of the command line."""
+    parser = new_parser("ngc-adapt", ABOUT, EXAMPLE)
+    parser.add_argument("program", metavar="PROGRAM", help="the CAM system's text; - is standard input")
+    parser.add_argument("--output", "-o", metavar="FILE", help="write the text here, and the list to standard output")
+    parser.add_argument("--force", action="store_true", help="write over FILE if it is there")
+    parser.add_argument("--lift", metavar="Z", help="what G28 and G30 of Z alone become: G53 G0 Z, a machine coordinate"
+                                                    " in millimetres; at a terminal you are asked for it")
+    parser.add_argument("--park", metavar=("X", "Y"), nargs=2, help="the same of X and Y alone: G53 G0 X Y")
+    parser.add_argument("--tool", metavar="NUMBER=SLOT", action="append", default=[],
+                        help=f"T and H of this NUMBER become those of SLOT, 1 to {SLOTS}; may be given several times")
+    parser.add_argument("--settings", metavar="FILE", help="the machine's settings, for the dry run")
+    add_beginning(parser)
+    parser.add_argument("--ngc", metavar="PATH",
+                        help="the program ngc; without it the one beside this tool, or on PATH")
+    return parser
+
+
+def main(arguments: list[str] | None = None) -> int:
+    """Adapts a program, and returns the exit status; without arguments those of the command line count."""
+    return run(make_parser(), adapt, arguments)
+
+
+def adapt(args: argparse.Namespace) -> int:
+    """Reads, rewrites, asks `ngc` and writes. Raises OSError and Failures."""
+    ngc, answers = find_ngc(args.ngc), given(args)
+    if args.settings:
+        look_at_settings(ngc, args.settings)
+    inputs = (args.program, args.settings, args.device)
+    if args.output:
+        files.look_before_write(args.output, inputs, args.force)
+    begin, text = chosen_beginning(args), _read(args.program)
+    lines, warnings = _rewritten(args.program, text, answers)
+    _centre(ngc, args, begin, lines)
+    new, said = whole_text(lines, text)
+    refused = list(told(new.encode(), args.output, lambda asked: refusal(*begin.dry(ngc, asked, args.settings))))
+    _write(args, new.encode(), inputs)
+    changed = [*said, *changes(text.lines, lines)] or ["no line is changed"]
+    print("\n".join([*warnings, *changed]), file=sys.stdout if args.output else sys.stderr)
+    print("\n".join(refused), file=sys.stderr, end="\n" if refused else "")
+    return 1 if refused else 0
+
+
+def _centre(ngc: str, args: argparse.Namespace, begin: Beginning, lines: list[CamLine]) -> None:
+    """Writes arcs by radius by their centres. What is asked is where they lie, not whether they fit: so with the widest
+    travel, and all slots. Raises OSError, CannotSetUp."""
+    known = Settings.read(args.settings) if args.settings else DEFAULT
+    tools = (*known.tools_nm, *(0,) * (SLOTS - len(known.tools_nm)))
+    with tempfile.NamedTemporaryFile("w", prefix="ngc-settings-", suffix=".toml") as file:
+        with files.naming(file.name):
+            file.write(replace(widest(known), tools_nm=tools).text())
+            file.flush()
+        centred(lines, lambda asked: begin.dry(ngc, asked, file.name))
+
+
+def _read(program: str) -> ProgramText:
+    """The text of a file, or of standard input. Raises OSError, NotText."""
+    data = sys.stdin.buffer.read() if program == "-" else files.read(program)
+    with speaking_of("standard input" if program == "-" else program, NotText):
+        return ProgramText.read(data)
+
+
+def _write(args: argparse.Namespace, data: bytes, inputs: Sequence[str | None]) -> None:
+    """Writes the text to the file that is named, else to standard output. Raises OSError, NotWritten."""
+    if args.output:
+        files.write_new(args.output, data, inputs, args.force)
+    else:
+        sys.stdout.buffer.write(data)
+        sys.stdout.flush()
+
+
+def given(args: argparse.Namespace) -> Answers:
+    """What the command line says of heights, places and slots. Raises BadNumber, WrongWords."""
+    x_y = [nanometres(word) for word in args.park or ()]
+    slots: dict[int, int] = {}
+    for word in args.tool:
+        number, _, slot = word.partition("=")
+        if not _is_count(number) or int(number) in (0, *slots):
+            raise WrongWords(f"--tool {word}: write NUMBER=SLOT, as 201=1, and each number once")
+        slots[int(number)] = slot_number(slot)
+    return Answers(None if args.lift is None else nanometres(args.lift), (x_y[0], x_y[1]) if x_y else None, slots)
+
+
+def slot_number(word: str) -> int:
+    """A slot. Raises BadNumber."""
+    if not _is_count(word) or not 1 <= int(word) <= SLOTS:
+        raise BadNumber(f"a slot is a whole number from 1 to {SLOTS}, not {word}")
+    return int(word)
+
+
+def _is_count(word: str) -> bool:
+    return word.isascii() and word.isdecimal() and len(word) < 10
+
+
+def _rewritten(program: str, text: ProgramText, answers: Answers) -> tuple[list[CamLine], list[str]]:
+    """The lines as they are to be written, and warnings. A person at a terminal is asked for what is missing; else all
+    of it is told. Raises Failures."""
+    missing: list[str] = []
+    while True:
+        warnings: list[str] = []
+
+        def warn(number: int, why: str) -> None:
+            warnings.append(f"line {number}: WARNING: {why}")
+
+        try:
+            with speaking_of(program, SharedSlot):
+                lines = rewritten(text.lines, answers, warn)
+            break
+        except Missing as error:
+            if program != "-" and sys.stdin.isatty():
+                answers = _ask(program, error, answers)
+                continue
+            missing.append(_needed(program, error))
+            answers = _answered(error, answers, "0 0" if error.what == "park" else "0")  # to find what else is missing
+    if missing:
+        raise Failure("\n".join(missing))
+    return lines, warnings
+
+
+def _needed(program: str, missing: Missing) -> str:
+    """Which line needs what, and the option that says it."""
+    option, what = asked_for(missing)
+    return f"{program}: {missing.said()}: name {what}: {option}"
+
+
+def asked_for(missing: Missing) -> tuple[str, str]:
+    """The option that says what is missing, and what that is."""
+    if missing.what == "lift":
+        return "--lift Z", "the machine Z that the tool is lifted to, in millimetres"
+    if missing.what == "park":
+        return "--park X Y", "the machine X and Y that the table is brought to, in millimetres"
+    return f"--tool {missing.tool}=SLOT", f"the slot of tool {missing.tool}, 1 to {SLOTS}"
+
+
+def _ask(program: str, missing: Missing, answers: Answers) -> Answers:
+    """Asks at the terminal. Raises Failure if there is no answer, or another one than is needed."""
+    print(f"{shown(f'{program}: {missing.said()}')}\n{asked_for(missing)[1]}: ", end="", file=sys.stderr, flush=True)
+    said = sys.stdin.readline()
+    if len(said.split()) != (2 if missing.what == "park" else 1):
+        raise Failure(_needed(program, missing))
+    if missing.what == "tool":
+        slot_number(said.strip())
+    return _answered(missing, answers, said)
+
+
+def _answered(missing: Missing, answers: Answers, said: str) -> Answers:
+    """The answers with one more. Raises BadNumber."""
+    words = said.split()
+    if missing.what == "tool":
+        return replace(answers, slots={**answers.slots, missing.tool: int(words[0])})
+    if missing.what == "lift":
+        return replace(answers, lift_nm=nanometres(words[0]))
+    return replace(answers, park_nm=(nanometres(words[0]), nanometres(words[1])))
+
+
+def changes(texts: Sequence[str], lines: list[CamLine]) -> list[str]:
+    """Each changed line: its number, why, what it was, what it is."""
+    said = []
+    for number, (text, line) in enumerate(zip(texts, lines, strict=True), 1):
+        if line.text != text:
+            reasons = "; ".join(dict.fromkeys(line.reasons))
+            said += [shown(row) for row in (f"line {number}: {reasons}", f"  - {text}", f"  + {line.text}")]
+    return said
+
+
+def told(new: bytes, output: str | None, ask: Callable[[bytes], Refusal | None]) -> Iterator[str]:
+    """The refused lines of what is written: where, which fault, the line, what to write; and what lists them all."""
+    path, check = (shown(output), f"ngc-check {shown(output)}") if output else ("the text", "ngc-check")
+    lines: set[int] = set()
+    said: set[str] = set()
+    for finding in find_all(Lines(new), ask):
+        fault = finding.refusal
+        if fault.line in lines:
+            continue  # a fault that shows once another one's word is left out
+        if lines and fault.code == "B11":
+            yield (f"From line {fault.line} on arcs by radius stay as they are, since where they begin isn't known."
+                   " Mend the lines above in the CAM system's text, and adapt it again")
+            return
+        if len(lines) == _MOST:
+            yield f"and more: {check} lists each"
+            return
+        lines.add(fault.line)
+        yield f"{path}:{fault.line}: {fault.code} {fault.name}: {shown(finding.text).strip() or '(the end)'}"
+        cure = cures.cure(fault.code, finding.words(), finding.text)
+        if cure not in said:
+            yield f"    mend: {shown(cure)}"
+        said.add(cure)
+    if lines:
+        yield f"Mend these, and check again: {check}"

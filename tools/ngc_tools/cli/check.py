@@ -1,0 +1,245 @@
+"""The words of `ngc-check`, and what it says."""
+import argparse
+import tempfile
+import textwrap
+
+from ngc_tools import files
+from ngc_tools.cli.beginning import add_beginning, chosen_beginning
+from ngc_tools.cli.run import new_parser, run
+from ngc_tools.failure import WrongWords, speaking_of
+from ngc_tools.formats.device import MOST_LARGE_PROGRAM
+from ngc_tools.formats.program_text import NotText, ProgramText
+from ngc_tools.formats.settings import DEFAULT, Settings
+from ngc_tools.formats.text import shown
+from ngc_tools.job.danger import Danger
+from ngc_tools.job.dangers import Conditions, dangers
+from ngc_tools.job.in_force import InForce
+from ngc_tools.job.outside import breach, widest
+from ngc_tools.job.refused import Finding, Lines, Piece, find_all
+from ngc_tools.ngc import cures, faults, settings_report
+from ngc_tools.ngc.run import Refusal, find_ngc, refusal
+from ngc_tools.ngc.usable_settings import look_at_settings
+
+ABOUT = """Say of each line of PROGRAM that `ngc` refuses what is wrong with it, and warn of what is valid and
+dangerous.
+
+Under a refused line carets mark each word without which its fault goes away, found by asking `ngc dry` again.
+After a refusal the program goes on without one such word, or else without the line; what is left out is said.
+What it would have moved or set is missing then, so later lines may be refused, or taken, for that alone: mend,
+and check again."""
+
+EXAMPLE = """example:
+  ngc-check part.ngc --settings mill.toml --device mill.dev
+  ngc-check part.ngc --settings mill.toml --origin 20 30 -85.5
+  ngc-check --settings mill.toml --settings-only
+
+exit status:
+  0  no line is refused; there may be warnings
+  1  a line is refused
+  2  the words are wrong, a file can't be read, or the settings are refused"""
+
+AFTER = """What was left out would have moved or set something, so later lines may be refused, or taken, for that alone.
+Mend these, and check again."""
+LIKE = 10  # warnings of one kind that are shown
+
+
+def make_parser() -> argparse.ArgumentParser:
+    """The words of the command line."""
+    parser = new_parser("ngc-check", ABOUT, EXAMPLE)
+    parser.add_argument("program", metavar="PROGRAM", nargs="?", help="the file of the program")
+    parser.add_argument("--settings", metavar="FILE", help="the machine's settings; without it the default ones hold")
+    add_beginning(parser)
+    parser.add_argument("--settings-only", action="store_true", help="check the settings, and no program")
+    parser.add_argument("--block-delete", action="store_true", help="leave out the lines that begin with a slash")
+    parser.add_argument("--large", action="store_true",
+                        help=f"the device is large: a program may have {MOST_LARGE_PROGRAM:,} bytes")
+    parser.add_argument("--most", metavar="N", type=int, default=0, help="stop after N refusals; else all are found")
+    parser.add_argument("--ngc", metavar="PATH",
+                        help="the program ngc; without it the one beside this tool, or on PATH")
+    return parser
+
+
+def main(arguments: list[str] | None = None) -> int:
+    """Checks, and returns the exit status; without arguments those of the command line count."""
+    return run(make_parser(), work, arguments)
+
+
+def work(args: argparse.Namespace) -> int:
+    """Checks the settings or a program. Raises WrongWords, OSError, BadSettings, CannotRun, NoDevice, CannotSetUp,
+    NotText."""
+    if args.settings_only and (args.program or not args.settings):
+        raise WrongWords("--settings-only takes --settings FILE and no program")
+    if not args.settings_only and not args.program:
+        raise WrongWords("name the file of a program")
+    ngc = find_ngc(args.ngc)
+    if args.settings:
+        look_at_settings(ngc, args.settings)
+    return say_settings(args.settings) if args.settings_only else check(ngc, args)
+
+
+def say_settings(path: str) -> int:
+    """Prints the settings of a valid file."""
+    settings = Settings.read(path)
+    print("\n".join([f"{shown(path)}:", *(f"    {line}" for line in settings_report.report(settings)),
+                     *(f"{shown(path)}: warning: {line}" for line in settings_report.warnings(settings))]))
+    return 0
+
+
+def check(ngc: str, args: argparse.Namespace) -> int:
+    """Checks a program, and returns the exit status. Raises what `work` raises."""
+    dry_run = DryRun(ngc, args)
+    report = Listing(args.program)
+    data = files.read(args.program)
+    with speaking_of(args.program, NotText):
+        text = ProgramText.read(data)
+    if why := _unreadable(text, data):
+        report.unreadable(why)
+        data = text.data
+    lines, whole = Lines(data), Lines(data)
+    for finding in find_all(lines, dry_run.ask, args.most):
+        report.refused(finding, dry_run.breach(lines, finding.refusal), dry_run.is_placed)
+    more = bool(args.most and report.count >= args.most and dry_run.ask(b"".join(lines.all)))
+    report.warned([] if more else dangers(lines, dry_run.run, dry_run.conditions()), whole, more)
+    return 1 if report.count else 0
+
+
+def _unreadable(text: ProgramText, data: bytes) -> str | None:
+    """Why `ngc` can read no line of a text as it is meant, if it can't."""
+    if text.encoding == "UTF-16":
+        return "the text is UTF-16, and ngc reads none of its lines"
+    if b"\n" not in data and b"\r" in data.rstrip(b"\r"):
+        return "the lines end in carriage returns alone, and ngc takes them for one line"
+    return None
+
+
+class DryRun:
+    """Dry runs of a program from where it begins, with the settings of the command line."""
+
+    def __init__(self, ngc: str, args: argparse.Namespace) -> None:
+        """Raises NoDevice, CannotSetUp, OSError, BadSettings."""
+        self.ngc, self.args = ngc, args
+        self.beginning = chosen_beginning(args)
+        self.is_placed = args.device is not None or args.origin is not None
+        self.settings = Settings.read(args.settings) if args.settings else None
+        self.begun = InForce()
+        for command in self.beginning.set_up(ngc, args.settings):
+            self.begun = self.begun.after(command)
+
+    def run(self, text: bytes) -> bytes:
+        """What `ngc dry` prints of a text."""
+        return self._dry(text, self.args.settings)[1]
+
+    def ask(self, text: bytes) -> Refusal | None:
+        """What `ngc dry` refuses of a text."""
+        return refusal(*self._dry(text, self.args.settings))
+
+    def breach(self, lines: Lines, refused: Refusal) -> str | None:
+        """Which axis leaves the travel, of a line that is refused for that."""
+        if refused.code != "X2":
+            return None
+        settings = self.settings or DEFAULT
+        with tempfile.NamedTemporaryFile("w", prefix="ngc-settings-", suffix=".toml", encoding="utf-8") as file:
+            file.write(widest(settings).text())
+            file.flush()
+            return breach(lines, refused.line, lambda text: self._dry(text, file.name)[1], settings, self.begun,
+                          self.beginning.point_nm)
+
+    def conditions(self) -> Conditions:
+        """What the program is checked under."""
+        is_large = self.args.large or self.beginning.is_large
+        return Conditions(self.beginning, self.begun, self.settings, is_large, self.is_placed)
+
+    def _dry(self, text: bytes, settings: str | None) -> tuple[int, bytes]:
+        return self.beginning.dry(self.ngc, text, settings, self.args.block_delete)
+
+
+class Listing:
+    """What is printed of a program."""
+
+    def __init__(self, path: str) -> None:
+        self.path = path
+        self.count = 0
+        self.lines: set[int] = set()  # those that are refused
+        self._said: set[str] = set()  # sentences and advice that stand further up already
+
+    def unreadable(self, why: str) -> None:
+        """Prints why the text as a whole can't be read."""
+        self.count += 1
+        print(f"{shown(self.path)}: {why}")
+        print(wrapped("mend: save it in UTF-8, with newlines at the ends of its lines, as ngc-adapt does. What follows"
+                      " is said of that text"))
+
+    def refused(self, finding: Finding, breach: str | None, is_placed: bool) -> None:
+        """Prints a refusal: its fault and cause, the line, the carets, what to write, how it goes on. `breach` says how
+        it leaves the travel; `is_placed`, that it is known where the work zero is."""
+        self.count += 1
+        fault = finding.refusal
+        self.lines.add(fault.line)
+        print(f"{shown(self.path)}:{fault.line}: {fault.code} {fault.name}")
+        if finding.text.strip():
+            print(f"    {shown(finding.text)}".rstrip())
+        if finding.marks:
+            print(f"    {carets(finding.text, finding.marks)}")
+        if cause := self._once(breach or faults.sentence(fault.code) or "see docs/LANGUAGE.md"):
+            print(wrapped(cause))
+        advice = cures.cure(fault.code, finding.words(), finding.text)
+        if breach and not is_placed:
+            advice += ". The work zero is taken to be at machine 0: --origin X Y Z or --device DEVICE says where it is"
+        if advice := self._once(advice):
+            print(wrapped(f"mend: {shown(advice)}"))
+        if finding.text.strip():
+            print(f"    goes on {_goes_on(finding)}")
+
+    def warned(self, dangers: list[Danger], whole: Lines, more: bool) -> None:
+        """Prints the warnings, ten of a kind, and the counts. `more`: there are refusals that weren't looked for."""
+        found = [danger for danger in dangers if danger.line not in self.lines]
+        kinds: dict[str, list[Danger]] = {}
+        for danger in found:
+            kinds.setdefault(danger.kind, []).append(danger)
+            if len(kinds[danger.kind]) <= LIKE:
+                self._warn(danger, whole)
+        for like in kinds.values():
+            if len(like) > LIKE:
+                print(f"{shown(self.path)}: {len(like) - LIKE} more warnings as those of line {like[0].line}")
+        rest = "and more" if more else _count(len(found), "warning")
+        print(f"{shown(self.path)}: {_count(self.count, 'refusal')}, {rest}")
+        if self.lines:
+            print(AFTER)
+
+    def _warn(self, danger: Danger, whole: Lines) -> None:
+        """Prints a warning, and the line as the program has it."""
+        print(f"{shown(self.path)}:{f'{danger.line}:' if danger.line else ''} warning: {shown(danger.text)}")
+        if danger.line and danger.line <= len(whole.all) and whole.body(danger.line).strip():
+            print(f"    {shown(whole.body(danger.line))}".rstrip())
+
+    def _once(self, text: str) -> str:
+        new = text not in self._said
+        self._said.add(text)
+        return text if new else ""
+
+
+def _goes_on(finding: Finding) -> str:
+    if finding.added:
+        return f"as with{finding.added.decode()}"
+    if finding.left_out is None:
+        return "without this line"
+    return "without " + " ".join(shown(finding.text[piece.begin:piece.end]) for piece in finding.left_out)
+
+
+def _count(number: int, what: str) -> str:
+    return f"{number} {what}{'' if number == 1 else 's'}" if number else f"no {what}s"
+
+
+def wrapped(text: str) -> str:
+    """A sentence in lines of at most 100 columns, each four in."""
+    return textwrap.fill(text, 100, initial_indent="    ", subsequent_indent="    ", break_on_hyphens=False)
+
+
+def carets(text: bytes, marks: tuple[Piece, ...]) -> str:
+    """A line of carets below the marked pieces, as `shown` shows the line."""
+    row = [" "] * (len(shown(text)) + 1)
+    for mark in marks:
+        begin = len(shown(text[:mark.begin]))
+        end = max(len(shown(text[:mark.end])), begin + 1)
+        row[begin:end] = "^" * (end - begin)
+    return "".join(row).rstrip()

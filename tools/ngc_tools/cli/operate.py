@@ -1,0 +1,183 @@
+"""The words of `ngc-operate`, and its session from start to end."""
+import argparse
+import fcntl
+import os
+import stat
+import sys
+from contextlib import closing
+
+try:
+    import readline  # noqa: F401  history and editing for input()
+except ImportError:
+    pass
+
+from ngc_tools.cli.run import new_parser, run
+from ngc_tools.failure import Failure
+from ngc_tools.ngc.before_start import CannotBegin, look
+from ngc_tools.ngc.console import Console, Ended
+from ngc_tools.operator.meter import LIMIT, Meter, check_limit
+from ngc_tools.operator.operator import Operator
+from ngc_tools.operator.sentences import explained
+from ngc_tools.player.progress import Link
+from ngc_tools.ngc.run import find_ngc
+from ngc_tools.ngc.usable_settings import look_at_settings
+from ngc_tools.cli.terminal import AskedToEnd, Screen
+from ngc_tools.formats.device import Device, NoDevice
+from ngc_tools.formats.settings import Settings
+
+ABOUT = """A console for people over `ngc run`: programs by name, G-code as typed, Enter or Ctrl-C holds.
+
+With --player it is metered: it gives ticks only while the player is at most --ahead lines behind, so that a loss of
+power costs at most so many lines. And nothing moves from where the player says that the motors aren't, unless that is
+asked for by `anyway`."""
+
+EXAMPLE = """example:
+  ngc format mill.dev                                   (once; it OVERWRITES mill.dev)
+  mkfifo axis
+  ngc-player axis mill.toml position --progress progress    (in another terminal)
+  ngc-operate mill.dev mill.toml axis --player progress
+  ngc> load part.ngc
+  ngc> run
+
+exit status:
+  0  the session was ended by quit, or by the end of the input
+  2  the words are wrong, `ngc run` can't be started or failed, a signal came, the terminal is gone: it says why"""
+
+
+def make_parser() -> argparse.ArgumentParser:
+    """The words that it takes."""
+    parser = new_parser("ngc-operate", ABOUT, EXAMPLE)
+    parser.add_argument("device", metavar="DEVICE", help="the device, as `ngc format` made it")
+    parser.add_argument("settings", metavar="SETTINGS", help="the machine's settings, in TOML")
+    parser.add_argument("out", metavar="OUT", help="where pulses go: a named pipe with a player, a file, a serial line")
+    parser.add_argument("--player", metavar="SOCKET", help="the socket of ngc-player's --progress")
+    parser.add_argument("--ahead", type=int, default=LIMIT, metavar="N",
+                        help=f"how many lines OUT may be ahead of the player (default {LIMIT})")
+    parser.add_argument("--ngc", metavar="PATH", help="the program ngc (else beside this tool, else on PATH)")
+    return parser
+
+
+def main(arguments: list[str] | None = None) -> int:
+    """Runs it, and returns the exit status."""
+    return run(make_parser(), work, arguments)
+
+
+def work(args: argparse.Namespace) -> int:
+    """Looks at what is given, and does the session. Raises CannotBegin, NoAnswer, BadSettings, ValueError, OSError."""
+    ngc = find_ngc(args.ngc)
+    meter = metered(args)
+    pipe = look(args.device, args.settings, args.out)
+    look_at_settings(ngc, args.settings)
+    try:
+        return session(ngc, args, meter, pipe)
+    except Ended as ended:
+        raise Failure(told(ended)) from None
+
+
+def metered(args: argparse.Namespace) -> Meter | None:
+    """The meter, if a player is named. Raises CannotBegin if that player reads another OUT, NoAnswer, ValueError."""
+    check_limit(args.ahead)
+    if args.player is None:
+        return None
+    meter = Meter(Link(args.player), args.ahead)
+    report = meter.link.ask()
+    if os.path.realpath(report.out) != os.path.realpath(args.out):
+        raise CannotBegin(f"{args.player}: that player reads {report.out}, not {args.out}")
+    return meter
+
+
+def bound(args: argparse.Namespace, meter: Meter | None, pipe: int | None) -> str:
+    """How far OUT may be ahead of the motors, in words."""
+    if meter:
+        return (f"metered: OUT is at most {meter.limit} lines ahead of the player, which is what a loss of power can"
+                " cost")
+    if pipe is None:
+        kind = "a file" if not os.path.exists(args.out) or stat.S_ISREG(os.stat(args.out).st_mode) else "no pipe"
+        return f"not metered: {args.out} is {kind}, which takes any number of lines ahead of the motors"
+    size = fcntl.fcntl(pipe, fcntl.F_GETPIPE_SZ)
+    line = len(f"P 1 0 0 {Settings.read(args.settings).period_us}\n")
+    return (f"not metered: {args.out} holds {size:,} bytes, so some {size // line:,} lines can be ahead of the motors,"
+            " and a loss of power can cost them; --player bounds it")
+
+
+def session(ngc: str, args: argparse.Namespace, meter: Meter | None, pipe: int | None) -> int:
+    """From the start of `ngc` to its end. Raises Ended if it ends by itself."""
+    found = as_found(args.device)
+    with closing(Screen()) as screen:
+        console = Console(ngc, args.device, args.settings, args.out, Patience(screen))
+        try:
+            console.status()
+            operator = Operator(console, screen, meter)
+            said = bound(args, meter, pipe)
+            if pipe is not None:
+                os.close(pipe)
+            cause = talk(operator, screen, said, found)
+            operator.ending.tell_player()
+        except BaseException:
+            if console.child.poll() is None:
+                console.kill()
+            raise
+        status = console.quit()
+    if status:
+        cause = f"ngc ended with status {status}: the device or OUT failed in this session"
+    if cause:
+        print(f"ngc-operate: {cause}", file=sys.stderr)
+    return 2 if cause else 0
+
+
+def as_found(path: str) -> Device | None:
+    """The device as it stands before `ngc` is started, which writes its log anew."""
+    try:
+        return Device.read(path)
+    except (OSError, NoDevice):
+        return None
+
+
+def talk(operator: Operator, screen: Screen, said: str, found: Device | None) -> str:
+    """Begins, and does what a person types. Where something else ended the session, all is held, and it says what."""
+    try:
+        operator.begin(said, found)
+        converse(operator, screen)
+    except AskedToEnd as why:
+        reply = operator.console.ask("hold")[0]
+        status = operator.console.status()
+        stays = f"; {operator.session.half(status)} stays half-done" if status.half != "none" else ""
+        return f"{why}: {reply}{stays}"
+    return ""
+
+
+def converse(operator: Operator, screen: Screen) -> None:
+    """Reads what a person types until the session is over. Raises AskedToEnd."""
+    while not operator.over:
+        try:
+            line = screen.prompt("ngc> ")
+        except EOFError:
+            screen.say("")
+            operator.ending.say()
+            return
+        except KeyboardInterrupt:
+            screen.say("\nnothing runs; quit ends the session")
+            continue
+        operator.do(line)
+
+
+class Patience:
+    """Says it once if `ngc` doesn't answer, since nobody reads OUT; the third Ctrl-C then ends it."""
+
+    def __init__(self, screen: Screen) -> None:
+        self.screen = screen
+
+    def __call__(self, seconds: float) -> None:
+        """Is called while a reply doesn't come."""
+        if seconds > 2:
+            self.screen.once("ngc waits until the reader of OUT takes lines; a hold is heeded after that. Ctrl-C three"
+                             " times ends ngc, as a loss of power would")
+            if self.screen.asked_to_hold >= 3 or self.screen.ending:
+                raise CannotBegin(f"{self.screen.ending or 'ended'}; a block that was under way is half-done")
+
+
+def told(ended: Ended) -> str:
+    """Why `ngc` ended by itself."""
+    refusals = [explained(reply) for reply in ended.replies if reply.startswith("refused")]
+    error = refusals[-1] if refusals else "it said no word; memory or the terminal may have failed it"
+    return f"ngc ended with status {ended.status}: {error}"

@@ -1,0 +1,1 @@
+"""What stands in files and streams: read and written here, each format once."""

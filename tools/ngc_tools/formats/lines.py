@@ -1,0 +1,55 @@
+"""The lines of a stored program, by the place that `status` tells; shown to people, and nothing more."""
+import re
+from dataclasses import dataclass
+
+from ngc_tools.formats.text import shown, shown_line
+
+_COMMENT = re.compile(rb"\(([^()]*)\)")
+_MESSAGE = re.compile(rb"[ \t]*M[ \t]*S[ \t]*G[ \t]*,(.*)", re.IGNORECASE | re.DOTALL)
+
+
+@dataclass(frozen=True, slots=True)
+class Program:
+    """A program's text, as it is stored."""
+
+    text: bytes
+
+    @property
+    def count(self) -> int:
+        """How many lines it has."""
+        return self.text.count(b"\n") + (not self.text.endswith(b"\n") and self.text != b"")
+
+    def number(self, place: int) -> int:
+        """The number, from 1, of the line that begins at byte `place`."""
+        return self.text.count(b"\n", 0, place) + 1
+
+    def line(self, place: int) -> str:
+        """The line that begins at byte `place`, as people can read it."""
+        return shown_line(self.text[place:].split(b"\n", 1)[0])
+
+    def messages(self, start: int, end: int, delete: bool) -> list[tuple[int, str]]:
+        """The messages of the lines between two places, with the numbers of their lines. `delete`: those that begin
+        with a slash are left out. The last comment of a line is the one that counts (NISTIR 6556, 3.3.4)."""
+        found = []
+        for number, line in enumerate(self.text[start:end].split(b"\n"), self.number(start)):
+            comments = _COMMENT.findall(line)
+            match = _MESSAGE.fullmatch(comments[-1]) if comments else None
+            if match and not (delete and line.lstrip(b" \t").startswith(b"/")):
+                found.append((number, shown(match[1]).strip()))
+        return found
+
+
+def program_lines(text: bytes) -> list[bytes]:
+    """The lines of a program, each with its end."""
+    lines = [line + b"\n" for line in text.split(b"\n")]
+    last = lines.pop()[:-1]  # what stands after the last newline is a line if it isn't empty
+    return [*lines, last] if last else lines
+
+
+def percent_lines(lines: list[bytes]) -> int:
+    """How many lines a percent program has up to its first percent sign; 0 of any other program."""
+    for number, line in enumerate(lines, 1):
+        words = line.removesuffix(b"\n").removesuffix(b"\r").replace(b" ", b"").replace(b"\t", b"")
+        if words:
+            return number if words == b"%" else 0
+    return 0

@@ -1,0 +1,143 @@
+"""The record of what a player carried out: one sector of text, as docs/TOOLS.md has it."""
+import re
+from dataclasses import dataclass, replace
+
+from ngc_tools.failure import BadNumber, Failure
+from ngc_tools.formats.out import OFF, Switch, read_line
+from ngc_tools.formats.position import millimetres
+
+SIZE = 512  # bytes: a disk writes them whole or not at all
+LONGEST_PATH = 255  # bytes: with it the greatest numbers have room
+
+_COUNT = r"0|[1-9][0-9]{0,17}"
+_NUMBER = r"0|[1-9][0-9]{0,18}"
+_SLOT = "(?:[0-9]|[1-9][0-9]|1[01][0-9]|12[0-8])"
+_MILLIMETRES = re.compile(r"([+-]?)([0-9]{0,12})(?:\.([0-9]{0,6}))?")
+_LINES = (
+    ("out PATH", re.compile(r"out ([^\n\0]+)")),
+    ("lines N", re.compile(rf"lines ({_COUNT})")),
+    ("bytes N", re.compile(rf"bytes ({_COUNT})")),
+    ("outputs S ..", re.compile(rf"outputs (S [012] (?:0|[1-9][0-9]{{0,6}})\.[0-9]{{6}} [01] [01] {_SLOT} {_SLOT})")),
+    ("reference X Y Z", re.compile(r"reference ([^ ]+ [^ ]+ [^ ]+)")),
+)
+_FILE = re.compile(rf"file ({_NUMBER}) ({_NUMBER}) ([0-9a-f]{{8}})")
+_STOPPED = re.compile(r"stopped ([a-z]+)")
+
+
+class BadRecord(Failure, ValueError):
+    """A file that is no record; the text names it and says why."""
+
+
+@dataclass(frozen=True, slots=True)
+class FileMark:
+    """What tells OUT apart from another file of its name: its inode, when it was made (0 if the file system doesn't
+    say), and `digest`, the CRC-32 of the last 4,096 bytes that were carried out."""
+
+    inode: int
+    born_ns: int
+    digest: int
+
+    def __str__(self) -> str:
+        return f"{self.inode} {self.born_ns} {self.digest:08x}"
+
+
+@dataclass(frozen=True, slots=True)
+class Record:
+    """The first `lines` lines of `out`, its first `size` bytes, are carried out. `outputs` are as the last switch left
+    them, and the machine stands at `at_nm`. `mark` is that of a file, as a pipe has none. `stopped` is what ended the
+    player before OUT's end, in a word."""
+
+    out: str
+    lines: int = 0
+    size: int = 0
+    outputs: Switch = OFF
+    at_nm: tuple[int, int, int] = (0, 0, 0)
+    mark: FileMark | None = None
+    stopped: str = ""
+
+    def text(self) -> bytes:
+        """What stands in the file, 512 bytes. Raises BadRecord if the path of OUT can't stand in it."""
+        check_path(self.out)
+        lines = [
+            f"out {self.out}",
+            f"lines {self.lines}",
+            f"bytes {self.size}",
+            f"outputs {self.outputs}",
+            "reference " + " ".join(map(millimetres, self.at_nm)),
+        ]
+        if self.mark:
+            lines.append(f"file {self.mark}")
+        if self.stopped:
+            lines.append(f"stopped {self.stopped}")
+        return ("\n".join(lines) + "\n").encode("utf-8", "surrogateescape").ljust(SIZE - 1) + b"\n"
+
+    @staticmethod
+    def of_text(text: bytes, path: str) -> "Record":
+        """Reads a record, the bytes of the file `path`. Raises BadRecord."""
+        try:
+            return _read(text)
+        except ValueError as error:
+            raise BadRecord(f"{path}: not a record of ngc-player: {error}; remove it, and tell by --at where the"
+                            " machine stands") from None
+
+    @staticmethod
+    def read(path: str) -> "Record":
+        """Reads the file `path`. Raises BadRecord, or OSError."""
+        with open(path, "rb") as file:
+            return Record.of_text(file.read(SIZE + 1), str(path))
+
+
+def check_path(out: str) -> None:
+    """Raises BadRecord if a path of OUT can't stand in a record."""
+    size = len(out.encode("utf-8", "surrogateescape"))
+    if size > LONGEST_PATH:
+        raise BadRecord(f"{out}: too long a path for a record: it has {size} bytes, and at most {LONGEST_PATH} fit")
+    if "\n" in out:
+        raise BadRecord(f"{out}: a path with a line's end in it can't stand in a record")
+
+
+def _read(text: bytes) -> Record:
+    """Raises ValueError, which says what is wrong."""
+    if len(text) != SIZE:
+        raise ValueError(f"it has {'more' if len(text) > SIZE else len(text)} bytes, and a record has {SIZE}")
+    lines = text.decode("utf-8", "surrogateescape").split("\n")
+    found = []
+    for number, (form, pattern) in enumerate(_LINES):
+        match = pattern.fullmatch(lines[number]) if number < len(lines) - 1 else None
+        if match is None:
+            raise ValueError(f"line {number + 1} isn't '{form}'")
+        found.append(match[1])
+    mark, stopped_by, rest = _optional(lines[len(_LINES):])
+    if len(rest) != 2 or rest[0].strip(" ") or rest[1]:
+        raise ValueError(f"line {len(lines) - len(rest) + 1} is no line of a record")
+    x, y, z = map(machine_nm, found[4].split(" "))
+    outputs = read_line(found[3], 4)
+    assert isinstance(outputs, Switch)
+    return Record(found[0], int(found[1]), int(found[2]), outputs, (x, y, z), mark, stopped_by)
+
+
+def _optional(lines: list[str]) -> tuple[FileMark | None, str, list[str]]:
+    """The lines that a record may have after its five, and what is left."""
+    mark, stopped_by = None, ""
+    if lines and (match := _FILE.fullmatch(lines[0])):
+        mark = FileMark(int(match[1]), int(match[2]), int(match[3], 16))
+        lines = lines[1:]
+    if lines and (match := _STOPPED.fullmatch(lines[0])):
+        stopped_by = match[1]
+        lines = lines[1:]
+    return mark, stopped_by, lines
+
+
+def machine_nm(text: str) -> int:
+    """A machine coordinate in millimetres, of at most twelve digits and six decimals, in nanometres. Raises BadNumber
+    for anything else."""
+    match = _MILLIMETRES.fullmatch(text)
+    if match is None or not match[2] + (match[3] or ""):
+        raise BadNumber(f"not a number of millimetres with at most six decimals: {text}")
+    size = int(match[2] or 0) * 10**6 + int((match[3] or "").ljust(6, "0"))
+    return -size if match[1] == "-" else size
+
+
+def stopped(outputs: Switch) -> Switch:
+    """The same outputs with spindle and coolant off."""
+    return replace(outputs, spindle=0, mist=False, flood=False)

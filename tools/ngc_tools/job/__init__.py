@@ -1,0 +1,1 @@
+"""A job: its moves, its picture, its parts, and what is refused or risky in it."""

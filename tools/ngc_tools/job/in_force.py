@@ -1,0 +1,66 @@
+"""What is in force after commands of canonical text."""
+from dataclasses import dataclass, replace
+
+from ngc_tools.formats.canonical import MOTIONS, Command
+from ngc_tools.job.moves import Point
+
+
+@dataclass(frozen=True, slots=True)
+class InForce:
+    """What canonical text says is in force: the plane, the unit, the feed in millionths of a millimetre a minute,
+    `inverse` in millionths, 0 for none, the spindle's command, its speed in millionths, mist, flood, the tool that is
+    selected and the one in the spindle, 0 for none. `length` is the tool length, `origin` the machine point of the
+    program's zero without that length, both in nm."""
+
+    plane: str = "XY"
+    unit: str = "MM"
+    feed: int = 0
+    inverse: int = 0
+    spindle: str = "STOP_SPINDLE_TURNING"
+    speed: int = 0
+    mist: bool = False
+    flood: bool = False
+    selected: int = 0
+    tool: int = 0
+    length: int = 0
+    origin: Point = (0, 0, 0)
+
+    def after(self, command: Command) -> "InForce":
+        """What is in force after a command."""
+        match command.name:
+            case "SELECT_PLANE":
+                return replace(self, plane=str(command.args[0]))
+            case "USE_LENGTH_UNITS":
+                return replace(self, unit=str(command.args[0]))
+            case "SET_FEED_RATE":
+                return replace(self, feed=int(command.args[0]))
+            case "INVERSE_TIME":
+                return replace(self, inverse=int(command.args[0]))
+            case "SET_SPINDLE_SPEED":
+                return replace(self, speed=int(command.args[0]))
+            case "SELECT_TOOL":
+                return replace(self, selected=int(command.args[0]))
+            case "CHANGE_TOOL":
+                return replace(self, tool=int(command.args[0]), spindle="STOP_SPINDLE_TURNING")
+            case "USE_TOOL_LENGTH_OFFSET":
+                return replace(self, length=int(command.args[0]))
+            case "SET_ORIGIN_OFFSETS":
+                return replace(self, origin=command.point)
+            case "MIST_ON" | "MIST_OFF":
+                return replace(self, mist=command.name == "MIST_ON")
+            case "FLOOD_ON" | "FLOOD_OFF":
+                return replace(self, flood=command.name == "FLOOD_ON")
+            case "START_SPINDLE_CLOCKWISE" | "START_SPINDLE_COUNTERCLOCKWISE" | "STOP_SPINDLE_TURNING":
+                return replace(self, spindle=command.name)
+            case name if name in MOTIONS:
+                return replace(self, inverse=0) if self.inverse else self
+        return self
+
+    def to_program(self, at: Point) -> Point:
+        """The program coordinates of a machine point, that of the tool's tip in Z, in nm."""
+        x, y, z = (here - zero for here, zero in zip(at, self.origin, strict=True))
+        return x, y, z - self.length
+
+    def without_offsets(self) -> "InForce":
+        """The same, whatever the work offset and the tool length are."""
+        return replace(self, length=0, origin=(0, 0, 0))

@@ -1,0 +1,83 @@
+"""Where `ngc` is, and its dry run."""
+import os
+import re
+import shutil
+import subprocess
+import sys
+import tempfile
+from dataclasses import dataclass
+from pathlib import Path
+
+from ngc_tools.failure import Failure
+from ngc_tools.files import naming
+
+_REFUSED = re.compile(r"REFUSED line ([0-9]+): ([A-Z][0-9]+) ([A-Za-z0-9]+)")
+_SETTINGS_REFUSED = re.compile(r"refused ([A-Z][0-9]+) ([A-Za-z0-9]+)")
+
+
+@dataclass(frozen=True, slots=True)
+class Refusal:
+    """A fault that `ngc dry` names: the line from 1, 0 for the settings; the code as `B12` and its name."""
+
+    line: int
+    code: str
+    name: str
+
+
+class CannotRun(Failure):
+    """`ngc` didn't do a dry run: its words, a file or the settings are refused, or it is out of memory."""
+
+
+def find_ngc(option: str | None) -> str:
+    """The path of `ngc`: the option, else beside the tool, else on PATH. Raises FileNotFoundError."""
+    if option:
+        if not os.path.isfile(option) or not os.access(option, os.X_OK):
+            raise FileNotFoundError(f"{option}: not a program that can be run")
+        return option
+    beside = Path(sys.argv[0]).resolve().parent / "ngc"
+    found = str(beside) if os.access(beside, os.X_OK) else shutil.which("ngc")
+    if not found:
+        raise FileNotFoundError("ngc: neither beside this tool nor on PATH; name it with --ngc PATH")
+    return found
+
+
+def dry(ngc: str | Path, program: bytes | str | Path, settings: str | Path | None = None,
+        block_delete: bool = False) -> tuple[int, bytes]:
+    """The exit status and the standard output of `ngc dry`. `program` is its text, or the path of its file.
+
+    Raises OSError if `ngc` can't be started or the text can't be kept in a file."""
+    if isinstance(program, bytes):
+        with tempfile.NamedTemporaryFile(prefix="ngc-dry-", suffix=".ngc") as file:
+            with naming(file.name):
+                file.write(program)
+                file.flush()
+            return dry(ngc, file.name, settings, block_delete)
+    words = [str(ngc), "dry", str(program)]
+    words += ["--settings", str(settings)] if settings is not None else []
+    words += ["--block-delete"] if block_delete else []
+    done = subprocess.run(words, stdin=subprocess.DEVNULL, stdout=subprocess.PIPE, check=False)
+    return done.returncode, done.stdout
+
+
+def refusal(status: int, text: bytes) -> Refusal | None:
+    """What the last line of a dry run refuses, or None if the program ran to its end.
+
+    Raises CannotRun if it was no dry run at all."""
+    if status == 0:
+        return None
+    last = text.rstrip(b"\n").rpartition(b"\n")[2].decode("latin-1")
+    match = _REFUSED.fullmatch(last)
+    if status != 1 or match is None:
+        raise CannotRun(f"ngc dry ended with status {status}" + (f": {last}" if last else ", and says nothing"))
+    return Refusal(int(match[1]), match[2], match[3])
+
+
+def settings_refusal(ngc: str | Path, settings: str | Path) -> Refusal | None:
+    """The fault of a settings file, S1 to S6 or M1, or None if `ngc` takes it. Raises CannotRun or OSError."""
+    status, text = dry(ngc, b"M2\n", settings)
+    if status == 0:
+        return None
+    match = _SETTINGS_REFUSED.fullmatch(text.decode("latin-1").strip())
+    if match is None:
+        raise CannotRun(f"ngc dry ended with status {status}, and names no fault of {settings}")
+    return Refusal(0, match[1], match[2])

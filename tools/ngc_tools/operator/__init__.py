@@ -1,0 +1,1 @@
+"""A person's session with a running `ngc run`, without a screen."""

@@ -1,0 +1,66 @@
+"""What a display shows beside the machine's point, in words: the work point, feed, spindle, coolant, tool."""
+from collections.abc import Iterator
+
+from ngc_tools.formats.device import State
+from ngc_tools.formats.out import Switch
+from ngc_tools.job.figures import millimetres as rounded
+from ngc_tools.job.in_force import InForce
+from ngc_tools.job.moves import Point
+from ngc_tools.operator.modes import SYSTEMS, point_words, trimmed
+
+_SPINDLE = ("STOP_SPINDLE_TURNING", "START_SPINDLE_CLOCKWISE", "START_SPINDLE_COUNTERCLOCKWISE")
+_TURNS = ("stands", "clockwise", "counter-clockwise")
+_PLANES = {17: "XY", 18: "XZ", 19: "YZ"}
+
+
+def in_force_on(state: State) -> InForce:
+    """What is in force on a device."""
+    x, y, z = (origin + offset for origin, offset in zip(state.origin_nm, state.g92_nm, strict=True))
+    return InForce(plane=_PLANES[state.plane], unit="MM" if state.unit == 21 else "INCHES", feed=state.feed_nm_per_min,
+                   spindle=_SPINDLE[state.spindle], speed=state.speed, mist=bool(state.mist), flood=bool(state.flood),
+                   selected=state.selected, tool=state.slot, length=state.tool_length_nm, origin=(x, y, z))
+
+
+def outputs_on(state: State) -> Switch:
+    """The outputs as `ngc` handed them out last."""
+    return Switch(state.spindle, state.speed, bool(state.mist), bool(state.flood), state.selected, state.slot)
+
+
+def work_words(in_force: InForce, machine_nm: Point) -> str:
+    """The work point of the tool's tip."""
+    at = in_force.to_program(machine_nm)
+    return " ".join(f"{axis}{rounded(nm)}" for axis, nm in zip("XYZ", at, strict=True))
+
+
+def short_words(in_force: InForce) -> Iterator[str]:
+    """Feed, spindle, coolant, tool, as short as can be."""
+    yield f"F{trimmed(in_force.feed)}"
+    if in_force.spindle != _SPINDLE[0]:
+        yield f"S{trimmed(in_force.speed)}" + (" M4" if in_force.spindle == _SPINDLE[2] else "")
+    yield from (name for name, is_on in (("mist", in_force.mist), ("flood", in_force.flood)) if is_on)
+    if in_force.tool:
+        yield f"T{in_force.tool}"
+
+
+def on_words(switch: Switch) -> str:
+    """The spindle and the coolant that are on; nothing if none is."""
+    spindle = f"the spindle, {_TURNS[switch.spindle]} at {trimmed(switch.speed)}" if switch.spindle else ""
+    return " and ".join(name for name in (spindle, switch.mist and "mist", switch.flood and "flood") if name)
+
+
+def outputs_words(switch: Switch) -> str:
+    """What the outputs are."""
+    spindle = f"spindle {_TURNS[switch.spindle]}" + (f" at {trimmed(switch.speed)}" if switch.spindle else "")
+    coolant = [name for name, is_on in (("mist", switch.mist), ("flood", switch.flood)) if is_on]
+    tool = f"tool {switch.slot}" if switch.slot else "no tool"
+    return f"{spindle}; {' and '.join(coolant) or 'no coolant'}; {tool}"
+
+
+def offsets_words(state: State) -> str:
+    """What makes work coordinates of machine coordinates."""
+    said = [SYSTEMS[state.system - 1] + (f" at {point_words(state.origin_nm)}" if any(state.origin_nm) else "")]
+    if any(state.g92_nm):
+        said.append(f"G92 by {point_words(state.g92_nm)}")
+    if state.tool_length_nm:
+        said.append(f"tool length {trimmed(state.tool_length_nm)}")
+    return ", ".join(said)

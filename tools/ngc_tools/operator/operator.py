@@ -1,0 +1,291 @@
+"""What `ngc-operate` does with a running `ngc run`: commands of people in, sentences out.
+
+One core for whatever shows it, a `Face`."""
+import difflib
+import os
+from collections.abc import Callable
+from pathlib import Path
+
+from ngc_tools.formats.device import Device
+from ngc_tools.formats.lines import Program
+from ngc_tools.formats.settings import Settings
+from ngc_tools.ngc.console import Console, Status
+from ngc_tools.operator.causes import refused, taken
+from ngc_tools.operator.ending import Ending
+from ngc_tools.operator.face import REFUSED, WARNING, WHERE, Face
+from ngc_tools.operator.left import Left, dropped_g92
+from ngc_tools.operator.loading import Loading
+from ngc_tools.operator.look import Look
+from ngc_tools.operator.meter import Meter
+from ngc_tools.operator.opening import say_opening
+from ngc_tools.operator.places import Places, stops_outputs
+from ngc_tools.operator.rehearsing import rehearse
+from ngc_tools.operator.sentences import HELP, NOT_MOVED, SWITCHED, TAKEN_UP
+from ngc_tools.operator.session import Nothing, Session, place
+from ngc_tools.operator.typed import ANYWAY, Typed
+from ngc_tools.operator.work import Work
+from ngc_tools.player.progress import NoAnswer, Report
+
+PLAIN = ("hold", "abandon", "tool", "optional", "delete")
+
+
+class Operator:
+    """A person's session. It sends no tick that nobody asked for, and hides no refusal."""
+
+    def __init__(self, console: Console, face: Face, meter: Meter | None) -> None:
+        """Raises BadSettings or OSError if the settings of the console can't be read."""
+        self.console, self.face = console, face
+        self.session = Session(console, face, meter, Settings.read(console.settings))
+        self.work = Work(self.session, self.do)
+        self.places = Places(self.session, self.work)
+        self.left = Left(self.session)
+        self.loading = Loading(self.session)
+        self.ending = Ending(self.session)
+        self.over = False
+        self._doings: dict[str, Callable[[Typed], None]] = {
+            "load": self._load, "run": self._run, "start": self._start, "continue": self._continue,
+            "where": self._where, "status": self._status, "reference": self._reference, "resume": self._resume,
+            "rehearse": self._rehearse, "restore": self._restore, "go": self._go, "help": self._help, "?": self._help,
+            "quit": self._quit, "exit": self._quit, "tick": self._tick,
+            "mdi": lambda typed: self._mdi(typed.rest, typed.anyway),
+            **dict.fromkeys(PLAIN, self._plain),
+        }
+
+    def begin(self, bound: str, found: Device | None = None) -> None:
+        """Says what the session begins with. `found` is the device as it stood before `ngc` was started."""
+        self.session.program = Program(self.stored().program)
+        self.face.say(bound)
+        say_opening(self.session, self.places, self.left, found)
+        self.session.told = self.console.status().place
+
+    def do(self, line: str) -> None:
+        """Does what a person typed. Raises Ended if `ngc` ends."""
+        typed = Typed.read(line)
+        if typed.word in self._doings:
+            self._doings[typed.word](typed)
+        elif typed.word:
+            self._mdi(typed.line, typed.anyway)
+
+    def load(self, name: str, text: bytes) -> bool:
+        """Stores a program that people call `name`, once a dry run tried it; whether it is stored. Raises Ended."""
+        session, status = self.session, self.console.status()
+        is_busy = status.half != "none" or status.does in ("held", "running")  # `ngc` refuses it
+        if not is_busy and not self.loading.agreed(name, text):
+            return False
+        reply = self.console.load(text)
+        if refused(session, reply, "load"):
+            return False
+        session.program, session.told = Program(text), 0
+        self.face.say(f"{reply}: {name}, {len(text):,} bytes, {session.program.count} lines")
+        return True
+
+    def look(self) -> tuple[Status, Report | None]:
+        """How all stands while nothing runs. Raises Ended, NoAnswer."""
+        meter = self.session.meter
+        return self.console.status(), meter.link.ask() if meter else None
+
+    def stored(self) -> Device | Nothing:
+        """What the device holds, which `ngc` has synced."""
+        return self.session.stored()
+
+    # what a word does
+
+    def _help(self, _: Typed) -> None:
+        self.face.say(HELP)
+
+    def _tick(self, _: Typed) -> None:
+        self.face.say("ticks are given by run, continue, resume and a line of G-code, in small counts")
+
+    def _load(self, typed: Typed) -> None:
+        if not typed.rest:
+            self.face.say("load FILE: which file?")
+            return
+        path = os.path.expanduser(typed.rest)
+        try:
+            text = Path(path).read_bytes()
+        except OSError as error:
+            self.face.say(f"{path}: {error.strerror}", REFUSED)
+            return
+        self.load(path, text)
+
+    def _run(self, typed: Typed) -> None:
+        waits = self.console.status().does in ("stopped", "held")
+        self._go_on("continue" if waits else "start", typed)
+
+    def _start(self, typed: Typed) -> None:
+        self._go_on("start", typed)
+
+    def _continue(self, typed: Typed) -> None:
+        self._go_on("continue", typed)
+
+    def _go_on(self, command: str, typed: Typed) -> None:
+        """Starts the program, or goes on with what waits."""
+        status = self.console.status()
+        if not typed.anyway and not (self.places.agree(status, f"{typed.word} {ANYWAY}") and self.left.agreed(status)):
+            return
+        timeline = self.loading.timeline(command == "start" and not status.place)
+        if refused(self.session, self.console.ask(command)[0], command):
+            return
+        if status.half == "none" and (said := dropped_g92(self.session)):
+            self.face.once(said)
+        if command == "start":
+            self.session.told = status.place
+        self.work.timeline = timeline
+        ended = self._run_on()
+        if ended != "refused" or self.console.status().place != status.place:
+            self.left.forget()
+
+    def _mdi(self, line: str, anyway: bool) -> None:
+        """Does a line of one's own, and says how all stands then."""
+        if ended := self._line_done(line, anyway):
+            self._say_stand(ended)
+            self.left.tell_modes()
+
+    def _line_done(self, line: str, anyway: bool) -> str | None:
+        """Does a line of one's own. Returns what ended its work, None where it wasn't taken or is held."""
+        status = self.console.status()
+        compared = status.half == "none" and not anyway and not stops_outputs(line)
+        if compared and not self.places.agree(status, f"{ANYWAY} {line}"):
+            return None
+        if status.half == "none":
+            self.left.keep()
+        reply = self.console.ask(b"mdi " + line.encode("utf-8", "surrogateescape"))[0]
+        if refused(self.session, reply, f"mdi {line}"):
+            self._near(line)
+            return None
+        self.session.own = line
+        return self._work()
+
+    def _near(self, line: str) -> None:
+        """Names the command that is meant, if a line of G-code was none."""
+        word = line.split()[0].lower() if line else ""
+        if word.isalpha() and len(word) > 1:
+            near = " or ".join(difflib.get_close_matches(word, self._doings, 2))
+            self.face.say(f"nor is {word} a command; {f'did you mean {near}? ' if near else ''}help lists them")
+
+    def _restore(self, _: Typed) -> None:
+        """Types the lines that put back what was in force before lines of one's own."""
+        if not self.left.differs():
+            self.face.say("all is in force as it was")
+            return
+        found = self.left.restoring()
+        for line in found.lines:
+            self.face.say(f"restore: {line}")
+            if not self._line_done(line, False):
+                return
+        Look(self.session).after_work()
+        if found.left:
+            self.face.say("it can't put back " + "; nor ".join(found.left), WARNING)
+
+    def _plain(self, typed: Typed) -> None:
+        if typed.word == "abandon" and self.console.status().does == "idle":
+            self.left.keep()
+        reply = self.console.ask(" ".join([typed.word, *typed.rest.lower().split()]))[0]
+        if taken(self.session, reply, f"{typed.word} {typed.rest}".strip()) and typed.word in ("delete", "optional"):
+            setattr(self.session, typed.word, typed.rest.lower() == "on")
+
+    def _reference(self, typed: Typed) -> None:
+        if self.console.status().half == "none":
+            self.left.keep()
+        self.places.reference(typed.rest.lower().split(), typed.anyway)
+
+    def _resume(self, typed: Typed) -> None:
+        """Takes a half-done block up: stops after the switch, and asks."""
+        status = self.console.status()
+        if status.half != "none" and not typed.anyway and not self.places.agree(status, f"resume {ANYWAY}"):
+            return
+        reply = self.console.ask("resume")[0]
+        if refused(self.session, reply, "resume"):
+            if reply.startswith("refused K3"):
+                self.places.offer()
+            return
+        self.left.forget()
+        self.face.say(TAKEN_UP.format(half=self.session.half(status), place=place(status)), WARNING)
+        if not self._switched():
+            self._hold()
+        elif self.session.agrees(SWITCHED):
+            self._run_on()
+        else:
+            self._hold()
+            self.face.say(NOT_MOVED, WARNING)
+            if left_on := self.ending.left_on():
+                self.face.say(f"on: {left_on}. {self.ending.how_off()}", WARNING)
+
+    def _switched(self) -> bool:
+        """Makes the switch of an approach; whether the motors' side has done it too."""
+        if not self.work.await_motors() or not self.work.room():
+            return False
+        return not any(map(self.session.is_refusal, self.console.ask("tick 2"))) and self.work.await_motors()
+
+    def _rehearse(self, typed: Typed) -> None:
+        rehearse(self.session, typed.rest.split())
+
+    def _go(self, _: Typed) -> None:
+        if not self.session.meter:
+            self.face.say("no player is known: --player SOCKET")
+            return
+        try:
+            self.session.meter.link.go()
+        except NoAnswer as error:
+            self.face.say(str(error), WARNING)
+
+    def _quit(self, _: Typed) -> None:
+        """Ends the session, once a person knows what stays half-done and what stays on."""
+        status = self.console.status()
+        question = "quit? yes ends the session, anything else doesn't: "
+        if self.ending.leaves_half(status) and not self.session.agrees(question):
+            return
+        if left_on := self.ending.left_on():
+            self._offer_off(status, left_on)
+        self.over = True
+
+    def _offer_off(self, status: Status, left_on: str) -> None:
+        """Says what is on, and switches it off if that can be done and is wanted."""
+        if not self.ending.can_switch(status):
+            within = "Within a block no M5 is done. " if status.half != "none" else ""
+            self.face.say(f"still on: {left_on}. {within}{self.ending.how_off()}", WARNING)
+        elif self.session.agrees(f"still on: {left_on}. Switch off? yes does M5 and M9, anything else doesn't: "):
+            for line in ("M5", "M9"):
+                self._line_done(line, True)
+            Look(self.session).after_work()
+
+    # work
+
+    def _run_on(self) -> str | None:
+        """The same as `_work`, and says how all stands then."""
+        ended = self._work()
+        if ended is not None:
+            self._say_stand(ended)
+        return ended
+
+    def _work(self) -> str | None:
+        """Gives ticks until there is nothing to do, or somebody holds. Returns what ended them, None for a hold."""
+        ended = self.work.go()
+        if ended is None:
+            self._hold()
+            return None
+        self.session.own = ""
+        return ended
+
+    def _say_stand(self, ended: str) -> None:
+        """Says how all stands once work has ended so."""
+        if ended == "stopped" and self.console.status().half == "none":
+            self.face.say(f"stopped; the tool in the spindle is {self.stored().slot or 'none'}. run goes on", WHERE)
+        Look(self.session).after_work()
+
+    def _hold(self) -> None:
+        session, reply = self.session, self.console.ask("hold")[0]
+        if reply == "held" and not session.gone:
+            ahead = f"up to {session.meter.limit} lines that are handed out" if session.meter else "the lines in OUT"
+            reply += f"; {ahead} are still carried out"
+        self.face.say(reply)
+        Look(session).after_work()
+
+    # what is said
+
+    def _where(self, _: Typed) -> None:
+        Look(self.session).all(self.loading.timeline(False))
+
+    def _status(self, typed: Typed) -> None:
+        self.face.say(self.console.ask("status")[0])
+        self._where(typed)

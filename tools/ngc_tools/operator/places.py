@@ -1,0 +1,115 @@
+"""Whether the motors are where `ngc` takes them to be: its point and the player's, compared in whole steps."""
+import re
+
+from ngc_tools.formats.position import Position
+from ngc_tools.job.figures import millimetres as rounded
+from ngc_tools.job.moves import distance
+from ngc_tools.ngc.console import Status
+from ngc_tools.operator.causes import taken
+from ngc_tools.operator.face import SAID, WARNING
+from ngc_tools.operator.modes import point_words
+from ngc_tools.operator.numbers import nanometres_of
+from ngc_tools.operator.sentences import PLAYER_SILENT
+from ngc_tools.operator.session import Session
+from ngc_tools.operator.work import Work
+from ngc_tools.player.progress import NoAnswer, Report
+
+_STOPS = re.compile(r"(?:N\d{1,5})?(?:M0*[59])+", re.IGNORECASE)
+
+
+def stops_outputs(line: str) -> bool:
+    """Whether a line has M5 and M9 alone, which stop spindle and coolant and move nothing."""
+    return _STOPS.fullmatch("".join(line.split())) is not None
+
+
+class Places:
+    """Compares the points, and tells `ngc` and the player where the machine stands."""
+
+    def __init__(self, session: Session, work: Work) -> None:
+        self.session, self.work = session, work
+
+    def agree(self, status: Status, again: str) -> bool:
+        """Whether both say the same place; says it if they don't. `again` is how to ask for what was asked all the
+        same. A point that `ngc` doesn't know, as within a block that is held, isn't compared."""
+        if not status.known or not self.session.meter:
+            return True
+        report = self._settled()
+        if report is None:
+            self.session.face.say(f"nothing is done. {PLAYER_SILENT}", WARNING)
+            return False
+        at = report.at.split()
+        if self._same(at, status.at):
+            return True
+        self._say_apart(at, status.at, "ngc takes them to be at",
+                        f"reference player takes the player's point; {again} goes on from ngc's")
+        return False
+
+    def reference(self, words: list[str], anyway: bool) -> None:
+        """Tells `ngc` where the machine stands. `player` in place of the numbers, or of one, is the player's."""
+        if not words:
+            self.offer()
+            return
+        report = self._settled() if self.session.meter else None
+        if report is None and (self.session.meter or "player" in words):
+            self.session.face.say(f"nothing is done. {PLAYER_SILENT}" if self.session.meter else
+                                  "no player says where the motors are: reference X Y Z", WARNING)
+            return
+        at = report.at.split() if report else []
+        words = ["player"] * 3 if words == ["player"] else words
+        words = [at[axis] if word == "player" and axis < 3 else word for axis, word in enumerate(words)]
+        elsewhere = bool(at) and self._elsewhere(words, at)
+        if elsewhere and not anyway:
+            typed = " ".join(words)
+            self._say_apart(at, words, "what was typed is", "reference player takes the player's"
+                            f" point; reference {typed} anyway takes what was typed")
+            return
+        command = "reference " + " ".join(words)
+        if taken(self.session, self.session.console.ask(command)[0], command) and elsewhere:
+            self._tell_player()
+
+    def offer(self) -> None:
+        """Asks where the machine stands, and says what the player says."""
+        report = self.session.report()
+        said = f"; the player says: reference {report.at}" if report else ""
+        self.session.face.say("where does the machine stand? reference X Y Z" + said, SAID)
+
+    def warn(self, status: Status) -> None:
+        """Says where the player says that the motors are, if `ngc` doesn't say the same."""
+        report = self.session.report()
+        if report and not (status.known and self._same(report.at.split(), status.at)):
+            self.session.face.say(f"the player says: reference {report.at}", WARNING)
+
+    def _settled(self) -> Report | None:
+        """What the player says once it has carried out everything; None, which is said, if it doesn't come to that."""
+        report = self.session.report()
+        if report and report.behind:
+            report = self.session.report() if self.work.await_motors() else None
+        return report
+
+    def _say_apart(self, motors: list[str], other: list[str] | tuple[str, ...], who: str, then: str) -> None:
+        a, b = (tuple(nanometres_of(number) or 0 for number in at) for at in (motors, other))
+        self.session.face.say(f"the player says that the motors are at {point_words(a)}, and {who} {point_words(b)}:"
+                              f" {rounded(distance(a, b))} mm apart. Nothing is done.\n  {then}", WARNING)
+
+    def _elsewhere(self, words: list[str], at: list[str]) -> bool:
+        """Whether three numbers are another place than the player's."""
+        numbers = [nanometres_of(word) for word in words]
+        return len(words) == 3 and None not in numbers and not self._same(words, at)
+
+    def _same(self, one: list[str] | tuple[str, ...], two: list[str] | tuple[str, ...]) -> bool:
+        """Whether both are the same place, in whole steps."""
+        places = [Position(self.session.settings.step_nm, [nanometres_of(number) or 0 for number in at]).steps
+                  for at in (one, two)]
+        return places[0] == places[1]
+
+    def _tell_player(self) -> None:
+        """Tells the player where the machine stands, as `ngc` took it."""
+        at = " ".join(self.session.console.status().at)
+        try:
+            self.session.meter.link.at(at)
+            report = self.session.report()
+        except NoAnswer as error:
+            self.session.face.say(str(error), WARNING)
+            return
+        if report and not self._same(report.at.split(), at.split()):
+            self.session.face.say(f"the player still says X Y Z {report.at}: start it anew with --at {at}", WARNING)

@@ -1,0 +1,45 @@
+"""What the operator says of refusals, and of a block that is taken up."""
+from ngc_tools.ngc import faults
+
+HELP = """\
+load FILE          try a program by a dry run, and store it
+run                start it, or go on with it
+G0 X1 ..           a line of G-code of your own
+restore            put back what lines of your own left in force
+hold               Enter or Ctrl-C while something runs
+where              machine and work, the line, the times, the motors
+continue           go on with what was held or stopped
+reference X Y Z    the machine stands there, in mm
+reference player   the machine stands where the player says
+tool N LENGTH      a tool's length, in mm
+rehearse           what resume would do, or start; nothing moves
+resume, abandon    take a half-done block up, give it up
+anyway             after run, resume and others, before a line: do it
+                   whatever the player says
+go                 tells the player that the tool is in
+optional on, off   stop at M1
+delete on, off     leave out lines with a slash
+quit               end; Ctrl-D too
+help               this"""
+
+PLAYER_SILENT = "Once the player answers, again; if it is gone, quit, and start a player and this again"
+# what is said of a block that is taken up
+TAKEN_UP = """\
+{half} is taken up. Its outputs are switched on as they were; then the tool goes
+in one straight line at the traverse rate from {place} to where that segment begins.
+Z isn't lifted first."""
+SWITCHED = """\
+The outputs are switched, and nothing has moved. Does the spindle turn, is the right tool in, is the straight way free?
+yes goes on, anything else holds: """
+NOT_MOVED = "nothing has moved. continue goes on; after quit the block is still half-done"
+
+
+def explained(refusal: str, cause: str = "") -> str:
+    """A refusal, as `refused K1 Busy`, the cause or else the sentence that says what it means, and of a line what to
+    write instead."""
+    code = refusal.split()[1] if len(refusal.split()) > 1 else ""
+    fault = faults.fault(code)
+    if fault:
+        return f"{refusal}: {cause or fault.holds}\n  {fault.cure}"
+    said = cause or faults.SESSION.get(code) or faults.SETTINGS.get(code)
+    return refusal + (f": {said}" if said else "")

@@ -1,0 +1,99 @@
+"""What the parts of a person's session share: `ngc`, its device, the player, the face, and what is under way."""
+import re
+from dataclasses import dataclass, field
+
+from ngc_tools.formats.device import Device, NoDevice
+from ngc_tools.formats.lines import Program
+from ngc_tools.formats.settings import Settings
+from ngc_tools.ngc.console import Console, Status
+from ngc_tools.operator.face import REFUSED, WARNING, Face, axes
+from ngc_tools.operator.meter import Meter
+from ngc_tools.operator.outside import breach_of_line
+from ngc_tools.operator.sentences import explained
+from ngc_tools.player.progress import NoAnswer, Report
+
+
+def place(status: Status) -> str:
+    """The point of a status, for people."""
+    return axes(status.at)
+
+
+class Nothing:
+    """Stands for a device that can't be read."""
+
+    program = b""
+    slot = 0
+
+
+@dataclass(slots=True)
+class Session:
+    """`own` is a line of the operator's that is under way. The messages of the lines before the place `told` are shown;
+    `delete` and `optional` are the switches as they were set. `motors` is where the player said last that they are;
+    `gone` says that it stopped to answer."""
+
+    console: Console
+    face: Face
+    meter: Meter | None
+    settings: Settings
+    program: Program = field(default_factory=lambda: Program(b""))
+    told: int = 0
+    delete: bool = False
+    optional: bool = False
+    own: str = ""
+    motors: str = ""
+    gone: bool = False
+
+    def stored(self) -> Device | Nothing:
+        """What the device holds, which `ngc` has synced."""
+        try:
+            return Device.read(self.console.device)
+        except (OSError, NoDevice):
+            return Nothing()
+
+    def report(self) -> Report | None:
+        """How far the player is; None if there is none, or it doesn't answer, which is said."""
+        if not self.meter:
+            return None
+        try:
+            report = self.meter.link.ask()
+        except NoAnswer as error:
+            self.gone = True
+            self.face.say(str(error), WARNING)
+            return None
+        self.gone = False
+        self.face.moved(report)
+        return report
+
+    def agrees(self, question: str) -> bool:
+        """Whether a person answers with a typed yes; anything else, nothing too, is a no."""
+        return self.face.ask(question).strip().lower() == "yes"
+
+    def line(self, status: Status) -> str:
+        """The program's line at the place."""
+        return f"line {self.program.number(status.place)}: {self.program.line(status.place)}"
+
+    def half(self, status: Status) -> str:
+        """The block that is half-done or under way."""
+        if status.half == "mdi":
+            return f"segment {status.segment} of {f'your line {self.own}' if self.own else 'a line of yours'}"
+        if not self.program.text:
+            return f"segment {status.segment} of a line of the program"
+        return f"segment {status.segment} of {self.line(status)}"
+
+    def is_refusal(self, reply: str, status: Status | None = None) -> bool:
+        """Shows a refusal, that of a program's line with the line."""
+        if not reply.startswith("refused"):
+            return False
+        where = cause = ""
+        if status is not None and re.match(r"refused [EBCYX]\d", reply):
+            where = f"{self.line(status)}\n  "
+            cause = self._cause(reply, status)
+        self.face.say(where + explained(reply, cause), REFUSED)
+        return True
+
+    def _cause(self, reply: str, status: Status) -> str:
+        """Where the program's line at the place leaves the travel, if that is why it is refused."""
+        device = self.stored()
+        if not reply.startswith("refused X2") or not isinstance(device, Device):
+            return ""
+        return breach_of_line(self.console, device, self.settings, self.program.text[status.place:], 1)

@@ -1,0 +1,172 @@
+"""The work of a session: ticks, in small counts, until there is nothing to do or somebody wants to hold."""
+import time
+from collections.abc import Callable
+from dataclasses import dataclass
+
+from ngc_tools.formats.position import nanometres
+from ngc_tools.job.in_force import InForce
+from ngc_tools.ngc.console import Status
+from ngc_tools.operator.display import short_words, work_words
+from ngc_tools.operator.face import MESSAGE, WARNING, WHERE, UnderWay
+from ngc_tools.operator.session import Session
+from ngc_tools.operator.timeline import Timeline
+from ngc_tools.player.progress import NoAnswer, Report
+
+ENDS = ("idle", "stopped", "held", "refused")
+FIRST_TICKS, MOST_TICKS = 20, 1000
+
+
+def clock(us: int) -> str:
+    """A time in minutes and seconds, as `1:05`; from an hour on as `1:02:05`."""
+    minutes, seconds = divmod(us // 1_000_000, 60)
+    if minutes < 60:
+        return f"{minutes}:{seconds:02d}"
+    return f"{minutes // 60}:{minutes % 60:02d}:{seconds:02d}"
+
+
+@dataclass
+class Chunk:
+    """How many ticks are given at once if nothing is metered: enough for one command to last about 50 ms."""
+
+    ticks: int = FIRST_TICKS
+
+    def lasted(self, seconds: float) -> None:
+        """Fits it to how long the last command took."""
+        if seconds < 0.025:
+            self.ticks = min(MOST_TICKS, 2 * self.ticks)
+        elif seconds > 0.06:
+            self.ticks = max(1, self.ticks // 2)
+
+
+@dataclass(frozen=True, slots=True)
+class _Shown:
+    """Of a place, its line, what is in force on it, if that is known, and more."""
+
+    place: int
+    line: str
+    view: InForce | None
+    more: tuple[str, ...]
+
+
+_NOTHING_SHOWN = _Shown(-1, "", None, ())
+
+
+class Work:
+    """Gives the ticks of a session."""
+
+    def __init__(self, session: Session, aside: Callable[[str], None]) -> None:
+        """`aside` does a command that is given while something runs."""
+        self.session, self.aside = session, aside
+        self.chunk = Chunk()
+        self.timeline: Timeline | None = None  # of the program that runs, if it is known
+        self._shown = _NOTHING_SHOWN
+        self._waited: int | None = None  # the tool that the player was waiting for as it was asked last
+
+    def go(self) -> str | None:
+        """Gives ticks until there is nothing to do, or somebody wants to hold.
+
+        It returns what ended them: idle, stopped, held or refused; None for a wish to hold, or a player that is gone.
+        After all but a refusal it waits until the motors are through."""
+        self.session.gone = False
+        self._waited = None
+        self._shown = _NOTHING_SHOWN
+        ended = self._ticks()
+        self.session.face.live(None)
+        if ended in ("idle", "stopped", "held"):
+            self.await_motors()
+        return ended
+
+    def _ticks(self) -> str | None:
+        session = self.session
+        while count := self.room():
+            begun = time.monotonic()
+            replies = session.console.ask(f"tick {count}")
+            self.chunk.lasted(time.monotonic() - begun)
+            status = session.console.status()
+            self._show_messages(status)
+            if ended := self._ended(replies, status):
+                return ended
+            session.face.live(self._under_way(status))
+            if not self._wanted():
+                return None
+        return None
+
+    def _wanted(self) -> bool:
+        """Does what is given meanwhile; whether nobody wants to hold."""
+        held = self.session.face.interrupted()
+        for command in self.session.face.asides():
+            self.aside(command)
+        return not held
+
+    def _ended(self, replies: list[str], status: Status) -> str | None:
+        """What ended the work of a tick command, if something did; shows refusals."""
+        ended = [reply.split()[0] for reply in replies if reply.split()[0] in ENDS]
+        for reply in replies:
+            self.session.is_refusal(reply, status)
+        return ended[0] if ended else None
+
+    def room(self) -> int:
+        """How many ticks may be given now; 0 if somebody wants to hold, or the player is gone."""
+        session = self.session
+        if not session.meter:
+            return self.chunk.ticks if self._wanted() else 0
+        try:
+            return min(session.meter.room(self._goes_on), MOST_TICKS)
+        except NoAnswer as error:
+            session.gone = True
+            session.face.say(f"{error}; nothing more is handed out. Once it answers again, run goes on; if it is gone,"
+                             " quit, and start a player and this again", WARNING)
+            return 0
+
+    def await_motors(self) -> bool:
+        """Waits until the player has carried out what was handed out; False if somebody wants to hold before that,
+        or the player is gone."""
+        session = self.session
+        try:
+            if not session.meter or session.meter.drained(self._goes_on):
+                return True
+            session.face.say("the player isn't through with its lines yet", WARNING)
+        except NoAnswer as error:
+            session.face.say(str(error), WARNING)
+        return False
+
+    def _goes_on(self, report: Report) -> bool:
+        self.session.motors = report.at
+        self.session.face.moved(report)
+        waited, self._waited = self._waited, report.tool if report.waits else None
+        if report.waits and waited != report.tool:
+            what = f"tool {report.tool} to be put in" if report.tool else "the tool to be taken out"
+            self.session.face.say(f"the player waits for {what}: once that is done, type go here, or press Enter there",
+                                  WHERE)
+        return self._wanted()
+
+    def _show_messages(self, status: Status) -> None:
+        """Shows the messages of the lines that the place has passed."""
+        session = self.session
+        end = status.place if status.place >= session.told else len(session.program.text)
+        for number, message in session.program.messages(session.told, end, session.delete):
+            session.face.say(f"message, line {number}: {message}", MESSAGE)
+        session.told = status.place
+
+    def _under_way(self, status: Status) -> UnderWay:
+        """What is being done."""
+        session = self.session
+        if session.own:
+            return UnderWay(f"your line: {session.own}", status, session.motors)
+        if self._shown.place != status.place:
+            self._shown = self._shown_at(status)
+        shown, work = self._shown, ""
+        if session.motors and shown.view and (any(shown.view.origin) or shown.view.length):
+            x, y, z = map(nanometres, session.motors.split())
+            work = f"work {work_words(shown.view, (x, y, z))}"
+        return UnderWay(shown.line, status, session.motors, (work, *shown.more) if work else shown.more)
+
+    def _shown_at(self, status: Status) -> _Shown:
+        """What is shown of the program's line at the place."""
+        number = self.session.program.number(status.place)
+        view = self.timeline.view(number) if self.timeline else None
+        more: tuple[str, ...] = ()
+        if self.timeline and view:
+            done, left = (clock(us) for us in self.timeline.times_us(number))
+            more = (" ".join(short_words(view)), f"about {left} left", f"{done} done")
+        return _Shown(status.place, self.session.line(status), view, more)

@@ -1,0 +1,1 @@
+"""The reference reader of OUT, and how it tells how far it is."""

@@ -1,0 +1,107 @@
+"""The play with ramps: lines are read ahead, so that the pacer knows where a rest can be reached."""
+import time
+from collections import deque
+
+from ngc_tools.formats.out import BadLine, Line, quoted, read_line
+from ngc_tools.formats.position import Position
+from ngc_tools.formats.record import Record
+from ngc_tools.player.manner import Manner
+from ngc_tools.player.pace import ROOM, Pace
+from ngc_tools.player.pace_path import Limits
+from ngc_tools.player.pins import Pins
+from ngc_tools.player.player import Player
+from ngc_tools.player.source import Source
+
+_FEW = 8  # lines are read after each one while it moves: more would make the next one late
+_STARVES_NS = 30_000_000  # after so long at rest with nothing new, what is known is carried out to its end
+
+
+class PacedPlayer(Player):
+    """Carries out OUT by ramps. A hold, an override and the first signal to stop count from the next line on."""
+
+    def __init__(self, source: Source, position: Position, begun: Record, pins: Pins, manner: Manner,
+                 limits: Limits) -> None:
+        super().__init__(source, position, begun, pins, manner)
+        self.schedule.makes_up = False
+        self._pace = Pace(limits)
+        self._ahead: deque[tuple[bytes, Line]] = deque()  # what the pacer knows
+        self._is_all = False  # no more lines come: a file's end, or a line that isn't one ..
+        self._bad: BadLine | None = None  # .. which it is
+        self._newest_ns = 0  # when the last line was read
+
+    def _play(self) -> None:
+        is_over = False
+        while not is_over:
+            self._await_due()
+            self._read_ahead(_FEW if self._is_moving else ROOM)
+            if not self._is_moving:
+                self.schedule.pause()  # as long as it took to read
+            if self._give():
+                self._stands_held = False
+            else:
+                is_over = self._await_lines()
+        if part := self.source.part():
+            raise BadLine(self.lines + 1, f"OUT ends in a part of a line: {quoted(part)}")
+
+    def _read_ahead(self, most: int) -> None:
+        """Takes up to so many lines."""
+        is_there = True
+        while most > 0 and is_there and not self._is_all and not self._pace.is_full():
+            is_there = self._read_one()
+            most -= 1
+        is_end = not is_there and self.source.is_file and not self.source.follow
+        if not self._is_all and (is_end or self._bad):
+            self._is_all = True
+            self._pace.end()
+
+    def _read_one(self) -> bool:
+        """Takes a line that stands in OUT; whether one does."""
+        with self._lock:
+            while (text := self.source.next()) is None and self.source.read():
+                pass
+        if text is None:
+            return False
+        self._newest_ns, self._left_ns = time.monotonic_ns(), 0
+        try:
+            line = read_line(text, self.lines + len(self._ahead) + 1, self.manner.least_period_us)
+        except BadLine as error:
+            self._bad = error
+            return False
+        self._ahead.append((text, line))
+        self._pace.push(line)
+        return True
+
+    def _wanted(self) -> int:
+        """The square that is wanted: 0 where somebody asks for a rest."""
+        return 0 if self.is_held or self._is_rest_asked() else self._pace.wanted(self.percent)
+
+    def _give(self) -> bool:
+        """Carries out the next line, if one is to be."""
+        wanted = self._wanted()
+        if wanted and self._pace.first < self._pace.final:
+            self._await_tool_of(self._ahead[0][1])
+        ns = self._pace.next(wanted)
+        if ns is None:
+            return False
+        self._is_moving = self._pace.square > 0
+        text, line = self._ahead.popleft()
+        self._carry_out_now(text, line, ns)
+        return True
+
+    def _await_lines(self) -> bool:
+        """At rest with nothing to give out: waits for more lines; whether OUT has ended."""
+        is_held = self._stands_held = self._wanted() == 0
+        if self._ahead and not is_held and time.monotonic_ns() - self._newest_ns >= _STARVES_NS:
+            self._pace.end()
+            return False
+        if self._ahead and is_held:
+            self._heed_console(f"it is held after line {self.lines}")
+        if self._ahead:
+            time.sleep(0.005)
+            self.schedule.pause()
+            return False
+        if self._bad is not None:
+            raise self._bad
+        is_over = self._is_over()
+        self.schedule.pause()
+        return is_over

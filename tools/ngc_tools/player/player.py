@@ -1,0 +1,287 @@
+"""The reference reader of OUT: carries out each line in its time, and keeps what it carried out."""
+import ctypes
+import os
+import select
+import threading
+import time
+
+from ngc_tools.formats.out import BadLine, Line, Switch, quoted, read_line
+from ngc_tools.formats.position import Position
+from ngc_tools.formats.record import Record, stopped
+from ngc_tools.player.answers import Answers
+from ngc_tools.player.keeper import Keeper
+from ngc_tools.player.manner import Counts, Manner, Stopped
+from ngc_tools.player.person import Person
+from ngc_tools.player.pins import Pins
+from ngc_tools.player.progress import Report
+from ngc_tools.player.schedule import Schedule
+from ngc_tools.player.source import Source
+
+SLICE_NS = 20_000_000  # how long it sleeps at most before it looks whether it is to stop
+
+
+class Player:
+    """Carries out OUT. `lines` counts its lines that are carried out, from its first on."""
+
+    def __init__(self, source: Source, position: Position, begun: Record, pins: Pins, manner: Manner) -> None:
+        """`begun` is what was carried out before. The outputs begin as off, whatever it says."""
+        self.source = source
+        self.position = position
+        self.pins = pins
+        self.manner = manner
+        self.outputs = stopped(begun.outputs)
+        self.out = begun.out
+        self.lines, self.size = begun.lines, begun.size
+        self.counts = Counts()
+        self.schedule = Schedule(manner.timed)
+        self.keeper: Keeper | None = None
+        self.stopped_by = ""  # what has stopped it, in a word
+        self.answers: Answers | None = None
+        self.stops = 0  # how often it is asked to stop
+        self.is_held = False  # somebody asks for a rest
+        self.percent = 100  # of OUT's rates
+        self._lock = threading.Lock()  # of `source`, `position` and `lines`
+        self._is_moving = False  # it can't stop at once
+        self._stands_held = False  # it has come to rest for a hold
+        self._tool: int | None = None  # the slot that a person is asked for
+        self._left_ns = 0  # since when nobody writes OUT any more
+        self._wake = os.eventfd(0, os.EFD_NONBLOCK | os.EFD_CLOEXEC)
+        self._poll = select.poll()
+        self._poll.register(self._wake, select.POLLIN)
+        if source.is_pipe:
+            self._poll.register(source.file, select.POLLIN)
+
+    def run(self) -> bool:
+        """Carries out lines until OUT ends; returns whether spindle or coolant was on then. They are off afterwards,
+        however it ends. Raises BadLine at the first line that isn't one, and if OUT ends in a part of a line; Stopped
+        where it has to stop before; OSError if the pins fail."""
+        try:
+            self._play()
+            if self.is_on() and self.manner.timed:
+                self._wait_until(self.schedule.due)  # the time of the last line
+            return self.is_on()
+        except Stopped as error:
+            self.stopped_by = error.word
+            raise
+        except BadLine:
+            self.stopped_by = "line"
+            raise
+        except OSError:
+            self.stopped_by = "pins"
+            raise
+        finally:
+            self._switch_off()
+
+    def standing(self) -> Record:
+        """What is carried out now, for the record."""
+        with self._lock:
+            lines, size, outputs, at_nm, why = self.lines, self.size, self.outputs, self.position.nm, self.stopped_by
+        return Record(self.out, lines, size, outputs, at_nm, self.source.mark(size), why)
+
+    def close(self) -> None:
+        """Lets go of what it has of the system."""
+        os.close(self._wake)
+
+    def is_on(self) -> bool:
+        """Whether spindle or coolant is on."""
+        return self.outputs != stopped(self.outputs)
+
+    # what the thread that answers calls
+
+    def report(self) -> Report:
+        """How far it is, with the lines that stand in OUT now."""
+        with self._lock:
+            tool = self._tool
+            self._take_all()
+            return Report(self.lines, self.source.received, tool is not None, str(self.position), self.out,
+                          self.outputs, tool or 0, self._stands_held and tool is None)
+
+    def stand_at(self, at_nm: tuple[int, int, int]) -> None:
+        """Takes where the machine stands, as after its axes were moved by hand, if nothing is behind."""
+        with self._lock:
+            self._take_all()
+            if self.source.received == self.lines:
+                self.position = Position(self.position.step_nm, at_nm)
+
+    def _take_all(self) -> None:
+        """Takes into hand what stands in OUT, and wakes the thread that carries it out."""
+        if self.source.take_all():
+            os.eventfd_write(self._wake, 1)
+
+    def go(self) -> None:
+        """The tool is in."""
+        self._tool = None
+
+    def hold(self, is_held: bool) -> None:
+        """Comes to rest, or goes on."""
+        self.is_held = is_held
+
+    def override(self, percent: int) -> None:
+        """Goes at so many percent of OUT's rates, 1 to 100."""
+        self.percent = percent
+
+    # the play
+
+    def _play(self) -> None:
+        while (text := self._next()) is not None:
+            self._carry_out(text)
+        if part := self.source.part():
+            raise BadLine(self.lines + 1, f"OUT ends in a part of a line: {quoted(part)}")
+
+    def _next(self) -> bytes | None:
+        """The next line, once there is one; None at the end of OUT."""
+        while True:
+            with self._lock:
+                text = self.source.next()
+                came = text is None and self.source.read()
+            if text is not None:
+                self._left_ns = 0
+                return text
+            if not came:
+                if self._is_over():
+                    return None
+                self.schedule.pause()
+
+    def _is_over(self) -> bool:
+        """Waits until OUT may have more; whether it has ended. Raises Stopped if its writer is gone without a word."""
+        ready = dict(self._poll.poll(50 if self.source.is_pipe else 1))
+        if self._wake in ready:
+            os.eventfd_read(self._wake)
+        self._heed()
+        if not self._is_left(ready.get(self.source.file, 0)):
+            self._left_ns = 0
+            return False
+        with self._lock:
+            if self.source.has_line() or self.source.read():
+                return False
+        return self._is_session_over()
+
+    def _is_left(self, ready: int) -> bool:
+        """Whether nobody writes OUT any more. Of a file that is followed only those who ask can be seen."""
+        if not self.source.follow:
+            return self.source.is_left(ready)
+        return self.answers is not None and (self.answers.ended or self.is_on() and self.answers.are_gone())
+
+    def _is_session_over(self) -> bool:
+        """Whether OUT, which nobody writes any more, has ended: at once if spindle and coolant are off, else some time
+        after the last writer and the last question. Raises Stopped if nobody said that the session is over."""
+        if self.source.is_file and not self.source.follow:
+            return True
+        now = time.monotonic_ns()
+        self._left_ns = self._left_ns or now
+        if self.answers:
+            self.answers.catch_up()
+        asked_ns = self.answers.asked_ns if self.answers else 0
+        if self.is_on() and now < max(self._left_ns, asked_ns) + self.manner.off_after_us * 1000:
+            time.sleep(SLICE_NS / 1e9)  # the poll of a pipe that nobody writes doesn't wait
+            return False
+        ended = self.answers is not None and self.answers.ended
+        if not ended and (asked_ns or self.is_on()):
+            raise Stopped("console", f"the console is gone without a word, after line {self.lines}")
+        return True
+
+    def _is_rest_asked(self) -> bool:
+        """Whether it is to come to rest and stop then."""
+        return self.stops > 0 or bool(self.keeper and self.keeper.failed)
+
+    def _heed(self) -> None:
+        """Raises Stopped if it is asked to stop, or can't keep its record any more: while it moves only if it is asked
+        once more."""
+        if self._is_moving and self.stops < 2:
+            return
+        if self.stops:
+            raise Stopped("signal", f"stopped after line {self.lines}")
+        if self.keeper and self.keeper.failed:
+            raise Stopped("record", f"stopped after line {self.lines}: the record can't be kept")
+
+    def _carry_out(self, text: bytes) -> None:
+        line = read_line(text, self.lines + 1, self.manner.least_period_us)
+        self._await_tool_of(line)
+        self._await_due()
+        self._carry_out_now(text, line, line.lasts_us * 1000)
+
+    def _await_due(self) -> None:
+        """Waits until the next line is due."""
+        if self.manner.timed:
+            self._wait_until(self.schedule.due)
+        self._heed()
+
+    def _carry_out_now(self, text: bytes, line: Line, lasts_ns: int) -> None:
+        if self.manner.times:
+            self.manner.times.add(self.schedule.due - self.schedule.started, text)
+        self.schedule.begun(lasts_ns)
+        self.pins.set(text)
+        if isinstance(line, Switch):
+            turns = line.spindle != self.outputs.spindle
+            self.outputs = line
+            if turns:
+                self._wait_until(time.monotonic_ns() + self.manner.spindle_us * 1000)
+            self.schedule.pause()  # as long as the tool and the spindle took
+        self._count(line, len(text) + 1)
+
+    def _count(self, line: Line, size: int) -> None:
+        """Counts a line that is carried out."""
+        self.counts.add(line)
+        with self._lock:
+            self.position.take(line)
+            self.lines += 1
+            self.size += size
+
+    def _wait_until(self, due: int) -> None:
+        """Waits until a moment of the monotonic clock."""
+        while (rest := due - time.monotonic_ns()) > 0:
+            time.sleep(min(rest, SLICE_NS) / 1e9)
+            self._heed()
+
+    def _await_tool_of(self, line: Line) -> None:
+        """Waits for the tool that a line changes to, if a person has to put it in."""
+        if isinstance(line, Switch) and line.slot != self.outputs.slot and self.manner.person:
+            self._await_tool(line.slot, self.manner.person)
+
+    def _await_tool(self, slot: int, person: Person) -> None:
+        """Waits until a person says that the tool is in, by Enter or over the socket."""
+        if self.manner.timed:
+            self._wait_until(self.schedule.due)
+        what = f"put in tool {slot}" if slot else "take the tool out"
+        self._tool = slot
+        person.ask(f"line {self.lines + 1}: {what}, then press Enter")
+        while self._tool is not None:
+            if person.has_pressed(SLICE_NS / 1e9):
+                self._tool = None
+            elif person.is_gone and self.answers is None:
+                raise Stopped("tool", f"line {self.lines + 1} asks to {what}, and nobody can say that it is done: start"
+                              " the player at a terminal or with --progress; --no-ask-tool is for a tool changer")
+            self._heed()
+            self._heed_console(f"line {self.lines + 1} asks to {what}")
+        self.schedule.pause()
+
+    def _heed_console(self, what: str) -> None:
+        """Raises Stopped if the console died while it waits for a person."""
+        ready = dict(self._poll.poll(0)).get(self.source.file, 0)
+        if not self.answers or not self.answers.asked_ns or not self._is_left(ready):
+            self._left_ns = 0
+            return
+        self._left_ns = self._left_ns or time.monotonic_ns()
+        since = max(self._left_ns, self.answers.asked_ns)
+        if time.monotonic_ns() >= since + self.manner.off_after_us * 1000:
+            raise Stopped("console", f"the console is gone, and {what}")
+
+    def _switch_off(self) -> None:
+        """Turns spindle and coolant off, if they are on or it stops before OUT's end."""
+        if not self.stopped_by and not self.is_on():
+            return
+        try:
+            self.pins.off()
+        except OSError as error:
+            self.stopped_by = "pins"
+            why = f"{error.strerror}; switch spindle and coolant off by hand"
+            raise OSError(error.errno, why, error.filename) from None
+        self.outputs = stopped(self.outputs)
+
+
+def save_wakeups() -> None:
+    """Asks Linux to wake this thread as exactly as it can: a sleep may else last 50 us longer."""
+    try:
+        ctypes.CDLL(None).prctl(29, 1, 0, 0, 0)  # PR_SET_TIMERSLACK, 1 ns
+    except (AttributeError, OSError):
+        pass

@@ -1,0 +1,251 @@
+"""How a player tells how far it is, and what it is told: datagrams to a Unix socket.
+
+`progress N`
+    is answered by `progress N carried C received R works reference X Y Z outputs S .. out PATH`. C of the R lines that
+    stand in OUT then are carried out. The motors are at X Y Z, in machine millimetres, and the outputs are as the line
+    `S ..` says. While a person has to put a tool in, `waits tool 3` stands in the place of `works`; `waits tool 0` asks
+    to take the tool out. N is the asker's own number, so that a late answer is known as one.
+`go`
+    The tool is in.
+`hold`, `release`
+    The motors come to rest from the next pulse on, by ramps, with the outputs as they are, and `release` goes on. At
+    rest `held` stands in the place of `works`. A player without `--machine` has no ramps, and doesn't heed them.
+`percent N`
+    From the next pulse on at most so many percent, 1 to 100, of OUT's rates; heeded as `hold` is. It begins with 100.
+`at X Y Z`
+    The machine stands there, in machine millimetres. It is taken while nothing is behind; the next report shows it.
+`end`
+    The session is over; whoever asks sends it last, before it closes OUT. Lines in hand are carried out. With spindle
+    and coolant off the player then ends with status 0. With one of them on it ends with status 0 too, but leaves them
+    on for the seconds of `--off-after` first. A question after `end` begins another session.
+
+A console that dies sends no `end`: the player ends with status 1 after the same seconds."""
+import errno
+import os
+import re
+import socket
+import stat
+import time
+from dataclasses import dataclass
+from pathlib import Path
+
+from ngc_tools.failure import Failure
+from ngc_tools.files import naming
+from ngc_tools.formats.out import OFF, BadLine, Switch, read_line
+
+QUESTION = re.compile(rb"progress [0-9]{1,20}")
+PERCENT = re.compile(rb"percent ([1-9][0-9]?|100)")
+_LONGEST = 128  # bytes of a datagram to a player
+_REPORT = re.compile(r"carried (\d+) received (\d+) (works|held|waits tool (\d{1,3})) reference (\S+ \S+ \S+)"
+                     r" outputs (S \d \S+ \d \d \d+ \d+) out (.*)", re.DOTALL)
+
+
+class NoAnswer(Failure):
+    """The player is gone, or didn't answer in time; the text names the socket."""
+
+
+@dataclass(frozen=True, slots=True)
+class Report:
+    """A player has carried out `carried` of the `received` lines that stood in `out` when it was asked. `waits`: a
+    person has to put `tool` in, or to take the tool out where that is 0. `at` are machine millimetres, as
+    `7.210000 0.000000 0.000000`; `outputs` are those of the motors, not those that `ngc` handed out last."""
+
+    carried: int
+    received: int
+    waits: bool
+    at: str
+    out: str
+    outputs: Switch = OFF
+    tool: int = 0
+    is_held: bool = False  # it stands, since it is to
+
+    @property
+    def behind(self) -> int:
+        """Lines that were handed out and aren't carried out."""
+        return self.received - self.carried
+
+    def text(self) -> bytes:
+        """What is answered."""
+        state = f"waits tool {self.tool}" if self.waits else "held" if self.is_held else "works"
+        said = (f"carried {self.carried} received {self.received} {state} reference {self.at}"
+                f" outputs {self.outputs} out {self.out}")
+        return said.encode("utf-8", "surrogateescape")
+
+    @staticmethod
+    def read(answer: bytes) -> "Report":
+        """Reads what was answered. Raises ValueError for any other text."""
+        match = _REPORT.fullmatch(answer.decode("utf-8", "surrogateescape"))
+        outputs = _switch(match[6]) if match else None
+        if match is None or outputs is None:
+            raise ValueError(f"not a report of a player: {answer[:80]!r}")
+        return Report(int(match[1]), int(match[2]), match[4] is not None, match[5], match[7], outputs,
+                      int(match[4] or 0), match[3] == "held")
+
+
+def _switch(text: str) -> Switch | None:
+    """The outputs of a line of OUT, None for any other text."""
+    try:
+        line = read_line(text, 1)
+    except BadLine:
+        return None
+    return line if isinstance(line, Switch) else None
+
+
+class Listener:
+    """The player's end of the socket, which its own user alone may use."""
+
+    def __init__(self, path: str | Path) -> None:
+        """Takes the place of a socket that a player left which is gone. Raises OSError, also if one listens there."""
+        self.path = str(path)
+        if os.path.exists(self.path):
+            _remove_stale(self.path)
+        self.socket = socket.socket(socket.AF_UNIX, socket.SOCK_DGRAM)
+        self.socket.setblocking(False)
+        try:
+            self._bind()
+        except OSError:
+            self.socket.close()
+            raise
+
+    def _bind(self) -> None:
+        """Makes the name, with mode 0600 from its first moment."""
+        if len(os.fsencode(self.path)) > 107:
+            raise OSError(errno.ENAMETOOLONG, "too long a path for a socket", self.path)
+        before = os.umask(0o177)
+        try:
+            with naming(self.path):
+                self.socket.bind(self.path)
+        finally:
+            os.umask(before)
+
+    def next(self) -> tuple[bytes, str | bytes | None] | None:
+        """A question and whom to answer, or None if nobody asks. One that is too long to be one is empty."""
+        try:
+            question, sender = self.socket.recvfrom(_LONGEST + 1)
+        except BlockingIOError:
+            return None
+        return question.rstrip(b" \n") if len(question) <= _LONGEST else b"", sender
+
+    def answer(self, text: bytes, sender: str | bytes | None) -> None:
+        """Answers; whoever has no name, or doesn't read the answer, goes without."""
+        if sender is None:
+            return
+        try:
+            self.socket.sendto(text, sender)
+        except OSError:
+            pass
+
+    def close(self) -> None:
+        """Closes the socket and removes its name."""
+        self.socket.close()
+        try:
+            os.unlink(self.path)
+        except FileNotFoundError:
+            pass
+
+
+def _remove_stale(path: str) -> None:
+    """Removes a socket to which nobody listens any more. Raises OSError if somebody does, or it is no socket."""
+    if not stat.S_ISSOCK(os.stat(path).st_mode):
+        raise OSError(errno.EADDRINUSE, "it is there, and is no socket", path)
+    with socket.socket(socket.AF_UNIX, socket.SOCK_DGRAM) as probe:
+        try:
+            probe.connect(path)
+        except ConnectionRefusedError:
+            os.unlink(path)
+            return
+        except OSError as error:  # a socket of another kind, or of another user
+            raise OSError(errno.EADDRINUSE, f"no player's socket: {error.strerror}", path) from None
+    raise OSError(errno.EADDRINUSE, "another player listens there", path)
+
+
+class Link:
+    """The other end: asks a player."""
+
+    def __init__(self, path: str | Path, patience_s: float = 5.0) -> None:
+        """Raises NoAnswer if no player listens there. A question waits `patience_s` seconds for its answer."""
+        self.path = str(path)
+        self.patience_s = patience_s
+        self.count = 0
+        self.socket = socket.socket(socket.AF_UNIX, socket.SOCK_DGRAM)
+        self.socket.settimeout(0.05)
+        self.socket.bind("")  # a name of its own, which the system chooses, so that it can be answered
+        try:
+            self.socket.connect(self.path)
+        except OSError as error:
+            self.socket.close()
+            raise NoAnswer(f"{self.path}: no player listens there: {error.strerror or error}") from None
+
+    def ask(self) -> Report:
+        """How far the player is now. Raises NoAnswer."""
+        self.count += 1
+        question = b"progress %d" % self.count
+        self._send(question)
+        until = time.monotonic() + self.patience_s
+        while time.monotonic() < until:
+            try:
+                answer = self.socket.recv(8192)
+            except TimeoutError:
+                self._look()
+                continue
+            if answer.startswith(question + b" "):
+                return self._understood(answer[len(question) + 1:])
+        raise NoAnswer(f"{self.path}: the player doesn't answer")
+
+    def _understood(self, answer: bytes) -> Report:
+        """Reads an answer. Raises NoAnswer for that of a player of another version."""
+        try:
+            return Report.read(answer)
+        except ValueError as error:
+            raise NoAnswer(f"{self.path}: {error}; it is of another version: take a player and a console of one"
+                           " version") from None
+
+    def _send(self, text: bytes) -> None:
+        """Sends a datagram, and waits for room for it. Raises NoAnswer."""
+        until = time.monotonic() + self.patience_s
+        while True:
+            try:
+                self.socket.send(text)
+                return
+            except TimeoutError:
+                if time.monotonic() > until:
+                    raise NoAnswer(f"{self.path}: the player doesn't answer") from None
+            except OSError as error:
+                raise NoAnswer(f"{self.path}: the player is gone: {error.strerror or error}") from None
+
+    def _look(self) -> None:
+        """Raises NoAnswer if nobody listens any more."""
+        with socket.socket(socket.AF_UNIX, socket.SOCK_DGRAM) as probe:
+            try:
+                probe.connect(self.path)
+            except OSError as error:
+                raise NoAnswer(f"{self.path}: the player is gone: {error.strerror}") from None
+
+    def go(self) -> None:
+        """Tells a player that waits at a tool change that the tool is in. Raises NoAnswer."""
+        self._send(b"go")
+
+    def at(self, place: str) -> None:
+        """Tells a player where the machine stands, as `7.21 0 0`. It takes that while nothing is behind, and the next
+        report shows whether it did. Raises NoAnswer."""
+        self._send(b"at " + place.encode())
+
+    def hold(self) -> None:
+        """Tells a player to come to rest. Raises NoAnswer."""
+        self._send(b"hold")
+
+    def release(self) -> None:
+        """Tells a player that is held to go on. Raises NoAnswer."""
+        self._send(b"release")
+
+    def override(self, percent: int) -> None:
+        """Tells a player to go at so many percent of OUT's rates, 1 to 100. Raises NoAnswer."""
+        self._send(b"percent %d" % percent)
+
+    def end(self) -> None:
+        """Tells a player that the session is over, before OUT is closed. Raises NoAnswer."""
+        self._send(b"end")
+
+    def close(self) -> None:
+        """Asks nothing more."""
+        self.socket.close()

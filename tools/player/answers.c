@@ -1,0 +1,191 @@
+/* Answers whoever asks how far the player is, as tools/ngc_tools/player/progress.py has it: in a thread of its own, so
+ * that a player which waits for a person, a spindle or its pins isn't taken for gone. */
+#define _GNU_SOURCE
+#include <errno.h>
+#include <inttypes.h>
+#include <poll.h>
+#include <stdio.h>
+#include <string.h>
+#include <sys/eventfd.h>
+#include <sys/socket.h>
+#include <sys/stat.h>
+#include <sys/un.h>
+#include <unistd.h>
+
+#include "player.h"
+#include "scan.h"
+#include "schedule.h"
+
+enum { QUESTION_ROOM = 128, LOOKS_MS = 50 };
+
+/* Removes a socket to which nobody listens any more. */
+static bool remove_stale(const char *path, const struct sockaddr_un *address, struct cause *why) {
+    struct stat what;
+    if (stat(path, &what) != 0) {
+        return true;
+    }
+    if (!S_ISSOCK(what.st_mode)) {
+        return because(why, "%s: it is there, and is no socket", path);
+    }
+    int probe = socket(AF_UNIX, SOCK_DGRAM | SOCK_CLOEXEC, 0);
+    int error = connect(probe, (const struct sockaddr *)address, sizeof *address) == 0 ? 0 : errno;
+    close(probe);
+    if (error == 0) {
+        return because(why, "%s: another player listens there", path);
+    }
+    if (error != ECONNREFUSED) {
+        return because(why, "%s: no player's socket: %s", path, strerror(error));
+    }
+    unlink(path);
+    return true;
+}
+
+bool answers_open(struct player *player, const char *path, struct cause *why) {
+    struct sockaddr_un address = {.sun_family = AF_UNIX};
+    if (strlen(path) >= sizeof address.sun_path) {
+        return because(why, "%s: too long a path for a socket", path);
+    }
+    memcpy(address.sun_path, path, strlen(path));
+    if (!remove_stale(path, &address, why)) {
+        return false;
+    }
+    int made = socket(AF_UNIX, SOCK_DGRAM | SOCK_CLOEXEC | SOCK_NONBLOCK, 0);
+    mode_t before = umask(0177);
+    bool is_bound = made >= 0 && bind(made, (const struct sockaddr *)&address, sizeof address) == 0;
+    umask(before);
+    if (!is_bound) {
+        return because(why, "%s: %s", path, strerror(errno));
+    }
+    player->socket = made;
+    return true;
+}
+
+/* How far the player is, with the lines that stand in OUT now. */
+static void report(struct player *player, char *text, size_t room, const char *question) {
+    char place[PLACE_ROOM];
+    char outputs[OUTPUTS_ROOM];
+    char does[32] = "works";
+    int64_t nm[3];
+    int tool = atomic_load(&player->tool);
+    if (tool != NO_TOOL) {
+        snprintf(does, sizeof does, "waits tool %d", tool);
+    } else if (atomic_load(&player->stands_held)) {
+        snprintf(does, sizeof does, "held");
+    }
+    player_lock(player);
+    bool took = source_take_all(&player->source);
+    uint64_t lines = player->lines;
+    uint64_t received = player->source.received;
+    player_place(player, nm);
+    outputs_print(outputs, sizeof outputs, &player->outputs);
+    player_unlock(player);
+    if (took) {
+        eventfd_write(player->wake, 1);
+    }
+    place_print(place, sizeof place, nm);
+    snprintf(text, room, "%s carried %" PRIu64 " received %" PRIu64 " %s reference %s outputs %s out %s", question,
+             lines, received, does, place, outputs, player->out);
+}
+
+/* Takes where the machine stands, as after its axes were moved by hand, if nothing is behind. */
+static void stand_at(struct player *player, const int64_t nm[3]) {
+    player_lock(player);
+    bool took = source_take_all(&player->source);
+    for (int axis = 0; axis < 3 && player->source.received == player->lines; axis++) {
+        player->steps[axis] = in_steps(nm[axis], player->step_nm[axis]);
+    }
+    player_unlock(player);
+    if (took) {
+        eventfd_write(player->wake, 1);
+    }
+}
+
+static bool is_question(const char *text, size_t size) {
+    struct scan scan = {text, text + size};
+    if (!scan_word(&scan, "progress ") || scan_is_over(&scan) || scan.end - scan.at > 20) {
+        return false;
+    }
+    while (!scan_is_over(&scan) && *scan.at >= '0' && *scan.at <= '9') {
+        scan.at++;
+    }
+    return scan_is_over(&scan);
+}
+
+static bool is_word(const char *text, size_t size, const char *word) {
+    return size == strlen(word) && memcmp(text, word, size) == 0;
+}
+
+/* Reads "percent N", 1 to 100. */
+static bool read_percent(const char *text, size_t size, int *percent) {
+    struct scan scan = {text, text + size};
+    uint64_t number = 0;
+    if (!scan_word(&scan, "percent ") || !scan_whole(&scan, 3, &number, NULL) || !scan_is_over(&scan)) {
+        return false;
+    }
+    *percent = (int)number;
+    return number >= 1 && number <= 100;
+}
+
+/* Does what a datagram asks for; others are left alone. */
+static void heed(struct player *player, const char *text, size_t size, const struct sockaddr_un *from,
+                 socklen_t named) {
+    static char answer[2 * PATH_MAX];
+    int64_t nm[3];
+    int percent = 0;
+    if (is_question(text, size)) {
+        atomic_store(&player->has_ended, false);
+        atomic_store(&player->asked_at, schedule_now());
+        report(player, answer, sizeof answer, text);
+        sendto(player->socket, answer, strlen(answer), MSG_DONTWAIT, (const struct sockaddr *)from, named);
+    } else if (is_word(text, size, "go")) {
+        atomic_store(&player->tool, NO_TOOL);
+    } else if (is_word(text, size, "hold")) {
+        atomic_store(&player->is_held, true);
+    } else if (is_word(text, size, "release")) {
+        atomic_store(&player->is_held, false);
+    } else if (read_percent(text, size, &percent)) {
+        atomic_store(&player->percent, percent);
+    } else if (is_word(text, size, "end")) {
+        atomic_store(&player->has_ended, true);
+    } else if (size > 3 && memcmp(text, "at ", 3) == 0 && place_read(text + 3, size - 3, nm)) {
+        stand_at(player, nm);
+    }
+}
+
+/* Takes a datagram, if there is one. */
+static bool take_one(struct player *player) {
+    char text[QUESTION_ROOM + 1];
+    struct sockaddr_un from;
+    socklen_t named = sizeof from;
+    ssize_t size = recvfrom(player->socket, text, QUESTION_ROOM, MSG_TRUNC, (struct sockaddr *)&from, &named);
+    if (size < 0) {
+        return errno == EINTR;
+    }
+    if (size > QUESTION_ROOM) { /* its end is lost */
+        return true;
+    }
+    while (size > 0 && (text[size - 1] == '\n' || text[size - 1] == ' ')) {
+        size--;
+    }
+    text[size] = '\0';
+    heed(player, text, (size_t)size, &from, named);
+    return true;
+}
+
+void answers_catch_up(struct player *player) {
+    static pthread_mutex_t one_at_a_time = PTHREAD_MUTEX_INITIALIZER;
+    pthread_mutex_lock(&one_at_a_time);
+    while (player->socket >= 0 && take_one(player)) {
+    }
+    pthread_mutex_unlock(&one_at_a_time);
+}
+
+void *answers_give(void *shared) {
+    struct player *player = shared;
+    struct pollfd on = {player->socket, POLLIN, 0};
+    while (!atomic_load(&player->over)) {
+        poll(&on, 1, LOOKS_MS);
+        answers_catch_up(player);
+    }
+    return NULL;
+}

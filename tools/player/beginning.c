@@ -1,0 +1,98 @@
+/* From what a player begins: its files, and what its record says. */
+#define _GNU_SOURCE
+#include "beginning.h"
+
+#include <errno.h>
+#include <inttypes.h>
+#include <stdlib.h>
+#include <string.h>
+
+#include "machine.h"
+#include "pins.h"
+#include "times.h"
+
+/* Whether the lines of the record are taken as carried out, by what it says of OUT; false, with the cause, where that
+ * can't be told. `goes_on` is set where they are. */
+static bool where_to_begin(const struct player *player, const struct options *options, const struct record *found,
+                           bool *goes_on, struct cause *why) {
+    const char *out = options->out;
+    *goes_on = false;
+    if (options->begins_anew || player->source.is_pipe || found->bytes == 0) {
+        return true;
+    }
+    bool holds = source_holds(&player->source, found->bytes);
+    struct file_mark there = source_mark(&player->source, found->bytes);
+    bool is_same = holds && mark_is_same(&there, &found->mark);
+    if (strcmp(found->out, player->out) != 0) {
+        *goes_on = is_same && there.born_ns != 0;
+        if (*goes_on) {
+            say("%s: it was %s: goes on after line %" PRIu64, out, found->out, found->lines);
+        }
+        return true;
+    }
+    if (!holds || (found->mark.is_known && there.digest != found->mark.digest)) {
+        return because(why, "%s: not the file whose first %" PRIu64 " lines are carried out; --anew begins with its"
+                       " first line", out, found->lines);
+    }
+    *goes_on = !found->mark.is_known || is_same || options->is_restored;
+    if (!found->mark.is_known) {
+        say("%s: goes on after line %" PRIu64 "; an older record doesn't say whether it is the same file", out,
+            found->lines);
+    }
+    return *goes_on
+        || because(why, "%s: another file than the one whose first %" PRIu64 " lines are carried out, though it begins"
+                   " with the same lines; --anew begins with its first line, --restored goes on after line %" PRIu64
+                   ", where it is a copy", out, found->lines, found->lines);
+}
+
+/* What was carried out before, and where the machine stands. The outputs begin as off. */
+static bool begin_record(struct player *player, const struct options *options, struct cause *why) {
+    static struct record record;
+    bool goes_on = false;
+    if (!record_takes(player->out, why) || !keeper_hold(&player->keeper, options->position, why)) {
+        return false;
+    }
+    if (player->keeper.file >= 0
+        && (!keeper_read(&player->keeper, &record, why) || !where_to_begin(player, options, &record, &goes_on, why))) {
+        return false;
+    }
+    record.lines = goes_on ? record.lines : 0;
+    record.bytes = goes_on ? record.bytes : 0;
+    if (!source_skip(&player->source, &record)) {
+        return because(why, "%s: %s", options->out, strerror(errno));
+    }
+    player->lines = record.lines;
+    player->bytes = record.bytes;
+    player->outputs = record.outputs;
+    outputs_stop(&player->outputs);
+    for (int axis = 0; axis < 3; axis++) {
+        int64_t nm = options->has_place ? options->place_nm[axis] : record.nm[axis];
+        player->steps[axis] = in_steps(nm, player->step_nm[axis]);
+    }
+    return true;
+}
+
+bool player_begin(struct player *player, const struct options *options, struct settings *settings,
+                  struct pace_limits *limits, struct cause *why) {
+    static struct record first;
+    const char *const others[] = {options->out, options->settings, options->position, NULL};
+    if (!settings_read(options->settings, settings, why)
+        || (options->machine != NULL && !machine_read(options->machine, settings->step_nm, limits, why))
+        || !source_open(&player->source, options->out, options->pipe_bytes, why)) {
+        return false;
+    }
+    memcpy(player->step_nm, settings->step_nm, sizeof player->step_nm);
+    if (realpath(options->out, player->out) == NULL) {
+        return because(why, "%s: %s", options->out, strerror(errno));
+    }
+    if (!begin_record(player, options, why) || !pins_begin(options->pins, others, why)
+        || (options->socket != NULL && !answers_open(player, options->socket, why))
+        || (options->times != NULL && !times_begin(options->times, why))) {
+        return false;
+    }
+    if (options->machine == NULL && !options->is_untimed) {
+        say("%s: no --machine: no ramps, and no motor follows full rates from rest", options->out);
+    }
+    player_record(player, &first);
+    return keeper_begin(&player->keeper, &first, why);
+}

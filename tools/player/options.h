@@ -1,0 +1,31 @@
+/* The words of the command line. */
+#ifndef OPTIONS_H
+#define OPTIONS_H
+
+#include <stdbool.h>
+#include <stdint.h>
+
+#include "cause.h"
+
+struct options {
+    bool is_untimed;
+    bool begins_anew;
+    bool is_restored;
+    bool asks_no_tool;
+    bool has_place;
+    int64_t place_nm[3];
+    int64_t off_after_ns;
+    int pipe_bytes;
+    const char *socket;
+    const char *pins;
+    const char *machine;
+    const char *times;
+    const char *out;
+    const char *settings;
+    const char *position;
+};
+
+/* Reads the words. Returns false, with the cause. */
+bool options_read(int count, char **given, struct options *options, struct cause *why);
+
+#endif

@@ -1,0 +1,27 @@
+/* What drives the motors. A machine has a pins.c of its own; that of this folder drives nothing. */
+#ifndef PINS_H
+#define PINS_H
+
+#include <stdbool.h>
+#include <stddef.h>
+
+#include "cause.h"
+#include "line.h"
+
+/* Called once, before all else: makes the pins ready, with all outputs off. `path` is that of --pins, or NULL; `others`
+ * are the player's other files, NULL at the end. Returns false, with the cause. */
+bool pins_begin(const char *path, const char *const *others, struct cause *why);
+
+/* Carries out a line, now: `line` is what it says, `text` the line with its newline, of `size` bytes.
+ * P: sets directions, and makes one step of each axis that moves.
+ * S: sets the outputs, and returns once the spindle has its speed. A person has put the tool in before; with
+ *    --no-ask-tool it changes the tool itself, and returns once that is done.
+ * D: nothing; the player waits.
+ * Returns 0, or the number of an error (errno.h), at which the player stops. It may take as long as it needs: the
+ * player answers meanwhile, in another thread. */
+int pins_set(const struct line *line, const char *text, size_t size);
+
+/* Turns spindle and coolant off, now. Called before every exit at which they may be on. Returns 0 or an error. */
+int pins_off(void);
+
+#endif

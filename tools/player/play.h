@@ -1,0 +1,32 @@
+/* The play: OUT's lines, carried out one after the other. */
+#ifndef PLAY_H
+#define PLAY_H
+
+#include "options.h"
+#include "pace.h"
+#include "player.h"
+#include "schedule.h"
+
+/* What was carried out by this player. */
+struct counts {
+    uint64_t pulses;
+    uint64_t waits;
+    uint64_t switches;
+};
+
+struct play {
+    struct player *player;
+    const struct options *options;
+    uint64_t least_us;
+    struct pace_limits limits; /* of the motors, with --machine */
+    bool is_moving;            /* by the pacer: it can't stop at once */
+    struct schedule schedule;
+    struct counts counts;
+    int64_t left_at;  /* since when nobody writes OUT any more; 0 */
+    struct cause why; /* it stops */
+};
+
+/* Plays, and returns the exit status, but for a record that can't be kept. Spindle and coolant are off then. */
+int play_out(struct play *play);
+
+#endif

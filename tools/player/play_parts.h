@@ -1,0 +1,31 @@
+/* What the files of a play share. */
+#ifndef PLAY_PARTS_H
+#define PLAY_PARTS_H
+
+#include "play.h"
+
+/* How a play ends. */
+enum end { AT_OUTS_END, STOPPED, FAILED };
+
+/* Takes the next line, with its newline, if one stands in OUT. */
+bool take_line(struct play *play, char *line, size_t *size);
+
+/* Waits some time for more of OUT; `has_ended` says whether it has ended. */
+enum end await_more(struct play *play, bool *has_ended);
+
+/* Waits for the tool that a line changes to, if a person has to put it in; false where the play has to stop. */
+bool is_tool_in(struct play *play, const struct line *line);
+
+/* Carries out a line now, which lasts so many nanoseconds; false, with the cause, where the pins fail. */
+bool carry_out(struct play *play, const struct line *line, const char *text, size_t size, uint64_t lasts_ns);
+
+/* Stops at a line that isn't one. */
+enum end stop_at_line(struct play *play, const struct cause *what);
+
+/* At OUT's end: a part of a line isn't carried out. */
+enum end end_of_out(struct play *play);
+
+/* paced.c: carries out lines with ramps until OUT ends, or it has to stop. */
+enum end carry_out_paced(struct play *play);
+
+#endif

@@ -1,0 +1,70 @@
+/* What the threads of a player share. One carries out lines, one answers questions, one keeps the record. */
+#ifndef PLAYER_H
+#define PLAYER_H
+
+#include <limits.h>
+#include <pthread.h>
+#include <stdatomic.h>
+#include <stdbool.h>
+#include <stdint.h>
+
+#include "cause.h"
+#include "keeper.h"
+#include "line.h"
+#include "record.h"
+#include "source.h"
+
+enum { NO_TOOL = -1 };
+
+struct player {
+    /* Set before the threads begin. */
+    char out[PATH_MAX]; /* the path of OUT, without links in it */
+    int64_t step_nm[3];
+    struct keeper keeper;
+    int socket; /* -1 where nobody can ask */
+    int wake;   /* an event: there are lines in hand */
+
+    pthread_mutex_t lock;
+    /* Under `lock`. */
+    struct source source;
+    uint64_t lines;
+    uint64_t bytes;
+    int64_t steps[3];
+    struct outputs outputs;
+    const char *stopped; /* what ended it before OUT's end, in a word; "" */
+
+    atomic_int tool;          /* the slot that a person is asked for, or NO_TOOL */
+    atomic_int record_error;  /* why the record can't be kept any more; 0 */
+    atomic_bool is_held;      /* somebody asks for a rest */
+    atomic_bool stands_held;  /* it has come to rest for that */
+    atomic_int percent;       /* of OUT's rates */
+    atomic_bool over;         /* the other threads are to end */
+    atomic_bool has_ended;    /* whoever asks said that the session is over */
+    _Atomic int64_t asked_at; /* when the last question came; 0 */
+};
+
+void player_lock(struct player *player);
+void player_unlock(struct player *player);
+
+/* What stands now, for the record. */
+void player_record(struct player *player, struct record *record);
+
+/* Where the machine stands, in nanometres. `lock` is held. */
+void player_place(const struct player *player, int64_t nm[3]);
+
+/* A length in whole steps, half a step away from zero. */
+int64_t in_steps(int64_t nm, int64_t step_nm);
+
+/* The socket of --progress. Returns false, with the cause. */
+bool answers_open(struct player *player, const char *path, struct cause *why);
+
+/* Heeds what has come before now. */
+void answers_catch_up(struct player *player);
+
+/* The thread that answers; `player` is a struct player. */
+void *answers_give(void *player);
+
+/* The thread that keeps the record, each 20 ms. */
+void *record_keep(void *player);
+
+#endif

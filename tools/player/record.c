@@ -1,0 +1,264 @@
+#include "record.h"
+
+#include <inttypes.h>
+#include <stdio.h>
+#include <string.h>
+
+#include "scan.h"
+
+bool record_takes(const char *out, struct cause *why) {
+    size_t size = strlen(out);
+    if (size > LONGEST_PATH) {
+        return because(why, "%s: too long a path for a record: it has %zu bytes, and at most %d fit", out, size,
+                       LONGEST_PATH);
+    }
+    if (strchr(out, '\n') != NULL) {
+        return because(why, "%s: a path with a line's end in it can't stand in a record", out);
+    }
+    return true;
+}
+
+static void nm_print(char *text, size_t room, int64_t nm) {
+    uint64_t size = nm < 0 ? -(uint64_t)nm : (uint64_t)nm;
+    snprintf(text, room, "%s%" PRIu64 ".%06" PRIu64, nm < 0 ? "-" : "", size / 1000000, size % 1000000);
+}
+
+void place_print(char *text, size_t room, const int64_t nm[3]) {
+    char axis[3][32];
+    for (int number = 0; number < 3; number++) {
+        nm_print(axis[number], sizeof axis[number], nm[number]);
+    }
+    snprintf(text, room, "%s %s %s", axis[0], axis[1], axis[2]);
+}
+
+void record_print(const struct record *record, char text[RECORD_SIZE]) {
+    char outputs[OUTPUTS_ROOM];
+    char place[PLACE_ROOM];
+    char mark[80] = "";
+    char stopped[32] = "";
+    outputs_print(outputs, sizeof outputs, &record->outputs);
+    place_print(place, sizeof place, record->nm);
+    if (record->mark.is_known) {
+        snprintf(mark, sizeof mark, "file %" PRIu64 " %" PRIu64 " %08" PRIx32 "\n", record->mark.inode,
+                 record->mark.born_ns, record->mark.digest);
+    }
+    if (record->stopped[0] != '\0') {
+        snprintf(stopped, sizeof stopped, "stopped %s\n", record->stopped);
+    }
+    char whole[RECORD_SIZE];
+    int size = snprintf(whole, sizeof whole, "out %s\nlines %" PRIu64 "\nbytes %" PRIu64 "\noutputs %s\nreference %s\n"
+                        "%s%s", record->out, record->lines, record->bytes, outputs, place, mark, stopped);
+    memset(text, ' ', RECORD_SIZE);
+    memcpy(text, whole, size < RECORD_SIZE ? (size_t)size : RECORD_SIZE - 1);
+    text[RECORD_SIZE - 1] = '\n';
+}
+
+bool nm_read(const char *text, size_t size, int64_t *nm) {
+    size_t at = size > 0 && (text[0] == '-' || text[0] == '+');
+    size_t digits = 0;
+    size_t decimals = 0;
+    bool has_point = false;
+    int64_t sum = 0;
+    for (; at < size; at++) {
+        if (text[at] == '.' && !has_point) {
+            has_point = true;
+            continue;
+        }
+        if (text[at] < '0' || text[at] > '9' || (has_point ? decimals : digits) == (has_point ? 6 : 12)) {
+            return false;
+        }
+        decimals += has_point;
+        digits += !has_point;
+        sum = sum * 10 + (text[at] - '0');
+    }
+    if (digits + decimals == 0) {
+        return false;
+    }
+    for (; decimals < 6; decimals++) {
+        sum *= 10;
+    }
+    *nm = text[0] == '-' ? -sum : sum;
+    return true;
+}
+
+bool place_read(const char *text, size_t size, int64_t nm[3]) {
+    const char *end = text + size;
+    for (int axis = 0; axis < 3; axis++) {
+        const char *stop = axis < 2 ? memchr(text, ' ', (size_t)(end - text)) : end;
+        if (stop == NULL || !nm_read(text, (size_t)(stop - text), &nm[axis])) {
+            return false;
+        }
+        text = stop + (axis < 2);
+    }
+    return true;
+}
+
+/* The next line, without its newline; false where there is none. */
+static bool next_line(struct scan *text, struct scan *line) {
+    const char *stop = memchr(text->at, '\n', (size_t)(text->end - text->at));
+    if (stop == NULL) {
+        return false;
+    }
+    line->at = text->at;
+    line->end = stop;
+    text->at = stop + 1;
+    return true;
+}
+
+static bool read_out(struct scan line, struct record *record) {
+    if (!scan_word(&line, "out ") || scan_is_over(&line)) {
+        return false;
+    }
+    size_t size = (size_t)(line.end - line.at);
+    if (memchr(line.at, '\0', size) != NULL) {
+        return false;
+    }
+    memcpy(record->out, line.at, size);
+    record->out[size] = '\0';
+    return true;
+}
+
+static bool read_count(struct scan line, const char *word, uint64_t *count) {
+    return scan_word(&line, word) && scan_whole(&line, 18, count, NULL) && scan_is_over(&line);
+}
+
+static bool read_outputs(struct scan line, struct record *record) {
+    return scan_word(&line, "outputs ") && outputs_read(line.at, (size_t)(line.end - line.at), &record->outputs);
+}
+
+/* Whether it is a line of three words, without a look at what they say. */
+static bool is_reference(struct scan *line) {
+    int blanks = 0;
+    bool is_word = false;
+    if (!scan_word(line, "reference ")) {
+        return false;
+    }
+    for (const char *at = line->at; at < line->end; at++) {
+        if (*at == ' ' && !is_word) {
+            return false;
+        }
+        is_word = *at != ' ';
+        blanks += !is_word;
+    }
+    return is_word && blanks == 2;
+}
+
+/* The numbers of such a line. */
+static bool read_reference(struct scan line, struct record *record, struct cause *why) {
+    for (int axis = 0; axis < 3; axis++) {
+        const char *stop = axis < 2 ? memchr(line.at, ' ', (size_t)(line.end - line.at)) : line.end;
+        if (!nm_read(line.at, (size_t)(stop - line.at), &record->nm[axis])) {
+            return because(why, "not a number of millimetres with at most six decimals: %.*s", (int)(stop - line.at),
+                           line.at);
+        }
+        line.at = stop + (axis < 2);
+    }
+    return true;
+}
+
+static bool read_mark(struct scan line, struct file_mark *mark) {
+    static const char hex[] = "0123456789abcdef";
+    if (!scan_word(&line, "file ") || !scan_whole(&line, 19, &mark->inode, NULL) || !scan_word(&line, " ")
+        || !scan_whole(&line, 19, &mark->born_ns, NULL) || !scan_word(&line, " ") || line.end - line.at != 8) {
+        return false;
+    }
+    mark->digest = 0;
+    for (; line.at < line.end; line.at++) {
+        const char *digit = memchr(hex, *line.at, 16);
+        if (digit == NULL) {
+            return false;
+        }
+        mark->digest = mark->digest << 4 | (uint32_t)(digit - hex);
+    }
+    mark->is_known = true;
+    return true;
+}
+
+static bool read_stopped(struct scan line, struct record *record) {
+    if (!scan_word(&line, "stopped ") || scan_is_over(&line)) {
+        return false;
+    }
+    for (const char *at = line.at; at < line.end; at++) {
+        if (*at < 'a' || *at > 'z') {
+            return false;
+        }
+    }
+    snprintf(record->stopped, sizeof record->stopped, "%.*s", (int)(line.end - line.at), line.at);
+    return true;
+}
+
+/* What stands after the five lines; the number of the line that is none, or 0. */
+static int read_rest(struct scan text, struct record *record) {
+    struct scan line = text;
+    int number = 6;
+    bool is_line = next_line(&text, &line);
+    if (is_line && read_mark(line, &record->mark)) {
+        is_line = next_line(&text, &line);
+        number++;
+    }
+    if (is_line && read_stopped(line, record)) {
+        is_line = next_line(&text, &line);
+        number++;
+    }
+    while (is_line && line.at < line.end && *line.at == ' ') {
+        line.at++;
+    }
+    return is_line && scan_is_over(&line) && scan_is_over(&text) ? 0 : number;
+}
+
+/* Which of the five lines isn't one, from 1; 0 if all are. `reference` is the last one. */
+static int read_lines(struct scan *text, struct record *record, struct scan *reference) {
+    struct scan line;
+    if (!next_line(text, &line) || !read_out(line, record)) {
+        return 1;
+    }
+    if (!next_line(text, &line) || !read_count(line, "lines ", &record->lines)) {
+        return 2;
+    }
+    if (!next_line(text, &line) || !read_count(line, "bytes ", &record->bytes)) {
+        return 3;
+    }
+    if (!next_line(text, &line) || !read_outputs(line, record)) {
+        return 4;
+    }
+    if (!next_line(text, reference) || !is_reference(reference)) {
+        return 5;
+    }
+    return 0;
+}
+
+static bool read_all(const char *bytes, size_t size, struct record *record, struct cause *why) {
+    static const char *const forms[] = {"out PATH", "lines N", "bytes N", "outputs S ..", "reference X Y Z"};
+    struct scan text = {bytes, bytes + size};
+    struct scan reference = text;
+    if (size > RECORD_SIZE) {
+        return because(why, "it has more bytes, and a record has %d", RECORD_SIZE);
+    }
+    if (size < RECORD_SIZE) {
+        return because(why, "it has %zu bytes, and a record has %d", size, RECORD_SIZE);
+    }
+    int wrong = read_lines(&text, record, &reference);
+    if (wrong != 0) {
+        return because(why, "line %d isn't '%s'", wrong, forms[wrong - 1]);
+    }
+    wrong = read_rest(text, record);
+    if (wrong != 0) {
+        return because(why, "line %d is no line of a record", wrong);
+    }
+    return read_reference(reference, record, why);
+}
+
+bool record_read(const char *text, size_t size, const char *path, struct record *record, struct cause *why) {
+    struct cause inner;
+    memset(record, 0, sizeof *record);
+    if (read_all(text, size, record, &inner)) {
+        return true;
+    }
+    return because(why, "%s: not a record of ngc-player: %.*s; remove it, and tell by --at where the machine stands",
+                   path, RECORD_SIZE, inner.text);
+}
+
+bool mark_is_same(const struct file_mark *one, const struct file_mark *other) {
+    return one->is_known && other->is_known && one->inode == other->inode && one->born_ns == other->born_ns
+        && one->digest == other->digest;
+}

@@ -1,0 +1,56 @@
+/* The record of what was carried out: one sector of text, as docs/TOOLS.md has it. */
+#ifndef RECORD_H
+#define RECORD_H
+
+#include <stdbool.h>
+#include <stddef.h>
+#include <stdint.h>
+
+#include "cause.h"
+#include "line.h"
+
+enum {
+    RECORD_SIZE = 512,  /* a disk writes them whole or not at all */
+    LONGEST_PATH = 255, /* with it the greatest numbers have room */
+    PLACE_ROOM = 96
+};
+
+/* What tells OUT apart from another file of its name. */
+struct file_mark {
+    bool is_known;    /* a pipe has none, nor has an older record */
+    uint64_t inode;
+    uint64_t born_ns; /* when it was made; 0 if the file system doesn't say */
+    uint32_t digest;  /* CRC-32 of the last 4,096 bytes that were carried out */
+};
+
+struct record {
+    char out[RECORD_SIZE]; /* the path of OUT */
+    uint64_t lines;
+    uint64_t bytes;
+    struct outputs outputs;
+    int64_t nm[3]; /* where the machine stands */
+    struct file_mark mark;
+    char stopped[16]; /* what ended the player before OUT's end, in a word */
+};
+
+/* Whether a path of OUT can stand in a record. */
+bool record_takes(const char *out, struct cause *why);
+
+/* Writes a record, whose path it takes, as 512 bytes. */
+void record_print(const struct record *record, char text[RECORD_SIZE]);
+
+/* Reads the bytes of the file `path`. Returns false, with the cause, if they are no record. */
+bool record_read(const char *text, size_t size, const char *path, struct record *record, struct cause *why);
+
+/* Millimetres of at most twelve digits and six decimals, as "7.21", in nanometres. */
+bool nm_read(const char *text, size_t size, int64_t *nm);
+
+/* "X Y Z" in machine millimetres with six decimals. */
+void place_print(char *text, size_t room, const int64_t nm[3]);
+
+/* Reads three millimetres with one blank between them. */
+bool place_read(const char *text, size_t size, int64_t nm[3]);
+
+bool mark_is_same(const struct file_mark *one, const struct file_mark *other);
+
+#endif

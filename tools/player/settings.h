@@ -1,0 +1,19 @@
+/* The settings of a machine, as docs/SETTINGS.md has them. */
+#ifndef SETTINGS_H
+#define SETTINGS_H
+
+#include <stdbool.h>
+#include <stdint.h>
+
+#include "cause.h"
+
+struct settings {
+    int64_t step_nm[3];
+    int64_t period_us;
+};
+
+/* Reads a file of settings. It takes no settings that `ngc` refuses; of those that `ngc` takes it wants the plain form
+ * `KEY = NUMBER` or `KEY = [NUMBER, NUMBER]`, with decimal numbers. Returns false, with the cause. */
+bool settings_read(const char *path, struct settings *settings, struct cause *why);
+
+#endif

@@ -1,0 +1,52 @@
+/* OUT, as a player reads it. */
+#ifndef SOURCE_H
+#define SOURCE_H
+
+#include <stdbool.h>
+#include <stddef.h>
+#include <stdint.h>
+
+#include "cause.h"
+#include "line.h"
+#include "record.h"
+
+enum {
+    HAND_BYTES = 64,    /* read at once: what is in hand is lost with the power */
+    HAND_ROOM = 1 << 17 /* 5,000 lines of any length */
+};
+
+struct source {
+    const char *path;
+    int file;
+    bool is_pipe;
+    uint64_t received; /* whole lines that were read, from OUT's first on */
+    size_t first;      /* what is in hand begins here .. */
+    size_t end;        /* .. and ends here */
+    char hand[HAND_ROOM];
+};
+
+/* Opens a file or a named pipe, which gets so many bytes. Returns false, with the cause. */
+bool source_open(struct source *source, const char *path, int pipe_bytes, struct cause *why);
+
+/* Goes to the first line of a file that isn't carried out. */
+bool source_skip(struct source *source, const struct record *begun);
+
+/* What tells a file apart by its first `bytes` bytes; not known of a pipe. */
+struct file_mark source_mark(const struct source *source, uint64_t bytes);
+
+/* Whether a file has so many bytes, and a line ends there. */
+bool source_holds(const struct source *source, uint64_t bytes);
+
+/* The next whole line with its newline, if one is in hand; the most that is taken of a line is LONGEST_LINE + 1. */
+bool source_next(struct source *source, char line[LONGEST_LINE + 2], size_t *size);
+
+/* Reads up to so many bytes, without waiting; whether there were any. */
+bool source_read(struct source *source, size_t most);
+
+/* Takes into hand what stands in OUT now, as far as there is room; whether there was anything. */
+bool source_take_all(struct source *source);
+
+/* What is in hand is a part of a line; of `size` bytes. */
+const char *source_part(const struct source *source, size_t *size);
+
+#endif

@@ -1,0 +1,136 @@
+#define _GNU_SOURCE
+#include "waits.h"
+
+#include <inttypes.h>
+#include <poll.h>
+#include <stdio.h>
+#include <string.h>
+#include <time.h>
+
+#include "person.h"
+
+enum { SLICE_NS = SLICE_MS * 1000000 };
+
+static atomic_int stops; /* how often it is asked to stop */
+
+void stop_soon(void) {
+    atomic_fetch_add(&stops, 1);
+}
+
+void stop_at_rest(void) {
+    int none = 0;
+    atomic_compare_exchange_strong(&stops, &none, 1);
+}
+
+void note_stop(struct play *play, const char *word) {
+    player_lock(play->player);
+    play->player->stopped = word;
+    player_unlock(play->player);
+}
+
+bool is_rest_asked(const struct play *play) {
+    return atomic_load(&stops) > 0 || atomic_load(&play->player->record_error) != 0;
+}
+
+bool has_to_stop(struct play *play) {
+    int asked = atomic_load(&stops);
+    if (play->is_moving && asked < 2) {
+        return false;
+    }
+    if (asked > 0) {
+        note_stop(play, "signal");
+        return !because(&play->why, "stopped after line %" PRIu64 ";", play->player->lines);
+    }
+    if (atomic_load(&play->player->record_error) != 0) {
+        note_stop(play, "record");
+        return !because(&play->why, "stopped after line %" PRIu64 ": the record can't be kept;", play->player->lines);
+    }
+    return false;
+}
+
+bool wait_until_due(struct play *play) {
+    int64_t now = schedule_now();
+    while (now < play->schedule.due && !has_to_stop(play)) {
+        int64_t rest = play->schedule.due - now;
+        int64_t until = rest > SLICE_NS ? now + SLICE_NS : play->schedule.due;
+        struct timespec moment = {(time_t)(until / 1000000000), (long)(until % 1000000000)};
+        clock_nanosleep(CLOCK_MONOTONIC, TIMER_ABSTIME, &moment, NULL);
+        now = schedule_now();
+    }
+    return !has_to_stop(play);
+}
+
+/* Whether nobody writes OUT any more, which is a pipe. */
+static bool is_left(const struct play *play) {
+    struct pollfd on = {play->player->source.file, POLLIN, 0};
+    return poll(&on, 1, 0) > 0 && (on.revents & POLLHUP) != 0;
+}
+
+bool have_seconds_passed(struct play *play) {
+    int64_t now = schedule_now();
+    int64_t asked_at = atomic_load(&play->player->asked_at);
+    if (play->left_at == 0) {
+        play->left_at = now;
+    }
+    int64_t since = asked_at > play->left_at ? asked_at : play->left_at;
+    return now >= since + play->options->off_after_ns;
+}
+
+/* Whether the console died, some time ago. */
+static bool is_left_alone(struct play *play) {
+    if (atomic_load(&play->player->asked_at) == 0 || !play->player->source.is_pipe || !is_left(play)) {
+        play->left_at = 0;
+        return false;
+    }
+    return have_seconds_passed(play);
+}
+
+bool is_left_held(struct play *play) {
+    if (!is_left_alone(play)) {
+        return false;
+    }
+    note_stop(play, "console");
+    return !because(&play->why, "the console is gone, and it is held after line %" PRIu64 ";", play->player->lines);
+}
+
+/* Whether the console died while a person is asked for a tool. */
+static bool is_console_gone(struct play *play, const char *what) {
+    if (!is_left_alone(play)) {
+        return false;
+    }
+    note_stop(play, "console");
+    return !because(&play->why, "the console is gone, and line %" PRIu64 " asks to %s;", play->player->lines + 1, what);
+}
+
+/* Whether nobody can say that the tool is in. */
+static bool is_nobody_there(struct play *play, const char *what) {
+    if (!person_is_gone() || play->player->socket >= 0) {
+        return false;
+    }
+    note_stop(play, "tool");
+    return !because(&play->why, "line %" PRIu64 " asks to %s, and nobody can say that it is done: start the player at a"
+                    " terminal or with --progress; --no-ask-tool is for a tool changer;", play->player->lines + 1,
+                    what);
+}
+
+bool await_tool(struct play *play, unsigned slot) {
+    char what[32] = "take the tool out";
+    if (slot != 0) {
+        snprintf(what, sizeof what, "put in tool %u", slot);
+    }
+    if (!play->options->is_untimed && !wait_until_due(play)) {
+        return false;
+    }
+    person_forget();
+    atomic_store(&play->player->tool, (int)slot);
+    say("line %" PRIu64 ": %s, then press Enter", play->player->lines + 1, what);
+    while (atomic_load(&play->player->tool) != NO_TOOL) {
+        if (person_has_pressed(SLICE_MS)) {
+            atomic_store(&play->player->tool, NO_TOOL);
+        } else if (is_nobody_there(play, what) || has_to_stop(play) || is_console_gone(play, what)) {
+            return false;
+        }
+    }
+    schedule_pause(&play->schedule);
+    return true;
+}

@@ -1,0 +1,38 @@
+/* What a play waits for: a line's time, a person, a console. */
+#ifndef WAITS_H
+#define WAITS_H
+
+#include <stdbool.h>
+
+#include "play.h"
+
+enum { SLICE_MS = 20 }; /* how long it sleeps at most before it looks whether it is to stop */
+
+/* Notes what stops the play, in a word, and why, in `play->why`. */
+void note_stop(struct play *play, const char *word);
+
+/* Whether the play is to come to rest and stop then: somebody asks for it, or the record can't be kept. */
+bool is_rest_asked(const struct play *play);
+
+/* Whether the play has to stop now: where it moves only if it is asked for once more. Notes why. */
+bool has_to_stop(struct play *play);
+
+/* Waits until the next line is due; false where the play has to stop before. */
+bool wait_until_due(struct play *play);
+
+/* Whether the seconds of --off-after have passed since the last writer was gone and the last question came. */
+bool have_seconds_passed(struct play *play);
+
+/* Waits until a person says that the tool is in, by Enter or over the socket; false where the play has to stop. */
+bool await_tool(struct play *play, unsigned slot);
+
+/* Whether nobody can release a hold any more, as the console is gone: then the play has to stop. */
+bool is_left_held(struct play *play);
+
+/* Asks the play to come to rest and stop, and asked once more to stop at once; from a signal's handler. */
+void stop_soon(void);
+
+/* The same, but not at once, however often. */
+void stop_at_rest(void);
+
+#endif

@@ -1,0 +1,51 @@
+/* Paces lines as a test says: a line of OUT goes in, `E` ends what is known, `N SQUARE` gives out a line and prints its
+ * time, or -; `O PERCENT` does so at so many percent. The words are the limits: accel, rate and start by axes, half,
+ * slack. */
+#include <inttypes.h>
+#include <stdio.h>
+#include <stdlib.h>
+#include <string.h>
+
+#include "pace.h"
+
+static struct pace pace;
+
+static void give(uint64_t wanted) {
+    uint64_t ns = 0;
+    if (pace_next(&pace, wanted, &ns)) {
+        printf("%" PRIu64 "\n", ns);
+    } else {
+        puts("-");
+    }
+}
+
+static void heed(const char *text, size_t size) {
+    struct cause why;
+    struct line line;
+    if (text[0] == 'E') {
+        pace_end(&pace);
+    } else if (text[0] == 'N') {
+        give(strtoull(text + 2, NULL, 10));
+    } else if (text[0] == 'O') {
+        give(pace_wanted(&pace, (unsigned)strtoul(text + 2, NULL, 10)));
+    } else if (line_read(text, size, 1, &line, &why) && !pace_is_full(&pace)) {
+        pace_push(&pace, &line);
+    } else {
+        puts("refused");
+    }
+}
+
+int main(int count, char **given) {
+    struct pace_limits limits;
+    uint64_t words[11];
+    char text[256];
+    for (int word = 0; word < 11 && word + 1 < count; word++) {
+        words[word] = strtoull(given[word + 1], NULL, 10);
+    }
+    memcpy(&limits, words, sizeof limits);
+    pace_begin(&pace, &limits);
+    while (fgets(text, sizeof text, stdin) != NULL) {
+        heed(text, strcspn(text, "\n"));
+    }
+    return 0;
+}

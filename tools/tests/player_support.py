@@ -1,0 +1,151 @@
+"""What tests of the players share: ngc-player, tools/player as a compiler builds it, and as its sanitizers watch it."""
+import atexit
+import os
+import re
+import shutil
+import signal
+import subprocess
+import sys
+import tempfile
+import unittest
+from functools import cache
+from pathlib import Path
+
+from session_support import PATIENCE_S, TOOLS, InFolder, told
+
+from ngc_tools.cli import player
+from ngc_tools.player.progress import Link, NoAnswer
+
+SOURCES = sorted((TOOLS / "player").glob("*.c"))
+STANDARD = ("-std=c11", "-Wall", "-Wextra", "-Wconversion", "-Werror", "-pthread")
+NO_RAMPS = "out: no --machine: no ramps, and no motor follows full rates from rest\n"
+SANITIZERS = ("-O0", "-g", "-fsanitize=address,undefined", "-fno-sanitize-recover=all")
+
+
+@cache
+def built(*options: str, compiler: str = "cc", pins: Path | None = None, sources: tuple[Path, ...] = ()) -> str:
+    """The path of a player in C, or of what else these sources are, built without a warning."""
+    folder = tempfile.mkdtemp(prefix="ngc-player-")
+    atexit.register(shutil.rmtree, folder)
+    sources = sources or [path for path in SOURCES if not pins or path.name != "pins.c"] + ([pins] if pins else [])
+    command = [compiler, *STANDARD, *options, *sources, "-I", TOOLS / "player", "-o", f"{folder}/player"]
+    done = subprocess.run(command, capture_output=True, text=True)
+    if done.returncode:
+        raise AssertionError("tools/player isn't built:\n" + done.stderr)
+    return f"{folder}/player"
+
+
+def sector(*lines: str) -> bytes:
+    """A record with these lines."""
+    text = "".join(line + "\n" for line in lines).encode("utf-8", "surrogateescape")
+    return text.ljust(511) + b"\n"
+
+
+def record(path: str = "position") -> str:
+    """A record's text after its first line, without the mark of its file and the blanks at its end."""
+    text = Path(path).read_text().split("\n", 1)[1]
+    return re.sub("^file .*\n", "", text, flags=re.MULTILINE).rstrip(" \n") + "\n"
+
+
+def preloaded(name: str, text: str) -> dict[str, str]:
+    """The environment in which functions of the C library are those of this text, in the folder of the test."""
+    Path(f"{name}.c").write_text(text)
+    subprocess.run(["cc", "-shared", "-fPIC", f"{name}.c", "-o", f"{name}.so"], check=True)
+    return {**os.environ, "LD_PRELOAD": f"{os.getcwd()}/{name}.so"}
+
+
+class PlayerTest(InFolder):
+    """A test of one player, which takes the words of ngc-player."""
+
+    takes_preloads = True
+
+    def command(self) -> list[str]:
+        """The player."""
+        return [sys.executable, str(TOOLS / "ngc-player")]
+
+    def play(self, *words: str, **how: object) -> subprocess.CompletedProcess[str]:
+        """Plays `out` to its end, or what `words` name besides, with a tool changer."""
+        names = () if words and words[-1] == "position" else ("out", "first.toml", "position")
+        return self.run_player("--no-ask-tool", "--pins", "pins", *words, *names, **how)
+
+    def run_player(self, *words: str, **how: object) -> subprocess.CompletedProcess[str]:
+        """Runs it to its end."""
+        return subprocess.run([*self.command(), *words], capture_output=True, text=True, timeout=PATIENCE_S, **how)
+
+    def begin(self, *words: str, **how: object) -> subprocess.Popen[str]:
+        """Starts it."""
+        child = subprocess.Popen([*self.command(), *words], stdin=subprocess.PIPE, stdout=subprocess.PIPE,
+                                 stderr=subprocess.PIPE, text=True, **how)
+        self.addCleanup(self._end, child)
+        return child
+
+    def linked(self, path: str = "progress") -> Link:
+        """A link to the player, once it listens."""
+        found: list[Link] = []
+
+        def tried() -> bool:
+            try:
+                found.append(Link(path, PATIENCE_S))
+            except NoAnswer:
+                return False
+            return True
+
+        self.wait_for("the player listens", tried)
+        self.addCleanup(found[0].close)
+        return found[0]
+
+    def refused(self, *words: str) -> str:
+        """What is said, after the player's name, at status 2."""
+        done = self.run_player("--untimed", *words)
+        self.assertEqual((done.returncode, done.stdout), (2, ""), words)
+        self.assertRegex(done.stderr, r"^(ngc-)?player: .*\n$")
+        return done.stderr.partition(": ")[2].removesuffix("\n")
+
+
+class InProcess:
+    """ngc-player within the process of the tests, which is quicker."""
+
+    def run_player(self, *words: str, **how: object) -> subprocess.CompletedProcess[str]:
+        """Runs it to its end."""
+        if how:
+            return super().run_player(*words, **how)
+        numbers = (signal.SIGINT, signal.SIGTERM, signal.SIGHUP, signal.SIGQUIT)
+        heeded = {number: signal.getsignal(number) for number in numbers}
+        try:
+            return subprocess.CompletedProcess(words, *told(player.main, *words))
+        finally:
+            for number, handler in heeded.items():
+                signal.signal(number, handler)
+
+
+class InC:
+    """The player of tools/player."""
+
+    def command(self) -> list[str]:
+        """The player."""
+        return [built("-O2")]
+
+
+@cache
+def has_sanitizers() -> bool:
+    """Whether the compiler of this computer has them."""
+    with tempfile.TemporaryDirectory() as folder:
+        command = ["cc", *SANITIZERS, "-x", "c", "-", "-o", f"{folder}/tried"]
+        return subprocess.run(command, input=b"int main(void) { return 0; }", capture_output=True).returncode == 0
+
+
+class Sanitized:
+    """The same under the compiler's sanitizers of addresses and undefined behaviour."""
+
+    takes_preloads = False
+
+    @classmethod
+    def setUpClass(cls) -> None:
+        """Needs a compiler that has them."""
+        super().setUpClass()
+        if not has_sanitizers():
+            raise unittest.SkipTest("the compiler has no sanitizers")
+
+    def command(self) -> list[str]:
+        """The player."""
+        return [built(*SANITIZERS)]

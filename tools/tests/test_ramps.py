@@ -1,0 +1,225 @@
+"""Both players with --machine: ramps, holds and overrides, and the file of --times."""
+import os
+import re
+import signal
+import subprocess
+import sys
+import unittest
+from pathlib import Path
+
+sys.path.insert(0, str(Path(__file__).resolve().parent))
+
+from player_support import NO_RAMPS, InC, InProcess, PlayerTest, Sanitized  # noqa: E402
+
+MOTION = """[motion]
+accel_mm_s2 = [500, 500, 500] # of each axis
+slack_steps = 2
+most_percent = 100
+
+[wait] # of others
+spindle_s = [4, 3]
+stop_at = ["tool", "spindle"]
+"""
+LONG = "P 1 0 0 50\n" * 4000  # 10 mm at 3,000 mm a minute, 400 steps a mm: 0.2 s at full rate, 0.1 s in ramps
+REFUSED = {
+    "": "the table [motion] is missing: it says what the motors allow",
+    "[motions]\n": "the table [motion] is missing: it says what the motors allow",
+    "[motion]\n": "motion: accel_mm_s2 is missing: three whole numbers from 1 to 1000000",
+    "[motion]\naccel = [1, 1, 1]\n": "motion has a key that isn't one of its five: accel",
+    "[motion]\naccel_mm_s2 = [1, 1]\n": "motion: accel_mm_s2 takes three whole numbers from 1 to 1000000",
+    "[motion]\naccel_mm_s2 = [0, 1, 1]\n": "motion: accel_mm_s2 takes three whole numbers from 1 to 1000000",
+    "[motion]\naccel_mm_s2 = 500\n": "motion: accel_mm_s2 takes three whole numbers from 1 to 1000000",
+}
+BESIDES = {
+    "rate_mm_min = [0, 0, 100001]\n": "motion: rate_mm_min takes three whole numbers from 0 to 100000",
+    "start_mm_min = [-1, 0, 0]\n": "motion: start_mm_min takes three whole numbers from 0 to 100000",
+    "slack_steps = 65\n": "motion: slack_steps takes a whole number from 1 to 64",
+    "slack_steps = [2]\n": "motion: slack_steps takes a whole number from 1 to 64",
+    "most_percent = 101\n": "motion: most_percent takes 100",
+}
+
+
+class Ramps(PlayerTest):
+    """What both players do."""
+
+    def setUp(self) -> None:
+        """A machine with 400 steps a mm, and 4,000 pulses of X."""
+        super().setUp()
+        settings = Path("first.toml").read_text()
+        Path("first.toml").write_text(settings.replace("[1000, 1000, 1000]", "[2500, 2500, 2500]"))
+        Path("motion.toml").write_text(MOTION)
+        Path("out").write_text(LONG)
+
+    def times(self, path: str = "times") -> list[int]:
+        """The nanoseconds of a file of --times."""
+        return [int(line.split()[0]) for line in Path(path).read_text().splitlines()]
+
+    def test_times(self) -> None:
+        """Each line behind its time, by ramps: the same with the machine's clock and without one, but for lateness."""
+        Path("out").write_text("S 1 0.000000 0 0 0 0\n" + LONG + "D 1000\n" + LONG)
+        done = self.play("--untimed", "--machine", "motion.toml", "--times", "times")
+        self.assertEqual((done.returncode, done.stderr), (0, "out: ended with spindle or coolant on; spindle and"
+                                                            " coolant off\n"))
+        text = Path("times").read_text()
+        self.assertEqual([line.partition(" ")[2] for line in text.splitlines()], Path("out").read_text().splitlines())
+        times = self.times()
+        self.assertEqual(times[:2], [0, 0])
+        self.assertAlmostEqual(times[4001] / 1e9, 0.3, delta=0.003)  # N / v + v / a
+        self.assertEqual(times[4002], times[4001] + 1_000_000)
+        self.assertEqual(times[-1] - times[4002], times[4000] - times[1])
+        self.assertEqual(Path("pins").read_text(), Path("out").read_text() + "off\n")
+
+    def test_times_without_ramps(self) -> None:
+        """The times are those of OUT."""
+        Path("out").write_text("P 1 0 0 50\nD 7\nS 0 0.000000 0 0 0 0\nP 1 0 0 60\nP 1 0 0 50\n")
+        self.assertEqual(self.play("--untimed", "--times", "times").stderr, "")
+        self.assertEqual(self.times(), [0, 50_000, 57_000, 57_000, 117_000])
+        again = self.play("--untimed", "--anew", "--times", "times")
+        self.assertEqual(again.returncode, 2)
+        self.assertIn("times: File exists", again.stderr)
+
+    def test_rate(self) -> None:
+        """An axis of at most 1,500 mm a minute takes 10 / 25 s and 25 / 500 s."""
+        Path("motion.toml").write_text("[motion]\naccel_mm_s2 = [500, 500, 500]\nrate_mm_min = [1500, 0, 0]\n")
+        Path("out").write_text(LONG + "D 1\n")
+        self.play("--untimed", "--machine", "motion.toml", "--times", "times")
+        self.assertAlmostEqual(self.times()[-1] / 1e9, 0.45, delta=0.0045)
+
+    def test_notice(self) -> None:
+        """Without a machine's file it says that no motor follows full rates."""
+        Path("out").write_text("P 1 0 0 50\n")
+        self.assertEqual(self.play().stderr, NO_RAMPS)
+        self.assertEqual(self.play("--anew", "--machine", "motion.toml").stderr, "")
+
+    def test_refused(self) -> None:
+        """By name and key."""
+        wrong = REFUSED | {f"[motion]\naccel_mm_s2 = [500, 500, 500]\n{text}": said for text, said in BESIDES.items()}
+        for text, said in wrong.items():
+            Path("wrong.toml").write_text(text)
+            told = self.refused("--machine", "wrong.toml", "out", "first.toml", "position")
+            self.assertEqual(told, f"wrong.toml: {said}", text)
+        self.assertFalse(Path("position").exists())
+
+    def test_steps(self) -> None:
+        """What is less than some steps a second is refused too, and what is beyond all motors: of steps of 1 mm, and of
+        10 nm."""
+        settings = Path("first.toml").read_text()
+        Path("first.toml").write_text(settings.replace("[2500, 2500, 2500]", "[10, 2500, 1000000]"))
+        for text, said in (("accel_mm_s2 = [9, 9, 2]\n", "accel_mm_s2 is less than 3 steps a second, each second"),
+                           ("accel_mm_s2 = [10001, 9, 3]\n",
+                            "accel_mm_s2 is more than 1000000000 steps a second, each second"),
+                           ("accel_mm_s2 = [10000, 9, 3]\nrate_mm_min = [0, 0, 59]\n",
+                            "rate_mm_min is less than a step a second")):
+            Path("wrong.toml").write_text("[motion]\n" + text)
+            told = self.refused("--machine", "wrong.toml", "out", "first.toml", "position")
+            self.assertEqual(told, f"wrong.toml: motion: {said}")
+
+    def test_bad_line(self) -> None:
+        """What stands before a line that isn't one is carried out to its rest."""
+        Path("out").write_text(LONG + "P 2 0 0 50\n" + LONG)
+        done = self.play("--untimed", "--machine", "motion.toml")
+        self.assertEqual(done.returncode, 1)
+        self.assertIn("out:4001: not a line of OUT: 'P 2 0 0 50'; stopped, spindle and coolant off", done.stderr)
+        self.assertIn("reference 10.000000 0.000000 0.000000\n", done.stdout)
+
+    def fed(self, *words: str, least: int = 200) -> tuple[subprocess.Popen[str], int]:
+        """A player of a pipe, and the pipe, into which 7.5 mm were written, once more than `least` lines are made."""
+        os.mkfifo("axis")
+        names = ("axis", "first.toml", "position")
+        child = self.begin("--no-ask-tool", "--machine", "motion.toml", "--pipe", "1048576", "--progress", "progress",
+                           *words, *names)
+        link = self.linked()
+        pipe = os.open("axis", os.O_WRONLY)
+        os.write(pipe, b"P 1 0 0 500\n" * 3000)
+        self.wait_for("it moves", lambda: link.ask().carried > least)
+        self.link = link
+        return child, pipe
+
+    def test_hold(self) -> None:
+        """It comes to rest and says so, and goes on; slower by an override. Nothing is lost."""
+        child, pipe = self.fed()
+        self.link.hold()
+        self.wait_for("it is held", lambda: self.link.ask().is_held)
+        stands = self.link.ask().carried
+        self.assertLess(stands, 3000)
+        self.assertEqual((self.link.ask().carried, self.link.ask().is_held), (stands, True))
+        self.link.override(50)
+        self.link.release()
+        self.wait_for("it goes on", lambda: self.link.ask().carried > stands)
+        self.assertFalse(self.link.ask().is_held)
+        self.link.end()
+        os.close(pipe)
+        said = child.communicate(timeout=60)
+        self.assertEqual(child.returncode, 0, said)
+        self.assertIn("reference 7.500000 0.000000 0.000000\n", said[0])
+
+    def test_signal(self) -> None:
+        """The first signal brings it to rest by a ramp, whose last pulse is the slowest."""
+        child, pipe = self.fed("--times", "times")
+        child.send_signal(signal.SIGTERM)
+        said = child.communicate(timeout=60)
+        os.close(pipe)
+        self.assertEqual(child.returncode, 1, said)
+        self.assertRegex(said[1], r"axis: stopped after line \d+; spindle and coolant off\n")
+        times = self.times()
+        self.assertLess(len(times), 3000)
+        self.assertGreater(times[-1] - times[-2], 1_200_000)  # from 894 pulses a second to 632, not 2,000
+        self.assertIn("\nstopped signal", Path("position").read_text())
+
+
+    def test_second_signal(self) -> None:
+        """It stops in the midst of its motion: at 1 mm/s2 a rest would take as many pulses as it has made."""
+        Path("motion.toml").write_text("[motion]\naccel_mm_s2 = [1, 1, 1]\n")
+        child, pipe = self.fed(least=300)
+        carried = self.link.ask().carried
+        child.send_signal(signal.SIGTERM)
+        child.send_signal(signal.SIGINT)
+        said = child.communicate(timeout=60)
+        os.close(pipe)
+        self.assertEqual(child.returncode, 1, said)
+        lines = int(re.search(r"stopped after line (\d+);", said[1])[1])
+        self.assertLess(lines, carried + 200)
+
+    def test_held_and_left(self) -> None:
+        """Where nobody can release it any more it ends, with spindle and coolant off."""
+        child, pipe = self.fed("--off-after", "0.2")
+        self.link.hold()
+        self.wait_for("it is held", lambda: self.link.ask().is_held)
+        os.close(pipe)
+        said = child.communicate(timeout=60)
+        self.assertEqual(child.returncode, 1, said)
+        self.assertRegex(said[1], r"axis: the console is gone, and it is held after line \d+; spindle and coolant off$")
+        self.assertIn("\nstopped console", Path("position").read_text())
+
+
+class RampsInPython(InProcess, Ramps):
+    """ngc-player."""
+
+
+class RampsInC(InC, Ramps):
+    """tools/player."""
+
+
+class RampsSanitized(Sanitized, Ramps):
+    """tools/player under the sanitizers."""
+
+
+class Same(InC, PlayerTest):
+    """Both players side by side."""
+
+    def test_times(self) -> None:
+        """The times of both are the same, to the nanosecond."""
+        Path("motion.toml").write_text(MOTION)
+        Path("out").write_text((LONG[:11 * 700] + "P 1 1 0 70\n" * 500 + "D 3\nP 0 0 -1 90\n") * 3)
+        self.play("--untimed", "--machine", "motion.toml", "--times", "c")
+        Path("position").unlink()
+        words = ("--untimed", "--no-ask-tool", "--machine", "motion.toml", "--times", "python", "out", "first.toml",
+                 "position")
+        self.assertEqual(self.tool("ngc-player", *words).returncode, 0)
+        self.assertEqual(Path("c").read_bytes(), Path("python").read_bytes())
+
+
+del Ramps
+
+if __name__ == "__main__":
+    unittest.main()
