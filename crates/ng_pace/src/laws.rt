@@ -5,8 +5,8 @@ ghost use Rattle.ng_pace.specs.Flow.{Flow, all_items};
 ghost use Rattle.ng_pace.specs.Run.{Event, IsRun, AsksOnly, HoldsOnly, IsPacedBeginning, IsGivenOut, IsStopped};
 
 /// For any items, whatever is wanted and whenever the items come: what was given out is a beginning of what was put in,
-/// each line once and in order. No line is sooner than in its own time, and each takes the time of its squares. No square
-/// is greater than its line allows, and up to the next line it changes by no more than the line allows (own).
+/// each line once and in order. No line is sooner than in its own time, and each takes the time of its squares. No
+/// square is greater than its line allows, and up to the next line it changes by no more than the line allows (own).
 pub fn paced_beginning()
     ensures { (old : Flow) (events : List Event) (new : Flow) → IsRun old events new → IsPacedBeginning old events new }
 {}
@@ -14,13 +14,15 @@ pub fn paced_beginning()
 /// Where no item waits, as after `end`, as many calls of `next` as lines are known give all of them out, if each wants
 /// some motion. Then everything stands still (own).
 pub fn given_out()
-    ensures { (old : Flow) (events : List Event) (new : Flow) → IsRun old events new → AsksOnly events → old.waiting ≡ []
-        → CanRest old.motion.square old.motion.known → length (all_items old) ≤ length events → IsGivenOut old events new }
+    ensures { (old : Flow) (events : List Event) (new : Flow) → IsRun old events new → AsksOnly events
+        → old.waiting ≡ [] → CanRest old.motion.square old.motion.known → length (all_items old) ≤ length events
+        → IsGivenOut old events new }
 {}
 
 /// In a hold the square falls by the whole ramp at each line. After as many calls of `next` as lines are known, or
 /// sooner, everything stands still (own).
 pub fn held()
     ensures { (old : Flow) (events : List Event) (new : Flow) → IsRun old events new → HoldsOnly events
-        → CanRest old.motion.square old.motion.known → length old.motion.known ≤ length events → IsStopped events new }
+        → CanRest old.motion.square old.motion.known → length old.motion.known ≤ length events
+        → IsStopped events new }
 {}

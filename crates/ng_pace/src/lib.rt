@@ -2,9 +2,9 @@
 //!
 //! A `Stream` takes items in order and gives them out in the same order, each once, with the time until the next. It
 //! stretches time alone: no item is given a shorter time than its own. The square of the rate changes from one pulse to
-//! the next by no more than the motors allow. Whatever comes or doesn't come, the pulses can come to rest within what is
-//! known, before each dwell and switch too. And no pulse is slower than it has to be: of the squares that may be, the
-//! greatest is taken.
+//! the next by no more than the motors allow. Whatever comes or doesn't come, the pulses can come to rest within what
+//! is known, before each dwell and switch too. And no pulse is slower than it has to be: of the squares that may be,
+//! the greatest is taken.
 //!
 //! What motors allow is found from the pulses themselves. A `Pacer` has the promises on time alone, for lines that come
 //! with what is allowed at them. Rates are in pulses a second times 2^8, and a square is that of such a rate.

@@ -1,5 +1,6 @@
 //! The pacer: lines in, and out again with their times.
-ghost use Rattle.std.specs.Prelude.{◌≡◌, ◌↔◌, ◌⊎◌, ◌≤◌, ◌<◌, ◌++◌, ◌∷◌, [], length, nat_le, Err, IfOk, IfErr, IfSome, IfNone};
+ghost use Rattle.std.specs.Prelude.{◌≡◌, ◌↔◌, ◌⊎◌, ◌≤◌, ◌<◌, ◌++◌, ◌∷◌, [], length, nat_le};
+ghost use Rattle.std.specs.Prelude.{Err, IfOk, IfErr, IfSome, IfNone};
 ghost use Rattle.ng_pace.specs.Paced.{IsGiven, Waits};
 
 use crate::fault::PaceFault;
@@ -31,7 +32,12 @@ impl<A: Allocator> Model for Pacer<A> {
 
     ghost Value = { Motion };
 
-    ghost view = { λ p. record { known = lines_of p.slots.items; square = p.square; start = p.start; room = deque_capacity p.slots } };
+    ghost view = { λ p. record {
+      known = lines_of p.slots.items;
+      square = p.square;
+      start = p.start;
+      room = deque_capacity p.slots;
+    } };
 
     ghost invariant = { λ p. IsSteady p.slots.items p.square p.planned p.reached p.root };
 }
@@ -47,7 +53,8 @@ impl<A: Allocator> Pacer<A> {
         ensures made { IfOk result (λ p. p ≡ record { known = []; square = 0; start = start; room = room }) }
         ensures start_too_small { (result ≡ Err PaceFault.StartTooSmall) ↔ (start < 128) }
         ensures no_room { (result ≡ Err PaceFault.NoRoom) ↔ ((128 ≤ start) × (room ≡ 0)) }
-        ensures no_other { IfErr result (λ fault. (fault ≡ PaceFault.StartTooSmall) ⊎ ((fault ≡ PaceFault.NoRoom) ⊎ (fault ≡ PaceFault.OutOfMemory))) }
+        ensures no_other { IfErr result (λ fault. (fault ≡ PaceFault.StartTooSmall)
+            ⊎ ((fault ≡ PaceFault.NoRoom) ⊎ (fault ≡ PaceFault.OutOfMemory))) }
     {
         if start < 128 {
             return Err(PaceFault::StartTooSmall);
@@ -98,8 +105,8 @@ impl<A: Allocator> Pacer<A> {
     }
 
     /// The next line and its time. `wanted` is the greatest square that the operator wants; 0 is a hold. Above it the
-    /// square falls by the whole ramp from line to line. None, with nothing changed, if no line is known, or at rest in a
-    /// hold. Source: own.
+    /// square falls by the whole ramp from line to line. None, with nothing changed, if no line is known, or at rest in
+    /// a hold. Source: own.
     pub fn next(&mut self, wanted: u64) -> Option<Given>
         ensures given { IfSome result (λ given. IsGiven self.old self.new wanted given) }
         ensures waits { IfNone result (Waits self.old wanted) }

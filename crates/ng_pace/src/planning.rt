@@ -22,8 +22,8 @@ fn best_square(line: &Line, after: u64) -> u64
     reached.saturating_add(line.ramp).min(line.most)
 }
 
-/// Plans anew, from the last line that is known to the first; the first `planned` were planned before. Where a square of
-/// these stays the same, so do all before it. No square becomes less.
+/// Plans anew, from the last line that is known to the first; the first `planned` were planned before. Where a square
+/// of these stays the same, so do all before it. No square becomes less.
 pub(crate) fn plan<A: Allocator>(slots: &mut VecDeque<Slot, A>, planned: usize)
     requires { IsPlan planned slots.old.items }
     ensures plan { IsWhole slots.new.items }

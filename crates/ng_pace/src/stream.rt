@@ -4,7 +4,8 @@ ghost use Rattle.std.specs.VecDeque.{deque_capacity};
 ghost use Rattle.std.specs.List.{Contains};
 ghost use Rattle.ng_pace.specs.Due.{own_square};
 ghost use Rattle.ng_pace.specs.Refused.{IsAllowed};
-ghost use Rattle.ng_pace.specs.Flow.{Keeps, Adds, IsPut, IsEnded, IsFlowGiven, IsEmpty, StandsAt, StandsLast, full_of, square_behind, no_pulse, still_line, timed_waiting};
+ghost use Rattle.ng_pace.specs.Flow.{Keeps, Adds, IsPut, IsEnded, IsFlowGiven, IsEmpty, StandsAt, StandsLast};
+ghost use Rattle.ng_pace.specs.Flow.{full_of, square_behind, no_pulse, still_line, timed_waiting};
 ghost use Rattle.ng_pace.specs.Paced.{Waits};
 
 use crate::chord::{Chord, Final, GREATEST, Limits, Waiting, steps_of};
@@ -180,7 +181,8 @@ fn push_pulse<A: Allocator>(
 )
     requires room { length pacer.old.known + length waiting.old.items < pacer.old.room }
     requires capacity { deque_capacity waiting.old ≡ pacer.old.room }
-    ensures adds { Adds pacer.old pacer.new waiting.old.items waiting.new.items (record { item = item; full = min (own_square pulse.now.period_us) shape.old.before }) }
+    ensures adds { Adds pacer.old pacer.new waiting.old.items waiting.new.items
+        (record { item = item; full = min (own_square pulse.now.period_us) shape.old.before }) }
     ensures capacity { deque_capacity waiting.new ≡ deque_capacity waiting.old }
     ensures before { shape.new.before ≡ own_square pulse.now.period_us }
 {
@@ -236,7 +238,8 @@ fn push_item<A: Allocator>(
 )
     requires room { length pacer.old.known + length waiting.old.items < pacer.old.room }
     requires capacity { deque_capacity waiting.old ≡ pacer.old.room }
-    ensures adds { Adds pacer.old pacer.new waiting.old.items waiting.new.items (record { item = item; full = full_of shape.old.before item }) }
+    ensures adds { Adds pacer.old pacer.new waiting.old.items waiting.new.items
+        (record { item = item; full = full_of shape.old.before item }) }
     ensures capacity { deque_capacity waiting.new ≡ deque_capacity waiting.old }
     ensures stands { StandsAt pacer.new.known (timed_waiting waiting.new.items) item }
     ensures before { shape.new.before ≡ square_behind item }
@@ -257,7 +260,8 @@ impl<A: Allocator + Copy> Stream<A> {
         ensures made { IfOk result (λ s. IsEmpty s limits room) }
         ensures no_acceleration { (result ≡ Err PaceFault.NoAcceleration) ↔ Contains limits.accel 0 }
         ensures no_corner { (result ≡ Err PaceFault.NoCorner) ↔ ((¬ Contains limits.accel 0) × (limits.half ≡ 0)) }
-        ensures no_slack { (result ≡ Err PaceFault.NoSlack) ↔ ((¬ Contains limits.accel 0) × (0 < limits.half) × (limits.slack ≡ 0)) }
+        ensures no_slack { (result ≡ Err PaceFault.NoSlack)
+            ↔ ((¬ Contains limits.accel 0) × (0 < limits.half) × (limits.slack ≡ 0)) }
         ensures no_room { (result ≡ Err PaceFault.NoRoom) ↔ (IsAllowed limits × (room ≡ 0)) }
         ensures no_other { ¬ (result ≡ Err PaceFault.StartTooSmall) }
     {
@@ -320,9 +324,9 @@ impl<A: Allocator> Stream<A> {
         );
     }
 
-    /// The next line and its time. `wanted` is the greatest square that the operator wants, in pulses a second times 2^8,
-    /// squared; 0 is a hold: the rate falls as fast as may be, and then everything stands still. None, with nothing
-    /// changed, if the limits of no item are final, or at rest in a hold. Source: own.
+    /// The next line and its time. `wanted` is the greatest square that the operator wants, of a rate in pulses a
+    /// second times 2^8. 0 is a hold: the rate falls as fast as may be, and then everything stands still. None, with
+    /// nothing changed, if lines were made of no item that is known, or at rest in a hold. Source: own.
     #[tactic(auto, using(crate::proofs::FlowLemmas::given_items))]
     pub fn next(&mut self, wanted: u64) -> Option<Given>
         ensures given { IfSome result (λ given. IsFlowGiven self.old self.new wanted given) }

@@ -12,7 +12,9 @@ invariant_of-self g c = record {
 
 pub returns : goal.returns
 returns g c = rw (← c.self.view_is) (record {
-  items = end_items (record { motion = c.self.inside.pacer; waiting = timed_waiting c.self.inside.waiting.items; before = c.self.inside.shape.before }) (record { motion = c.finish.new.pacer; waiting = timed_waiting c.finish.new.waiting.items; before = c.finish.new.shape.before }) (settles_end c.finish.ensures.keeps c.finish.ensures.none) (rw c.finish.ensures.none refl);
+  items = end_items (record { motion = c.self.inside.pacer; waiting = timed_waiting c.self.inside.waiting.items; before = c.self.inside.shape.before })
+      (record { motion = c.finish.new.pacer; waiting = timed_waiting c.finish.new.waiting.items; before = c.finish.new.shape.before })
+      (settles_end c.finish.ensures.keeps c.finish.ensures.none) (rw c.finish.ensures.none refl);
   settles = settles_end c.finish.ensures.keeps c.finish.ensures.none;
   none = rw c.finish.ensures.none refl;
   before = c.finish.ensures.before;

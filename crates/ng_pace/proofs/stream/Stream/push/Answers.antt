@@ -5,12 +5,14 @@ use Rattle.ng_pace.proofs.stream.Stream.push.Goals as goal
 
 pub push_item-requires-clause-room : goal.push_item-requires-clause-room
 push_item-requires-clause-room g c =
-    let room : length c.self.inside.pacer.known + length (timed_waiting c.self.inside.waiting.items) < c.self.inside.pacer.room = rw (← c.self.view_is) at c.requires in
+    let room : length c.self.inside.pacer.known + length (timed_waiting c.self.inside.waiting.items) < c.self.inside.pacer.room = rw (← c.self.view_is) at
+    c.requires in
     omega (arith, room, length-timed_waiting c.self.inside.waiting.items)
 
 pub invariant_of-self : goal.invariant_of-self
 invariant_of-self g c =
-    let room : length c.self.inside.pacer.known + length (timed_waiting c.self.inside.waiting.items) < c.self.inside.pacer.room = rw (← c.self.view_is) at c.requires in
+    let room : length c.self.inside.pacer.known + length (timed_waiting c.self.inside.waiting.items) < c.self.inside.pacer.room = rw (← c.self.view_is) at
+    c.requires in
     record {
       fits = omega (arith, room, length-timed_waiting c.self.inside.waiting.items, c.push_item.ensures.adds.count, c.push_item.ensures.adds.settles.room);
       capacity_is = omega (arith, c.push_item.ensures.capacity, c.self.invariant.capacity_is, c.push_item.ensures.adds.settles.room);
@@ -19,7 +21,9 @@ invariant_of-self g c =
 
 pub returns : goal.returns
 returns g c = rw (← c.self.view_is) (record {
-  items = put_items (record { motion = c.self.inside.pacer; waiting = timed_waiting c.self.inside.waiting.items; before = c.self.inside.shape.before }) (record { motion = c.push_item.new.pacer; waiting = timed_waiting c.push_item.new.waiting.items; before = c.push_item.new.shape.before }) c.args.item c.push_item.ensures.adds.settles;
+  items = put_items (record { motion = c.self.inside.pacer; waiting = timed_waiting c.self.inside.waiting.items; before = c.self.inside.shape.before })
+      (record { motion = c.push_item.new.pacer; waiting = timed_waiting c.push_item.new.waiting.items; before = c.push_item.new.shape.before }) c.args.item
+      c.push_item.ensures.adds.settles;
   settles = c.push_item.ensures.adds.settles;
   stands = c.push_item.ensures.stands;
   before = c.push_item.ensures.before;
