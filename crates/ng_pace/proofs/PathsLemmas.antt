@@ -101,8 +101,8 @@ on-paths limits start old (end ∷ events) new legs same starts underway run =
 on-paths limits start old (ask wanted (Some given) ∷ events) new legs same starts underway run =
     let gives : IsFlowGiven old run.0 wanted given = run.1.0 in
     let later : Makes limits start run.0 legs (lines_given events) new = on-paths limits start run.0 events new legs (gives.limits ∙ same)
-        (gives.given_out.start ∙ starts)
-        (given-underway old run.0 legs gives.waiting gives.limits gives.chord underway) run.1.1 in record {
+    (gives.given_out.start ∙ starts)
+    (given-underway old run.0 legs gives.waiting gives.limits gives.chord underway) run.1.1 in record {
       made = later.made;
       paths = later.paths;
       last = later.last;
@@ -128,7 +128,7 @@ pub keeps-to-paths : (old : Flow) (limits : Limits) (room : ℕ) (events : List 
     → KeepsToPaths limits (start_of limits) events new
 keeps-to-paths old limits room events new empty run =
     let m : Makes limits (start_of limits) old [] (lines_given events) new = on-paths limits
-        (start_of limits) old events new [] empty.limits_are empty.start empty.underway run in
+    (start_of limits) old events new [] empty.limits_are empty.start empty.underway run in
     let so_far : KeepSoFar new.limits m.last = keep-so-far new.limits new.chord (length new.waiting) m.last m.underway.path in record {
       paths = m.paths;
       last = m.last;

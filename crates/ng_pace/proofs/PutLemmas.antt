@@ -17,7 +17,7 @@ made-of : (known : List Line) (made : List Line) (waited waits more : List Item)
     → items_of made ++ waits ≡ waited ++ more
 made-of known made waited waits more e = append_cancel_left (items_of known) (items_of made ++ waits) (waited ++ more)
     (sym (append_assoc (items_of known) (items_of made) waits) ∙ ap (λ t. t ++ waits) (sym (items_of-append known made)) ∙ e ∙ append_assoc
-        (items_of known) waited more)
+    (items_of known) waited more)
 
 -- the items of a path
 items-more : (lines made : List Line) (waited waits more pulses : List Item) → items_of lines ++ waited ≡ pulses
@@ -28,7 +28,7 @@ items-more lines made waited waits more pulses before now =
 
 goes-flow : (old new : Flow) (legs : List Leg) (pulse : OnePulse) → IsUnderway old legs → new.limits ≡ old.limits
     → Advances old.limits 0 old.motion new.motion new.chord (length new.waiting) (pulses_of legs ++ pulse ∷ []) (lines_of legs)
-        → all_items new ≡ all_items old ++ Pulse pulse ∷ []
+    → all_items new ≡ all_items old ++ Pulse pulse ∷ []
     → Goes old new legs pulse
 goes-flow old new legs pulse underway same a items = record {
   made = a.made;
@@ -42,9 +42,9 @@ goes-flow old new legs pulse underway same a items = record {
     items =
         let made : items_of a.made ++ items_waiting new.waiting ≡ items_waiting old.waiting ++ Pulse pulse ∷ []
         = made-of old.motion.known a.made (items_waiting old.waiting) (items_waiting new.waiting) (Pulse pulse ∷ [])
-            (ap (λ t. items_of t ++ items_waiting new.waiting) (sym a.known) ∙ items) in
+        (ap (λ t. items_of t ++ items_waiting new.waiting) (sym a.known) ∙ items) in
         ap (λ t. items_of t ++ items_waiting new.waiting) a.lines_are ∙ items-more (lines_of legs) a.made (items_waiting old.waiting)
-            (items_waiting new.waiting) (Pulse pulse ∷ []) (map Pulse (pulses_of legs)) underway.items made
+        (items_waiting new.waiting) (Pulse pulse ∷ []) (map Pulse (pulses_of legs)) underway.items made
         ∙ sym (map-append Pulse (pulses_of legs) (pulse ∷ [])) ∙ ap (λ t. map Pulse t) (sym a.pulses_are);
   };
 }
@@ -84,7 +84,7 @@ rest-flow old new legs more underway h items = record {
   all : items_of h.finishes.made ≡ items_waiting old.waiting
   all = append_cancel_right (items_of h.finishes.made) (items_waiting old.waiting) more
       (ap (λ t. items_of h.finishes.made ++ t) (sym (items_of-still more)) ∙ sym (items_of-append h.finishes.made (map still_line more)) ∙ sym
-          (append-nil (items_of (h.finishes.made ++ map still_line more)))
+      (append-nil (items_of (h.finishes.made ++ map still_line more)))
       ∙ ap (λ t. items_of (h.finishes.made ++ map still_line more) ++ t) (sym none) ∙ both)
 
 pub put-flow : (old new : Flow) (legs : List Leg) (item : Item) → IsUnderway old legs → new.limits ≡ old.limits
