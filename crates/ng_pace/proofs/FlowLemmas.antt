@@ -76,7 +76,8 @@ pub pushed : (old : Motion) (line : Line) (waits : List Timed) → line.most ≤
 pushed old line waits own = record { settled = line ∷ []; known = refl; order = refl; own = (own, tt); square = refl; start = refl; room = refl }
 
 -- the first item that waits goes behind what is known
-pub moved : (old new : Motion) (w : Waiting) (waited rest : List Waiting) (line : Line) → new ≡ record old { known = old.known ++ line ∷ [] } → line.item ≡ w.item → line.full ≡ w.feed → line.most ≤ w.feed → waited ≡ w ∷ rest → Keeps old new waited rest
+pub moved : (old new : Motion) (w : Waiting) (waited rest : List Waiting) (line : Line) → new ≡ record old { known = old.known ++ line ∷ [] }
+    → line.item ≡ w.item → line.full ≡ w.feed → line.most ≤ w.feed → waited ≡ w ∷ rest → Keeps old new waited rest
 moved old new w waited rest line is item full most first = rw (is, first) (record {
   settles = rw (← item, ← full) (pushed old line (timed_waiting rest) (omega arith));
   count = omega (arith, length-push old.known line);
@@ -96,7 +97,8 @@ still_adds item old mid waited waits keeps none =
     })
 
 -- an item begins to wait
-pub pulse_adds : (a b c : Motion) (u v pushed w : List Waiting) (x : Waiting) → Keeps a b u v → pushed ≡ v ++ x ∷ [] → Keeps b c pushed w → Adds a c u w (record { item = x.item; full = x.feed })
+pub pulse_adds : (a b c : Motion) (u v pushed w : List Waiting) (x : Waiting) → Keeps a b u v → pushed ≡ v ++ x ∷ [] → Keeps b c pushed w
+    → Adds a c u w (record { item = x.item; full = x.feed })
 pulse_adds a b c u v pushed w x first is later =
     let moved_on : Keeps b c (v ++ x ∷ []) w = rw is at later in record {
       settles = settles_on (settles_push first.settles ((record { item = x.item; full = x.feed }) ∷ [])) (rw (timed_waiting-push v x) at moved_on.settles);
@@ -107,11 +109,18 @@ pulse_adds a b c u v pushed w x first is later =
 pub settles_end : {old new : Motion} {waited waits : List Waiting} → Keeps old new waited waits → waits ≡ [] → Settles old new (timed_waiting waited) []
 settles_end keeps none = rw none at keeps.settles
 
-pub adds_rest : {old new : Motion} {waited waits : List Waiting} {timed : Timed} → Adds old new waited waits timed → CanRest old.square old.known → CanRest new.square new.known
+pub adds_rest : {old new : Motion} {waited waits : List Waiting} {timed : Timed} → Adds old new waited waits timed → CanRest old.square old.known
+    → CanRest new.square new.known
 adds_rest adds rest = settles_rest adds.settles rest
 
-pub still_last : (mid new : Motion) (waits : List Waiting) (line : Line) (item : Item) → new ≡ record mid { known = mid.known ++ line ∷ [] } → line ≡ still_line item → waits ≡ [] → StandsLast new.known (timed_waiting waits) item
-still_last mid new waits line item is same none = record { lines = mid.known; last = ap (λ t. t.known) is ∙ ap (λ t. mid.known ++ t ∷ []) same; none = ap timed_waiting none }
+pub still_last : (mid new : Motion) (waits : List Waiting) (line : Line) (item : Item) → new ≡ record mid { known = mid.known ++ line ∷ [] }
+    → line ≡ still_line item → waits ≡ [] → StandsLast new.known (timed_waiting waits) item
+still_last mid new waits line item is same none = record {
+  lines = mid.known;
+  last = ap (λ t. t.known) is ∙ ap
+      (λ t. mid.known ++ t ∷ []) same;
+  none = ap timed_waiting none;
+}
 
 items_waiting-append : (xs ys : List Timed) → items_waiting (xs ++ ys) ≡ items_waiting xs ++ items_waiting ys
 items_waiting-append [] ys = refl
@@ -126,21 +135,26 @@ items_waiting-lines [] = refl
 items_waiting-lines (x ∷ xs) = ap (λ t. x.item ∷ t) (items_waiting-lines xs)
 
 -- limits that become final leave the items
-settled_items : {old new : Motion} {waited waits : List Timed} → Settles old new waited waits → items_of new.known ++ items_waiting waits ≡ items_of old.known ++ items_waiting waited
+settled_items : {old new : Motion} {waited waits : List Timed} → Settles old new waited waits
+    → items_of new.known ++ items_waiting waits ≡ items_of old.known ++ items_waiting waited
 settled_items {old} {new} {waited} {waits} s =
     let settled : items_of s.settled ++ items_waiting waits ≡ items_waiting waited
-    = ap (λ t. t ++ items_waiting waits) (sym (items_waiting-lines s.settled)) ∙ sym (items_waiting-append (timed_lines s.settled) waits) ∙ ap items_waiting s.order in
+    = ap (λ t. t ++ items_waiting waits) (sym (items_waiting-lines s.settled)) ∙ sym (items_waiting-append (timed_lines s.settled) waits)
+    ∙ ap items_waiting s.order in
     ap (λ t. items_of t ++ items_waiting waits) s.known ∙ ap (λ t. t ++ items_waiting waits) (items_of-append old.known s.settled)
     ∙ append_assoc (items_of old.known) (items_of s.settled) (items_waiting waits) ∙ ap (λ t. items_of old.known ++ t) settled
 
-pub put_items : (old mid : Flow) (item : Item) → Settles old.motion mid.motion (old.waiting ++ (record { item = item; full = full_of old.before item }) ∷ []) mid.waiting → all_items mid ≡ all_items old ++ item ∷ []
+pub put_items : (old mid : Flow) (item : Item) → Settles old.motion mid.motion
+    (old.waiting ++ (record { item = item; full = full_of old.before item }) ∷ []) mid.waiting → all_items mid ≡ all_items old ++ item ∷ []
 put_items old mid item p =
-    settled_items p ∙ ap (λ t. items_of old.motion.known ++ t) (items_waiting-append old.waiting ((record { item = item; full = full_of old.before item }) ∷ []))
+    settled_items p ∙ ap (λ t. items_of old.motion.known ++ t) (items_waiting-append old.waiting
+    ((record { item = item; full = full_of old.before item }) ∷ []))
     ∙ sym (append_assoc (items_of old.motion.known) (items_waiting old.waiting) (item ∷ []))
 
 pub end_items : (old mid : Flow) → Settles old.motion mid.motion old.waiting [] → mid.waiting ≡ [] → all_items mid ≡ all_items old
 end_items old mid s none = ap (λ t. items_of mid.motion.known ++ items_waiting t) none ∙ settled_items s
 
-pub given_items : (old mid : Flow) (given : Given) → old.motion.known ≡ given.line ∷ mid.motion.known → mid.waiting ≡ old.waiting → all_items old ≡ given.line.item ∷ all_items mid
+pub given_items : (old mid : Flow) (given : Given) → old.motion.known ≡ given.line ∷ mid.motion.known → mid.waiting ≡ old.waiting
+    → all_items old ≡ given.line.item ∷ all_items mid
 given_items old mid given order waiting =
     ap (λ t. items_of t ++ items_waiting old.waiting) order ∙ sym (ap (λ t. given.line.item ∷ (items_of mid.motion.known ++ items_waiting t)) waiting)

@@ -62,7 +62,8 @@ given-on : (limits : Limits) (start : ℕ) (old mid new : Flow) (legs : List Leg
     → line ∷ (lines_out givens ++ new.motion.known) ≡ old.motion.known ++ m.made
 given-on limits start old mid new legs line givens order m = ap (λ t. line ∷ t) m.known ∙ ap (λ t. t ++ m.made) (sym order)
 
-given-underway : (old mid : Flow) (legs : List Leg) → mid.waiting ≡ old.waiting → mid.limits ≡ old.limits → mid.chord ≡ old.chord → IsUnderway old legs → IsUnderway mid legs
+given-underway : (old mid : Flow) (legs : List Leg) → mid.waiting ≡ old.waiting → mid.limits ≡ old.limits → mid.chord ≡ old.chord → IsUnderway old legs
+    → IsUnderway mid legs
 given-underway old mid legs waiting limits chord underway = record {
   path = rw (waiting, limits, chord) underway.path;
   begun = underway.begun;
@@ -99,7 +100,8 @@ on-paths limits start old (end ∷ events) new legs same starts underway run =
     (on-paths limits start run.0 events new [] (run.1.0.limits ∙ same) (run.1.0.settles.start ∙ starts) rests.underway run.1.1)
 on-paths limits start old (ask wanted (Some given) ∷ events) new legs same starts underway run =
     let gives : IsFlowGiven old run.0 wanted given = run.1.0 in
-    let later : Makes limits start run.0 legs (lines_given events) new = on-paths limits start run.0 events new legs (gives.limits ∙ same) (gives.given_out.start ∙ starts)
+    let later : Makes limits start run.0 legs (lines_given events) new = on-paths limits start run.0 events new legs (gives.limits ∙ same)
+    (gives.given_out.start ∙ starts)
     (given-underway old run.0 legs gives.waiting gives.limits gives.chord underway) run.1.1 in record {
       made = later.made;
       paths = later.paths;
@@ -125,7 +127,8 @@ on-paths limits start old (ask wanted None ∷ events) new legs same starts unde
 pub keeps-to-paths : (old : Flow) (limits : Limits) (room : ℕ) (events : List Event) (new : Flow) → IsEmpty old limits room → IsRun old events new
     → KeepsToPaths limits (start_of limits) events new
 keeps-to-paths old limits room events new empty run =
-    let m : Makes limits (start_of limits) old [] (lines_given events) new = on-paths limits (start_of limits) old events new [] empty.limits_are empty.start empty.underway run in
+    let m : Makes limits (start_of limits) old [] (lines_given events) new = on-paths limits
+    (start_of limits) old events new [] empty.limits_are empty.start empty.underway run in
     let so_far : KeepSoFar new.limits m.last = keep-so-far new.limits new.chord (length new.waiting) m.last m.underway.path in record {
       paths = m.paths;
       last = m.last;

@@ -65,7 +65,8 @@ tail_of zero x xs plan = plan.1
 tail_of (suc n) x xs plan = let e : suc n - 1 ≡ n = omega arith in rw e plan.1
 
 -- the line before is planned anew
-written : (k n : ℕ) (xs ys : List Slot) (s : Slot) (p : ℕ) → IsPlan n xs → IsReplanned (suc k) xs ys → k < length ys → s ≡ slice_index_or ys k s → p ≡ most_now s.line (ahead (drop (suc k) ys))
+written : (k n : ℕ) (xs ys : List Slot) (s : Slot) (p : ℕ) → IsPlan n xs → IsReplanned (suc k) xs ys → k < length ys → s ≡ slice_index_or ys k s
+    → p ≡ most_now s.line (ahead (drop (suc k) ys))
     → IsReplanned k xs (slice_set ys k (record { line = s.line; plan = p }))
 written k n [] [] s p plan h within read is = absurd (omega arith)
 written k n [] (y ∷ ys) s p plan h within read is = absurd h
@@ -78,7 +79,8 @@ written (suc k) n (x ∷ xs) (y ∷ ys) s p plan h within read is =
     (h.0, written k (n - 1) xs ys s p (tail_of n x xs plan) h.1 (omega arith) read is)
 
 -- the same, as the loop goes: n lines are left
-pub step : (k planned : ℕ) (xs ys : List Slot) (s : Slot) (after p : ℕ) → 0 < k → k ≤ length ys → IsPlan planned xs → IsReplanned k xs ys → s ≡ slice_index_or ys (k - 1) s → after ≡ ahead (drop k ys) → p ≡ most_now s.line after
+pub step : (k planned : ℕ) (xs ys : List Slot) (s : Slot) (after p : ℕ) → 0 < k → k ≤ length ys → IsPlan planned xs → IsReplanned k xs ys
+    → s ≡ slice_index_or ys (k - 1) s → after ≡ ahead (drop k ys) → p ≡ most_now s.line after
     → IsReplanned (k - 1) xs (slice_set ys (k - 1) (record { line = s.line; plan = p }))
 step zero planned xs ys s after p some within plan h read next is = absurd (omega arith)
 step (suc k) planned xs ys s after p some within plan h read next is =
@@ -86,7 +88,8 @@ step (suc k) planned xs ys s after p some within plan h read next is =
     let read_k : s ≡ slice_index_or ys k s = rw e at read in
     rw e (written k planned xs ys s p plan h (omega arith) read_k (is ∙ ap (λ t. most_now s.line t) next))
 
-pub next : (k : ℕ) (ys : List Slot) (s : Slot) (p : ℕ) → 0 < k → k ≤ length ys → p ≡ ahead (drop (k - 1) (slice_set ys (k - 1) (record { line = s.line; plan = p })))
+pub next : (k : ℕ) (ys : List Slot) (s : Slot) (p : ℕ) → 0 < k → k ≤ length ys
+    → p ≡ ahead (drop (k - 1) (slice_set ys (k - 1) (record { line = s.line; plan = p })))
 next zero ys s p some within = absurd (omega arith)
 next (suc k) ys s p some within = let e : suc k - 1 ≡ k = omega arith in rw e (at_k k ys (omega arith)) where
   at_k : (k : ℕ) (ys : List Slot) → k < length ys → p ≡ ahead (drop k (slice_set ys k (record { line = s.line; plan = p })))
@@ -102,7 +105,8 @@ all_anew (x ∷ xs) [] h = absurd h
 all_anew (x ∷ xs) (y ∷ ys) h = (h.1.1.0, all_anew xs ys h.1.1.1)
 
 -- a square that was planned stays the same: so do all before it
-pub kept : (k n : ℕ) (xs ys : List Slot) (s : Slot) → IsPlan n xs → k < n → IsReplanned (suc k) xs ys → k < length ys → s ≡ slice_index_or ys k s → s.plan ≡ most_now s.line (ahead (drop (suc k) ys))
+pub kept : (k n : ℕ) (xs ys : List Slot) (s : Slot) → IsPlan n xs → k < n → IsReplanned (suc k) xs ys → k < length ys → s ≡ slice_index_or ys k s
+    → s.plan ≡ most_now s.line (ahead (drop (suc k) ys))
     → IsWhole ys
 kept k n [] [] s plan early h within read is = absurd (omega arith)
 kept k n [] (y ∷ ys) s plan early h within read is = absurd h
@@ -112,8 +116,11 @@ kept (suc k) zero (x ∷ xs) (y ∷ ys) s plan early h within read is = absurd (
 kept (suc k) (suc n) (x ∷ xs) (y ∷ ys) s plan early h within read is =
     let line = ap (λ t. t.line) h.0 in
     let square = ap (λ t. t.plan) h.0 in
-    let ahead_same = same_ahead k xs ys h.1 in
-    (square ∙ plan.0 ∙ sym (ap (λ t. most_now t (ahead ys)) line ∙ ap (λ t. most_now x.line t) ahead_same), kept k n xs ys s plan.1 (omega arith) h.1 (omega arith) read is)
+    let ahead_same = same_ahead k xs ys h.1 in (
+      square ∙ plan.0 ∙ sym (ap (λ t. most_now t (ahead ys)) line ∙ ap (λ t. most_now x.line t) ahead_same),
+      kept k n xs ys s plan.1 (omega arith) h.1
+          (omega arith) read is,
+    )
 
 -- a whole plan is one of so many lines
 pub whole_plan : (n : ℕ) (xs : List Slot) → n ≡ length xs → IsWhole xs → IsPlan n xs
@@ -131,7 +138,8 @@ pub all_at : (k : ℕ) (xs ys : List Slot) → k ≡ 0 → IsReplanned k xs ys �
 all_at zero xs ys none h = all_anew xs ys h
 all_at (suc k) xs ys none h = absurd (omega arith)
 
-pub kept_at : (k n : ℕ) (xs ys : List Slot) (s : Slot) (after : ℕ) → IsPlan n xs → k - 1 < n → 0 < k → k ≤ length ys → IsReplanned k xs ys → s ≡ slice_index_or ys (k - 1) s → after ≡ ahead (drop k ys) → s.plan ≡ most_now s.line after
+pub kept_at : (k n : ℕ) (xs ys : List Slot) (s : Slot) (after : ℕ) → IsPlan n xs → k - 1 < n → 0 < k → k ≤ length ys → IsReplanned k xs ys
+    → s ≡ slice_index_or ys (k - 1) s → after ≡ ahead (drop k ys) → s.plan ≡ most_now s.line after
     → IsWhole ys
 kept_at zero n xs ys s after plan early some within h read next is = absurd (omega arith)
 kept_at (suc k) n xs ys s after plan early some within h read next is =

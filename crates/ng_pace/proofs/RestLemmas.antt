@@ -53,8 +53,10 @@ climbs_by true ramp most u to a top ramped last h = let none : to ≡ 0 = last r
 climbs_by false ramp most u to a top ramped last h = omega arith
 
 -- no square from which a rest can be reached is greater than what may be planned at a line
-pub most_at : (line : Line) (u after : ℕ) (lines : List Line) → CanRest u (line ∷ lines) → ((v : ℕ) → CanRest v lines → min v (2 ^ 64 - 1) ≤ after) → min u (2 ^ 64 - 1) ≤ most_now line after
-most_at line u after lines rest later = climbs_by line.last line.ramp line.most u rest.1.0 after rest.0 rest.1.1.0.falls rest.1.1.1.0 (later rest.1.0 rest.1.1.1.1)
+pub most_at : (line : Line) (u after : ℕ) (lines : List Line) → CanRest u (line ∷ lines) → ((v : ℕ) → CanRest v lines → min v (2 ^ 64 - 1) ≤ after)
+    → min u (2 ^ 64 - 1) ≤ most_now line after
+most_at line u after lines rest later = climbs_by line.last line.ramp line.most u rest.1.0 after rest.0 rest.1.1.0.falls rest.1.1.1.0
+    (later rest.1.0 rest.1.1.1.1)
 
 pub most_within : (n : ℕ) (xs : List Slot) → IsPlan n xs → (u : ℕ) → CanRest u (take n (lines_of xs)) → min u (2 ^ 64 - 1) ≤ ahead xs
 most_within zero [] plan u rest = let none : u ≡ 0 = rest in omega arith
@@ -84,5 +86,6 @@ rest_less line to start wanted most h = chosen ((wanted == 0) && nat_le to (star
 -- within the plan a rest can be reached
 pub rest_all : (n : ℕ) (xs : List Slot) → IsPlan n xs → (u : ℕ) → u ≤ ahead xs → CanRest u (lines_of xs)
 rest_all n xs plan u h =
-    let rest : CanRest u (take n (lines_of xs) ++ drop n (lines_of xs)) = rest_more (take n (lines_of xs)) (drop n (lines_of xs)) u (rest_within n xs plan u h) in
+    let rest : CanRest u (take n (lines_of xs) ++ drop n (lines_of xs)) = rest_more (take n (lines_of xs)) (drop n (lines_of xs)) u
+    (rest_within n xs plan u h) in
     rw (take-append-drop n (lines_of xs)) at rest

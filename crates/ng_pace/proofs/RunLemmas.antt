@@ -14,7 +14,8 @@ use Rattle.ng_pace.specs.Run.{Event, put, end, ask, IsRun, items_put, IsPassed, 
 -- what is left of a square after a line
 left_of : (line : Line) (to start wanted : ℕ) → (rest_of line to start wanted ≡ to) ⊎ ((rest_of line to start wanted ≡ 0) × (to ≤ start_square line start))
 left_of line to start wanted = chosen ((wanted == 0) && nat_le to (start_square line start)) refl where
-  chosen : (b : Bool) → (wanted == 0) && nat_le to (start_square line start) ≡ b → ((if b then 0 else to) ≡ to) ⊎ (((if b then 0 else to) ≡ 0) × (to ≤ start_square line start))
+  chosen : (b : Bool) → (wanted == 0) && nat_le to (start_square line start) ≡ b
+      → ((if b then 0 else to) ≡ to) ⊎ (((if b then 0 else to) ≡ 0) × (to ≤ start_square line start))
   chosen true is = inr (refl, grind (arith, nat_tests, is))
   chosen false is = inl refl
 
@@ -59,14 +60,21 @@ no_lines [] h = refl
 no_lines (x ∷ xs) h = absurd (omega arith)
 
 -- nothing is known: nothing is given out, and everything stands still
-pub nothing_left : (old : Flow) (events : List Event) (new : Flow) → IsRun old events new → AsksOnly events → old.waiting ≡ [] → old.motion.known ≡ [] → old.motion.square ≡ 0 → IsGivenOut old events new
-nothing_left old [] new run asks none known rest = record { all = sym (ap (λ t. items_of t ++ items_waiting old.waiting) known ∙ ap items_waiting none); rest = ap (λ t. t.motion.square) run ∙ rest }
+pub nothing_left : (old : Flow) (events : List Event) (new : Flow) → IsRun old events new → AsksOnly events → old.waiting ≡ [] → old.motion.known ≡ []
+    → old.motion.square ≡ 0 → IsGivenOut old events new
+nothing_left old [] new run asks none known rest = record {
+  all = sym (ap (λ t. items_of t ++ items_waiting old.waiting) known
+      ∙ ap items_waiting none);
+  rest = ap (λ t. t.motion.square) run ∙ rest;
+}
 nothing_left old (put item ∷ events) new run asks none known rest = absurd asks
 nothing_left old (end ∷ events) new run asks none known rest = absurd asks
 nothing_left old (ask wanted (Some given) ∷ events) new run asks none known rest = let more = sym known ∙ run.1.0.given_out.order in cc
-nothing_left old (ask wanted None ∷ events) new run asks none known rest = let later : IsGivenOut old events new = nothing_left old events new run.1 asks.1 none known rest in record { all = later.all; rest = later.rest }
+nothing_left old (ask wanted None ∷ events) new run asks none known rest = let later : IsGivenOut old events new = nothing_left old events new run.1 asks.1
+    none known rest in record { all = later.all; rest = later.rest }
 
-pub all_given : (old : Flow) (events : List Event) (new : Flow) → IsRun old events new → AsksOnly events → old.waiting ≡ [] → CanRest old.motion.square old.motion.known
+pub all_given : (old : Flow) (events : List Event) (new : Flow) → IsRun old events new → AsksOnly events → old.waiting ≡ []
+    → CanRest old.motion.square old.motion.known
     → length (all_items old) ≤ length events → IsGivenOut old events new
 all_given old [] new run asks none rests enough =
     let nothing : all_items old ≡ items_of old.motion.known ++ [] = ap (λ t. items_of old.motion.known ++ items_waiting t) none in
@@ -79,7 +87,8 @@ all_given old (end ∷ events) new run asks none rests enough = absurd asks
 all_given old (ask wanted (Some given) ∷ events) new run asks none rests enough =
     let items : all_items old ≡ given.line.item ∷ all_items run.0 = run.1.0.items in
     let count : length (all_items old) ≡ length (given.line.item ∷ all_items run.0) = ap length items in
-    let later : IsGivenOut run.0 events new = all_given run.0 events new run.1.1 asks.1 (run.1.0.waiting ∙ none) run.1.0.given_out.rests (omega (arith, count)) in
+    let later : IsGivenOut run.0 events new = all_given run.0 events new run.1.1 asks.1 (run.1.0.waiting ∙ none) run.1.0.given_out.rests
+    (omega (arith, count)) in
     record { all = ap (λ t. given.line.item ∷ t) later.all ∙ sym items; rest = later.rest }
 all_given old (ask wanted None ∷ events) new run asks none rests enough =
     let known : old.motion.known ≡ [] = none_known old.motion wanted asks.0 run.0 in
@@ -114,7 +123,8 @@ waits_still : (old : Motion) (wanted : ℕ) → CanRest old.square old.known →
 waits_still old wanted rests (inl none) = rw none at rests
 waits_still old wanted rests (inr still) = still.0
 
-stops : (old : Flow) (events : List Event) (new : Flow) → IsRun old events new → HoldsOnly events → CanRest old.motion.square old.motion.known → length old.motion.known ≤ length events → new.motion.square ≡ 0
+stops : (old : Flow) (events : List Event) (new : Flow) → IsRun old events new → HoldsOnly events → CanRest old.motion.square old.motion.known
+    → length old.motion.known ≤ length events → new.motion.square ≡ 0
 stops old [] new run holds rests enough = ap (λ t. t.motion.square) run ∙ no_line old.motion.square old.motion.known (omega arith) rests
 stops old (put item ∷ events) new run holds rests enough = absurd holds
 stops old (end ∷ events) new run holds rests enough = absurd holds
@@ -123,5 +133,6 @@ stops old (ask wanted (Some given) ∷ events) new run holds rests enough =
     stops run.0 events new run.1.1 holds.1 run.1.0.given_out.rests (omega (arith, count, enough))
 stops old (ask wanted None ∷ events) new run holds rests enough = stays old events new run.1 holds.1 (waits_still old.motion wanted rests run.0)
 
-pub stopped : (old : Flow) (events : List Event) (new : Flow) → IsRun old events new → HoldsOnly events → CanRest old.motion.square old.motion.known → length old.motion.known ≤ length events → IsStopped events new
+pub stopped : (old : Flow) (events : List Event) (new : Flow) → IsRun old events new → HoldsOnly events → CanRest old.motion.square old.motion.known
+    → length old.motion.known ≤ length events → IsStopped events new
 stopped old events new run holds rests enough = record { falls = falls old events new run holds; rest = stops old events new run holds rests enough }

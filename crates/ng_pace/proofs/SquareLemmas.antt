@@ -16,7 +16,8 @@ pub record IsChosen (line : Line) (square start wanted from to plan after : ℕ)
   pub greatest : (other : ℕ) → FollowsWithin line from wanted after other → other ≤ to
   pub size : wanted < 2 ^ 64
 
-hasty_standing : (line : Line) (square start wanted from to plan after : ℕ) (lines : List Line) → IsChosen line square start wanted from to plan after → Stands line
+hasty_standing : (line : Line) (square start wanted from to plan after : ℕ) (lines : List Line) → IsChosen line square start wanted from to plan after
+    → Stands line
     → IsHasty line square start wanted from to lines
 hasty_standing line square start wanted from to plan after lines passed stands =
     let at : from ≡ 0 = omega (arith, passed.within, passed.planned, stands.0) in
@@ -42,7 +43,8 @@ some_of n [] none looks = refl
 some_of zero (x ∷ xs) none looks = ap lines_of (looks.some refl)
 some_of (suc n) (x ∷ xs) none looks = cc
 
-hasty_planned : (line : Line) (square start wanted from to plan n : ℕ) (slots : List Slot) → IsChosen line square start wanted from to plan (ahead slots) → IsPlan n slots
+hasty_planned : (line : Line) (square start wanted from to plan n : ℕ) (slots : List Slot) → IsChosen line square start wanted from to plan (ahead slots)
+    → IsPlan n slots
     → plan ≡ most_now line (ahead slots) → LooksAhead n slots → IsHasty line square start wanted from to (lines_of slots)
 hasty_planned line square start wanted from to plan n slots passed planned best looks =
     let many : n ≤ length slots = planned_within n slots planned in
@@ -58,7 +60,15 @@ hasty_planned line square start wanted from to plan n slots passed planned best 
           is_wanted = omega (arith, passed.starts rest);
           rests = rest_at line from (ahead slots) (take n (lines_of slots)) (omega (arith, passed.within, passed.planned)) (rest_within n slots planned);
         };
-        greatest = λ other may. omega (arith, passed.starts rest, passed.size, may.starts, may.is_wanted, most_at line other (ahead slots) (take n (lines_of slots)) may.rests (most_within n slots planned));
+        greatest = λ other may. omega (
+          arith,
+          passed.starts rest,
+          passed.size,
+          may.starts,
+          may.is_wanted,
+          most_at line other (ahead slots)
+              (take n (lines_of slots)) may.rests (most_within n slots planned),
+        );
       };
       follows = record {
         holds = record {
@@ -76,7 +86,10 @@ hasty_planned line square start wanted from to plan n slots passed planned best 
       };
     }
 
-pub hasty : (line : Line) (square start wanted from to plan n : ℕ) (slots : List Slot) → IsChosen line square start wanted from to plan (ahead slots) → IsPlan n slots
+pub hasty : (line : Line) (square start wanted from to plan n : ℕ) (slots : List Slot) → IsChosen line square start wanted from to plan (ahead slots)
+    → IsPlan n slots
     → Stands line ⊎ ((plan ≡ most_now line (ahead slots)) × LooksAhead n slots) → IsHasty line square start wanted from to (lines_of slots)
-hasty line square start wanted from to plan n slots passed planned (inl stands) = hasty_standing line square start wanted from to plan (ahead slots) (lines_of slots) passed stands
-hasty line square start wanted from to plan n slots passed planned (inr looks) = hasty_planned line square start wanted from to plan n slots passed planned looks.0 looks.1
+hasty line square start wanted from to plan n slots passed planned (inl stands) = hasty_standing line square start wanted from to plan (ahead slots)
+    (lines_of slots) passed stands
+hasty line square start wanted from to plan n slots passed planned (inr looks) = hasty_planned line square start wanted from to plan n slots passed planned
+    looks.0 looks.1

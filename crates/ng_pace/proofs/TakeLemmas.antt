@@ -21,7 +21,8 @@ within : (n : ℕ) (x : Slot) (xs : List Slot) → IsPlan n (x ∷ xs) → x.pla
 within zero x xs plan = let none : x.plan ≡ 0 = plan.0 in omega arith
 within (suc n) x xs plan = let square : x.plan ≡ most_now x.line (ahead xs) = plan.0 in omega arith
 
-greatest : (n : ℕ) (x : Slot) (xs : List Slot) → IsPlan n (x ∷ xs) → IsFresh n (x ∷ xs) → Stands x.line ⊎ ((x.plan ≡ most_now x.line (ahead xs)) × LooksAhead (n - 1) xs)
+greatest : (n : ℕ) (x : Slot) (xs : List Slot) → IsPlan n (x ∷ xs) → IsFresh n (x ∷ xs)
+    → Stands x.line ⊎ ((x.plan ≡ most_now x.line (ahead xs)) × LooksAhead (n - 1) xs)
 greatest n x xs plan (inl stands) = inl stands
 greatest zero x xs plan (inr looks) = absurd (omega (arith, looks.0))
 greatest (suc n) x xs plan (inr looks) = inr (plan.0, looks.1)
@@ -30,7 +31,8 @@ rest_of_plan : (n : ℕ) (x : Slot) (xs : List Slot) → IsPlan n (x ∷ xs) →
 rest_of_plan zero x xs plan = plan.1
 rest_of_plan (suc n) x xs plan = let e : suc n - 1 ≡ n = omega arith in rw e plan.1
 
-pub taken : (old slots new : List Slot) (n m : ℕ) (result : Option Slot) → m ≡ n - 1 → IsPlan n slots → IsFresh n slots → lines_of slots ≡ lines_of old → ahead old ≤ ahead slots → slots ≡ option_to_list result ++ new
+pub taken : (old slots new : List Slot) (n m : ℕ) (result : Option Slot) → m ≡ n - 1 → IsPlan n slots → IsFresh n slots → lines_of slots ≡ lines_of old
+    → ahead old ≤ ahead slots → slots ≡ option_to_list result ++ new
     → IfSome result (λ slot. IsTaken old new m slot)
 taken old slots new n m None less plan fresh lines grows first = tt
 taken old slots new n m (Some x) less plan fresh lines grows first =
@@ -44,7 +46,8 @@ taken old slots new n m (Some x) less plan fresh lines grows first =
     }
 
 -- of nothing, nothing is planned
-pub idle : (slots new : List Slot) (n : ℕ) (result : Option Slot) → IsPlan n slots → slots ≡ option_to_list result ++ new → IfNone result (new ≡ []) → IfNone result (n - 1 ≡ 0)
+pub idle : (slots new : List Slot) (n : ℕ) (result : Option Slot) → IsPlan n slots → slots ≡ option_to_list result ++ new → IfNone result (new ≡ [])
+    → IfNone result (n - 1 ≡ 0)
 idle slots new n None plan first none =
     let empty : slots ≡ [] = first ∙ none in
     let zero_n : n ≡ 0 = rw empty at plan in omega arith

@@ -1,5 +1,6 @@
 //! The pacer: lines in, and out again with their times.
-ghost use Rattle.std.specs.Prelude.{◌≡◌, ◌↔◌, ◌⊎◌, ◌≤◌, ◌<◌, ◌++◌, ◌∷◌, [], length, nat_le, Err, IfOk, IfErr, IfSome, IfNone};
+ghost use Rattle.std.specs.Prelude.{◌≡◌, ◌↔◌, ◌⊎◌, ◌≤◌, ◌<◌, ◌++◌, ◌∷◌, [], length, nat_le};
+ghost use Rattle.std.specs.Prelude.{Err, IfOk, IfErr, IfSome, IfNone};
 ghost use Rattle.ng_pace.specs.Paced.{IsGiven, Waits};
 
 use crate::fault::PaceFault;

@@ -13,7 +13,8 @@ loop-k-init g c =
 
 pub loop-k-preserved : goal.loop-k-preserved
 loop-k-preserved g c = record {
-  anew = step c.loop-k.k c.args.planned c.args.slots.now.items c.loop-k.slots.items c.index.result.now c.loop-k.after c.best_square-square.result (omega arith) c.loop-k.invariant.within c.requires c.loop-k.invariant.anew (search rules) c.loop-k.invariant.next c.best_square-square.ensures;
+  anew = step c.loop-k.k c.args.planned c.args.slots.now.items c.loop-k.slots.items c.index.result.now c.loop-k.after c.best_square-square.result
+      (omega arith) c.loop-k.invariant.within c.requires c.loop-k.invariant.anew (search rules) c.loop-k.invariant.next c.best_square-square.ensures;
   next = next c.loop-k.k c.loop-k.slots.items c.index.result.now c.best_square-square.result (omega arith) c.loop-k.invariant.within;
   within = search rules;
   room = search rules;
@@ -29,7 +30,9 @@ pub returns-after-loop-k-clause-grows : goal.returns-after-loop-k-clause-grows
 returns-after-loop-k-clause-grows g c = grows c.loop-k.k c.args.slots.now.items c.loop-k.slots.items c.loop-k.invariant.anew
 
 pub returns-then-square-slot-clause-plan : goal.returns-then-square-slot-clause-plan
-returns-then-square-slot-clause-plan g c = kept_at c.loop-k.k c.args.planned c.args.slots.now.items c.loop-k.slots.items c.index.result.now c.loop-k.after c.requires (omega arith) (omega arith) c.loop-k.invariant.within c.loop-k.invariant.anew (search rules) c.loop-k.invariant.next (sym c.if-square-slot.true ∙ c.best_square-square.ensures)
+returns-then-square-slot-clause-plan g c = kept_at c.loop-k.k c.args.planned c.args.slots.now.items c.loop-k.slots.items c.index.result.now c.loop-k.after
+    c.requires (omega arith) (omega arith) c.loop-k.invariant.within c.loop-k.invariant.anew (search rules) c.loop-k.invariant.next
+    (sym c.if-square-slot.true ∙ c.best_square-square.ensures)
 
 pub returns-then-square-slot-clause-lines : goal.returns-then-square-slot-clause-lines
 returns-then-square-slot-clause-lines g c = same_lines c.loop-k.k c.args.slots.now.items c.loop-k.slots.items c.loop-k.invariant.anew

@@ -13,7 +13,10 @@ within result least axis accel square is less stops = case (cases_lt 128 result)
 
 pub returns-clause-stops : goal.returns-clause-stops
 returns-clause-stops c = record {
-  x = within c.max.result c.min-2.result c.stopping_distance-x.result _ _ c.max.ensures (omega (arith, c.min.ensures, c.min-2.ensures)) c.stopping_distance-x.ensures.stops;
-  y = within c.max.result c.min-2.result c.stopping_distance-y.result _ _ c.max.ensures (omega (arith, c.min.ensures, c.min-2.ensures)) c.stopping_distance-y.ensures.stops;
-  z = within c.max.result c.min-2.result c.stopping_distance-z.result _ _ c.max.ensures (omega (arith, c.min.ensures, c.min-2.ensures)) c.stopping_distance-z.ensures.stops;
+  x = within c.max.result c.min-2.result c.stopping_distance-x.result _ _ c.max.ensures (omega (arith, c.min.ensures, c.min-2.ensures))
+      c.stopping_distance-x.ensures.stops;
+  y = within c.max.result c.min-2.result c.stopping_distance-y.result _ _ c.max.ensures (omega (arith, c.min.ensures, c.min-2.ensures))
+      c.stopping_distance-y.ensures.stops;
+  z = within c.max.result c.min-2.result c.stopping_distance-z.result _ _ c.max.ensures (omega (arith, c.min.ensures, c.min-2.ensures))
+      c.stopping_distance-z.ensures.stops;
 }

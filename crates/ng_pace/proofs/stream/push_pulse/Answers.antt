@@ -7,12 +7,17 @@ use Rattle.ng_pace.proofs.StepLemmas.{turns-on}
 use Rattle.ng_pace.proofs.stream.push_pulse.Goals as goal
 
 pub returns-clause-adds : goal.returns-clause-adds
-returns-clause-adds g c = rw (← c.own_square-own.ensures, ← c.min-feed.ensures) (pulse_adds c.args.pacer.now c.turn.new.pacer c.extend.new.pacer c.args.waiting.now.items c.turn.new.waiting.items c.push_back_reserved.new.self.items c.extend.new.waiting.items (record { item = c.args.item; feed = c.min-feed.result }) c.turn.ensures.keeps c.push_back_reserved.ensures.items c.extend.ensures.keeps)
+returns-clause-adds g c = rw (← c.own_square-own.ensures, ← c.min-feed.ensures)
+    (pulse_adds c.args.pacer.now c.turn.new.pacer c.extend.new.pacer c.args.waiting.now.items c.turn.new.waiting.items c.push_back_reserved.new.self.items
+    c.extend.new.waiting.items (record { item = c.args.item; feed = c.min-feed.result }) c.turn.ensures.keeps c.push_back_reserved.ensures.items
+    c.extend.ensures.keeps)
 
 pub returns-clause-advances : goal.returns-clause-advances
 returns-clause-advances g c = λ legs path begun.
     let turned = c.turn.ensures.turns legs path begun in
     let pushed : Waiting = record { item = c.args.item; feed = c.min-feed.result } in
-    let one : length c.push_back_reserved.new.self.items ≡ length c.turn.new.waiting.items + 1 = rw c.push_back_reserved.ensures.items (length-append c.turn.new.waiting.items (pushed ∷ [])) in
-    turns-on c.args.limits.now c.args.pacer.now c.turn.new.pacer c.extend.new.pacer c.turn.new.chord c.extend.new.chord (length c.turn.new.waiting.items) (length c.extend.new.waiting.items) c.args.pulse.now (pulses_of legs) (lines_of legs) turned
+    let one : length c.push_back_reserved.new.self.items ≡ length c.turn.new.waiting.items + 1 = rw c.push_back_reserved.ensures.items
+    (length-append c.turn.new.waiting.items (pushed ∷ [])) in
+    turns-on c.args.limits.now c.args.pacer.now c.turn.new.pacer c.extend.new.pacer c.turn.new.chord c.extend.new.chord (length c.turn.new.waiting.items)
+    (length c.extend.new.waiting.items) c.args.pulse.now (pulses_of legs) (lines_of legs) turned
     (c.extend.ensures.advances (length c.turn.new.waiting.items) turned.leg turned.rest turned.path one turned.straight turned.few)

@@ -2,7 +2,9 @@ use Rattle.ng_pace.proofs.FlowLemmas.{still_adds, still_last}
 use Rattle.ng_pace.proofs.stream.push_still.Goals as goal
 
 pub returns-clause-adds : goal.returns-clause-adds
-returns-clause-adds g c = rw (c.push.ensures, c.still.ensures) (still_adds c.args.item c.args.pacer.now c.finish.new.pacer c.args.waiting.now.items c.finish.new.waiting.items c.finish.ensures.keeps c.finish.ensures.none)
+returns-clause-adds g c = rw (c.push.ensures, c.still.ensures) (still_adds c.args.item c.args.pacer.now c.finish.new.pacer c.args.waiting.now.items
+    c.finish.new.waiting.items c.finish.ensures.keeps c.finish.ensures.none)
 
 pub returns-clause-stands : goal.returns-clause-stands
-returns-clause-stands g c = still_last c.finish.new.pacer c.push.new.self c.finish.new.waiting.items c.still.result c.args.item c.push.ensures c.still.ensures c.finish.ensures.none
+returns-clause-stands g c = still_last c.finish.new.pacer c.push.new.self c.finish.new.waiting.items c.still.result c.args.item c.push.ensures
+    c.still.ensures c.finish.ensures.none

@@ -15,4 +15,9 @@ invariant_of-self g c = rw c.push_back_reserved.ensures.items (record {
 })
 
 pub returns : goal.returns
-returns g c = rw (← c.self.view_is, c.push_back_reserved.ensures.items, lines_of-push c.self.inside.slots.items c.args.line, c.push_back_reserved.ensures.capacity) refl
+returns g c = rw (
+  ← c.self.view_is,
+  c.push_back_reserved.ensures.items,
+  lines_of-push c.self.inside.slots.items c.args.line,
+  c.push_back_reserved.ensures.capacity,
+) refl

@@ -18,8 +18,22 @@ invariant_of-self g c = record {
 
 pub returns : goal.returns
 returns g c =
-    let old : Flow = record { motion = c.self.inside.pacer; waiting = timed_waiting c.self.inside.waiting.items; before = c.self.inside.shape.before; limits = c.self.inside.limits; chord = c.self.inside.shape.chord } in
-    let new : Flow = record { motion = c.finish.new.pacer; waiting = timed_waiting c.finish.new.waiting.items; before = c.finish.new.shape.before; limits = c.self.inside.limits; chord = c.finish.new.shape.chord } in
+    let old : Flow = record {
+      motion = c.self.inside.pacer;
+      waiting = timed_waiting c.self.inside.waiting.items;
+      before =
+          c.self.inside.shape.before;
+      limits = c.self.inside.limits;
+      chord = c.self.inside.shape.chord;
+    } in
+    let new : Flow = record {
+      motion = c.finish.new.pacer;
+      waiting = timed_waiting c.finish.new.waiting.items;
+      before = c.finish.new.shape.before;
+      limits =
+          c.self.inside.limits;
+      chord = c.finish.new.shape.chord;
+    } in
     let items : all_items new ≡ all_items old = end_items old new (settles_end c.finish.ensures.keeps c.finish.ensures.none) (rw c.finish.ensures.none refl) in
     rw (← c.self.view_is) (record {
       items = items;
@@ -29,7 +43,8 @@ returns g c =
       rests = settles_rest c.finish.ensures.keeps.settles c.self.invariant.rests;
       limits = refl;
       path = λ legs underway.
-          let path : IsPath c.self.inside.limits 0 c.self.inside.shape.chord (length c.self.inside.waiting.items) legs = rw (length-timed_waiting c.self.inside.waiting.items) at underway.path in
+          let path : IsPath c.self.inside.limits 0 c.self.inside.shape.chord (length c.self.inside.waiting.items) legs = rw
+          (length-timed_waiting c.self.inside.waiting.items) at underway.path in
           let P : ℕ → Type 0 = λ stop. Finishes c.self.inside.limits stop c.self.inside.pacer c.finish.new.pacer (pulses_of legs) (lines_of legs) in
           rest-flow old new legs [] underway (record {
             mid = c.finish.new.pacer;
