@@ -71,4 +71,3 @@ def after_percent(text: bytes) -> int:
         if line.strip():
             return begin if line.strip() == b"%" else 0
     return 0
-
