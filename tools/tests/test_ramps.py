@@ -10,6 +10,11 @@ from pathlib import Path
 sys.path.insert(0, str(Path(__file__).resolve().parent))
 
 from player_support import NO_RAMPS, InC, InProcess, PlayerTest, Sanitized  # noqa: E402
+from session_support import FIRST, TOOLS, ngc  # noqa: E402
+
+EXAMPLES = sorted((TOOLS.parent / "examples").glob("*.ngc"))
+COARSE = (FIRST.replace("[1000, 1000, 1000]", "[50000, 50000, 50000]").replace("[50000000]", "[50000000, 62500000, 0]")
+          .replace("period_us = 50\n", "period_us = 100\n"))
 
 MOTION = """[motion]
 accel_mm_s2 = [500, 500, 500] # of each axis
@@ -217,6 +222,28 @@ class Same(InC, PlayerTest):
                  "position")
         self.assertEqual(self.tool("ngc-player", *words).returncode, 0)
         self.assertEqual(Path("c").read_bytes(), Path("python").read_bytes())
+        self.assertEqual(Path("c").read_bytes(), self.paced())
+
+    def paced(self) -> bytes:
+        """What `ngc pace` says of OUT."""
+        with open("out", "rb") as out:
+            words = [ngc(), "pace", "first.toml", "motion.toml"]
+            return subprocess.run(words, stdin=out, capture_output=True, check=True).stdout
+
+    def test_as_ngc(self) -> None:
+        """Of all examples the players' times are those of `ngc pace`, to the nanosecond."""
+        Path("first.toml").write_text(COARSE)
+        Path("motion.toml").write_text(MOTION)
+        for example in EXAMPLES:
+            for path in ("mill.dev", "out", "c", "position"):
+                Path(path).unlink(missing_ok=True)
+            self.device()
+            program = example.read_text()
+            self.run_ngc(f"tool 1 50\ntool 2 62.5\ntool 3 0\nload {len(program.encode())}\n{program}start\n"
+                         + "tick 1000000\ncontinue\n" * 3)
+            self.play("--untimed", "--no-ask-tool", "--machine", "motion.toml", "--times", "c")
+            self.assertEqual(Path("c").read_bytes(), self.paced(), example.name)
+            self.assertGreater(Path("c").stat().st_size, 1000, example.name)
 
 
 del Ramps
