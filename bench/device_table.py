@@ -1,7 +1,7 @@
 #!/usr/bin/env python3
 """Compares the tables of docs/DEVICE.md with the definitions, the reader and the writer of crates/ng_layout, and with
-tools/ngc_tools/formats/device.py: all must have the same numbers at the same bytes, in the same widths, with the same codes and
-ranges.
+tools/ngc_tools/formats/device.py: all must have the same numbers at the same bytes, in the same widths, with the same
+codes and ranges.
 
     bench/device_table.py
 
