@@ -1,15 +1,21 @@
 -- The names of a table, as the keys of its map.
-use Rattle.std.proofs.Common.{◌≡◌, Bool, List, [], ◌∷◌, ◌||◌, not, String, Global, string_bytes, refl, ap}
-use Rattle.std.specs.List.{list_any}
+use Rattle.std.proofs.Common.{◌≡◌, ℕ, Bool, true, false, List, [], ◌∷◌, Option, Some, not, String, Global, string_bytes, ap, refl, cond}
+use Rattle.std.specs.Prelude.{option_map}
+use Rattle.std.specs.List.{find}
 use Rattle.std.specs.Map.{keys_of}
 use Rattle.toml.proofs.Views.{Entry}
 use Rattle.toml.specs.View.{members_view}
 use Rattle.ng_motion.specs.Keys.{is_key}
 use Rattle.ng_settings.specs.Causes.{names}
 
-abbrev is_unknown : String Global → Bool
+abbrev pub is_unknown : String Global → Bool
 is_unknown name = not (is_key (string_bytes name))
 
-pub unknown_in_names : (es : List Entry) → list_any (λ (name : String Global). not (is_key (string_bytes name))) (keys_of es) ≡ list_any (λ name. not (is_key name)) (names (members_view es))
+by_test : (name : List ℕ) (key : String Global) (b : Bool) (keys : Option (String Global)) (others : Option (List ℕ)) → string_bytes key ≡ name → option_map string_bytes keys ≡ others
+    → option_map string_bytes (cond b (Some key) keys) ≡ cond b (Some name) others
+by_test name key true keys others same is = ap Some same
+by_test name key false keys others same is = is
+
+pub unknown_in_names : (es : List Entry) → option_map string_bytes (find is_unknown (keys_of es)) ≡ find (λ name. not (is_key name)) (names (members_view es))
 unknown_in_names [] = refl
-unknown_in_names (e ∷ es) = ap (λ (rest : Bool). not (is_key (string_bytes e.0)) || rest) (unknown_in_names es)
+unknown_in_names (e ∷ es) = by_test _ e.0 (is_unknown e.0) (find is_unknown (keys_of es)) _ refl (unknown_in_names es)

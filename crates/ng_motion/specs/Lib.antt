@@ -1,4 +1,5 @@
 pub mod Keys
+pub mod Names
 pub mod Texts
 pub mod Values
 pub mod Table

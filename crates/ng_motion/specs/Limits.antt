@@ -19,7 +19,7 @@ IsMotion root motion = get_member (codes "motion") root ≡ Some (table motion)
 abbrev pub GivesLimits : Members → Geometry → Limits → Type 0
 GivesLimits motion machine limits = (given : Given) × Gives motion given × AreLimits given machine limits
 
--- a fault of [motion]
+-- the first fault of [motion]
 abbrev pub IsMotionFault : Members → Geometry → MotionFault → Type 0
 IsMotionFault motion machine fault = IsTableFault motion fault ⊎ ((given : Given) × Gives motion given × IsStepFault given machine fault)
 

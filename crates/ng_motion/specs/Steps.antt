@@ -46,10 +46,10 @@ pub record AreLimits (given : Given) (machine : Geometry) (limits : Limits) : Ty
   pub accel_stays : EachStays steps_of_accel given.accel machine
   pub rate_stays : EachStays steps_of_rate given.rate machine
 
--- what is given in millimetres is too little in steps
+-- what is given in millimetres is too little in steps: the first that is
 abbrev pub IsStepFault : Given → Geometry → MotionFault → Type 0
 IsStepFault given machine TooSlowToStart = OneIsLost steps_of_accel given.accel machine
-IsStepFault given machine TooSlow = OneIsLost steps_of_rate given.rate machine
+IsStepFault given machine TooSlow = EachStays steps_of_accel given.accel machine × OneIsLost steps_of_rate given.rate machine
 IsStepFault given machine _ = ⊥
 
 -- numbers whose steps fit 64 bits

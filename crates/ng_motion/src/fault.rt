@@ -1,7 +1,8 @@
 ghost use Rattle.std.specs.Prelude.{◌≡◌};
-ghost use Rattle.ng_motion.specs.Texts.{fault_text};
+ghost use Rattle.ng_motion.specs.Texts.{cause_text, name_told};
 
 use crate::key::Key;
+use crate::name::KeyName;
 
 /// Why a text gives no limits (own).
 #[derive(Clone, Copy, Debug, PartialEq, Eq)]
@@ -11,8 +12,8 @@ pub enum MotionFault {
     OutOfMemory,
     /// There is no table `[motion]`.
     NoTable,
-    /// The table has a key that it doesn't have.
-    UnknownKey,
+    /// The table has a key that is none of its five: of those the first, in the order of their names.
+    UnknownKey(KeyName),
     /// There is no `accel_mm_s2`.
     NoAcceleration,
     /// The value of a key has another type, or is outside the key's range.
@@ -24,15 +25,15 @@ pub enum MotionFault {
 }
 
 impl MotionFault {
-    /// The key, if it is that of one, and what is wrong with it; the range, if it is outside.
-    pub fn text(self) -> &'static [u8]
-        ensures { result.now ≡ fault_text self }
+    /// The key, if it is that of one, and what is wrong with it; the range, if it is outside. Behind it comes `name`.
+    pub fn text(&self) -> &'static [u8]
+        ensures { result.now ≡ cause_text self.now }
     {
         match self {
             MotionFault::NotToml => b": not TOML",
             MotionFault::OutOfMemory => b": out of memory",
             MotionFault::NoTable => b" motion: missing",
-            MotionFault::UnknownKey => b" motion: has a key that isn't one of its five",
+            MotionFault::UnknownKey(_) => b" motion: has a key that isn't one of its five: ",
             MotionFault::NoAcceleration => b" accel_mm_s2: missing",
             MotionFault::OutOfRange(Key::Accel) => {
                 b" accel_mm_s2: not three whole numbers from 1 to 1000000"
@@ -49,6 +50,16 @@ impl MotionFault {
             MotionFault::OutOfRange(Key::Most) => b" most_percent: not 100",
             MotionFault::TooSlowToStart => b" accel_mm_s2: less than a step a second, each second",
             MotionFault::TooSlow => b" rate_mm_min: less than a step a second",
+        }
+    }
+
+    /// The key that is none; nothing for any other fault.
+    pub fn name(&self) -> &[u8]
+        ensures { result.now ≡ name_told self.now }
+    {
+        match self {
+            MotionFault::UnknownKey(name) => name.as_slice(),
+            _ => b"",
         }
     }
 }

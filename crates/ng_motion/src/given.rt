@@ -1,13 +1,14 @@
 //! What the table gives.
-ghost use Rattle.std.specs.Prelude.{◌≡◌, ◌⊎◌, MatchResult, Option, Some, None, option_map};
+ghost use Rattle.std.specs.Prelude.{◌≡◌, ◌⊎◌, MatchOption, MatchResult, Option, Some, None, option_map};
 ghost use Rattle.toml.specs.Data.{get_member};
 ghost use Rattle.toml.specs.View.{table_view, view};
 ghost use Rattle.ng_motion.specs.Keys.{is_key};
 ghost use Rattle.ng_motion.specs.Values.{HasAxes, HasWhole};
-ghost use Rattle.ng_motion.specs.Table.{AxesAt, AxesOrZeros, Gives, IsTableFault, IsUnfit, WholeAt, WholeOr, has_unknown_key};
+ghost use Rattle.ng_motion.specs.Table.{AxesAt, AxesOrZeros, Gives, GivesBefore, IsTableFault, IsUnfit, WholeAt, WholeOr, unknown_key};
 
 use crate::fault::MotionFault;
 use crate::key::Key;
+use crate::name::KeyName;
 use crate::values::{PerAxis, axes_in, whole_in};
 use toml::{Table, Value};
 
@@ -32,11 +33,15 @@ fn is_key(name: &str) -> bool
         || name == "most_percent"
 }
 
-/// Whether a table has a name that isn't a key.
-fn has_unknown_key(table: &Table) -> bool
-    ensures { result ≡ has_unknown_key (table_view table.now) }
+/// The first name of a table that isn't a key.
+fn unknown_key(table: &Table) -> Option<KeyName>
+    ensures { MatchOption result (unknown_key (table_view table.now) ≡ None)
+        (λ name. IsTableFault (table_view table.now) (MotionFault.UnknownKey name)) }
 {
-    table.keys().any(|name| !is_key(name.as_str()))
+    match table.keys().find(|name| !is_key(name.as_str())) {
+        Some(name) => Some(KeyName::of(name.as_str().as_bytes())),
+        None => None,
+    }
 }
 
 /// The value under a key.
@@ -104,6 +109,7 @@ fn whole_or(table: &Table, key: Key, default: u64) -> Result<u64, MotionFault>
 
 /// The acceleration, which has to be there.
 fn acceleration(table: &Table) -> Result<PerAxis, MotionFault>
+    requires { unknown_key (table_view table.now) ≡ None }
     ensures { MatchResult result (λ axes. AxesAt (table_view table.now) Key.Accel (Some axes))
         (IsTableFault (table_view table.now)) }
 {
@@ -118,8 +124,8 @@ fn acceleration(table: &Table) -> Result<PerAxis, MotionFault>
 pub(crate) fn read_given(table: &Table) -> Result<Given, MotionFault>
     ensures { MatchResult result (Gives (table_view table.now)) (IsTableFault (table_view table.now)) }
 {
-    if has_unknown_key(table) {
-        return Err(MotionFault::UnknownKey);
+    if let Some(name) = unknown_key(table) {
+        return Err(MotionFault::UnknownKey(name));
     }
     let accel = match acceleration(table) {
         Ok(accel) => accel,

@@ -11,10 +11,12 @@
 mod fault;
 mod given;
 mod key;
+mod name;
 mod reading;
 mod steps;
 mod values;
 
 pub use fault::MotionFault;
 pub use key::Key;
+pub use name::KeyName;
 pub use reading::limits;

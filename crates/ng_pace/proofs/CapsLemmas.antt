@@ -4,7 +4,7 @@ use Rattle.std.proofs.Math.Nat.{lt-div-mul-add, mul-le-mul_left, mul-le-mul_righ
 use Rattle.std.proofs.lemmas.Nat.{le-div, mul-le}
 use Rattle.std.proofs.lemmas.Bool.{cases_lt}
 use Rattle.ng_pace.specs.declared.limits.Limits.{Limits}
-use Rattle.ng_pace.specs.Axes.{IsFullAlone, IsFullCorner, IsFullRate, IsQuarterRamp, IsAlong, IsCorner, IsNearCorner}
+use Rattle.ng_pace.specs.Axes.{AreMostPulses, IsFarFromCorner, IsFullAlone, IsFullCorner, IsFullRate, IsQuarterRamp, IsAlong, IsCorner, IsNearCorner}
 
 -- a cap that is a quotient by the slope
 pub by_quotient : (slope number total q cap : ℕ) → slope * q ≤ number → number ≤ total → cap ≤ q * 65536 → slope * cap ≤ total * 65536
@@ -232,3 +232,103 @@ quarter-ramp limits slopes x y z m is at_x at_y at_z = by_case (least_of x y z m
   by_case (inl e) = rw e (elim at_x [ inl great ↦ inl great | inr full ↦ inr (inl full) ])
   by_case (inr (inl e)) = rw e (elim at_y [ inl great ↦ inl great | inr full ↦ inr (inr (inl full)) ])
   by_case (inr (inr e)) = rw e (elim at_z [ inl great ↦ inl great | inr full ↦ inr (inr (inr full)) ])
+
+-- over one pulse more an axis is too far from its lines
+pub far_of : (limits : Limits) (axis turn product square eighth by_slack by_start : ℕ) → 0 < turn → turn ≤ 2097152 → 0 < slice_index limits.accel axis
+    → slice_index limits.accel axis ≤ 1000000000 → product ≡ min (limits.slack * 8388608) 18446744073709551615
+    → square ≡ min (slice_index limits.start axis * slice_index limits.start axis) 18446744073709551615
+    → eighth ≡ min (square / slice_index limits.accel axis * 1048576) 18446744073709551615 → by_slack ≡ product / turn → by_start ≡ eighth / turn
+    → (4294967296 ≤ max by_slack by_start) ⊎ IsFarFromCorner limits axis turn 1048576 (max by_slack by_start + 1)
+far_of limits axis turn product square eighth by_slack by_start some flat more few product_is square_is eighth_is slack_is start_is =
+    by_case (cases_lt (max by_slack by_start) 4294967296)
+  where
+    accel : ℕ
+    accel = slice_index limits.accel axis
+
+    start : ℕ
+    start = slice_index limits.start axis
+
+    by_case : (max by_slack by_start < 4294967296) ⊎ (4294967296 ≤ max by_slack by_start)
+        → (4294967296 ≤ max by_slack by_start) ⊎ IsFarFromCorner limits axis turn 1048576 (max by_slack by_start + 1)
+    by_case (inr great) = inl great
+    by_case (inl small) = inr (record { by_slack = far_slack; by_start = far_start }) where
+      next_slack : product < product / turn * turn + turn
+      next_slack = lt-div-mul-add some
+
+      next_start : eighth < eighth / turn * turn + turn
+      next_start = lt-div-mul-add some
+
+      reach : turn * 4294967296 ≤ 2097152 * 4294967296
+      reach = mul-le-mul_right 4294967296 flat
+
+      bound_slack : product / turn * turn ≤ (max by_slack by_start) * turn
+      bound_slack = mul-le-mul_right turn (omega (arith, slack_is))
+
+      bound_start : eighth / turn * turn ≤ (max by_slack by_start) * turn
+      bound_start = mul-le-mul_right turn (omega (arith, start_is))
+
+      below : (max by_slack by_start) * turn ≤ 4294967296 * turn
+      below = mul-le-mul_right turn (omega arith)
+
+      far_slack : 8 * limits.slack * 1048576 < turn * (max by_slack by_start + 1)
+      far_slack = omega (arith, product_is, next_slack, bound_slack, below, reach, flat)
+
+      whole : eighth ≡ square / accel * 1048576
+      whole = omega (arith, eighth_is, next_start, bound_start, below, reach, flat)
+
+      next_square : square < square / accel * accel + accel
+      next_square = lt-div-mul-add more
+
+      slow : square / accel * 1048576 * accel ≤ (turn * (max by_slack by_start) + turn) * accel
+      slow = mul-le-mul_right accel (omega (arith, whole, next_start, bound_start))
+
+      fits : square ≡ start * start
+      fits =
+          let most : (square / accel + 1) * accel ≤ (square / accel + 1) * 1000000000 = mul-le-mul_left (square / accel + 1) few in
+          omega (arith, square_is, next_square, most, whole, next_start, bound_start, below, reach, flat)
+
+      far_start : start * start * 1048576 < (turn * (max by_slack by_start + 1) + 1048576) * accel
+      far_start = omega (arith, fits, next_square, slow)
+
+-- over more pulses it is farther
+far-more : (limits : Limits) (axis turn over pulses pulses' : ℕ) → pulses ≤ pulses' → IsFarFromCorner limits axis turn over pulses
+    → IsFarFromCorner limits axis turn over pulses'
+far-more limits axis turn over pulses pulses' more far =
+    let scaled : turn * pulses ≤ turn * pulses' = mul-le-mul_left turn more in record {
+      by_slack = omega (arith, far.by_slack, scaled);
+      by_start =
+          let all : (turn * pulses + over) * slice_index limits.accel axis ≤ (turn * pulses' + over) * slice_index limits.accel axis
+          = mul-le-mul_right (slice_index limits.accel axis) (omega (arith, scaled)) in
+          omega (arith, far.by_start, all);
+    }
+
+-- the least of all that bounds a corner
+pub most-pulses : (limits : Limits) (turns : List ℕ) (before after half x y z pulses : ℕ)
+    → pulses ≡ min (min (min (max (min (min half before) after) 1) x) y) z → half ≡ min (limits.half * 2) 18446744073709551615
+    → (4294967296 ≤ x) ⊎ IsFarFromCorner limits 0 (slice_index turns 0) 1048576 (x + 1)
+    → (4294967296 ≤ y) ⊎ IsFarFromCorner limits 1 (slice_index turns 1) 1048576 (y + 1)
+    → (4294967296 ≤ z) ⊎ IsFarFromCorner limits 2 (slice_index turns 2) 1048576 (z + 1) → AreMostPulses limits turns 1048576 before after pulses
+most-pulses limits turns before after half x y z pulses is half_is far_x far_y far_z = by_z (cases_lt pulses z) where
+  by_half : pulses < z → pulses < y → pulses < x → (pulses < 2 * limits.half) ⊎ (2 * limits.half ≤ pulses) → (pulses < before) ⊎ (before ≤ pulses)
+      → AreMostPulses limits turns 1048576 before after pulses
+  by_half c b a (inr all) either = inr (inl all)
+  by_half c b a (inl less) (inr all) = inr (inr (inl all))
+  by_half c b a (inl less) (inl less') = by_size (cases_lt pulses 4294967296) where
+    by_size : (pulses < 4294967296) ⊎ (4294967296 ≤ pulses) → AreMostPulses limits turns 1048576 before after pulses
+    by_size (inr great) = inl great
+    by_size (inl small) = inr (inr (inr (inl (omega (arith, is, half_is, a, b, c, less, less', small)))))
+
+  by_x : pulses < z → pulses < y → (pulses < x) ⊎ (x ≤ pulses) → AreMostPulses limits turns 1048576 before after pulses
+  by_x c b (inl a) = by_half c b a (cases_lt pulses (2 * limits.half)) (cases_lt pulses before)
+  by_x c b (inr a) = elim far_x
+      [ inl great ↦ inl (omega (arith, a, great)) | inr far ↦ inr (inr (inr (inr (inl (far-more limits 0 _ 1048576 _ (pulses + 1) (omega (arith, a)) far))))) ]
+
+  by_y : pulses < z → (pulses < y) ⊎ (y ≤ pulses) → AreMostPulses limits turns 1048576 before after pulses
+  by_y c (inl b) = by_x c b (cases_lt pulses x)
+  by_y c (inr b) = elim far_y
+      [ inl great ↦ inl (omega (arith, b, great)) | inr far ↦ inr (inr (inr (inr (inr (inl (far-more limits 1 _ 1048576 _ (pulses + 1) (omega (arith, b)) far)))))) ]
+
+  by_z : (pulses < z) ⊎ (z ≤ pulses) → AreMostPulses limits turns 1048576 before after pulses
+  by_z (inl c) = by_y c (cases_lt pulses y)
+  by_z (inr c) = elim far_z
+      [ inl great ↦ inl (omega (arith, c, great)) | inr far ↦ inr (inr (inr (inr (inr (inr (far-more limits 2 _ 1048576 _ (pulses + 1) (omega (arith, c)) far)))))) ]

@@ -8,7 +8,8 @@ use Rattle.ng_canon.specs.declared.item.AxisStep.{AxisStep}
 use Rattle.ng_canon.specs.declared.item.AxisStep.TheVariants.{Backward, Still, Forward}
 use Rattle.ng_pace.specs.declared.slopes.Rise.{Rise}
 use Rattle.ng_pace.specs.declared.cone.Cone.{Cone}
-use Rattle.ng_pace.specs.Cones.{IsFrom, IsUpTo, IsCone, IsRiseOf}
+use Rattle.ng_pace.specs.declared.slopes.Slopes.{Slopes}
+use Rattle.ng_pace.specs.Cones.{IsFrom, IsUpTo, IsCone, IsReached, IsRiseOf}
 use Rattle.ng_pace.proofs.SlopeLemmas.{from_greater, up_to_smaller}
 use Rattle.ng_pace.specs.Chords.{Slope, IsSlope, IsNear, IsStraight, slope_of, forward, backward}
 
@@ -213,3 +214,31 @@ pub rise-between : (rise : Rise) (steps : List AxisStep) → IsRiseOf rise steps
 rise-between rise steps is =
     let moved : (rise.steps + backward steps) * length steps ≡ (forward steps + length steps) * length steps = ap (λ t. t * length steps) is.steps_are in
     rw is.pulses_are (omega (arith, moved), omega (arith, moved))
+
+-- a slope that is up to and from where an axis is now is one of its cone's
+pub rise-inside : (slack : ℕ) (cone : Cone) (rise : Rise) (steps : List AxisStep) → IsCone slack cone steps → IsStraight slack steps → 0 < length steps
+    → IsRiseOf rise steps → (slope : Slope) → IsSlope slope → IsFrom rise slope → IsUpTo rise slope → IsNear slack slope steps
+rise-inside slack cone rise steps is straight some at slope ok from up_to =
+    is.inside slope ok
+    (from_greater cone.low.steps cone.low.pulses rise.steps rise.pulses slope.over slope.down (slope.up + slope.over) long low from)
+    (up_to_smaller cone.high.steps cone.high.pulses rise.steps rise.pulses slope.over slope.down (slope.up + slope.over) long high up_to)
+  where
+    long : 0 < rise.pulses
+    long = omega (arith, at.pulses_are, some)
+
+    both : IsFrom cone.low (slope_of steps) × IsUpTo cone.high (slope_of steps)
+    both = is.near (slope_of steps) (slope_of-some steps some) straight
+
+    low : cone.low.steps * rise.pulses ≤ rise.steps * cone.low.pulses
+    low = rw at.pulses_are (
+        let moved : (rise.steps + backward steps) * cone.low.pulses ≡ (forward steps + length steps) * cone.low.pulses = ap (λ t. t * cone.low.pulses) at.steps_are in
+        omega (arith, both.0, moved))
+
+    high : rise.steps * cone.high.pulses ≤ cone.high.steps * rise.pulses
+    high = rw at.pulses_are (
+        let moved : (rise.steps + backward steps) * cone.high.pulses ≡ (forward steps + length steps) * cone.high.pulses = ap (λ t. t * cone.high.pulses) at.steps_are in
+        omega (arith, both.1, moved))
+
+-- what is reached is reached of what follows
+pub reached-weaker : (P Q : Slope → Type 0) (slopes : Slopes) → ((slope : Slope) → IsSlope slope → P slope → Q slope) → IsReached P slopes → IsReached Q slopes
+reached-weaker P Q slopes f is = record { slope = is.slope; is = is.is; holds = f is.slope is.is is.holds; size = is.size }

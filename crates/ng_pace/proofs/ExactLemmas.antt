@@ -1,15 +1,19 @@
 -- What is allowed along slopes in parts of 2^20 is allowed along the slopes themselves, which are no greater.
-use Rattle.std.proofs.Common.{arith, ℕ, ◌+◌, ◌*◌, ◌<◌, ◌≤◌, inl, inr, List, slice_index}
+use Rattle.std.proofs.Common.{arith, ℕ, ◌+◌, ◌*◌, ◌/◌, ◌<◌, ◌≤◌, ◌≡◌, ◌⊎◌, inl, inr, List, slice_index}
 use Rattle.std.proofs.Math.Nat.{mul-le-mul_right, le_of_mul-le-mul_right}
 use Rattle.std.proofs.lemmas.Nat.{mul-le}
 use Rattle.std.specs.Int.{abs_diff}
 use Rattle.ng_pace.specs.declared.limits.Limits.{Limits}
 use Rattle.ng_pace.specs.declared.slopes.Slopes.{Slopes}
-use Rattle.ng_pace.specs.Passing.{AllowAlong, TakesCorner}
-use Rattle.ng_pace.specs.Axes.{EachAxis, IsAlong, IsCorner, IsNearCorner}
-use Rattle.ng_pace.specs.Chords.{Slope, IsSlope}
-use Rattle.ng_pace.specs.Cones.{AreBetween, IsTurn}
-use Rattle.ng_pace.specs.Legs.{IsTurning, turn_between}
+use Rattle.ng_canon.specs.declared.item.Pulse.{Pulse}
+use Rattle.ng_pace.specs.declared.line.Line.{Line}
+use Rattle.ng_pace.specs.Making.{HasAll}
+use Rattle.ng_pace.specs.Passing.{AllowAlong, TakeAll, TakesCorner}
+use Rattle.ng_pace.specs.Underway.{AreReached}
+use Rattle.ng_pace.specs.Axes.{EachAxis, SomeAxis, IsAlong, IsCorner, IsFullAlone, IsFullRamp, IsFullRate, IsNearCorner}
+use Rattle.ng_pace.specs.Chords.{Slope, IsSlope, IsNear}
+use Rattle.ng_pace.specs.Cones.{AreBetween, IsReached, IsTurn, size_of}
+use Rattle.ng_pace.specs.Legs.{IsAccelerationSpent, IsRateSpent, IsFullOn, IsTurning, steps_along, turn_between}
 
 rate-exact : (size slope over most rate : ℕ) → slope * 1048576 ≤ size * over → size * size * most ≤ rate * rate * 1048576 * 1048576 * 65536
     → slope * slope * most ≤ rate * rate * over * over * 65536
@@ -127,3 +131,75 @@ takes-corner limits before after sizes turns pulses most ramp is near kept = rec
     z = λ slope next a b c d. turning-exact limits 2 (slice_index sizes 2) (slice_index turns 2) slope next pulses most ramp (is.z slope next a b c d) kept.z;
   };
 }
+
+-- what takes all of an axis along the greatest of some slopes takes all along one of them
+ramp-spent : (limits : Limits) (axis : ℕ) (known : List Pulse) (slopes : Slopes) (size ramp : ℕ) → size ≡ size_of slopes
+    → IsReached (λ slope. IsNear limits.slack slope (steps_along axis known)) slopes
+    → 2 * slice_index limits.accel axis * 1048576 < size * (ramp / 65536 + 1) → IsAccelerationSpent limits axis known ramp
+ramp-spent limits axis known slopes size ramp is reached full = record {
+  slope = reached.slope;
+  is = reached.is;
+  near = reached.holds;
+  full =
+      let over : ℕ = reached.slope.over in
+      let a : (2 * slice_index limits.accel axis * 1048576 + 1) * over ≤ size * (ramp / 65536 + 1) * over = mul-le-mul_right over (omega (arith, full)) in
+      let b : size * over * (ramp / 65536 + 1) ≤ (abs_diff reached.slope.up reached.slope.down * 1048576 + over) * (ramp / 65536 + 1)
+      = mul-le-mul_right (ramp / 65536 + 1) (rw is reached.size) in
+      omega (arith, a, b, reached.is.some);
+}
+
+rate-spent : (limits : Limits) (axis : ℕ) (known : List Pulse) (slopes : Slopes) (size rate most : ℕ) → size ≡ size_of slopes
+    → IsReached (λ slope. IsNear limits.slack slope (steps_along axis known)) slopes → rate * rate * 65536 ≤ most → 0 < slice_index limits.rate axis
+    → slice_index limits.rate axis * 1048576 < size * (rate + 1) → IsRateSpent limits axis known most
+rate-spent limits axis known slopes size rate most is reached square limited full = record {
+  slope = reached.slope;
+  is = reached.is;
+  near = reached.holds;
+  rate = rate;
+  square = square;
+  limited = limited;
+  full =
+      let over : ℕ = reached.slope.over in
+      let a : (slice_index limits.rate axis * 1048576 + 1) * over ≤ size * (rate + 1) * over = mul-le-mul_right over (omega (arith, full)) in
+      let b : size * over * (rate + 1) ≤ (abs_diff reached.slope.up reached.slope.down * 1048576 + over) * (rate + 1)
+      = mul-le-mul_right (rate + 1) (rw is reached.size) in
+      omega (arith, a, b, reached.is.some);
+}
+
+alone-spent : (limits : Limits) (axis : ℕ) (known : List Pulse) (slopes : Slopes) (size most : ℕ) → size ≡ size_of slopes
+    → IsReached (λ slope. IsNear limits.slack slope (steps_along axis known)) slopes → IsFullAlone limits axis size 1048576 most
+    → (288230376151711744 ≤ most) ⊎ IsRateSpent limits axis known most
+alone-spent limits axis known slopes size most is reached alone = by_case alone.full where
+  by_case : (2097152 ≤ alone.rate) ⊎ ((0 < slice_index limits.rate axis) × (slice_index limits.rate axis * 1048576 < size * (alone.rate + 1)))
+      → (288230376151711744 ≤ most) ⊎ IsRateSpent limits axis known most
+  by_case (inl great) = let square : 2097152 * 2097152 ≤ alone.rate * alone.rate = mul-le 2097152 2097152 alone.rate alone.rate great great in
+      inl (omega (arith, square, alone.square))
+  by_case (inr full) = inr (rate-spent limits axis known slopes size alone.rate most is reached alone.square full.0 full.1)
+
+-- a line that has all of what some axis has no more of
+pub full-on : (limits : Limits) (known : List Pulse) (slopes : List Slopes) (most ramp : ℕ) (line : Line) → AreReached limits.slack slopes known
+    → TakeAll limits slopes most ramp → HasAll most ramp line → IsFullOn limits known line
+full-on limits known slopes most ramp line reached all has = record {
+  most = most;
+  ramp = ramp;
+  most_is = has.most_is;
+  ramp_is = has.ramp_is;
+  rate = rates all.rate;
+  accel = ramps all.accel;
+} where
+  none : Slopes
+  none = record { least = 0; greatest = 0 }
+
+  ramps : IsFullRamp limits all.sizes 1048576 ramp → (288230376151711744 ≤ ramp) ⊎ SomeAxis (λ axis. IsAccelerationSpent limits axis known ramp)
+  ramps (inl great) = inl great
+  ramps (inr (inl x)) = inr (inl (ramp-spent limits 0 known _ (slice_index all.sizes 0) ramp (all.sizes_are.x none) (reached.x none) x))
+  ramps (inr (inr (inl y))) = inr (inr (inl (ramp-spent limits 1 known _ (slice_index all.sizes 1) ramp (all.sizes_are.y none) (reached.y none) y)))
+  ramps (inr (inr (inr z))) = inr (inr (inr (ramp-spent limits 2 known _ (slice_index all.sizes 2) ramp (all.sizes_are.z none) (reached.z none) z)))
+
+  rates : IsFullRate limits all.sizes 1048576 most → (288230376151711744 ≤ most) ⊎ SomeAxis (λ axis. IsRateSpent limits axis known most)
+  rates (inl x) = elim (alone-spent limits 0 known _ (slice_index all.sizes 0) most (all.sizes_are.x none) (reached.x none) x)
+      [ inl great ↦ inl great | inr spent ↦ inr (inl spent) ]
+  rates (inr (inl y)) = elim (alone-spent limits 1 known _ (slice_index all.sizes 1) most (all.sizes_are.y none) (reached.y none) y)
+      [ inl great ↦ inl great | inr spent ↦ inr (inr (inl spent)) ]
+  rates (inr (inr z)) = elim (alone-spent limits 2 known _ (slice_index all.sizes 2) most (all.sizes_are.z none) (reached.z none) z)
+      [ inl great ↦ inl great | inr spent ↦ inr (inr (inr spent)) ]

@@ -1,12 +1,19 @@
 -- Limits that become final keep the items and the motion.
-use Rattle.std.proofs.Common.{arith, ◌+◌, ◌≤◌, ◌≡◌, ◌∙◌, refl, ap, sym, List, [], ◌∷◌, ◌++◌, length, append-nil, append_assoc}
+use Rattle.std.proofs.Common.{arith, ℕ, ◌+◌, ◌<◌, ◌≤◌, ◌≡◌, ◌∙◌, inl, inr, refl, ap, sym, List, [], ◌∷◌, ◌++◌, length, get_or, append-nil, append_assoc}
+use Rattle.std.specs.Prelude.{Option, Some, None, IfSome, IfNone}
+use Rattle.std.proofs.Math.Seq.{get_or-append_seam}
 use Rattle.ng_canon.specs.declared.item.Item.{Item}
 use Rattle.ng_pace.specs.declared.line.Line.{Line}
 use Rattle.ng_pace.specs.declared.chord.Waiting.{Waiting}
+use Rattle.ng_pace.specs.declared.chord.Chord.{Chord}
+use Rattle.ng_pace.specs.declared.limits.Limits.{Limits}
 use Rattle.ng_pace.specs.Motion.{Motion}
-use Rattle.ng_pace.specs.Rest.{CanRest}
+use Rattle.ng_pace.specs.Paced.{IsGiven}
+use Rattle.ng_pace.specs.Rest.{CanRest, Stands, StandsBehind, IsMarked}
+use Rattle.ng_pace.specs.declared.settling.Ending.{Ending}
+use Rattle.ng_pace.specs.Making.{IsEnd, Marks}
 use Rattle.ng_pace.specs.declared.stepping.Given.{Given}
-use Rattle.ng_pace.specs.Flow.{Flow, items_of, items_waiting, all_items, full_of, Timed, timed_lines, timed_waiting, AreOwn, Settles, Keeps, Adds, still_line, StandsLast}
+use Rattle.ng_pace.specs.Flow.{Flow, items_of, items_waiting, all_items, full_of, Timed, timed_lines, timed_waiting, AreOwn, Settles, Keeps, Adds, IsHeld, still_line, StandsLast}
 use Rattle.ng_pace.proofs.RestLemmas.{rest_more}
 
 pub timed_lines-append : (xs ys : List Line) → timed_lines (xs ++ ys) ≡ timed_lines xs ++ timed_lines ys
@@ -158,3 +165,71 @@ pub given_items : (old mid : Flow) (given : Given) → old.motion.known ≡ give
     → all_items old ≡ given.line.item ∷ all_items mid
 given_items old mid given order waiting =
     ap (λ t. items_of t ++ items_waiting old.waiting) order ∙ sym (ap (λ t. given.line.item ∷ (items_of mid.motion.known ++ items_waiting t)) waiting)
+
+-- two lists whose last lines are these are the same list
+last-same : (xs ys : List Line) (x y : Line) → xs ++ x ∷ [] ≡ ys ++ y ∷ [] → x ≡ y
+last-same xs ys x y e =
+    let lens : length (xs ++ x ∷ []) ≡ length (ys ++ y ∷ []) = ap length e in
+    let same : length xs ≡ length ys = omega (arith, lens, length-push xs x, length-push ys y) in
+    sym (get_or-append_seam xs x [] x) ∙ ap (λ t. get_or t (length xs) x) e ∙ ap (λ n. get_or (ys ++ y ∷ []) n x) same ∙ get_or-append_seam ys y [] x
+
+-- everything stands still behind a line that is marked, and behind one at which everything stands still
+pub stands-marked : {lines : List Line} → IsMarked lines → StandsBehind lines
+stands-marked {lines} is = λ before line e. let same : is.line ≡ line = last-same is.before before is.line line (sym is.lines_are ∙ e) in inl (rw (← same) is.marked)
+
+pub stands-last : (lines known : List Line) (line : Line) → known ≡ lines ++ line ∷ [] → Stands line → StandsBehind known
+stands-last lines known line is stands = λ before last e. let same : line ≡ last = last-same lines before line last (sym is ∙ e) in inr (rw (← same) stands)
+
+pub stands-tail : (line : Line) (old new : List Line) → old ≡ line ∷ new → StandsBehind old → StandsBehind new
+stands-tail line old new is stands = λ before last e. stands (line ∷ before) last (is ∙ ap (λ t. line ∷ t) e)
+
+pub stands-none : {lines : List Line} → lines ≡ [] → StandsBehind lines
+stands-none {lines} none = λ before line e. absurd (no_snoc before line (sym none ∙ e)) where
+  no_snoc : (before : List Line) (line : Line) → [] ≡ before ++ line ∷ [] → ⊥
+  no_snoc [] line e = cc
+  no_snoc (x ∷ before) line e = cc
+
+-- where nothing waits, nothing becomes known
+pub keeps_none : {old new : Motion} {waited waits : List Waiting} → Keeps old new waited waits → waited ≡ [] → new.known ≡ old.known
+keeps_none {old} {new} {waited} {waits} keeps none =
+    let order : timed_lines keeps.settles.settled ++ timed_waiting waits ≡ [] = keeps.settles.order ∙ ap timed_waiting none in
+    keeps.settles.known ∙ ap (λ t. old.known ++ t) (no-lines keeps.settles.settled (timed_waiting waits) order) ∙ append-nil old.known
+  where
+    no-lines : (xs : List Line) (ys : List Timed) → timed_lines xs ++ ys ≡ [] → xs ≡ []
+    no-lines [] ys e = refl
+    no-lines (x ∷ xs) ys e = absurd (cc)
+
+-- a line of what waits at the end is marked
+pub marks_on : {ending : Ending} {b c : Motion} {u v w : List Waiting} → Marks ending b.known u v → Keeps b c v w → Marks ending c.known v w → Marks ending c.known u w
+marks_on {ending} {b} {c} {u} {v} {w} first keeps later = record { marked = λ end some none. by_case v refl end some none } where
+  by_case : (xs : List Waiting) → v ≡ xs → IsEnd ending → 0 < length u → w ≡ [] → IsMarked c.known
+  by_case [] is end some none = rw (keeps_none keeps is) (first.marked end some is)
+  by_case (x ∷ xs) is end some none = later.marked end (let len : length v ≡ length (x ∷ xs) = ap length is in omega (arith, len)) none
+
+pub marks_none : (ending : Ending) (known : List Line) (w : List Waiting) → Marks ending known w w
+marks_none ending known w = record { marked = λ end some none. absurd (let len : length w ≡ 0 = ap length none in omega (arith, len, some)) }
+
+-- nothing more is known to come: everything stands still behind what is known
+pub end-stands : {ending : Ending} {old new : Motion} {waited waits : List Waiting} → Keeps old new waited waits → (waited ≡ [] → StandsBehind old.known)
+    → Marks ending new.known waited waits → IsEnd ending → waits ≡ [] → StandsBehind new.known
+end-stands {ending} {old} {new} {waited} {waits} keeps stands marks end none = by_case waited refl where
+  by_case : (xs : List Waiting) → waited ≡ xs → StandsBehind new.known
+  by_case [] is = rw (keeps_none keeps is) (stands is)
+  by_case (x ∷ xs) is = stands-marked (marks.marked end (let len : length waited ≡ length (x ∷ xs) = ap length is in omega (arith, len)) none)
+
+-- a stream whose first line was given out
+pub held-next : (old new : Motion) (waiting : List Waiting) (capacity start : ℕ) (limits : Limits) (chord : Chord) (wanted : ℕ) (result : Option Given)
+    → IfSome result (λ given. IsGiven old new wanted given) → IfNone result (new ≡ old) → IsHeld old waiting capacity start limits chord
+    → IsHeld new waiting capacity start limits chord
+held-next old new waiting capacity start limits chord wanted None given same held = rw same held
+held-next old new waiting capacity start limits chord wanted (Some given) gives same held =
+    let count : length old.known ≡ length (given.line ∷ new.known) = ap length gives.order in record {
+      fits = omega (arith, count, held.fits, gives.room);
+      capacity_is = held.capacity_is ∙ sym gives.room;
+      start_is = held.start_is ∙ sym gives.start;
+      limits_are = held.limits_are;
+      rests = gives.rests;
+      few = held.few;
+      some = held.some;
+      stands = λ none. stands-tail given.line old.known new.known gives.order (held.stands none);
+    }

@@ -1,5 +1,8 @@
 -- What lines that are made do to the chords of a path.
-use Rattle.std.proofs.Common.{arith, ℕ, ◌+◌, ◌-◌, ◌*◌, ◌/◌, ◌<◌, ◌≤◌, ◌≡◌, ap, subst, List, [], ◌∷◌, ◌++◌, length, take, drop, All}
+use Rattle.std.proofs.Common.{arith, ℕ, ◌+◌, ◌-◌, ◌*◌, ◌/◌, ◌<◌, ◌≤◌, ◌≡◌, ◌⊎◌, inl, inr, ap, subst, List, [], ◌∷◌, ◌++◌, length, slice_index_or, take, drop, All}
+use Rattle.std.proofs.Math.ListN.{get_or-append}
+use Rattle.std.proofs.Math.Seq.{get_or-append_right}
+use Rattle.std.proofs.lemmas.Bool.{cases_lt}
 use Rattle.std.proofs.lemmas.List.{take-append-le, drop_at, length-append, length-map, map-append, take-append-drop, length-take-le}
 use Rattle.std.proofs.lemmas.List.Elements.{All-append, All-weaker, All-take, All-drop}
 use Rattle.std.proofs.Math.Nat.{mul-le-mul_left}
@@ -10,7 +13,7 @@ use Rattle.ng_pace.specs.declared.line.Line.{Line}
 use Rattle.ng_pace.specs.declared.slopes.Slopes.{Slopes}
 use Rattle.ng_pace.specs.Axes.{IsCorner}
 use Rattle.ng_pace.specs.Chords.{Slope, IsSlope, IsNear}
-use Rattle.ng_pace.specs.Legs.{Leg, IsLeg, IsChord, IsPaced, IsBehind, IsCornered, IsOnChord, IsOnCorner, IsTurning, step_of, steps_along, slope_along}
+use Rattle.ng_pace.specs.Legs.{Leg, IsLeg, IsChord, IsFarthest, IsFullAt, IsPaced, IsBehind, IsCornered, IsOnChord, IsOnCorner, IsTurning, step_of, steps_along, slope_along}
 use Rattle.ng_pace.specs.Making.{IsWithin}
 use Rattle.ng_pace.specs.Passing.{AllowAlong, TakesCorner}
 use Rattle.ng_pace.specs.Underway.{AreSlopes}
@@ -120,6 +123,7 @@ behind-more : (limits : Limits) (stop : ℕ) (leg : Leg) (made : List Line) (res
     → IsBehind limits stop (record { pulses = leg.pulses; lines = leg.lines ++ made }) rest
 behind-more limits stop leg made [] behind = tt
 behind-more limits stop leg made (before ∷ rest) behind = record {
+  farthest = behind.farthest;
   pulses = behind.pulses;
   some = behind.some;
   near = behind.near;
@@ -129,14 +133,32 @@ behind-more limits stop leg made (before ∷ rest) behind = record {
   enters = rw (take-append-le ((behind.pulses + 1) / 2) leg.lines made behind.begun) behind.enters;
 }
 
+full-append : (limits : Limits) (pulses : List Pulse) (lines made : List Line)
+    → ((k : ℕ) (d : Line) → k < length lines → limits.half ≤ k → k + limits.half < length pulses → IsFullAt limits pulses k (slice_index_or lines k d))
+    → ((k : ℕ) (d : Line) → k < length made → length lines + k + limits.half < length pulses
+    → IsFullAt limits pulses (length lines + k) (slice_index_or made k d))
+    → (k : ℕ) (d : Line) → k < length (lines ++ made) → limits.half ≤ k → k + limits.half < length pulses
+    → IsFullAt limits pulses k (slice_index_or (lines ++ made) k d)
+full-append limits pulses lines made old new k d short from to = by_case (cases_lt k (length lines)) where
+  by_case : (k < length lines) ⊎ (length lines ≤ k) → IsFullAt limits pulses k (slice_index_or (lines ++ made) k d)
+  by_case (inl early) = rw (get_or-append lines made d k early) (old k d early from to)
+  by_case (inr late) =
+      let at : IsFullAt limits pulses (length lines + (k - length lines)) (slice_index_or made (k - length lines) d)
+      = new (k - length lines) d (omega (arith, length-append lines made, short, late)) (omega (arith, late, to)) in
+      rw (get_or-append_right lines made k d late)
+      (record { known = at.known; others = at.others; all = at.all; its = omega (arith, late, at.its); full = at.full })
+
 pub paced-more : (limits : Limits) (stop : ℕ) (leg : Leg) (made : List Line) (rest : List Leg) → IsPaced limits stop (leg ∷ rest)
     → All (IsOnChord limits stop leg.pulses) made → length leg.lines + length made ≤ length leg.pulses
+    → ((k : ℕ) (d : Line) → k < length made → length leg.lines + k + limits.half < length leg.pulses
+    → IsFullAt limits leg.pulses (length leg.lines + k) (slice_index_or made k d))
     → IsPaced limits stop (record { pulses = leg.pulses; lines = leg.lines ++ made } ∷ rest)
-paced-more limits stop leg made rest paced on few = (
+paced-more limits stop leg made rest paced on few full = (
   record {
     chord = paced.0.chord;
     lines = All-append (IsOnChord limits stop leg.pulses) leg.lines made paced.0.lines on;
     few = omega (arith, length-append leg.lines made, few);
+    full = full-append limits leg.pulses leg.lines made paced.0.full full;
   },
   (behind-more limits stop leg made rest paced.1.0, paced.1.1),
 )
@@ -146,15 +168,19 @@ pub corner-paced : (limits : Limits) (stop : ℕ) (slopes next : List Slopes) (c
     (pulses most ramp most' ramp' : ℕ)
     → IsPaced limits stop (before ∷ rest) → IsChord limits.slack chord → 0 < length before.pulses → 0 < length chord → AreSlopes slopes before.pulses
     → AreSlopes next chord
+    → IsFarthest limits.slack before.pulses chord
     → 0 < pulses → TakesCorner limits slopes next pulses most' ramp' → AllowAlong limits slopes most ramp → All (IsWithin most ramp stop) first
     → All (IsWithin most' ramp' stop) second
     → length before.lines + length first + pulses / 2 ≡ length before.pulses → length second ≡ pulses → (pulses + 1) / 2 ≤ length chord
+    → pulses ≤ 2 * limits.half
+    → ((k : ℕ) (d : Line) → k < length first → length before.lines + k + limits.half < length before.pulses
+    → IsFullAt limits before.pulses (length before.lines + k) (slice_index_or first k d))
     → IsPaced limits stop (record {
       pulses = chord;
       lines = drop (pulses / 2) second;
     } ∷ (record { pulses = before.pulses; lines = (before.lines ++ first) ++ take (pulses / 2) second } ∷ rest))
-corner-paced limits stop slopes next chord before rest first second pulses most ramp most' ramp' paced straight some some' are are' long_enough takes allowed
-    each each' len len' few =
+corner-paced limits stop slopes next chord before rest first second pulses most ramp most' ramp' paced straight some some' are are' farthest long_enough takes allowed
+    each each' len len' few half full =
     (leg, (cornered, before_paced))
   where
     on : All (IsOnCorner limits stop before.pulses chord pulses) second
@@ -174,11 +200,11 @@ corner-paced limits stop slopes next chord before rest first second pulses most 
     before_paced = paced-more limits stop (record { pulses = before.pulses; lines = before.lines ++ first }) (take (pulses / 2) second) rest
         (paced-more limits stop before first rest paced
         (All-weaker (IsWithin most ramp stop) (IsOnChord limits stop before.pulses) (on-chord limits stop slopes before.pulses most ramp some allowed are)
-        first each) (omega (arith, len)))
+        first each) (omega (arith, len)) full)
         (All-take (IsOnChord limits stop before.pulses) (pulses / 2) second
         (All-weaker (IsOnCorner limits stop before.pulses chord pulses) (IsOnChord limits stop before.pulses)
         (leaves-chord limits stop before.pulses chord pulses long_enough some') second on))
-        (omega (arith, length-append before.lines first, front, len))
+        (omega (arith, length-append before.lines first, front, len)) (λ k d short to. absurd (omega (arith, known, len, half, to)))
 
     leg : IsLeg limits stop (record { pulses = chord; lines = drop (pulses / 2) second })
     leg = record {
@@ -187,11 +213,13 @@ corner-paced limits stop slopes next chord before rest first second pulses most 
           (All-weaker (IsOnCorner limits stop before.pulses chord pulses) (IsOnChord limits stop chord)
           (enters-chord limits stop before.pulses chord pulses long_enough some) second on);
       few = omega (arith, back, few);
+      full = λ k d short from to. absurd (omega (arith, back, half, short, from));
     }
 
     cornered : IsCornered limits stop (record { pulses = before.pulses; lines = (before.lines ++ first) ++ take (pulses / 2) second })
         (record { pulses = chord; lines = drop (pulses / 2) second })
     cornered = record {
+      farthest = farthest;
       pulses = pulses;
       some = long_enough;
       near = record {

@@ -27,6 +27,7 @@ passed_of old new wanted given g = record {
   starts = λ rest. (g.hasty.begins rest).holds.starts;
   within = g.within;
   ramp = g.hasty.follows.holds.ramp;
+  last = g.hasty.follows.holds.last;
   stops = rw g.left (left_of given.line given.to old.start wanted);
 }
 

@@ -3,6 +3,10 @@ use Rattle.std.proofs.Common.{arith, ℕ, ◌+◌, ◌-◌, ◌*◌, ◌<◌, �
 use Rattle.std.proofs.Math.Nat.{mul-le-mul_right, le_of_mul-le-mul_right}
 use Rattle.std.proofs.lemmas.Bool.{cases_lt}
 use Rattle.std.specs.Int.{abs_diff}
+use Rattle.ng_pace.specs.declared.slopes.Rise.{Rise}
+use Rattle.ng_pace.specs.declared.slopes.Slopes.{Slopes}
+use Rattle.ng_pace.specs.Chords.{Slope, IsSlope}
+use Rattle.ng_pace.specs.Cones.{IsFrom, IsUpTo, IsReached, size_of}
 
 -- a slope from the greater of two is from the smaller
 pub from_greater : (r o r' o' over down w : ℕ) → 0 < o' → r * o' ≤ r' * o → r' * over + down * o' ≤ w * o' → r * over + down * o ≤ w * o
@@ -32,11 +36,11 @@ pub up_to_parts : (r o greatest over down w : ℕ) → 0 < o → r * 1048576 ≤
 up_to_parts r o greatest over down w some less up_to = up_to_smaller greatest 1048576 r o over down w some less up_to
 
 -- the greater of how far two numbers are from a step
-pub size_of : (least greatest up down over size : ℕ) → least * over + down * 1048576 ≤ (up + over) * 1048576
+pub size-most : (least greatest up down over size : ℕ) → least * over + down * 1048576 ≤ (up + over) * 1048576
     → (up + over) * 1048576 ≤ greatest * over + down * 1048576
     → up ≤ over + down → down ≤ over + up → size ≡ min (max (abs_diff least 1048576) (abs_diff greatest 1048576)) 1048576
     → abs_diff up down * 1048576 ≤ size * over
-size_of least greatest up down over size from up_to flat steep is = by_case (cases_lt up down) where
+size-most least greatest up down over size from up_to flat steep is = by_case (cases_lt up down) where
   rise : down ≤ up → abs_diff up down * 1048576 ≤ size * over
   rise h = chosen (cases_lt greatest 2097152) where
     chosen : (greatest < 2097152) ⊎ (2097152 ≤ greatest) → abs_diff up down * 1048576 ≤ size * over
@@ -84,3 +88,71 @@ turn_of least greatest least' greatest' up down over up' down' over' turn from u
     let falls : (up * over' + down' * over) * 1048576 ≤ turn * (over' * over) + (down * over' + up' * over) * 1048576
     = turn_up least' greatest up' down' over' up down over turn from' up_to flat (omega (arith, is)) in
     omega arith
+
+-- the greatest of the slopes between two is that of one of them, but for one part
+pub reached : (low high : Rise) (slopes : Slopes) (slope : Slope) → 0 < low.pulses → 0 < high.pulses → slopes.least * low.pulses ≤ low.steps * 1048576
+    → low.steps * 1048576 < slopes.least * low.pulses + low.pulses → high.steps * 1048576 ≤ slopes.greatest * high.pulses
+    → slopes.greatest * high.pulses < high.steps * 1048576 + high.pulses → IsSlope slope → IsFrom low slope → IsUpTo high slope
+    → IsReached (λ s. IsFrom low s × IsUpTo high s) slopes
+reached low high slopes slope some some' least least-next greatest greatest-next is from up_to =
+    by_case (cases_lt 1048576 slopes.least) (cases_lt (1048576 - slopes.least) (slopes.greatest - 1048576))
+  where
+    order : low.steps * high.pulses ≤ high.steps * low.pulses
+    order = le_of_mul-le-mul_right scaled is.some where
+      scaled : low.steps * high.pulses * slope.over ≤ high.steps * low.pulses * slope.over
+      scaled =
+          let a : (low.steps * slope.over + slope.down * low.pulses) * high.pulses ≤ (slope.up + slope.over) * low.pulses * high.pulses
+          = mul-le-mul_right high.pulses from in
+          let b : (slope.up + slope.over) * high.pulses * low.pulses ≤ (high.steps * slope.over + slope.down * high.pulses) * low.pulses
+          = mul-le-mul_right low.pulses up_to in
+          omega arith
+
+    flat : low.steps ≤ 2 * low.pulses
+    flat = le_of_mul-le-mul_right scaled is.some where
+      scaled : low.steps * slope.over ≤ 2 * low.pulses * slope.over
+      scaled = let a : slope.up * low.pulses ≤ (slope.over + slope.down) * low.pulses = mul-le-mul_right low.pulses is.up in omega (arith, from)
+
+    ordered : slopes.least ≤ slopes.greatest
+    ordered = le_of_mul-le-mul_right (le_of_mul-le-mul_right scaled some') some where
+      scaled : slopes.least * low.pulses * high.pulses ≤ slopes.greatest * low.pulses * high.pulses
+      scaled =
+          let a : slopes.least * low.pulses * high.pulses ≤ low.steps * 1048576 * high.pulses = mul-le-mul_right high.pulses least in
+          let b : high.steps * 1048576 * low.pulses ≤ slopes.greatest * high.pulses * low.pulses = mul-le-mul_right low.pulses greatest in
+          omega (arith, order)
+
+    lower : slopes.least ≤ 1048576 → size_of slopes ≤ 1048576 - slopes.least → IsReached (λ s. IsFrom low s × IsUpTo high s) slopes
+    lower below small = record {
+      slope = record { up = low.steps; down = low.pulses; over = low.pulses };
+      is = record { some = some; up = omega (arith, flat); down = omega arith };
+      holds = (omega arith, omega (arith, order));
+      size =
+          let more : size_of slopes * low.pulses ≤ (1048576 - slopes.least) * low.pulses = mul-le-mul_right low.pulses small in
+          let apart : (1048576 - slopes.least + slopes.least) * low.pulses ≤ 1048576 * low.pulses = mul-le-mul_right low.pulses (omega arith) in
+          omega arith;
+    }
+
+    upper : 1048576 ≤ slopes.greatest → size_of slopes ≤ slopes.greatest - 1048576 → IsReached (λ s. IsFrom low s × IsUpTo high s) slopes
+    upper above small = chosen (cases_lt (2 * high.pulses) high.steps) where
+      chosen : (2 * high.pulses < high.steps) ⊎ (high.steps ≤ 2 * high.pulses) → IsReached (λ s. IsFrom low s × IsUpTo high s) slopes
+      chosen (inl steep) = record {
+        slope = record { up = 1; down = 0; over = 1 };
+        is = record { some = omega arith; up = omega arith; down = omega arith };
+        holds = (omega (arith, flat), omega arith);
+        size = omega arith;
+      }
+      chosen (inr gentle) = record {
+        slope = record { up = high.steps; down = high.pulses; over = high.pulses };
+        is = record { some = some'; up = omega arith; down = omega arith };
+        holds = (omega (arith, order), omega arith);
+        size =
+            let more : size_of slopes * high.pulses ≤ (slopes.greatest - 1048576) * high.pulses = mul-le-mul_right high.pulses small in
+            let apart : (slopes.greatest - 1048576 + 1048576) * high.pulses ≤ slopes.greatest * high.pulses = mul-le-mul_right high.pulses (omega arith) in
+            omega arith;
+      }
+
+    by_case : (1048576 < slopes.least) ⊎ (slopes.least ≤ 1048576)
+        → (1048576 - slopes.least < slopes.greatest - 1048576) ⊎ (slopes.greatest - 1048576 ≤ 1048576 - slopes.least)
+        → IsReached (λ s. IsFrom low s × IsUpTo high s) slopes
+    by_case (inl above) either = upper (omega (arith, ordered)) (omega (arith, ordered))
+    by_case (inr below) (inl more) = upper (omega arith) (omega arith)
+    by_case (inr below) (inr less) = lower below (omega (arith, ordered))

@@ -1,5 +1,5 @@
 -- How far a path comes with each step of the code.
-use Rattle.std.proofs.Common.{arith, ℕ, ◌+◌, ◌-◌, ◌*◌, ◌/◌, ◌<◌, ◌≤◌, ◌≡◌, ◌∙◌, inl, inr, min, max, refl, ap, sym, subst, List, [], ◌∷◌, ◌++◌, length, take, drop, All, append-nil, append_assoc, true, false, IsTrue, IsFalse}
+use Rattle.std.proofs.Common.{arith, ℕ, ◌+◌, ◌-◌, ◌*◌, ◌/◌, ◌<◌, ◌≤◌, ◌≡◌, ◌∙◌, inl, inr, min, max, refl, ap, sym, subst, List, [], ◌∷◌, ◌++◌, length, slice_index_or, take, drop, All, append-nil, append_assoc, true, false, IsTrue, IsFalse}
 use Rattle.std.proofs.lemmas.List.{length-append, take-append-drop, length-take-le}
 use Rattle.std.proofs.lemmas.List.Elements.{All-weaker, All-nil}
 use Rattle.ng_canon.specs.declared.item.AxisStep.{AxisStep}
@@ -13,12 +13,13 @@ use Rattle.ng_pace.specs.Motion.{Motion}
 use Rattle.ng_pace.specs.Axes.{EachAxis}
 use Rattle.ng_pace.specs.Chords.{Slope, IsSlope, IsNear, IsStraight, slope_of}
 use Rattle.ng_pace.specs.Cones.{AreBetween}
-use Rattle.ng_pace.specs.Legs.{Leg, IsChord, IsPaced, IsBehind, IsAllowed, IsOnChord, IsOnCorner, steps_along, slope_along, pulses_of, lines_of}
+use Rattle.ng_pace.specs.Legs.{Leg, IsChord, IsFarthest, IsFullAt, IsPaced, IsBehind, IsAllowed, IsOnChord, IsOnCorner, steps_along, slope_along, pulses_of, lines_of}
 use Rattle.ng_pace.specs.Making.{IsWithin}
 use Rattle.ng_pace.specs.Putting.{KeepSoFar}
 use Rattle.ng_pace.specs.Passing.{PassesAlong, PassesCorner}
-use Rattle.ng_pace.specs.Underway.{AreCones, AreSlopes, IsOpen, IsGoing, IsPending, IsJoined, IsPath, IsClosed, Advances, Reaches, Turns, Finishes, IsBegun, longer, kept_of}
+use Rattle.ng_pace.specs.Underway.{AreCones, AreReached, AreSlopes, IsOpen, IsGoing, IsPending, IsJoined, IsPath, IsClosed, Advances, Reaches, Turns, Finishes, IsBegun, IsBehindFarthest, longer, kept_of}
 use Rattle.ng_pace.proofs.ConeLemmas.{near-push}
+use Rattle.ng_pace.proofs.ExactLemmas.{full-on}
 use Rattle.ng_pace.proofs.PathLemmas.{slope-some, chord-front, on-chord, paced-more, corner-paced}
 
 -- what slopes a chord may get, whatever pulses it still takes
@@ -35,14 +36,19 @@ slopes-ahead slack slopes pulses more some ahead chord = record {
   long : 0 < length (pulses ++ more)
   long = omega (arith, length-append pulses more, some)
 
+-- where the next chord has more pulses, the one before goes as far
+farthest-more : (slack : ℕ) (chord next more : List Pulse) → 0 < length next → IsFarthest slack chord next → IsFarthest slack chord (next ++ more)
+farthest-more slack chord [] more some farthest = absurd (omega (arith, some))
+farthest-more slack chord (x ∷ next) more some farthest = λ pulse rest is. let same : x ≡ pulse = cc in farthest pulse next (ap (λ t. t ∷ next) same)
+
 -- along the open chord
 pub along-path : (limits : Limits) (stop : ℕ) (chord : Chord) (old new : Motion) (waited waits : List Waiting) (leg : Leg) (rest : List Leg)
     (slopes : List Slopes) (kept : ℕ)
     → IsGoing limits stop chord (length waited) leg rest → 0 < length leg.pulses → AreAhead limits.slack slopes leg.pulses
-    → kept_of limits.half (length leg.pulses) ≤ kept
+    → AreReached limits.slack slopes leg.pulses → kept_of limits.half (length leg.pulses) ≤ kept → 0 < kept
     → PassesAlong limits slopes stop kept old new waited waits
     → Advances limits stop old new chord (length waits) (pulses_of (leg ∷ rest)) (lines_of (leg ∷ rest))
-along-path limits stop chord old new waited waits leg rest slopes kept going some ahead enough passes = record {
+along-path limits stop chord old new waited waits leg rest slopes kept going some ahead reached enough one passes = record {
   made = passes.makes.made;
   known = passes.makes.known;
   leg = record { pulses = leg.pulses; lines = leg.lines ++ passes.makes.made };
@@ -52,7 +58,8 @@ along-path limits stop chord old new waited waits leg rest slopes kept going som
   path = inl (record {
     opened = going.opened;
     decided = going.decided;
-    paced = λ more straight. paced-more limits stop (longer leg more) passes.makes.made rest (going.paced more straight) (on more straight) (few more);
+    paced = λ more straight. paced-more limits stop (longer leg more) passes.makes.made rest (going.paced more straight) (on more straight) (few more)
+        (full more);
     waits_are = omega (arith, length-append leg.lines passes.makes.made, passes.makes.rest, going.waits_are);
     kept = omega (arith, length-append leg.lines passes.makes.made, passes.makes.rest, passes.makes.count_is, going.waits_are, going.kept, enough);
   });
@@ -60,6 +67,17 @@ along-path limits stop chord old new waited waits leg rest slopes kept going som
 } where
   few : (more : List Pulse) → length leg.lines + length passes.makes.made ≤ length (leg.pulses ++ more)
   few more = omega (arith, length-append leg.pulses more, passes.makes.rest, going.waits_are)
+
+  full : (more : List Pulse) (k : ℕ) (d : Line) → k < length passes.makes.made → length leg.lines + k + limits.half < length (leg.pulses ++ more)
+      → IsFullAt limits (leg.pulses ++ more) (length leg.lines + k) (slice_index_or passes.makes.made k d)
+  full more k d short to = record {
+    known = leg.pulses;
+    others = more;
+    all = refl;
+    its = omega (arith, passes.makes.rest, going.waits_are, short);
+    full = full-on limits leg.pulses slopes passes.most passes.ramp (slice_index_or passes.makes.made k d) reached passes.full
+        (passes.makes.full k d short (omega (arith, passes.makes.count_is, short, one)));
+  }
 
   on : (more : List Pulse) → IsChord limits.slack (leg.pulses ++ more) → All (IsOnChord limits stop (leg.pulses ++ more)) passes.makes.made
   on more straight = All-weaker (IsWithin passes.most passes.ramp stop) (IsOnChord limits stop (leg.pulses ++ more))
@@ -100,7 +118,7 @@ joined-corner limits stop chord waits leg (before ∷ rest) joined = joined.pend
 corner-lines : (limits : Limits) (stop : ℕ) (chord : Chord) (old new : Motion) (waited waits : List Waiting) (leg before : Leg) (rest : List Leg)
     (next : List Slopes) (pulses : List Pulse)
     → IsPending limits stop chord (length waited) leg before rest → IsChord limits.slack pulses → length leg.pulses ≤ length pulses → 0 < length leg.pulses
-    → AreSlopes next pulses
+    → 0 < limits.half → IsFarthest limits.slack before.pulses pulses → AreSlopes next pulses
     → (p : PassesCorner limits chord.before next chord.before_pulses chord.pulses stop old new waited waits)
     → AreCounts (length before.lines) (length p.first.made) (length p.then.made) (length waits) (length leg.pulses) (length before.pulses) limits.half p.pulses
     → IsPaced limits stop (record {
@@ -110,10 +128,21 @@ corner-lines : (limits : Limits) (stop : ℕ) (chord : Chord) (old new : Motion)
       pulses = before.pulses;
       lines = (before.lines ++ p.first.made) ++ take (p.pulses / 2) p.then.made;
     } ∷ rest))
-corner-lines limits stop chord old new waited waits leg before rest next pulses pending straight longer_is some are p count =
+corner-lines limits stop chord old new waited waits leg before rest next pulses pending straight longer_is some half farthest are p count =
     corner-paced limits stop chord.before next pulses before rest p.first.made p.then.made p.pulses p.before_most p.before_ramp p.most p.ramp pending.paced
     straight pending.some (omega (arith, some, longer_is))
-    pending.before_is are p.some p.takes p.before_allowed p.first.each p.then.each count.meets count.all (omega (arith, count.few, longer_is))
+    pending.before_is are farthest p.some p.takes p.before_allowed p.first.each p.then.each count.meets count.all (omega (arith, count.few, longer_is))
+    (omega (arith, p.half, half)) full where
+      full : (k : ℕ) (d : Line) → k < length p.first.made → length before.lines + k + limits.half < length before.pulses
+          → IsFullAt limits before.pulses (length before.lines + k) (slice_index_or p.first.made k d)
+      full k d short to = record {
+        known = before.pulses;
+        others = [];
+        all = sym (append-nil before.pulses);
+        its = omega (arith, to);
+        full = full-on limits before.pulses chord.before p.before_most p.before_ramp (slice_index_or p.first.made k d) pending.before_reached p.before_full
+            (p.first.full k d short (omega (arith, pending.waits_are, to, half)));
+      }
 
 corner-counts : (limits : Limits) (stop : ℕ) (chord : Chord) (old new : Motion) (waited waits : List Waiting) (leg before : Leg) (rest : List Leg)
     (next : List Slopes)
@@ -168,7 +197,7 @@ corner-path limits stop chord chord' old new waited waits leg before rest next p
         opened = opened-decided limits chord chord' leg.pulses e pending.opened;
         decided = ap (λ t. t.has_corner) e;
         paced = λ more straight. corner-lines limits stop chord old new waited waits leg before rest next (leg.pulses ++ more) pending straight
-            (omega (arith, length-append leg.pulses more)) some
+            (omega (arith, length-append leg.pulses more)) some half (farthest-more limits.slack before.pulses leg.pulses more some pending.farthest)
             (slopes-ahead limits.slack next leg.pulses more some ahead straight) p count;
         waits_are = omega (arith, back, count.all, count.left);
         kept = omega (arith, back, count.all, count.kept);
@@ -196,7 +225,7 @@ corner-reach limits stop chord old new waited waits leg before rest next pending
         rest = record { pulses = before.pulses; lines = (before.lines ++ p.first.made) ++ take (p.pulses / 2) p.then.made } ∷ rest;
         pulses_are = refl;
         lines_are = corner-split leg before rest p.first.made p.then.made (p.pulses / 2) pending.none;
-        paced = corner-lines limits stop chord old new waited waits leg before rest next leg.pulses pending pending.opened.straight (omega arith) some are p
+        paced = corner-lines limits stop chord old new waited waits leg before rest next leg.pulses pending pending.opened.straight (omega arith) some half pending.farthest are p
             count;
         waits_are = omega (arith, back, count.all, count.left);
       },
@@ -294,10 +323,11 @@ path-opened limits stop chord waits leg (before ∷ rest) (inr pending) = pendin
 -- along the last chord, where the path ends
 pub along-reach : (limits : Limits) (stop : ℕ) (old mid new : Motion) (waited waits : List Waiting) (chord pulses : List Pulse) (lines : List Line)
     (slopes : List Slopes) (kept : ℕ)
-    → Reaches limits stop old mid (length waited) chord pulses lines → AreSlopes slopes chord → 0 < length chord
+    → Reaches limits stop old mid (length waited) chord pulses lines → AreSlopes slopes chord → AreReached limits.slack slopes chord → 0 < limits.half
+    → 0 < length chord
     → PassesAlong limits slopes stop kept mid new waited waits → kept ≤ length waited
     → Reaches limits stop old new (length waits) chord pulses lines × (length waits ≡ kept)
-along-reach limits stop old mid new waited waits chord pulses lines slopes kept reached are some passes enough = (
+along-reach limits stop old mid new waited waits chord pulses lines slopes kept reached are greatest half some passes enough = (
   record {
     made = reached.made ++ passes.makes.made;
     known = known-both old mid new reached.made passes.makes.made reached.known passes.makes.known;
@@ -309,20 +339,30 @@ along-reach limits stop old mid new waited waits chord pulses lines slopes kept 
     paced = paced-more limits stop (record { pulses = chord; lines = reached.last }) passes.makes.made reached.rest reached.paced
         (All-weaker (IsWithin passes.most passes.ramp stop) (IsOnChord limits stop chord)
         (on-chord limits stop slopes chord passes.most passes.ramp some passes.allowed are) passes.makes.made passes.makes.each)
-        (omega (arith, reached.waits_are, passes.makes.rest));
+        (omega (arith, reached.waits_are, passes.makes.rest)) full;
     waits_are = omega (arith, length-append reached.last passes.makes.made, reached.waits_are, passes.makes.rest);
   },
   omega (arith, passes.makes.count_is, passes.makes.rest, enough),
-)
+) where
+  full : (k : ℕ) (d : Line) → k < length passes.makes.made → length reached.last + k + limits.half < length chord
+      → IsFullAt limits chord (length reached.last + k) (slice_index_or passes.makes.made k d)
+  full k d short to = record {
+    known = chord;
+    others = [];
+    all = sym (append-nil chord);
+    its = omega (arith, to);
+    full = full-on limits chord slopes passes.most passes.ramp (slice_index_or passes.makes.made k d) greatest passes.full
+        (passes.makes.full k d short (omega (arith, reached.waits_are, to, half)));
+  }
 
 -- a pulse is taken into the last chord
 pub take-path : (limits : Limits) (stop : ℕ) (chord chord' : Chord) (waits : ℕ) (leg : Leg) (rest : List Leg) (pulse : Pulse)
     → IsPath limits stop chord waits (leg ∷ rest)
     → chord' ≡ record chord { pulses = chord'.pulses; cones = chord'.cones } → AreCones limits.slack chord'.cones (leg.pulses ++ pulse ∷ [])
     → chord'.pulses ≡ length leg.pulses + 1
-    → IsChord limits.slack (leg.pulses ++ pulse ∷ []) → length leg.pulses < 1048576
+    → IsChord limits.slack (leg.pulses ++ pulse ∷ []) → length leg.pulses < 1048576 → IsBehindFarthest limits.slack rest (leg.pulses ++ pulse ∷ [])
     → IsPath limits stop chord' (waits + 1) (record { pulses = leg.pulses ++ pulse ∷ []; lines = leg.lines } ∷ rest)
-take-path limits stop chord chord' waits leg rest pulse path same cones count straight few = by_path rest path where
+take-path limits stop chord chord' waits leg rest pulse path same cones count straight few farthest = by_path rest path farthest where
   opened : IsOpen limits chord leg.pulses → IsOpen limits chord' (leg.pulses ++ pulse ∷ [])
   opened is = record {
     is_open = ap (λ t. t.is_open) same ∙ is.is_open;
@@ -332,9 +372,9 @@ take-path limits stop chord chord' waits leg rest pulse path same cones count st
     straight = straight;
   }
 
-  by_path : (rest : List Leg) → IsPath limits stop chord waits (leg ∷ rest)
+  by_path : (rest : List Leg) → IsPath limits stop chord waits (leg ∷ rest) → IsBehindFarthest limits.slack rest (leg.pulses ++ pulse ∷ [])
       → IsPath limits stop chord' (waits + 1) (record { pulses = leg.pulses ++ pulse ∷ []; lines = leg.lines } ∷ rest)
-  by_path rest (inl going) = inl (record {
+  by_path rest (inl going) far = inl (record {
     opened = opened going.opened;
     decided = ap (λ t. t.has_corner) same ∙ going.decided;
     paced = λ more chord_is. let P : List Pulse → Type 0 = λ t. IsPaced limits stop (record { pulses = t; lines = leg.lines } ∷ rest) in
@@ -342,13 +382,15 @@ take-path limits stop chord chord' waits leg rest pulse path same cones count st
     waits_are = omega (arith, length-append leg.pulses (pulse ∷ []), going.waits_are);
     kept = omega (arith, length-append leg.pulses (pulse ∷ []), going.kept);
   })
-  by_path [] (inr joined) = absurd joined
-  by_path (before ∷ older) (inr pending) = inr (record {
+  by_path [] (inr joined) far = absurd joined
+  by_path (before ∷ older) (inr pending) far = inr (record {
     opened = opened pending.opened;
     pending = ap (λ t. t.has_corner) same ∙ pending.pending;
     none = pending.none;
     paced = pending.paced;
+    farthest = far;
     some = pending.some;
+    before_reached = rw (ap (λ t. t.before) same) pending.before_reached;
     before_is = rw (ap (λ t. t.before) same) pending.before_is;
     before_count = ap (λ t. t.before_pulses) same ∙ pending.before_count;
     waits_are = omega (arith, length-append leg.pulses (pulse ∷ []), pending.waits_are);
@@ -377,6 +419,7 @@ allowed-stop P stop line is = record { ramp = is.ramp; allowed = is.allowed; wit
 behind-stop : (limits : Limits) (stop : ℕ) (leg : Leg) (rest : List Leg) → IsBehind limits 0 leg rest → IsBehind limits stop leg rest
 behind-stop limits stop leg [] behind = tt
 behind-stop limits stop leg (before ∷ rest) behind = record {
+  farthest = behind.farthest;
   pulses = behind.pulses;
   some = behind.some;
   near = behind.near;
@@ -395,6 +438,7 @@ paced-stop limits stop (leg ∷ rest) paced = (
     chord = paced.0.chord;
     lines = All-weaker (IsOnChord limits 0 leg.pulses) (IsOnChord limits stop leg.pulses) (λ line on. allowed-stop _ stop line on) leg.lines paced.0.lines;
     few = paced.0.few;
+    full = paced.0.full;
   },
   (behind-stop limits stop leg rest paced.1.0, paced-stop limits stop rest paced.1.1),
 )
@@ -414,8 +458,10 @@ path-stop limits stop chord waits (leg ∷ (before ∷ rest)) (inr pending) = in
   opened = pending.opened;
   pending = pending.pending;
   none = pending.none;
+  farthest = pending.farthest;
   paced = paced-stop limits stop (before ∷ rest) pending.paced;
   some = pending.some;
+  before_reached = pending.before_reached;
   before_is = pending.before_is;
   before_count = pending.before_count;
   waits_are = pending.waits_are;
@@ -496,21 +542,22 @@ turns-fresh limits chord chord' m waits pulse same cones none = record {
       straight = chord-none limits.slack;
     };
     decided = ap (λ t. t.has_corner) same;
-    paced = λ more straight. (record { chord = straight; lines = All-nil (IsOnChord limits 0 more); few = omega arith }, (tt, tt));
+    paced = λ more straight. (record { chord = straight; lines = All-nil (IsOnChord limits 0 more); few = omega arith; full = λ k d short. absurd (omega (arith, short)) }, (tt, tt));
     waits_are = omega (arith, none);
     kept = omega arith;
   });
   straight = chord-one limits.slack pulse;
+  farthest = tt;
   few = omega arith;
 }
 
 -- or behind a corner
 pub turns-corner : (limits : Limits) (chord chord' : Chord) (old new : Motion) (waits kept : ℕ) (pulse : Pulse) (last pulses : List Pulse) (lines : List Line)
-    → Reaches limits 0 old new waits last pulses lines → IsClosed chord last waits kept
-    → kept ≡ kept_of limits.half (length last) → 0 < length last
+    → Reaches limits 0 old new waits last pulses lines → IsClosed limits.slack chord last waits kept
+    → kept ≡ kept_of limits.half (length last) → 0 < length last → IsFarthest limits.slack last (pulse ∷ [])
     → chord' ≡ record chord { pulses = 0; cones = chord'.cones; is_open = true; has_corner = true } → AreCones limits.slack chord'.cones []
     → Turns limits old new chord' waits pulse pulses lines
-turns-corner limits chord chord' old new waits kept pulse last pulses lines reached closed kept_is some same cones = record {
+turns-corner limits chord chord' old new waits kept pulse last pulses lines reached closed kept_is some farthest same cones = record {
   made = reached.made;
   known = reached.known;
   leg = record { pulses = []; lines = [] };
@@ -528,21 +575,32 @@ turns-corner limits chord chord' old new waits kept pulse last pulses lines reac
     pending = ap (λ t. t.has_corner) same;
     none = refl;
     paced = reached.paced;
+    farthest = λ pulse rest is. absurd (cc);
     some = some;
+    before_reached = rw (ap (λ t. t.before) same) closed.before_reached;
     before_is = rw (ap (λ t. t.before) same) closed.before_is;
     before_count = ap (λ t. t.before_pulses) same ∙ closed.before_count;
     waits_are = omega (arith, reached.waits_are);
     kept = omega (arith, reached.waits_are, closed.waits_are, kept_is);
   });
   straight = chord-one limits.slack pulse;
+  farthest = farthest;
   few = omega arith;
 }
 
+-- the chord before the last one goes as far as it can
+path-farthest : (limits : Limits) (chord : Chord) (waits : ℕ) (leg : Leg) (rest : List Leg) (more : List Pulse) → IsPath limits 0 chord waits (leg ∷ rest)
+    → 0 < length leg.pulses → IsChord limits.slack (leg.pulses ++ more) → IsBehindFarthest limits.slack rest (leg.pulses ++ more)
+path-farthest limits chord waits leg [] more path some straight = tt
+path-farthest limits chord waits leg (before ∷ rest) more (inl going) some straight = let paced = going.paced more straight in paced.1.0.farthest
+path-farthest limits chord waits leg (before ∷ rest) more (inr pending) some straight
+    = farthest-more limits.slack before.pulses leg.pulses more some pending.farthest
+
 -- or it goes on
 pub turns-none : (limits : Limits) (chord : Chord) (m : Motion) (waits : ℕ) (pulse : Pulse) (leg : Leg) (rest : List Leg)
-    → IsPath limits 0 chord waits (leg ∷ rest) → IsChord limits.slack (leg.pulses ++ pulse ∷ []) → length leg.pulses < 1048576
+    → IsPath limits 0 chord waits (leg ∷ rest) → 0 < length leg.pulses → IsChord limits.slack (leg.pulses ++ pulse ∷ []) → length leg.pulses < 1048576
     → Turns limits m m chord waits pulse (pulses_of (leg ∷ rest)) (lines_of (leg ∷ rest))
-turns-none limits chord m waits pulse leg rest path straight few = record {
+turns-none limits chord m waits pulse leg rest path some straight few = record {
   made = [];
   known = sym (append-nil m.known);
   leg = leg;
@@ -551,6 +609,7 @@ turns-none limits chord m waits pulse leg rest path straight few = record {
   lines_are = sym (append-nil (lines_of (leg ∷ rest)));
   path = path;
   straight = straight;
+  farthest = path-farthest limits chord waits leg rest (pulse ∷ []) path some straight;
   few = few;
 }
 
@@ -574,12 +633,12 @@ turns-on limits old mid new chord chord' waits waits' pulse pulses lines turned 
 pub closes-path : (limits : Limits) (stop : ℕ) (chord chord' : Chord) (old new : Motion) (waits waits' : ℕ) (legs : List Leg)
     → IsPath limits 0 chord waits legs → IsBegun legs → IsTrue chord.is_open
     → ((leg : Leg) (rest : List Leg) → IsPath limits stop chord waits (leg ∷ rest) → 0 < length leg.pulses → 0 ≤ kept_of limits.half (length leg.pulses)
-    → Reaches limits stop old new waits' leg.pulses (pulses_of (leg ∷ rest)) (lines_of (leg ∷ rest)) × IsClosed chord' leg.pulses waits' 0)
+    → Reaches limits stop old new waits' leg.pulses (pulses_of (leg ∷ rest)) (lines_of (leg ∷ rest)) × IsClosed limits.slack chord' leg.pulses waits' 0)
     → Finishes limits stop old new (pulses_of legs) (lines_of legs) × (waits' ≡ 0)
 closes-path limits stop chord chord' old new waits waits' [] path begun is closes = absurd (cc (path.0, is))
 closes-path limits stop chord chord' old new waits waits' (leg ∷ rest) path begun is closes =
     let both : Reaches limits stop old new waits' leg.pulses (pulses_of (leg ∷ rest)) (lines_of (leg ∷ rest))
-    × IsClosed chord' leg.pulses waits' 0 = closes leg rest (path-stop limits stop chord waits (leg ∷ rest) path) begun (omega arith) in
+    × IsClosed limits.slack chord' leg.pulses waits' 0 = closes leg rest (path-stop limits stop chord waits (leg ∷ rest) path) begun (omega arith) in
     (finish-reach limits stop old new waits' leg.pulses (pulses_of (leg ∷ rest)) (lines_of (leg ∷ rest)) both.0 both.1.waits_are, both.1.waits_are)
 
 pub closed-path : (limits : Limits) (stop : ℕ) (chord : Chord) (m : Motion) (waits : ℕ) (legs : List Leg) → IsPath limits 0 chord waits legs
@@ -598,29 +657,31 @@ fresh-path limits chord chord' m waits pulse (leg ∷ rest) path is same cones =
 
 pub turned-path : (limits : Limits) (chord chord' chord'' : Chord) (old new : Motion) (waits waits' kept : ℕ) (pulse : Pulse) (legs : List Leg)
     → IsPath limits 0 chord waits legs → IsBegun legs → IsTrue chord.is_open → kept ≡ kept_of limits.half chord.pulses
+    → ((pulses : List Pulse) → AreCones limits.slack chord.cones pulses → chord.pulses ≡ length pulses
+    → ¬ (IsChord limits.slack (pulses ++ pulse ∷ []) × (length pulses < 1048576)))
     → ((leg : Leg) (rest : List Leg) → IsPath limits 0 chord waits (leg ∷ rest) → 0 < length leg.pulses → kept ≤ kept_of limits.half (length leg.pulses)
-    → Reaches limits 0 old new waits' leg.pulses (pulses_of (leg ∷ rest)) (lines_of (leg ∷ rest)) × IsClosed chord' leg.pulses waits' kept)
+    → Reaches limits 0 old new waits' leg.pulses (pulses_of (leg ∷ rest)) (lines_of (leg ∷ rest)) × IsClosed limits.slack chord' leg.pulses waits' kept)
     → chord'' ≡ record chord' { pulses = 0; cones = chord''.cones; is_open = true; has_corner = true } → AreCones limits.slack chord''.cones []
     → Turns limits old new chord'' waits' pulse (pulses_of legs) (lines_of legs)
-turned-path limits chord chord' chord'' old new waits waits' kept pulse [] path begun is kept_is closes same cones = absurd (cc (path.0, is))
-turned-path limits chord chord' chord'' old new waits waits' kept pulse (leg ∷ rest) path begun is kept_is closes same cones =
+turned-path limits chord chord' chord'' old new waits waits' kept pulse [] path begun is kept_is leaves closes same cones = absurd (cc (path.0, is))
+turned-path limits chord chord' chord'' old new waits waits' kept pulse (leg ∷ rest) path begun is kept_is leaves closes same cones =
     let opened : IsOpen limits chord leg.pulses = path-opened limits 0 chord waits leg rest path in
     let kept_of_leg : kept ≡ kept_of limits.half (length leg.pulses) = kept_is ∙ ap (λ t. kept_of limits.half t) opened.count in
     let both : Reaches limits 0 old new waits' leg.pulses (pulses_of (leg ∷ rest)) (lines_of (leg ∷ rest))
-    × IsClosed chord' leg.pulses waits' kept = closes leg rest path begun (omega (arith, kept_of_leg)) in
+    × IsClosed limits.slack chord' leg.pulses waits' kept = closes leg rest path begun (omega (arith, kept_of_leg)) in
     turns-corner limits chord' chord'' old new waits' kept pulse leg.pulses (pulses_of (leg ∷ rest)) (lines_of (leg ∷ rest)) both.0 both.1 kept_of_leg begun
-    same cones
+    (λ first others e. let same_pulse : pulse ≡ first = cc in rw (← same_pulse) (leaves leg.pulses opened.cones opened.count)) same cones
 
 pub going-path : (limits : Limits) (chord : Chord) (m : Motion) (waits : ℕ) (pulse : Pulse) (legs : List Leg) → IsPath limits 0 chord waits legs
-    → IsTrue chord.is_open
+    → IsBegun legs → IsTrue chord.is_open
     → ((pulses : List Pulse) → AreCones limits.slack chord.cones pulses → chord.pulses ≡ length pulses → IsChord limits.slack (pulses ++ pulse ∷ [])
     × (length pulses < 1048576))
     → Turns limits m m chord waits pulse (pulses_of legs) (lines_of legs)
-going-path limits chord m waits pulse [] path is stays = absurd (cc (path.0, is))
-going-path limits chord m waits pulse (leg ∷ rest) path is stays =
+going-path limits chord m waits pulse [] path begun is stays = absurd (cc (path.0, is))
+going-path limits chord m waits pulse (leg ∷ rest) path begun is stays =
     let opened : IsOpen limits chord leg.pulses = path-opened limits 0 chord waits leg rest path in
     let goes : IsChord limits.slack (leg.pulses ++ pulse ∷ []) × (length leg.pulses < 1048576) = stays leg.pulses opened.cones opened.count in
-    turns-none limits chord m waits pulse leg rest path goes.0 goes.1
+    turns-none limits chord m waits pulse leg rest path begun goes.0 goes.1
 
 -- the lines that were made so far
 pub keep-so-far : (limits : Limits) (chord : Chord) (waits : ℕ) (legs : List Leg) → IsPath limits 0 chord waits legs → KeepSoFar limits legs

@@ -5,7 +5,7 @@ use Rattle.ng_pace.specs.declared.limits.Limits.{Limits}
 use Rattle.ng_pace.specs.declared.stepping.Given.{Given}
 use Rattle.ng_pace.specs.Axes.{AreLimits, IsStop}
 use Rattle.ng_pace.specs.Start.{start_of}
-use Rattle.ng_pace.specs.Rest.{CanRest}
+use Rattle.ng_pace.specs.Rest.{CanRest, StandsBehind, IsMarked}
 use Rattle.ng_pace.specs.Paced.{IsGiven}
 use Rattle.ng_pace.specs.Flow.{Flow, Settles, StandsAt, all_items, full_of, square_behind, no_pulse}
 use Rattle.ng_pace.specs.Legs.{Leg}
@@ -42,6 +42,10 @@ pub record IsEnded (old new : Flow) : Type 0 where
   pub items : all_items new ≡ all_items old
   pub settles : Settles old.motion new.motion old.waiting []
   pub none : new.waiting ≡ []
+  -- everything stands still behind all that is known, and what is put in later begins from rest: of what waited the
+  -- last is marked
+  pub stands : StandsBehind new.motion.known
+  pub marked : 0 < length old.waiting → IsMarked new.motion.known
   pub before : new.before ≡ no_pulse
   pub rests : CanRest new.motion.square new.motion.known
   pub limits : new.limits ≡ old.limits

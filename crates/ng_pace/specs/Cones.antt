@@ -1,5 +1,5 @@
 -- What the code keeps of slopes. There a slope is counted from a step back at each pulse, so that none is below 0.
-use Rattle.std.specs.Prelude.{ℕ, ◌≡◌, ◌+◌, ◌*◌, ◌^◌, ◌<◌, ◌≤◌, List, length, slice_index_or}
+use Rattle.std.specs.Prelude.{ℕ, ◌≡◌, ◌+◌, ◌*◌, ◌^◌, ◌<◌, ◌≤◌, min, max, List, length, slice_index_or}
 use Rattle.std.specs.Int.{abs_diff}
 use Rattle.ng_canon.specs.declared.item.AxisStep.{AxisStep}
 use Rattle.ng_pace.specs.declared.slopes.Rise.{Rise}
@@ -18,6 +18,17 @@ IsUpTo rise slope = (slope.up + slope.over) * rise.pulses ≤ rise.steps * slope
 pub record IsBetween (slopes : Slopes) (slope : Slope) : Type 0 where
   pub from : slopes.least * slope.over + slope.down * 2 ^ 20 ≤ (slope.up + slope.over) * 2 ^ 20
   pub up_to : (slope.up + slope.over) * 2 ^ 20 ≤ slopes.greatest * slope.over + slope.down * 2 ^ 20
+
+-- the greatest of some slopes without its sign, in parts of 2^20
+abbrev pub size_of : Slopes → ℕ
+size_of slopes = min (max (abs_diff slopes.least (2 ^ 20)) (abs_diff slopes.greatest (2 ^ 20))) (2 ^ 20)
+
+-- it is that of a slope of which something holds, but for one part of 2^20
+pub record IsReached (Holds : Slope → Type 0) (slopes : Slopes) : Type 0 where
+  pub slope : Slope
+  pub is : IsSlope slope
+  pub holds : Holds slope
+  pub size : size_of slopes * slope.over ≤ abs_diff slope.up slope.down * 2 ^ 20 + slope.over
 
 -- the same of an axis, by its number
 abbrev pub AreBetween : List Slopes → ℕ → Slope → Type 0

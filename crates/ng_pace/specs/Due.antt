@@ -13,7 +13,8 @@ due_us (Switch outputs) = 0
 abbrev pub least_ns : Item → ℕ
 least_ns item = min (due_us item * 1000) (2 ^ 64 - 1)
 
--- the rate of pulses of so many microseconds, in pulses a second times 2^8: rounded down, but not to 0; pulses of none come as those of 1
+-- the rate of pulses of so many microseconds, in pulses a second times 2^8: rounded down, but not to 0; pulses of none
+-- come as those of 1
 abbrev pub own_rate : ℕ → ℕ
 own_rate us = if us == 0 then 256000000 else max (256000000 / us) 1
 

@@ -7,10 +7,10 @@ use Rattle.ng_pace.specs.declared.limits.Limits.{Limits}
 use Rattle.ng_pace.specs.declared.chord.Chord.{Chord}
 use Rattle.ng_pace.specs.declared.chord.Waiting.{Waiting}
 use Rattle.ng_pace.specs.Axes.{AreLimits}
-use Rattle.ng_pace.specs.Few.{WaitFew}
+use Rattle.ng_pace.specs.Few.{WaitFew, WaitSome}
 use Rattle.ng_pace.specs.Motion.{Motion}
 use Rattle.ng_pace.specs.Due.{own_square}
-use Rattle.ng_pace.specs.Rest.{CanRest}
+use Rattle.ng_pace.specs.Rest.{CanRest, StandsBehind}
 
 -- an item, and the square of the rate at which it comes in its own time
 pub record Timed : Type 0 where
@@ -66,7 +66,8 @@ abbrev pub AreOwn : List Line → Type 0
 AreOwn [] = Unit {0}
 AreOwn (line ∷ rest) = (line.most ≤ line.full) × AreOwn rest
 
--- of the items that waited the first are known as lines now, behind those that were known; the others wait; the motion is the same
+-- of the items that waited the first are known as lines now, behind those that were known; the others wait; the motion
+-- is the same
 pub record Settles (old new : Motion) (waited waits : List Timed) : Type 0 where
   pub settled : List Line
   pub known : new.known ≡ old.known ++ settled
@@ -92,7 +93,8 @@ StandsAt known waits (Pulse pulse) = Unit {0}
 StandsAt known waits (Dwell us) = StandsLast known waits (Dwell us)
 StandsAt known waits (Switch outputs) = StandsLast known waits (Switch outputs)
 
--- there is room for all that is known, its limits can be kept, a rest can be reached, and few items wait
+-- there is room for all that is known, its limits can be kept, a rest can be reached, and few items wait; where none
+-- waits, everything stands still behind what is known
 pub record IsHeld (motion : Motion) (waiting : List Waiting) (capacity start : ℕ) (limits : Limits) (chord : Chord) : Type 0 where
   pub fits : length motion.known + length waiting ≤ motion.room
   pub capacity_is : capacity ≡ motion.room
@@ -100,6 +102,8 @@ pub record IsHeld (motion : Motion) (waiting : List Waiting) (capacity start : �
   pub limits_are : AreLimits limits
   pub rests : CanRest motion.square motion.known
   pub few : WaitFew limits chord (length waiting)
+  pub some : WaitSome chord (length waiting)
+  pub stands : waiting ≡ [] → StandsBehind motion.known
 
 -- limits of waiting items became final; so many items are known as before
 pub record Keeps (old new : Motion) (waited waits : List Waiting) : Type 0 where

@@ -8,8 +8,8 @@ pub record IsRoot (n r : ℕ) : Type 0 where
   pub reached : r * r ≤ n
   pub next : n < (r + 1) * (r + 1)
 
--- a pulse at the mean of two rates, given by their sum in pulses a second times 2^8: its nanoseconds rounded up, and no less than the
--- least; a second, at least, where both are 0
+-- a pulse at the mean of two rates, given by their sum in pulses a second times 2^8: its nanoseconds rounded up, and no
+-- less than the least; a second, at least, where both are 0
 abbrev pub time_at : ℕ → ℕ → ℕ
 time_at least both = if both == 0 then max least 1000000000 else max ((512000000000 + both - 1) / both) least
 

@@ -1,12 +1,13 @@
 -- Chords that follow one another without a rest, and the lines that are made of their pulses (own).
-use Rattle.std.specs.Prelude.{ℕ, zero, suc, ◌+◌, ◌-◌, ◌*◌, ◌/◌, ◌<◌, ◌≤◌, ◌≡◌, max, List, [], ◌∷◌, ◌++◌, map, length, take, drop, All}
+use Rattle.std.specs.Prelude.{ℕ, zero, suc, ◌+◌, ◌-◌, ◌*◌, ◌/◌, ◌^◌, ◌<◌, ◌≤◌, ◌≡◌, ◌⊎◌, min, max, List, [], ◌∷◌, ◌++◌}
+use Rattle.std.specs.Prelude.{map, length, slice_index, slice_index_or, take, drop, All}
 use Rattle.std.specs.Int.{abs_diff}
 use Rattle.ng_canon.specs.declared.item.AxisStep.{AxisStep}
 use Rattle.ng_canon.specs.declared.item.Pulse.{Pulse}
 use Rattle.ng_pace.specs.declared.limits.Limits.{Limits}
 use Rattle.ng_pace.specs.declared.line.Line.{Line}
-use Rattle.ng_pace.specs.Axes.{EachAxis, IsAlong, IsCorner, IsNearCorner}
-use Rattle.ng_pace.specs.Chords.{Slope, slope_of, IsStraight}
+use Rattle.ng_pace.specs.Axes.{EachAxis, SomeAxis, IsAlong, IsCorner, IsNearCorner}
+use Rattle.ng_pace.specs.Chords.{Slope, IsSlope, slope_of, IsNear, IsStraight}
 
 -- the step of an axis, by its number
 abbrev pub step_of : ℕ → Pulse → AxisStep
@@ -25,6 +26,12 @@ slope_along axis pulses = slope_of (steps_along axis pulses)
 abbrev pub IsChord : ℕ → List Pulse → Type 0
 IsChord slack pulses = EachAxis (λ axis. IsStraight slack (steps_along axis pulses))
 
+-- a chord goes as far as the slack allows: with the first pulse of the next one it would be none, or would have more
+-- than 2^20 pulses
+abbrev pub IsFarthest : ℕ → List Pulse → List Pulse → Type 0
+IsFarthest slack chord next = (pulse : Pulse) (rest : List Pulse) → next ≡ pulse ∷ rest
+    → ¬ (IsChord slack (chord ++ pulse ∷ []) × (length chord < 2 ^ 20))
+
 -- how much a slope changes, over the product of both lengths
 abbrev pub turn_between : Slope → Slope → ℕ
 turn_between before after = abs_diff (before.up * after.over + after.down * before.over) (before.down * after.over + after.up * before.over)
@@ -34,8 +41,8 @@ pub record IsTurning (limits : Limits) (axis : ℕ) (before after : Slope) (puls
   pub leaves : IsCorner limits axis (abs_diff before.up before.down * after.over) (turn_between before after) (before.over * after.over) pulses most ramp
   pub enters : IsCorner limits axis (abs_diff after.up after.down * before.over) (turn_between before after) (before.over * after.over) pulses most ramp
 
--- the square and the ramp of a line are allowed. Where the motors then come to rest, the ramp may be a rate at which they stop at once: `stop` parts of 256 of
--- what is allowed
+-- the square and the ramp of a line are allowed. Where the motors then come to rest, the ramp may be a rate at which
+-- they stop at once: `stop` parts of 256 of what is allowed
 pub record IsAllowed (P : ℕ → ℕ → Type 0) (stop : ℕ) (line : Line) : Type 0 where
   pub ramp : ℕ
   pub allowed : P line.most ramp
@@ -52,6 +59,42 @@ abbrev pub IsOnCorner : Limits → ℕ → List Pulse → List Pulse → ℕ →
 IsOnCorner limits stop before after pulses line
     = IsAllowed (λ most ramp. EachAxis (λ axis. IsTurning limits axis (slope_along axis before) (slope_along axis after) pulses most ramp)) stop line
 
+-- an axis has no more acceleration: along a slope that it may still get, near all of these pulses, the ramp of one more
+-- square of a pulse a second would be too much, but for a step in 2^20 pulses
+pub record IsAccelerationSpent (limits : Limits) (axis : ℕ) (known : List Pulse) (ramp : ℕ) : Type 0 where
+  pub slope : Slope
+  pub is : IsSlope slope
+  pub near : IsNear limits.slack slope (steps_along axis known)
+  pub full : 2 * slice_index limits.accel axis * slope.over * 2 ^ 20 < (abs_diff slope.up slope.down * 2 ^ 20 + slope.over) * (ramp / 2 ^ 16 + 1)
+
+-- it goes at its greatest rate: one more pulse a second would be too much
+pub record IsRateSpent (limits : Limits) (axis : ℕ) (known : List Pulse) (most : ℕ) : Type 0 where
+  pub slope : Slope
+  pub is : IsSlope slope
+  pub near : IsNear limits.slack slope (steps_along axis known)
+  pub rate : ℕ
+  pub square : rate * rate * 2 ^ 16 ≤ most
+  pub limited : 0 < slice_index limits.rate axis
+  pub full : slice_index limits.rate axis * slope.over * 2 ^ 20 < (abs_diff slope.up slope.down * 2 ^ 20 + slope.over) * (rate + 1)
+
+-- a line has the greatest square and the greatest ramp that the axes have along a chord of which these pulses are
+-- known: that of its own rate, that of some axis, or that of any line
+pub record IsFullOn (limits : Limits) (known : List Pulse) (line : Line) : Type 0 where
+  pub most : ℕ
+  pub ramp : ℕ
+  pub most_is : line.most ≡ min most line.full
+  pub ramp_is : line.ramp ≡ min ramp (2 ^ 58)
+  pub rate : (2 ^ 58 ≤ most) ⊎ SomeAxis (λ axis. IsRateSpent limits axis known most)
+  pub accel : (2 ^ 58 ≤ ramp) ⊎ SomeAxis (λ axis. IsAccelerationSpent limits axis known ramp)
+
+-- this line of a chord does, with regard to the first pulses of the chord, its own among them
+pub record IsFullAt (limits : Limits) (chord : List Pulse) (k : ℕ) (line : Line) : Type 0 where
+  pub known : List Pulse
+  pub others : List Pulse
+  pub all : chord ≡ known ++ others
+  pub its : k < length known
+  pub full : IsFullOn limits known line
+
 -- a chord, and the lines that were made of its first pulses
 pub record Leg : Type 0 where
   pub pulses : List Pulse
@@ -61,9 +104,14 @@ pub record IsLeg (limits : Limits) (stop : ℕ) (leg : Leg) : Type 0 where
   pub chord : IsChord limits.slack leg.pulses
   pub lines : All (IsOnChord limits stop leg.pulses) leg.lines
   pub few : length leg.lines ≤ length leg.pulses
+  -- all lines but those of half a corner at either end have all that the axes have
+  pub full : (k : ℕ) (d : Line) → k < length leg.lines → limits.half ≤ k → k + limits.half < length leg.pulses
+      → IsFullAt limits leg.pulses k (slice_index_or leg.lines k d)
 
--- the corner between two chords: the last lines of the one and the first of the other keep to it, half of its pulses on each side
+-- the corner between two chords, of which the first goes as far as it can: its last lines and the first of the other
+-- keep to the corner, half of its pulses on each side
 pub record IsCornered (limits : Limits) (stop : ℕ) (before after : Leg) : Type 0 where
+  pub farthest : IsFarthest limits.slack before.pulses after.pulses
   pub pulses : ℕ
   pub some : 0 < pulses
   pub near : EachAxis (λ axis. IsNearCorner limits axis (turn_between (slope_along axis before.pulses) (slope_along axis after.pulses))

@@ -1,10 +1,12 @@
 -- Lines that are made of items that wait.
-use Rattle.std.specs.Prelude.{ℕ, ◌+◌, ◌*◌, ◌/◌, ◌≤◌, ◌≡◌, min, max, List, ◌++◌, length, All}
+use Rattle.std.specs.Prelude.{ℕ, ◌+◌, ◌*◌, ◌/◌, ◌^◌, ◌<◌, ◌≤◌, ◌≡◌, min, max, List, [], ◌++◌, length, slice_index_or}
+use Rattle.std.specs.Prelude.{All}
 use Rattle.ng_pace.specs.declared.line.Line.{Line}
 use Rattle.ng_pace.specs.declared.chord.Waiting.{Waiting}
 use Rattle.ng_pace.specs.declared.settling.Ending.{Ending}
 use Rattle.ng_pace.specs.declared.settling.Ending.TheVariants.{GoesOn, Stands, Ends}
 use Rattle.ng_pace.specs.Motion.{Motion}
+use Rattle.ng_pace.specs.Rest.{IsMarked}
 
 -- a rate at which motors stop at once, in parts of 256 of the ramp; 0 where they go on
 abbrev pub stop_of : Ending → ℕ
@@ -17,10 +19,33 @@ pub record IsWithin (most ramp stop : ℕ) (line : Line) : Type 0 where
   pub most_is : line.most ≤ most
   pub ramp_is : line.ramp ≤ max ramp (ramp / 256 * stop)
 
+-- a line has all of these, as far as its own rate goes
+pub record HasAll (most ramp : ℕ) (line : Line) : Type 0 where
+  pub most_is : line.most ≡ min most line.full
+  pub ramp_is : line.ramp ≡ min ramp (2 ^ 58)
+
+-- the ramp of a line behind which this comes
+abbrev pub ramp_at : Ending → ℕ → ℕ
+ramp_at GoesOn ramp = min ramp (2 ^ 58)
+ramp_at (Stands stop) ramp = min (min ramp (2 ^ 58) / 256 * stop) (2 ^ 58)
+ramp_at (Ends stop) ramp = min (min ramp (2 ^ 58) / 256 * stop) (2 ^ 58)
+
 -- so many lines are made of the first items that wait, or of all
 pub record Makes (old new : Motion) (waited waits : List Waiting) (most ramp stop count : ℕ) : Type 0 where
   pub made : List Line
   pub known : new.known ≡ old.known ++ made
   pub each : All (IsWithin most ramp stop) made
+  -- all but the last of what waited
+  pub full : (k : ℕ) (d : Line) → k < length made → k + 1 < length waited → HasAll most ramp (slice_index_or made k d)
   pub count_is : length made ≡ min count (length waited)
   pub rest : length waits + length made ≡ length waited
+
+-- nothing is known of what comes then
+abbrev pub IsEnd : Ending → Type 0
+IsEnd GoesOn = ⊥
+IsEnd (Stands stop) = ⊥
+IsEnd (Ends stop) = Unit {0}
+
+-- where nothing more is known to come, and lines were made of all that waited, the last one is marked
+pub record Marks (ending : Ending) (known : List Line) (waited waits : List Waiting) : Type 0 where
+  pub marked : IsEnd ending → 0 < length waited → waits ≡ [] → IsMarked known

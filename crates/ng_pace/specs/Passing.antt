@@ -1,13 +1,13 @@
 -- Lines that are made along a chord, and at a corner.
-use Rattle.std.specs.Prelude.{ℕ, ◌-◌, ◌*◌, ◌/◌, ◌<◌, ◌≤◌, max, List, length}
+use Rattle.std.specs.Prelude.{ℕ, ◌-◌, ◌*◌, ◌/◌, ◌^◌, ◌<◌, ◌≤◌, ◌≡◌, max, List, length, slice_index, slice_index_or}
 use Rattle.std.specs.Int.{abs_diff}
 use Rattle.ng_pace.specs.declared.limits.Limits.{Limits}
 use Rattle.ng_pace.specs.declared.slopes.Slopes.{Slopes}
 use Rattle.ng_pace.specs.declared.chord.Waiting.{Waiting}
 use Rattle.ng_pace.specs.Motion.{Motion}
-use Rattle.ng_pace.specs.Axes.{EachAxis, IsAlong, IsNearCorner}
+use Rattle.ng_pace.specs.Axes.{EachAxis, IsAlong, IsFullRamp, IsFullRate, IsNearCorner}
 use Rattle.ng_pace.specs.Chords.{Slope, IsSlope}
-use Rattle.ng_pace.specs.Cones.{AreBetween}
+use Rattle.ng_pace.specs.Cones.{AreBetween, size_of}
 use Rattle.ng_pace.specs.Legs.{IsTurning, turn_between}
 use Rattle.ng_pace.specs.Making.{Makes}
 
@@ -16,11 +16,19 @@ abbrev pub AllowAlong : Limits → List Slopes → ℕ → ℕ → Type 0
 AllowAlong limits slopes most ramp =
     EachAxis (λ axis. (slope : Slope) → IsSlope slope → AreBetween slopes axis slope → IsAlong limits axis (abs_diff slope.up slope.down) slope.over most ramp)
 
+-- some axis has no more than this along the greatest of these slopes
+pub record TakeAll (limits : Limits) (slopes : List Slopes) (most ramp : ℕ) : Type 0 where
+  pub sizes : List ℕ
+  pub sizes_are : EachAxis (λ axis. (d : Slopes) → slice_index sizes axis ≡ size_of (slice_index_or slopes axis d))
+  pub rate : IsFullRate limits sizes (2 ^ 20) most
+  pub accel : IsFullRamp limits sizes (2 ^ 20) ramp
+
 -- of all that waits, but so many, lines are made that are allowed along the slopes
 pub record PassesAlong (limits : Limits) (slopes : List Slopes) (stop kept : ℕ) (old new : Motion) (waited waits : List Waiting) : Type 0 where
   pub most : ℕ
   pub ramp : ℕ
   pub allowed : AllowAlong limits slopes most ramp
+  pub full : TakeAll limits slopes most ramp
   pub makes : Makes old new waited waits most ramp stop (length waited - kept)
 
 -- a corner is taken over so many pulses, half on each side
@@ -30,7 +38,8 @@ pub record TakesCorner (limits : Limits) (before after : List Slopes) (pulses mo
   pub turning : EachAxis (λ axis. (slope : Slope) (next : Slope) → IsSlope slope → IsSlope next → AreBetween before axis slope → AreBetween after axis next
       → IsTurning limits axis slope next pulses most ramp)
 
--- lines are made up to the end of a corner, behind which so many pulses wait: along the chord before it, and then at the corner
+-- lines are made up to the end of a corner, behind which so many pulses wait: along the chord before it, and then at
+-- the corner
 pub record PassesCorner (limits : Limits) (before after : List Slopes) (count count' stop : ℕ) (old new : Motion) (waited waits : List Waiting) : Type 0 where
   pub mid : Motion
   pub left : List Waiting
@@ -42,6 +51,7 @@ pub record PassesCorner (limits : Limits) (before after : List Slopes) (count co
   pub before_most : ℕ
   pub before_ramp : ℕ
   pub before_allowed : AllowAlong limits before before_most before_ramp
+  pub before_full : TakeAll limits before before_most before_ramp
   pub first : Makes old mid waited left before_most before_ramp stop (length waited - count' - pulses / 2)
   pub most : ℕ
   pub ramp : ℕ

@@ -21,7 +21,8 @@ abbrev pub lines_on : List Path → List Line
 lines_on [] = []
 lines_on (path ∷ rest) = (lines_of path.chords ++ map still_line path.stands) ++ lines_on rest
 
--- each pulse of a path has its line, and no line asks of an axis for more than it has: along its chord, and at its corner, if it is at one
+-- each pulse of a path has its line, and no line asks of an axis for more than it has: along its chord, and at its
+-- corner, if it is at one
 pub record IsKept (limits : Limits) (start : ℕ) (path : Path) : Type 0 where
   pub items : items_of (lines_of path.chords) ≡ map Pulse (pulses_of path.chords)
   pub paced : IsPaced limits start path.chords
@@ -34,8 +35,8 @@ abbrev pub lines_out : List Given → List Line
 lines_out [] = []
 lines_out (given ∷ rest) = given.line ∷ lines_out rest
 
--- these are the paths of some events: each has the pulses that were put in since a rest, and ends only at a dwell, at a switch, or where nothing more was
--- known to come. Some pulses were put in before
+-- these are the paths of some events: each has the pulses that were put in since a rest, and ends only at a dwell, at a
+-- switch, or where nothing more was known to come. Some pulses were put in before
 abbrev pub ArePathsOf : List OnePulse → List Event → List Path → List Leg → Type 0
 ArePathsOf before [] [] last = pulses_of last ≡ before
 ArePathsOf before [] (path ∷ paths) last = ⊥
@@ -50,8 +51,8 @@ ArePathsOf before (end ∷ events) [] last = ⊥
 ArePathsOf before (end ∷ events) (path ∷ paths) last = (pulses_of path.chords ≡ before) × ((path.stands ≡ []) × ArePathsOf [] events paths last)
 ArePathsOf before (ask wanted answer ∷ events) paths last = ArePathsOf before events paths last
 
--- all lines, those that were given out and those that are known, are those of paths, and behind these of a path that isn't at its end: of its last
--- pulses there are no lines yet
+-- all lines, those that were given out and those that are known, are those of paths, and behind these of a path that
+-- isn't at its end: of its last pulses there are no lines yet
 pub record KeepsToPaths (limits : Limits) (start : ℕ) (events : List Event) (new : Flow) : Type 0 where
   pub paths : List Path
   pub last : List Leg

@@ -1,8 +1,9 @@
 -- The plan: at each line the greatest square from which a rest can be reached.
-use Rattle.std.specs.Prelude.{ℕ, zero, suc, ◌+◌, ◌/◌, ◌-◌, ◌^◌, ◌<◌, ◌≤◌, ◌≡◌, ◌⊎◌, min, max, List, [], ◌∷◌, length, IsTrue, if◌then◌else◌}
+use Rattle.std.specs.Prelude.{ℕ, zero, suc, ◌+◌, ◌/◌, ◌-◌, ◌^◌, ◌<◌, ◌≤◌, ◌≡◌, ◌⊎◌, min, max, List, [], ◌∷◌, length}
+use Rattle.std.specs.Prelude.{IsTrue, if◌then◌else◌}
 use Rattle.ng_pace.specs.declared.line.Line.{Line}
 use Rattle.ng_pace.specs.declared.planning.Slot.{Slot}
-use Rattle.ng_pace.specs.Rest.{IsRamp}
+use Rattle.ng_pace.specs.Rest.{IsRamp, Stands}
 
 abbrev pub lines_of : List Slot → List Line
 lines_of [] = []
@@ -17,7 +18,8 @@ ahead (s ∷ r) = s.plan
 abbrev pub most_now : Line → ℕ → ℕ
 most_now line after = min (min ((if line.last then 0 else after) + line.ramp) (2 ^ 64 - 1)) line.most
 
--- so many lines are planned, the first of them: each at the greatest square before what is planned after it; for the others 0 is planned
+-- so many lines are planned, the first of them: each at the greatest square before what is planned after it; for the
+-- others 0 is planned
 abbrev pub IsPlan : ℕ → List Slot → Type 0
 IsPlan planned [] = planned ≡ 0
 IsPlan zero (s ∷ r) = (s.plan ≡ 0) × IsPlan zero r
@@ -27,10 +29,6 @@ IsPlan (suc planned) (s ∷ r) = (s.plan ≡ most_now s.line (ahead r)) × IsPla
 abbrev pub IsWhole : List Slot → Type 0
 IsWhole [] = Unit {0}
 IsWhole (s ∷ r) = (s.plan ≡ most_now s.line (ahead r)) × IsWhole r
-
--- everything stands still at a line
-abbrev pub Stands : Line → Type 0
-Stands line = (line.most ≡ 0) × (line.ramp ≡ 0)
 
 abbrev pub StandsFirst : List Slot → Type 0
 StandsFirst [] = Unit {0}

@@ -9,7 +9,8 @@ use Rattle.ng_pace.specs.Flow.{Flow, items_of, items_waiting, still_line}
 use Rattle.ng_pace.specs.Legs.{Leg, IsChord, IsPaced, pulses_of, lines_of}
 use Rattle.ng_pace.specs.Underway.{IsPath, IsBegun}
 
--- these are the chords of the pulses that were put in since the last rest, with the lines that were made of them; the other pulses wait
+-- these are the chords of the pulses that were put in since the last rest, with the lines that were made of them; the
+-- other pulses wait
 pub record IsUnderway (flow : Flow) (legs : List Leg) : Type 0 where
   pub path : IsPath flow.limits 0 flow.chord (length flow.waiting) legs
   pub begun : IsBegun legs
@@ -24,8 +25,8 @@ pub record Goes (old new : Flow) (legs : List Leg) (pulse : OnePulse) : Type 0 w
   pub lines_are : lines_of chords ≡ lines_of legs ++ made
   pub underway : IsUnderway new chords
 
--- the path comes to rest: lines were made of all of its pulses, which keep to its chords and corners, and then of these items, before which everything
--- stands still
+-- the path comes to rest: lines were made of all of its pulses, which keep to its chords and corners, and then of these
+-- items, before which everything stands still
 pub record Rests (old new : Flow) (legs : List Leg) (items : List Item) : Type 0 where
   pub made : List Line
   pub known : new.motion.known ≡ old.motion.known ++ (made ++ map still_line items)

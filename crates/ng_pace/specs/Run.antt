@@ -1,5 +1,5 @@
 -- Whole streams: what was given out is a beginning of what was put in, and is paced line by line.
-use Rattle.std.specs.Prelude.{ℕ, ◌-◌, ◌<◌, ◌≤◌, ◌≡◌, ◌⊎◌, List, [], ◌∷◌, ◌++◌, Option, Some, None}
+use Rattle.std.specs.Prelude.{ℕ, ◌-◌, ◌<◌, ◌≤◌, ◌≡◌, ◌⊎◌, List, [], ◌∷◌, ◌++◌, Option, Some, None, IsTrue}
 use Rattle.ng_canon.specs.declared.item.Item.{Item}
 use Rattle.ng_pace.specs.declared.stepping.Given.{Given}
 use Rattle.ng_pace.specs.Due.{least_ns}
@@ -10,7 +10,8 @@ use Rattle.ng_pace.specs.Paced.{Waits}
 use Rattle.ng_pace.specs.Flow.{Flow, all_items}
 use Rattle.ng_pace.specs.Calls.{IsPut, IsEnded, IsFlowGiven}
 
--- an item is put in; it is told that nothing more comes; or a line is asked for at no more than a square, and what is answered
+-- an item is put in; it is told that nothing more comes; or a line is asked for at no more than a square, and what is
+-- answered
 pub data Event : Type 0 where
   put : Item → Event
   end : Event
@@ -52,6 +53,8 @@ pub record IsPassed (start square : ℕ) (given : Given) (left : ℕ) : Type 0 w
   pub starts : square ≡ 0 → given.from ≤ start_square given.line start
   pub within : given.from ≤ given.line.most
   pub ramp : IsRamp given.line.ramp given.from given.to
+  -- everything stands still after a last line
+  pub last : IsTrue given.line.last → given.to ≡ 0
   pub stops : (left ≡ given.to) ⊎ ((left ≡ 0) × (given.to ≤ start_square given.line start))
 
 -- one line after another is passed so, from a square to another

@@ -7,14 +7,15 @@ use Rattle.ng_pace.specs.Rest.{IsRamp, CanRest}
 abbrev pub start_square : Line → ℕ → ℕ
 start_square line start = min (line.ramp / 256 * start) (2 ^ 64 - 1)
 
--- from rest these lines may begin at a square: motors can start at it, it is wanted, and a rest can be reached within the lines
+-- from rest these lines may begin at a square: motors can start at it, it is wanted, and a rest can be reached within
+-- the lines
 pub record MayBegin (line : Line) (start wanted : ℕ) (lines : List Line) (square : ℕ) : Type 0 where
   pub starts : square ≤ start_square line start
   pub is_wanted : square ≤ wanted
   pub rests : CanRest square lines
 
--- after a line that is passed at one square there may be another: it is within the ramp, and 0 after a last line; it is wanted, or else it has
--- fallen by the whole ramp; and a rest can be reached within the lines that come then
+-- after a line that is passed at one square there may be another: it is within the ramp, and 0 after a last line; it is
+-- wanted, or else it has fallen by the whole ramp; and a rest can be reached within the lines that come then
 pub record MayFollow (line : Line) (from wanted : ℕ) (lines : List Line) (square : ℕ) : Type 0 where
   pub ramp : IsRamp line.ramp from square
   pub last : IsTrue line.last → square ≡ 0
@@ -26,8 +27,8 @@ pub record IsGreatest (Holds : ℕ → Type 0) (number : ℕ) : Type 0 where
   pub holds : Holds number
   pub greatest : (other : ℕ) → Holds other → other ≤ number
 
--- haste: a line is passed from one square to another, the greatest that may be, with regard to the lines known behind it: to all of them but
--- the last few, an eighth of the others and eight, and to one at least
+-- haste: a line is passed from one square to another, the greatest that may be, with regard to the lines known behind
+-- it: to all of them but the last few, an eighth of the others and eight, and to one at least
 pub record IsHasty (line : Line) (square start wanted from to : ℕ) (known : List Line) : Type 0 where
   pub regarded : List Line
   pub others : List Line

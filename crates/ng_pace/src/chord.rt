@@ -31,7 +31,7 @@ impl Chord {
     ghost use Rattle.ng_pace.specs.Chords.{Slope, IsSlope, IsNear};
     ghost use Rattle.ng_pace.specs.Cones.{AreBetween};
     ghost use Rattle.ng_pace.specs.Legs.{IsChord, steps_along};
-    ghost use Rattle.ng_pace.specs.Underway.{AreCones, AreSlopes};
+    ghost use Rattle.ng_pace.specs.Underway.{AreCones, AreReached, AreSlopes};
 
     /// None.
     pub(crate) fn new() -> Chord
@@ -104,9 +104,12 @@ impl Chord {
 
     /// Its slopes, as it is.
     pub(crate) fn slopes(&self) -> [Slopes; 3]
-        ensures { (slack : ℕ) (pulses : List Pulse) → AreCones slack self.now.cones pulses
+        ensures are { (slack : ℕ) (pulses : List Pulse) → AreCones slack self.now.cones pulses
             → self.now.pulses ≡ length pulses → 0 < length pulses
             → AreSlopes result pulses }
+        ensures reached { (slack : ℕ) (pulses : List Pulse) → AreCones slack self.now.cones pulses
+            → self.now.pulses ≡ length pulses → 0 < length pulses → IsChord slack pulses
+            → AreReached slack result pulses }
     {
         [
             self.cones[0].slopes_at(self.pulses),
@@ -117,9 +120,11 @@ impl Chord {
 
     /// The slopes that it may get, whatever pulses it still takes.
     pub(crate) fn slopes_ahead(&self) -> [Slopes; 3]
-        ensures { (slack : ℕ) (pulses : List Pulse) → AreCones slack self.now.cones pulses
+        ensures all { (slack : ℕ) (pulses : List Pulse) → AreCones slack self.now.cones pulses
             → EachAxis (λ i. (slope : Slope) → IsSlope slope → IsNear slack slope (steps_along i pulses)
             → AreBetween result i slope) }
+        ensures reached { (slack : ℕ) (pulses : List Pulse) → AreCones slack self.now.cones pulses
+            → 0 < length pulses → IsChord slack pulses → AreReached slack result pulses }
     {
         [
             self.cones[0].slopes(),
@@ -139,6 +144,9 @@ impl Chord {
         ensures slopes { (slack : ℕ) (pulses : List Pulse) → AreCones slack self.old.cones pulses
             → self.old.pulses ≡ length pulses → 0 < length pulses
             → AreSlopes self.new.before pulses }
+        ensures reached { (slack : ℕ) (pulses : List Pulse) → AreCones slack self.old.cones pulses
+            → self.old.pulses ≡ length pulses → 0 < length pulses → IsChord slack pulses
+            → AreReached slack self.new.before pulses }
     {
         self.before = self.slopes();
         self.before_pulses = self.pulses;

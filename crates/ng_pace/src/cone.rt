@@ -2,7 +2,7 @@
 ghost use Rattle.std.specs.Prelude.{ℕ, ◌≡◌, ◌<◌, ◌+◌, ◌*◌, ◌^◌, ◌∷◌, ◌++◌, [], List, length, IsTrue, IsFalse};
 ghost use Rattle.ng_canon.specs.declared.item.AxisStep.{AxisStep};
 ghost use Rattle.ng_pace.specs.Chords.{Slope, IsSlope, slope_of, IsNear, IsStraight, forward, backward};
-ghost use Rattle.ng_pace.specs.Cones.{IsBetween, IsCone, IsRiseOf};
+ghost use Rattle.ng_pace.specs.Cones.{IsBetween, IsCone, IsReached, IsRiseOf};
 
 use crate::slopes::{Rise, Slopes};
 use ng_canon::AxisStep;
@@ -104,17 +104,20 @@ impl Cone {
 
     /// All of its slopes.
     pub(crate) fn slopes(&self) -> Slopes
-        ensures { (slack : ℕ) (steps : List AxisStep) → IsCone slack self.now steps → (slope : Slope) → IsSlope slope
-            → IsNear slack slope steps
-            → IsBetween result slope }
+        ensures all { (slack : ℕ) (steps : List AxisStep) → IsCone slack self.now steps → (slope : Slope)
+            → IsSlope slope → IsNear slack slope steps → IsBetween result slope }
+        ensures reached { (slack : ℕ) (steps : List AxisStep) → IsCone slack self.now steps → IsStraight slack steps
+            → 0 < length steps → IsReached (λ slope. IsNear slack slope steps) result }
     {
         Slopes::between(self.low, self.high)
     }
 
     /// The slope to where the axis is, rounded both ways.
     pub(crate) fn slopes_at(&self, pulses: u32) -> Slopes
-        ensures { (slack : ℕ) (steps : List AxisStep) → IsCone slack self.now steps → length steps ≡ pulses → 0 < pulses
-            → IsBetween result (slope_of steps) }
+        ensures between { (slack : ℕ) (steps : List AxisStep) → IsCone slack self.now steps
+            → length steps ≡ pulses → 0 < pulses → IsBetween result (slope_of steps) }
+        ensures reached { (slack : ℕ) (steps : List AxisStep) → IsCone slack self.now steps → IsStraight slack steps
+            → length steps ≡ pulses → 0 < pulses → IsReached (λ slope. IsNear slack slope steps) result }
     {
         let rise = self.rise(pulses);
         Slopes::between(rise, rise)

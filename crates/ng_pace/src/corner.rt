@@ -1,8 +1,9 @@
 //! Corners between two chords.
-ghost use Rattle.std.specs.Prelude.{◌≤◌, ◌<◌, ◌+◌, ◌*◌, ◌/◌, ◌⊎◌, max, slice_index};
+ghost use Rattle.std.specs.Prelude.{◌≤◌, ◌<◌, ◌+◌, ◌*◌, ◌/◌, ◌^◌, ◌⊎◌, max, slice_index};
 ghost use Rattle.ng_pace.specs.Chords.{Slope, IsSlope};
 ghost use Rattle.ng_pace.specs.Cones.{AreBetween, IsBetween, IsTurn};
-ghost use Rattle.ng_pace.specs.Axes.{AreLimits, EachAxis, IsCorner, IsFullCorner, IsNearCorner, IsQuarterRamp};
+ghost use Rattle.ng_pace.specs.Axes.{AreLimits, AreMostPulses, EachAxis, IsCorner, IsFarFromCorner};
+ghost use Rattle.ng_pace.specs.Axes.{IsFullCorner, IsNearCorner, IsQuarterRamp};
 
 use crate::caps::along;
 use crate::limits::{Caps, GREATEST, Limits, PULSE, STEP};
@@ -51,9 +52,11 @@ fn axis_pulses(limits: &Limits, axis: usize, turn: u64) -> u64
     requires axis { axis < 3 }
     requires turn { turn ≤ 2 * STEP }
     requires accel { 3 ≤ slice_index limits.now.accel axis }
+    requires accel_at_most { slice_index limits.now.accel axis ≤ 1000000000 }
     requires slack { 0 < limits.now.slack }
     ensures near { IsNearCorner limits.now axis turn STEP result }
     ensures some { 0 < result }
+    ensures most { (2 ^ 32 ≤ result) ⊎ IsFarFromCorner limits.now axis turn STEP (result + 1) }
 {
     if turn == 0 {
         return u64::MAX;
@@ -74,6 +77,7 @@ pub(crate) fn corner_pulses(limits: &Limits, turn: &[u64; 3], before: u64, after
     ensures before { result ≤ max 1 before }
     ensures after { result ≤ max 1 after }
     ensures half { result ≤ max 1 (2 * limits.now.half) }
+    ensures most { AreMostPulses limits.now turn.now STEP before after result }
 {
     limits
         .half

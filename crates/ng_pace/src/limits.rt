@@ -1,6 +1,7 @@
 //! What the motors allow.
 ghost use Rattle.std.specs.Prelude.{◌≡◌, ◌↔◌, ◌<◌, ◌≤◌, Err, IfErr, OnOk, IsTrue, IsFalse, slice_index};
-ghost use Rattle.ng_pace.specs.Axes.{AccelerateTooLittle, AccelerateTooMuch, AreLimits, EachAxis, GoTooFast, HaveAxes, SomeAxis};
+ghost use Rattle.ng_pace.specs.Axes.{AccelerateTooLittle, AccelerateTooMuch, AreLimits, EachAxis};
+ghost use Rattle.ng_pace.specs.Axes.{GoTooFast, HaveAxes, SomeAxis};
 
 use crate::fault::PaceFault;
 

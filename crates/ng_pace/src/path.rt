@@ -4,12 +4,12 @@ ghost use Rattle.std.specs.Prelude.{ℕ, ◌^◌, false, List, length, slice_ind
 ghost use Rattle.std.specs.VecDeque.{deque_capacity};
 ghost use Rattle.ng_pace.specs.declared.chord.Waiting.{Waiting};
 ghost use Rattle.ng_pace.specs.Axes.{AreLimits};
-ghost use Rattle.ng_pace.specs.Few.{WaitFew};
+ghost use Rattle.ng_pace.specs.Few.{WaitFew, WaitSome};
 ghost use Rattle.ng_pace.specs.Flow.{Keeps};
-ghost use Rattle.ng_pace.specs.Making.{stop_of};
+ghost use Rattle.ng_pace.specs.Making.{Marks, stop_of};
 ghost use Rattle.ng_pace.specs.Passing.{PassesAlong, PassesCorner};
 ghost use Rattle.ng_pace.specs.Legs.{IsChord, Leg, lines_of, pulses_of};
-ghost use Rattle.ng_pace.specs.Underway.{Advances, AreSlopes, IsBegun, IsClosed};
+ghost use Rattle.ng_pace.specs.Underway.{Advances, AreSlopes, IsBegun, IsBehindFarthest, IsClosed};
 ghost use Rattle.ng_pace.specs.Underway.{Finishes, IsPath, Reaches, Turns, kept_of};
 
 use crate::caps::along;
@@ -51,6 +51,7 @@ fn pass_along<A: Allocator>(
     ensures keeps { Keeps pacer.old pacer.new waiting.old.items waiting.new.items }
     ensures capacity { deque_capacity waiting.new ≡ deque_capacity waiting.old }
     ensures few { length waiting.new.items ≤ kept }
+    ensures marks { Marks ending pacer.new.known waiting.old.items waiting.new.items }
     ensures passes { PassesAlong limits.now slopes.now (stop_of ending) kept pacer.old pacer.new waiting.old.items
         waiting.new.items }
 {
@@ -74,6 +75,7 @@ fn pass_corner<A: Allocator>(
     ensures keeps { Keeps pacer.old pacer.new waiting.old.items waiting.new.items }
     ensures capacity { deque_capacity waiting.new ≡ deque_capacity waiting.old }
     ensures few { length waiting.new.items ≤ chord.old.pulses }
+    ensures marks { Marks ending pacer.new.known waiting.old.items waiting.new.items }
     ensures passes { PassesCorner limits.now chord.old.before after.now chord.old.before_pulses chord.old.pulses
         (stop_of ending)
         pacer.old pacer.new waiting.old.items waiting.new.items }
@@ -114,6 +116,7 @@ fn decide_at_end<A: Allocator>(
     requires limits { AreLimits limits.now }
     ensures keeps { Keeps pacer.old pacer.new waiting.old.items waiting.new.items }
     ensures capacity { deque_capacity waiting.new ≡ deque_capacity waiting.old }
+    ensures marks { Marks ending pacer.new.known waiting.old.items waiting.new.items }
     ensures reaches { (leg : Leg) (rest : List Leg)
         → IsPath limits.now (stop_of ending) chord.old (length waiting.old.items) (leg ∷ rest)
         → 0 < length leg.pulses → AreSlopes slopes.now leg.pulses
@@ -141,12 +144,13 @@ fn close<A: Allocator>(
     requires limits { AreLimits limits.now }
     ensures keeps { Keeps pacer.old pacer.new waiting.old.items waiting.new.items }
     ensures capacity { deque_capacity waiting.new ≡ deque_capacity waiting.old }
+    ensures marks { Marks ending pacer.new.known waiting.old.items waiting.new.items }
     ensures closes { (leg : Leg) (rest : List Leg)
         → IsPath limits.now (stop_of ending) chord.old (length waiting.old.items) (leg ∷ rest) → 0 < length leg.pulses
         → kept ≤ kept_of limits.now.half (length leg.pulses)
         → Reaches limits.now (stop_of ending) pacer.old pacer.new (length waiting.new.items) leg.pulses
         (pulses_of (leg ∷ rest)) (lines_of (leg ∷ rest))
-        × IsClosed chord.new leg.pulses (length waiting.new.items) kept }
+        × IsClosed limits.now.slack chord.new leg.pulses (length waiting.new.items) kept }
     ensures few { length waiting.new.items ≤ kept }
     ensures closed { IsFalse chord.new.is_open }
 {
@@ -169,6 +173,10 @@ fn decide<A: Allocator>(
     ensures capacity { deque_capacity waiting.new ≡ deque_capacity waiting.old }
     ensures few { IsTrue chord.new.has_corner → (length waiting.new.items ≡ length waiting.old.items)
         × (chord.old.pulses < 4 * limits.now.half) }
+    ensures last { IsTrue chord.old.has_corner → chord.old.pulses ≤ length waiting.old.items → 0 < chord.old.pulses
+        → 0 < length waiting.new.items }
+    ensures same { IsFalse chord.old.has_corner → length waiting.new.items ≡ length waiting.old.items }
+    ensures corner { IsTrue chord.new.has_corner → IsTrue chord.old.has_corner }
     ensures chord { chord.new ≡ record chord.old { has_corner = chord.new.has_corner } }
     ensures advances { (leg : Leg) (rest : List Leg)
         → IsPath limits.now 0 chord.old (length waiting.old.items) (leg ∷ rest) → 0 < length leg.pulses
@@ -194,6 +202,7 @@ fn go_along<A: Allocator>(
     ensures capacity { deque_capacity waiting.new ≡ deque_capacity waiting.old }
     ensures few { IsFalse chord.now.has_corner → length waiting.new.items ≤ limits.now.half }
     ensures stays { IsTrue chord.now.has_corner → length waiting.new.items ≡ length waiting.old.items }
+    ensures last { 0 < chord.now.pulses → 0 < length waiting.old.items → 0 < length waiting.new.items }
     ensures advances { (leg : Leg) (rest : List Leg)
         → IsPath limits.now 0 chord.now (length waiting.old.items) (leg ∷ rest) → 0 < length leg.pulses
         → Advances limits.now 0 pacer.old pacer.new chord.now (length waiting.new.items) (pulses_of (leg ∷ rest))
@@ -223,9 +232,13 @@ pub(crate) fn extend<A: Allocator>(
     ensures few { (waits : ℕ) → WaitFew limits.now chord.old waits → IsTrue chord.old.is_open
         → chord.old.pulses < 2 ^ 20 → length waiting.old.items ≡ waits + 1
         → WaitFew limits.now chord.new (length waiting.new.items) }
+    ensures some { (waits : ℕ) → WaitSome chord.old waits → IsTrue chord.old.is_open
+        → chord.old.pulses < 2 ^ 20 → length waiting.old.items ≡ waits + 1
+        → WaitSome chord.new (length waiting.new.items) × (0 < length waiting.new.items) }
     ensures advances { (waits : ℕ) (leg : Leg) (rest : List Leg) → IsPath limits.now 0 chord.old waits (leg ∷ rest)
         → length waiting.old.items ≡ waits + 1
         → IsChord limits.now.slack (leg.pulses ++ pulse.now ∷ []) → length leg.pulses < 2 ^ 20
+        → IsBehindFarthest limits.now.slack rest (leg.pulses ++ pulse.now ∷ [])
         → Advances limits.now 0 pacer.old pacer.new chord.new (length waiting.new.items)
         (pulses_of (leg ∷ rest) ++ pulse.now ∷ []) (lines_of (leg ∷ rest)) }
 {
@@ -248,6 +261,7 @@ pub(crate) fn close_last<A: Allocator>(
     requires limits { AreLimits limits.now }
     ensures keeps { Keeps pacer.old pacer.new waiting.old.items waiting.new.items }
     ensures capacity { deque_capacity waiting.new ≡ deque_capacity waiting.old }
+    ensures marks { Marks ending pacer.new.known waiting.old.items waiting.new.items }
     ensures finishes { (legs : List Leg) → IsPath limits.now 0 chord.old (length waiting.old.items) legs → IsBegun legs
         → Finishes limits.now (stop_of ending) pacer.old pacer.new (pulses_of legs) (lines_of legs)
         × (length waiting.new.items ≡ 0) }
@@ -272,6 +286,7 @@ pub(crate) fn turn<A: Allocator>(
     ensures capacity { deque_capacity waiting.new ≡ deque_capacity waiting.old }
     ensures few { WaitFew limits.now chord.old (length waiting.old.items)
         → WaitFew limits.now chord.new (length waiting.new.items) }
+    ensures some { WaitSome chord.old (length waiting.old.items) → WaitSome chord.new (length waiting.new.items) }
     ensures open { IsTrue chord.new.is_open }
     ensures short { chord.new.pulses < 2 ^ 20 }
     ensures turns { (legs : List Leg) → IsPath limits.now 0 chord.old (length waiting.old.items) legs → IsBegun legs

@@ -35,15 +35,12 @@ pub(crate) fn plan<A: Allocator>(slots: &mut VecDeque<Slot, A>, planned: usize)
     let mut k = slots.len();
     while k > 0 {
         k -= 1;
-        let slot = slots[k];
+        let slot = &slots[k];
         let square = best_square(&slot.line, after);
         if k < planned && square == slot.plan {
             break;
         }
-        slots[k] = Slot {
-            line: slot.line,
-            plan: square,
-        };
+        slots[k].plan = square;
         after = square;
     }
 }

@@ -1,8 +1,8 @@
 //! Items whose limits become final.
-ghost use Rattle.std.specs.Prelude.{◌≡◌, ◌≤◌, ◌+◌, [], length, min, IsTrue, IsFalse};
+ghost use Rattle.std.specs.Prelude.{◌≡◌, ◌≤◌, ◌+◌, ◌↔◌, [], length, min, IsTrue, IsFalse};
 ghost use Rattle.std.specs.VecDeque.{deque_capacity};
 ghost use Rattle.ng_pace.specs.Flow.{Keeps};
-ghost use Rattle.ng_pace.specs.Making.{IsWithin, Makes, stop_of};
+ghost use Rattle.ng_pace.specs.Making.{IsEnd, IsWithin, Makes, Marks, ramp_at, stop_of};
 
 use crate::chord::Waiting;
 use crate::limits::{Caps, GREATEST};
@@ -27,6 +27,8 @@ fn line_of(item: Waiting, limits: Caps, ending: Ending) -> Line
     ensures full { result.full ≡ item.feed }
     ensures most { result.most ≡ min limits.most item.feed }
     ensures within { IsWithin limits.most limits.ramp (stop_of ending) result }
+    ensures ramp { result.ramp ≡ ramp_at ending limits.ramp }
+    ensures last { IsTrue result.last ↔ IsEnd ending }
 {
     let ramp = limits.ramp.min(GREATEST);
     let (ramp, last) = match ending {
@@ -59,6 +61,7 @@ fn settle_one<A: Allocator>(
     ensures makes { IsTrue result → Makes pacer.old pacer.new waiting.old.items waiting.new.items limits.most
         limits.ramp (stop_of ending) 1 }
     ensures stays { IsFalse result → (pacer.new.known ≡ pacer.old.known) × (waiting.old.items ≡ []) }
+    ensures marks { Marks ending pacer.new.known waiting.old.items waiting.new.items }
 {
     match waiting.pop_front() {
         Some(item) => {
@@ -88,6 +91,7 @@ pub(crate) fn settle<A: Allocator>(
     ensures capacity { deque_capacity waiting.new ≡ deque_capacity waiting.old }
     ensures makes { Makes pacer.old pacer.new waiting.old.items waiting.new.items limits.most limits.ramp
         (stop_of ending) count }
+    ensures marks { Marks ending pacer.new.known waiting.old.items waiting.new.items }
 {
     for k in 0..count {
         if !settle_one(pacer, waiting, limits, ending) {
@@ -109,6 +113,7 @@ pub(crate) fn settle_all<A: Allocator>(
     ensures capacity { deque_capacity waiting.new ≡ deque_capacity waiting.old }
     ensures none { waiting.new.items ≡ [] }
     ensures stays { waiting.old.items ≡ [] → pacer.new.known ≡ pacer.old.known }
+    ensures marks { Marks ending pacer.new.known waiting.old.items waiting.new.items }
 {
     while settle_one(pacer, waiting, limits, ending) {}
 }

@@ -1,8 +1,9 @@
 //! Slopes of an axis: steps over pulses, counted from a step back at each pulse, so that none is below 0.
-ghost use Rattle.std.specs.Prelude.{◌≡◌, ◌≤◌, ◌<◌, ◌+◌, ◌*◌, ◌⊎◌, IsTrue, IsFalse, slice_index};
+ghost use Rattle.std.specs.Prelude.{◌≡◌, ◌≤◌, ◌<◌, ◌+◌, ◌*◌, ◌⊎◌, IsTrue, IsFalse, slice_index, slice_index_or};
 ghost use Rattle.std.specs.Int.{abs_diff};
 ghost use Rattle.ng_pace.specs.Chords.{Slope, IsSlope};
-ghost use Rattle.ng_pace.specs.Cones.{AreBetween, IsFrom, IsUpTo, IsBetween};
+ghost use Rattle.ng_pace.specs.Cones.{AreBetween, IsFrom, IsUpTo, IsBetween, IsReached, size_of};
+ghost use Rattle.ng_pace.specs.declared.slopes.Slopes.{Slopes};
 ghost use Rattle.ng_pace.specs.Axes.{EachAxis};
 
 use crate::limits::STEP;
@@ -58,8 +59,10 @@ impl Slopes {
 
     /// All from one to another, rounded outward.
     pub(crate) fn between(low: Rise, high: Rise) -> Slopes
-        ensures { 0 < low.pulses → 0 < high.pulses → (slope : Slope) → IsSlope slope → IsFrom low slope
+        ensures all { 0 < low.pulses → 0 < high.pulses → (slope : Slope) → IsSlope slope → IsFrom low slope
             → IsUpTo high slope → IsBetween result slope }
+        ensures reached { 0 < low.pulses → 0 < high.pulses → (slope : Slope) → IsSlope slope → IsFrom low slope
+            → IsUpTo high slope → IsReached (λ s. IsFrom low s × IsUpTo high s) result }
     {
         Slopes {
             least: low.steps as u64 * STEP / (low.pulses as u64).max(1),
@@ -70,6 +73,7 @@ impl Slopes {
     /// The greatest of them without its sign.
     pub(crate) fn size(&self) -> u64
         ensures size { result ≤ STEP }
+        ensures exact { result ≡ size_of self.now }
         ensures most { (slope : Slope) → IsSlope slope → IsBetween self.now slope
             → abs_diff slope.up slope.down * STEP ≤ result * slope.over }
     {
@@ -98,8 +102,9 @@ impl Slopes {
 
 /// The greatest slope of each axis, without its sign.
 pub(crate) fn sizes(slopes: &[Slopes; 3]) -> [u64; 3]
-    ensures { EachAxis (λ i. (slope : Slope) → IsSlope slope → AreBetween slopes.now i slope
+    ensures most { EachAxis (λ i. (slope : Slope) → IsSlope slope → AreBetween slopes.now i slope
         → abs_diff slope.up slope.down * STEP ≤ slice_index result i * slope.over) }
+    ensures exact { EachAxis (λ i. (d : Slopes) → slice_index result i ≡ size_of (slice_index_or slopes.now i d)) }
 {
     [slopes[0].size(), slopes[1].size(), slopes[2].size()]
 }

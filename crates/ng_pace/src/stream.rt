@@ -4,11 +4,12 @@ ghost use Rattle.std.specs.Prelude.{length, min, nat_le, IsTrue, IsFalse, Err, I
 ghost use Rattle.std.specs.VecDeque.{deque_capacity};
 ghost use Rattle.ng_pace.specs.Axes.{AccelerateTooLittle, AccelerateTooMuch, AreLimits, GoTooFast, HaveAxes};
 ghost use Rattle.ng_pace.specs.Due.{own_square};
-ghost use Rattle.ng_pace.specs.Few.{WaitFew};
+ghost use Rattle.ng_pace.specs.Few.{WaitFew, WaitSome};
 ghost use Rattle.ng_pace.specs.Flow.{Keeps, Adds, StandsAt, StandsLast, full_of};
 ghost use Rattle.ng_pace.specs.Flow.{square_behind, no_pulse, still_line, timed_waiting};
 ghost use Rattle.ng_pace.specs.Paced.{Waits};
-ghost use Rattle.ng_pace.specs.Making.{stop_of};
+ghost use Rattle.ng_pace.specs.Rest.{StandsBehind};
+ghost use Rattle.ng_pace.specs.Making.{Marks, stop_of};
 ghost use Rattle.ng_pace.specs.Legs.{Leg, lines_of, pulses_of};
 ghost use Rattle.ng_pace.specs.Halting.{Halts, Takes};
 ghost use Rattle.ng_pace.specs.Underway.{Advances, IsBegun, Finishes, IsPath};
@@ -78,11 +79,13 @@ fn finish<A: Allocator>(
     ensures keeps { Keeps pacer.old pacer.new waiting.old.items waiting.new.items }
     ensures capacity { deque_capacity waiting.new ≡ deque_capacity waiting.old }
     ensures none { waiting.new.items ≡ [] }
+    ensures marks { Marks ending pacer.new.known waiting.old.items waiting.new.items }
     ensures finishes { (legs : List Leg) → IsPath limits.now 0 shape.old.chord (length waiting.old.items) legs
         → IsBegun legs
         → Finishes limits.now (stop_of ending) pacer.old pacer.new (pulses_of legs) (lines_of legs) }
     ensures closed { IsFalse shape.new.chord.is_open }
     ensures few { WaitFew limits.now shape.new.chord (length waiting.new.items) }
+    ensures some { WaitSome shape.new.chord (length waiting.new.items) }
     ensures start { shape.new.start ≡ shape.old.start }
     ensures before { shape.new.before ≡ no_pulse }
 {
@@ -112,6 +115,8 @@ fn push_pulse<A: Allocator>(
         (pulses_of legs ++ pulse.now ∷ []) (lines_of legs) }
     ensures few { WaitFew limits.now shape.old.chord (length waiting.old.items)
         → WaitFew limits.now shape.new.chord (length waiting.new.items) }
+    ensures some { WaitSome shape.old.chord (length waiting.old.items)
+        → WaitSome shape.new.chord (length waiting.new.items) × (0 < length waiting.new.items) }
     ensures start { shape.new.start ≡ shape.old.start }
     ensures before { shape.new.before ≡ own_square pulse.now.period_us }
 {
@@ -150,11 +155,13 @@ fn push_still<A: Allocator>(
         (record { item = item; full = 0 }) }
     ensures capacity { deque_capacity waiting.new ≡ deque_capacity waiting.old }
     ensures stands { StandsLast pacer.new.known (timed_waiting waiting.new.items) item }
+    ensures behind { StandsBehind pacer.new.known }
     ensures halts { (legs : List Leg) → IsPath limits.now 0 shape.old.chord (length waiting.old.items) legs
         → IsBegun legs
         → Halts limits.now shape.old.start pacer.old pacer.new shape.new.chord (length waiting.new.items) legs
         (item ∷ []) }
     ensures few { WaitFew limits.now shape.new.chord (length waiting.new.items) }
+    ensures some { WaitSome shape.new.chord (length waiting.new.items) }
     ensures start { shape.new.start ≡ shape.old.start }
     ensures before { shape.new.before ≡ no_pulse }
 {
@@ -183,6 +190,10 @@ fn push_item<A: Allocator>(
         → Takes limits.now shape.old.start pacer.old pacer.new shape.new.chord (length waiting.new.items) legs item }
     ensures few { WaitFew limits.now shape.old.chord (length waiting.old.items)
         → WaitFew limits.now shape.new.chord (length waiting.new.items) }
+    ensures some { WaitSome shape.old.chord (length waiting.old.items)
+        → WaitSome shape.new.chord (length waiting.new.items) }
+    ensures behind { WaitSome shape.old.chord (length waiting.old.items) → waiting.new.items ≡ []
+        → StandsBehind pacer.new.known }
     ensures start { shape.new.start ≡ shape.old.start }
     ensures before { shape.new.before ≡ square_behind item }
 {

@@ -1,7 +1,6 @@
-pub mod Streams
 pub mod FlushLemmas
+pub mod StreamLemmas
 pub mod RunLemmas
 pub mod LineLemmas
-pub mod NewlineLemmas
 pub mod StepLemmas
 pub mod FinishLemmas

@@ -16,7 +16,7 @@ use Rattle.ng_canon.specs.declared.outputs.Outputs.{Outputs}
 use Rattle.ng_lines.specs.Lines.{IsItem, item_line, slots_text, spindle_text, step_text, truth_digit, turning_text}
 use Rattle.ng_lines.proofs.DigitLemmas.{own}
 use Rattle.ng_schedule.specs.Schedule.{BeginsNoLine}
-use Rattle.ng_schedule.specs.Private.Parts.{HasNoNewline}
+use Rattle.ng_text.specs.Newlines.{HasNoNewline}
 
 pub HasNoNewline-append : (a b : List ℕ) → HasNoNewline a → HasNoNewline b → HasNoNewline (a ++ b)
 HasNoNewline-append [] b p q = q

@@ -2,6 +2,7 @@
 use Rattle.std.proofs.Common.{◌≡◌, ◌∙◌, ◌+◌, ◌-◌, ◌*◌, ◌^◌, ◌≤◌, ◌<◌, ℕ, List, [], ◌∷◌, ◌++◌, Option, Ok, length, length-append, ap, ap₂, append_assoc, append-nil, arith, refl, subst, sym}
 use Rattle.ng_canon.specs.declared.item.Item.{Item}
 use Rattle.ng_lines.specs.Lines.{item_line}
+use Rattle.ng_pace.specs.declared.limits.Limits.{Limits}
 use Rattle.ng_pace.specs.declared.line.Line.{Line}
 use Rattle.ng_pace.specs.Due.{due_us, least_ns}
 use Rattle.ng_pace.specs.declared.stepping.Given.{Given}
@@ -14,7 +15,8 @@ use Rattle.ng_schedule.specs.declared.ending.Halt.{Halt}
 use Rattle.ng_schedule.specs.declared.ending.Halt.TheVariants as halt
 use Rattle.ng_schedule.specs.declared.ending.Shown.{Shown}
 use Rattle.ng_schedule.specs.declared.giving.Schedule.{Schedule}
-use Rattle.ng_schedule.proofs.Streams.{Appends-trans}
+use Rattle.ng_schedule.proofs.StreamLemmas.{are_paced, ends, gives_out, puts}
+use Rattle.ng_text.proofs.Streams.{Appends-trans}
 
 lines_of-append : (a b : List Timed) → lines_of (a ++ b) ≡ lines_of a ++ lines_of b
 lines_of-append [] b = refl
@@ -60,10 +62,13 @@ known_with timed item items kept =
     append_assoc (lines_of timed) (item_line item ++ item_lines items) kept ∙ ap (λ l. lines_of timed ++ l) (append_assoc (item_line item) (item_lines items) kept)
 
 -- a line was given
-pub gives : {Z : Type 0} (start w v : Option (List ℕ)) (bytes kept : List ℕ) (s t : Schedule Z) (item : Item) (ns : ℕ) → IsUnderWay start w bytes kept s
-    → all_items s.stream ≡ item ∷ all_items t.stream → due_us item * 1000 ≤ ns → t.shown ≡ s.shown → t.due_ns ≡ s.due_ns + ns → t.number ≡ s.number + 1
-    → FlushSpec {T = Unit {0}} w v (s.text.items ++ due_text s.shown s.due_ns item) t.text.items (Ok tt) → IsUnderWay start v bytes kept t
-gives {Z} start w v bytes kept s t item ns here order least shown_is due_is number_is flushed =
+pub gives : {Z : Type 0} (limits : Limits) (start w v : Option (List ℕ)) (bytes kept : List ℕ) (s t : Schedule Z) (g : Given) → IsUnderWay limits start w bytes kept s
+    → IsFlowGiven s.stream t.stream (2 ^ 64 - 1) g → due_us g.line.item * 1000 ≤ g.ns → t.shown ≡ s.shown → t.due_ns ≡ s.due_ns + g.ns → t.number ≡ s.number + 1
+    → FlushSpec {T = Unit {0}} w v (s.text.items ++ due_text s.shown s.due_ns g.line.item) t.text.items (Ok tt) → IsUnderWay limits start v bytes kept t
+gives {Z} limits start w v bytes kept s t g here h least shown_is due_is number_is flushed =
+    let item = g.line.item in
+    let ns = g.ns in
+    let order = h.items in
     let timed = with_line here.timed item ns in
     record {
       timed = timed;
@@ -74,6 +79,7 @@ gives {Z} start w v bytes kept s t item ns here order least shown_is due_is numb
         waits = text_with s.shown here.timed item ns ∙ ap₂ (λ (a : List ℕ) (k : ℕ). a ++ due_text s.shown k item) here.given.waits (sym here.due)
             ∙ append_assoc here.given.out s.text.items (due_text s.shown s.due_ns item) ∙ ap (λ l. here.given.out ++ l) flushed.2 ∙ sym (append_assoc here.given.out flushed.0 t.text.items);
       });
+      streamed = gives_out limits here.timed s.stream t.stream g here.streamed h;
       lines = here.lines ∙ ap (λ (l : List Item). (lines_of here.timed ++ item_lines l) ++ kept) order ∙ known_with here.timed item (all_items t.stream) kept
           ∙ sym (lines_with here.timed item ns (item_lines (all_items t.stream) ++ kept)) ∙ sym (append_assoc (lines_of timed) (item_lines (all_items t.stream)) kept);
       due = omega (arith, due_is, here.due, span-append here.timed (record { item = item; ns = ns } ∷ []));
@@ -81,15 +87,22 @@ gives {Z} start w v bytes kept s t item ns here order least shown_is due_is numb
     }
 
 -- the next line would be over too late
-pub too_late : {Z : Type 0} (start w : Option (List ℕ)) (bytes kept : List ℕ) (s t : Schedule Z) (item : Item) (ns : ℕ) → IsUnderWay start w bytes kept s
-    → all_items s.stream ≡ item ∷ all_items t.stream → least_ns item ≤ ns → 2 ^ 64 - 1 ≤ s.due_ns + ns → t.shown ≡ s.shown → t.number ≡ s.number → t.text.items ≡ s.text.items
-    → IsTooLate start w bytes t
-too_late {Z} start w bytes kept s t item ns here order least beyond shown_is number_is text_is =
+pub too_late : {Z : Type 0} (limits : Limits) (start w : Option (List ℕ)) (bytes kept : List ℕ) (s t : Schedule Z) (g : Given) → IsUnderWay limits start w bytes kept s
+    → IsFlowGiven s.stream t.stream (2 ^ 64 - 1) g → least_ns g.line.item ≤ g.ns → 2 ^ 64 - 1 ≤ s.due_ns + g.ns → t.shown ≡ s.shown → t.number ≡ s.number → t.text.items ≡ s.text.items
+    → IsTooLate limits start w bytes t
+too_late {Z} limits start w bytes kept s t g here h least beyond shown_is number_is text_is =
+    let item = g.line.item in
+    let ns = g.ns in
+    let order = h.items in
     record {
       timed = here.timed;
       given = subst (λ (sh : Shown). HasGiven sh start w here.timed t.text.items) (sym shown_is) (subst (λ (l : List ℕ). HasGiven s.shown start w here.timed l) (sym text_is) here.given);
       late = record { item = item; ns = ns };
       least = least;
+      before = s.stream.motion.square;
+      paced = are_paced limits here.timed s.stream here.streamed;
+      left = t.stream.motion.square;
+      paced_late = are_paced limits (with_line here.timed item ns) t.stream (gives_out limits here.timed s.stream t.stream g here.streamed h);
       rest = item_lines (all_items t.stream) ++ kept;
       lines = here.lines ∙ ap (λ (l : List Item). (lines_of here.timed ++ item_lines l) ++ kept) order ∙ known_with here.timed item (all_items t.stream) kept;
       beyond = omega (arith, beyond, here.due);
@@ -97,11 +110,13 @@ too_late {Z} start w bytes kept s t item ns here order least beyond shown_is num
     }
 
 -- nothing more is written
-pub cut : {Z : Type 0} (start w : Option (List ℕ)) (bytes kept : List ℕ) (s : Schedule Z) (shown : Shown) → shown ≡ s.shown → IsUnderWay start w bytes kept s → IsCut shown start w bytes
-cut {Z} start w bytes kept s shown shown_is here =
-    subst (λ (sh : Shown). IsCut sh start w bytes) (sym shown_is) (record {
+pub cut : {Z : Type 0} (limits : Limits) (start w : Option (List ℕ)) (bytes kept : List ℕ) (s : Schedule Z) (shown : Shown) → shown ≡ s.shown → IsUnderWay limits start w bytes kept s → IsCut limits shown start w bytes
+cut {Z} limits start w bytes kept s shown shown_is here =
+    subst (λ (sh : Shown). IsCut limits sh start w bytes) (sym shown_is) (record {
       timed = here.timed;
       never_sooner = here.given.never_sooner;
+      left = s.stream.motion.square;
+      paced = are_paced limits here.timed s.stream here.streamed;
       rest = item_lines (all_items s.stream) ++ kept;
       lines = here.lines ∙ append_assoc (lines_of here.timed) (item_lines (all_items s.stream)) kept;
       out = here.given.out;
@@ -111,13 +126,18 @@ cut {Z} start w bytes kept s shown shown_is here =
     })
 
 -- a line was given in part
-pub cut_in_line : {Z : Type 0} (start w v : Option (List ℕ)) (bytes kept : List ℕ) (s t : Schedule Z) (item : Item) (ns : ℕ) → IsUnderWay start w bytes kept s
-    → all_items s.stream ≡ item ∷ all_items t.stream → due_us item * 1000 ≤ ns → t.shown ≡ s.shown
-    → Wrote w v (s.text.items ++ due_text s.shown s.due_ns item) → IsCut t.shown start v bytes
-cut_in_line {Z} start w v bytes kept s t item ns here order least shown_is wrote =
-    subst (λ (sh : Shown). IsCut sh start v bytes) (sym shown_is) (record {
+pub cut_in_line : {Z : Type 0} (limits : Limits) (start w v : Option (List ℕ)) (bytes kept : List ℕ) (s t : Schedule Z) (g : Given) → IsUnderWay limits start w bytes kept s
+    → IsFlowGiven s.stream t.stream (2 ^ 64 - 1) g → due_us g.line.item * 1000 ≤ g.ns → t.shown ≡ s.shown
+    → Wrote w v (s.text.items ++ due_text s.shown s.due_ns g.line.item) → IsCut limits t.shown start v bytes
+cut_in_line {Z} limits start w v bytes kept s t g here h least shown_is wrote =
+    let item = g.line.item in
+    let ns = g.ns in
+    let order = h.items in
+    subst (λ (sh : Shown). IsCut limits sh start v bytes) (sym shown_is) (record {
       timed = with_line here.timed item ns;
       never_sooner = never_sooner-append here.timed _ here.given.never_sooner (least, tt);
+      left = t.stream.motion.square;
+      paced = are_paced limits (with_line here.timed item ns) t.stream (gives_out limits here.timed s.stream t.stream g here.streamed h);
       rest = item_lines (all_items t.stream) ++ kept;
       lines = here.lines ∙ ap (λ (l : List Item). (lines_of here.timed ++ item_lines l) ++ kept) order ∙ known_with here.timed item (all_items t.stream) kept
           ∙ sym (lines_with here.timed item ns (item_lines (all_items t.stream) ++ kept));
@@ -132,43 +152,31 @@ cut_in_line {Z} start w v bytes kept s t item ns here order least shown_is wrote
 pub long_enough : (item : Item) (due ns : ℕ) → least_ns item ≤ ns → due + ns < 2 ^ 64 - 1 → due_us item * 1000 ≤ ns
 long_enough item due ns least fits = omega (arith, least, fits)
 
--- the line that is given was the first
-pub first_given : (old new : Flow) (wanted : ℕ) (given : Given) → IsFlowGiven old new wanted given → all_items old ≡ given.line.item ∷ all_items new
-first_given old new wanted given h = h.items
-
-pub one_fewer : (old new : Flow) (wanted : ℕ) (given : Given) → IsFlowGiven old new wanted given → length (all_items new) + 1 ≡ length (all_items old)
-one_fewer old new wanted given h = omega (arith, ap length (first_given old new wanted given h))
-
--- the same items are known, and nothing else changed
-pub same_items : {Z : Type 0} (start w : Option (List ℕ)) (bytes kept : List ℕ) (s t : Schedule Z) → IsUnderWay start w bytes kept s
-    → all_items t.stream ≡ all_items s.stream → t.shown ≡ s.shown → t.due_ns ≡ s.due_ns → t.number ≡ s.number → t.text.items ≡ s.text.items → IsUnderWay start w bytes kept t
-same_items {Z} start w bytes kept s t here items_are shown_is due_is number_is text_is =
+-- nothing more is known to come, and nothing else changed
+pub same_items : {Z : Type 0} (limits : Limits) (start w : Option (List ℕ)) (bytes kept : List ℕ) (s t : Schedule Z) → IsUnderWay limits start w bytes kept s
+    → IsEnded s.stream t.stream → t.shown ≡ s.shown → t.due_ns ≡ s.due_ns → t.number ≡ s.number → t.text.items ≡ s.text.items → IsUnderWay limits start w bytes kept t
+same_items {Z} limits start w bytes kept s t here ended shown_is due_is number_is text_is =
     record {
       timed = here.timed;
       given = subst (λ (sh : Shown). HasGiven sh start w here.timed t.text.items) (sym shown_is) (subst (λ (l : List ℕ). HasGiven s.shown start w here.timed l) (sym text_is) here.given);
-      lines = here.lines ∙ ap (λ (l : List Item). (lines_of here.timed ++ item_lines l) ++ kept) (sym items_are);
+      streamed = ends limits here.timed s.stream t.stream here.streamed ended;
+      lines = here.lines ∙ ap (λ (l : List Item). (lines_of here.timed ++ item_lines l) ++ kept) (sym ended.items);
       due = due_is ∙ here.due;
       number = number_is ∙ here.number;
     }
 
--- nothing more came
-pub ended_items : (old new : Flow) → IsEnded old new → all_items new ≡ all_items old
-ended_items old new ended = ended.items
-
-pub ended_count : (old new : Flow) → IsEnded old new → length (all_items new) ≡ length (all_items old)
-ended_count old new ended = ap length ended.items
-
 -- one more item is known
-pub takes : {Z : Type 0} (start w : Option (List ℕ)) (bytes : List ℕ) (s t : Schedule Z) (item : Item) → IsUnderWay start w bytes [] s
+pub takes : {Z : Type 0} (limits : Limits) (start w : Option (List ℕ)) (bytes : List ℕ) (s t : Schedule Z) (item : Item) → IsUnderWay limits start w bytes [] s
     → IsPut s.stream t.stream item → t.shown ≡ s.shown → t.due_ns ≡ s.due_ns → t.number ≡ s.number → t.text.items ≡ s.text.items
-    → IsUnderWay start w (bytes ++ item_line item) [] t
-takes {Z} start w bytes s t item here put shown_is due_is number_is text_is =
+    → IsUnderWay limits start w (bytes ++ item_line item) [] t
+takes {Z} limits start w bytes s t item here put shown_is due_is number_is text_is =
     let known = item_lines (all_items s.stream) in
     let more : item_lines (all_items t.stream) ≡ known ++ item_line item =
     ap item_lines put.items ∙ item_lines-append (all_items s.stream) (item ∷ []) ∙ ap (λ l. known ++ l) (append-nil (item_line item)) in
     record {
       timed = here.timed;
       given = subst (λ (sh : Shown). HasGiven sh start w here.timed t.text.items) (sym shown_is) (subst (λ (l : List ℕ). HasGiven s.shown start w here.timed l) (sym text_is) here.given);
+      streamed = puts limits here.timed s.stream t.stream item here.streamed put;
       lines = ap (λ l. l ++ item_line item) (here.lines ∙ append-nil (lines_of here.timed ++ known)) ∙ append_assoc (lines_of here.timed) known (item_line item)
           ∙ ap (λ l. lines_of here.timed ++ l) (sym more) ∙ sym (append-nil (lines_of here.timed ++ item_lines (all_items t.stream)));
       due = due_is ∙ here.due;
@@ -176,22 +184,28 @@ takes {Z} start w bytes s t item here put shown_is due_is number_is text_is =
     }
 
 -- what comes later changes nothing of it
-pub HaltSpec-more : {Z : Type 0} (start w : Option (List ℕ)) (bytes more : List ℕ) (s : Schedule Z) (why : Halt) → HaltSpec start w bytes s why → HaltSpec start w (bytes ++ more) s why
-HaltSpec-more {Z} start w bytes more s halt.TooLate h =
+pub HaltSpec-more : {Z : Type 0} (limits : Limits) (start w : Option (List ℕ)) (bytes more : List ℕ) (s : Schedule Z) (why : Halt) → HaltSpec limits start w bytes s why → HaltSpec limits start w (bytes ++ more) s why
+HaltSpec-more {Z} limits start w bytes more s halt.TooLate h =
     record {
       timed = h.timed;
       given = h.given;
       late = h.late;
       least = h.least;
+      before = h.before;
+      paced = h.paced;
+      left = h.left;
+      paced_late = h.paced_late;
       rest = h.rest ++ more;
       lines = ap (λ l. l ++ more) h.lines ∙ append_assoc (lines_of h.timed) (item_line h.late.item ++ h.rest) more ∙ ap (λ l. lines_of h.timed ++ l) (append_assoc (item_line h.late.item) h.rest more);
       beyond = h.beyond;
       number = h.number;
     }
-HaltSpec-more {Z} start w bytes more s (halt.Fault fault) h =
+HaltSpec-more {Z} limits start w bytes more s (halt.Fault fault) h =
     record {
       timed = h.timed;
       never_sooner = h.never_sooner;
+      left = h.left;
+      paced = h.paced;
       rest = h.rest ++ more;
       lines = ap (λ l. l ++ more) h.lines ∙ append_assoc (lines_of h.timed) h.rest more;
       out = h.out;

@@ -3,9 +3,11 @@ use Rattle.std.proofs.Common.{◌≡◌, ◌≢◌, ◌∙◌, ◌+◌, ◌≤�
 use Rattle.std.proofs.lemmas.Bool.Decides.{nat_tests}
 use Rattle.ng_canon.specs.declared.item.Item.{Item}
 use Rattle.ng_lines.specs.Lines.{IsItem, item_line}
+use Rattle.ng_pace.specs.declared.limits.Limits.{Limits}
 use Rattle.ng_pace.specs.Flow.{all_items}
 use Rattle.ng_schedule.specs.Schedule.{BeginsNoLine, lines_of}
-use Rattle.ng_schedule.specs.Private.Parts.{HasNoNewline, IsStopped, IsUnderWay, StopSpec, TakeSpec, item_lines}
+use Rattle.ng_text.specs.Newlines.{HasNoNewline}
+use Rattle.ng_schedule.specs.Private.Parts.{IsStopped, IsUnderWay, StopSpec, TakeSpec, item_lines}
 use Rattle.ng_schedule.specs.declared.ending.Stop.{Stop}
 use Rattle.ng_schedule.specs.declared.ending.Stop.TheVariants as stop
 use Rattle.ng_schedule.specs.declared.giving.Schedule.{Schedule}
@@ -20,27 +22,27 @@ some_line line is = omega (arith, length-append line end, ap length is)
 
 module _ {Z : Type 0} where
   -- what is known without the beginning that is kept
-  pub unkept : (start w : Option (List ℕ)) (bytes kept : List ℕ) (s : Schedule Z) → IsUnderWay start w bytes kept s
-      → (front : List ℕ) × IsUnderWay start w front [] s × (bytes ≡ front ++ kept)
-  unkept start w bytes kept s here =
+  pub unkept : (limits : Limits) (start w : Option (List ℕ)) (bytes kept : List ℕ) (s : Schedule Z) → IsUnderWay limits start w bytes kept s
+      → (front : List ℕ) × IsUnderWay limits start w front [] s × (bytes ≡ front ++ kept)
+  unkept limits start w bytes kept s here =
       let front = lines_of here.timed ++ item_lines (all_items s.stream) in
-      (front, record { timed = here.timed; given = here.given; lines = sym (append-nil front); due = here.due; number = here.number }, here.lines)
+      (front, record { timed = here.timed; given = here.given; streamed = here.streamed; lines = sym (append-nil front); due = here.due; number = here.number }, here.lines)
 
   -- more of the beginning is kept
-  pub keeps_more : (start w : Option (List ℕ)) (bytes kept more : List ℕ) (s : Schedule Z) → IsUnderWay start w bytes kept s → IsUnderWay start w (bytes ++ more) (kept ++ more) s
-  keeps_more start w bytes kept more s here =
+  pub keeps_more : (limits : Limits) (start w : Option (List ℕ)) (bytes kept more : List ℕ) (s : Schedule Z) → IsUnderWay limits start w bytes kept s → IsUnderWay limits start w (bytes ++ more) (kept ++ more) s
+  keeps_more limits start w bytes kept more s here =
       let front = lines_of here.timed ++ item_lines (all_items s.stream) in
-      record { timed = here.timed; given = here.given; lines = ap (λ l. l ++ more) here.lines ∙ append_assoc front kept more; due = here.due; number = here.number }
+      record { timed = here.timed; given = here.given; streamed = here.streamed; lines = ap (λ l. l ++ more) here.lines ∙ append_assoc front kept more; due = here.due; number = here.number }
 
-  pub TakeSpec-from : (start w : Option (List ℕ)) (bytes other kept left : List ℕ) (s : Schedule Z) (r : Result (Unit {0}) Stop) → other ≡ bytes → left ≡ kept → TakeSpec start w bytes kept s r
-      → TakeSpec start w other left s r
-  TakeSpec-from start w bytes other kept left s r bytes_are kept_is h =
-      subst (λ (b : List ℕ). TakeSpec start w b left s r) (sym bytes_are) (subst (λ (k : List ℕ). TakeSpec start w bytes k s r) (sym kept_is) h)
+  pub TakeSpec-from : (limits : Limits) (start w : Option (List ℕ)) (bytes other kept left : List ℕ) (s : Schedule Z) (r : Result (Unit {0}) Stop) → other ≡ bytes → left ≡ kept → TakeSpec limits start w bytes kept s r
+      → TakeSpec limits start w other left s r
+  TakeSpec-from limits start w bytes other kept left s r bytes_are kept_is h =
+      subst (λ (b : List ℕ). TakeSpec limits start w b left s r) (sym bytes_are) (subst (λ (k : List ℕ). TakeSpec limits start w bytes k s r) (sym kept_is) h)
 
   -- the next line is none of an item
-  pub stops_at_other : (start w : Option (List ℕ)) (bytes line : List ℕ) (s : Schedule Z) → IsUnderWay start w bytes [] s → HasNoNewline line
-      → ((item : Item) → IsItem item → item_line item ≡ line ++ end → ⊥) → IsStopped start w (bytes ++ (line ++ end)) s
-  stops_at_other start w bytes line s here none differs =
+  pub stops_at_other : (limits : Limits) (start w : Option (List ℕ)) (bytes line : List ℕ) (s : Schedule Z) → IsUnderWay limits start w bytes [] s → HasNoNewline line
+      → ((item : Item) → IsItem item → item_line item ≡ line ++ end → ⊥) → IsStopped limits start w (bytes ++ (line ++ end)) s
+  stops_at_other limits start w bytes line s here none differs =
       record {
         before = bytes;
         under_way = here;
@@ -51,10 +53,10 @@ module _ {Z : Type 0} where
       }
 
   -- the next line is too long
-  pub stops_at_long : (start w : Option (List ℕ)) (bytes kept line more : List ℕ) (s : Schedule Z) → IsUnderWay start w bytes kept s → HasNoNewline (kept ++ line) → 128 < length (kept ++ line)
-      → IsStopped start w (bytes ++ (line ++ more)) s
-  stops_at_long start w bytes kept line more s here none long =
-      let parts = unkept start w bytes kept s here in
+  pub stops_at_long : (limits : Limits) (start w : Option (List ℕ)) (bytes kept line more : List ℕ) (s : Schedule Z) → IsUnderWay limits start w bytes kept s → HasNoNewline (kept ++ line) → 128 < length (kept ++ line)
+      → IsStopped limits start w (bytes ++ (line ++ more)) s
+  stops_at_long limits start w bytes kept line more s here none long =
+      let parts = unkept limits start w bytes kept s here in
       record {
         before = parts.0;
         under_way = parts.1;
@@ -66,8 +68,8 @@ module _ {Z : Type 0} where
       }
 
   -- what comes later changes nothing of it
-  pub StopSpec-more : (start w : Option (List ℕ)) (bytes more : List ℕ) (s : Schedule Z) (why : Stop) → StopSpec start w bytes s why → StopSpec start w (bytes ++ more) s why
-  StopSpec-more start w bytes more s stop.NotALine h =
+  pub StopSpec-more : (limits : Limits) (start w : Option (List ℕ)) (bytes more : List ℕ) (s : Schedule Z) (why : Stop) → StopSpec limits start w bytes s why → StopSpec limits start w (bytes ++ more) s why
+  StopSpec-more limits start w bytes more s stop.NotALine h =
       record {
         before = h.before;
         under_way = h.under_way;
@@ -80,16 +82,16 @@ module _ {Z : Type 0} where
       nothing : (a : List ℕ) → a ++ more ≡ [] → a ≡ []
       nothing [] is = refl
       nothing (c ∷ cs) is = absurd (cc is)
-  StopSpec-more start w bytes more s (stop.Halted why) h = HaltSpec-more start w bytes more s why h
+  StopSpec-more limits start w bytes more s (stop.Halted why) h = HaltSpec-more limits start w bytes more s why h
 
   -- a line that was stopped at is within more bytes
-  pub stops_within : (start w : Option (List ℕ)) (before taken line after bytes left : List ℕ) (s : Schedule Z) (why : Stop) → bytes ≡ taken ++ left → left ≡ line ++ 10 ∷ after
-      → StopSpec start w ((before ++ taken) ++ (line ++ end)) s why → StopSpec start w (before ++ bytes) s why
-  stops_within start w before taken line after bytes left s why all first h =
-      subst (λ (b : List ℕ). StopSpec start w b s why)
+  pub stops_within : (limits : Limits) (start w : Option (List ℕ)) (before taken line after bytes left : List ℕ) (s : Schedule Z) (why : Stop) → bytes ≡ taken ++ left → left ≡ line ++ 10 ∷ after
+      → StopSpec limits start w ((before ++ taken) ++ (line ++ end)) s why → StopSpec limits start w (before ++ bytes) s why
+  stops_within limits start w before taken line after bytes left s why all first h =
+      subst (λ (b : List ℕ). StopSpec limits start w b s why)
       (append_assoc (before ++ taken) (line ++ end) after ∙ ap (λ l. (before ++ taken) ++ l) (append_assoc line end after) ∙ append_assoc before taken (line ++ 10 ∷ after)
       ∙ ap (λ l. before ++ (taken ++ l)) (sym first) ∙ ap (λ l. before ++ l) (sym all))
-      (StopSpec-more start w ((before ++ taken) ++ (line ++ end)) after s why h)
+      (StopSpec-more limits start w ((before ++ taken) ++ (line ++ end)) after s why h)
 
 -- there is no room for it
 pub no_room : (xs ys : List ℕ) → (length xs + length ys ≤ 128 → false ≡ true) → 128 < length (xs ++ ys)

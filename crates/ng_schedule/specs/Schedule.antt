@@ -4,7 +4,14 @@ use Rattle.std.specs.Fmt.{decimal}
 use Rattle.std.specs.Io.KnownBytes.{Appends}
 use Rattle.ng_canon.specs.declared.item.Item.{Item}
 use Rattle.ng_lines.specs.Lines.{IsItem, item_line}
+use Rattle.ng_pace.specs.Calls.{IsEmpty}
 use Rattle.ng_pace.specs.Due.{due_us, least_ns}
+use Rattle.ng_pace.specs.Flow.{Flow}
+use Rattle.ng_pace.specs.Paths.{KeepsToPaths}
+use Rattle.ng_pace.specs.Run.{ArePassed, Event, put, end, ask, IsRun, lines_given}
+use Rattle.ng_pace.specs.Start.{start_of}
+use Rattle.ng_pace.specs.declared.limits.Limits.{Limits}
+use Rattle.ng_pace.specs.declared.stepping.Given.{Given}
 use Rattle.ng_schedule.specs.declared.ending.Shown.{Shown}
 use Rattle.ng_schedule.specs.declared.ending.Shown.TheVariants.{Lines, Total}
 use Rattle.ng_schedule.specs.declared.ending.Ended.{Ended}
@@ -31,6 +38,34 @@ abbrev pub AreNeverSooner : List Timed → Type 0
 AreNeverSooner [] = Unit {0}
 AreNeverSooner (t ∷ ts) = (due_us t.item * 1000 ≤ t.ns) × AreNeverSooner ts
 
+-- lines that a stream gave out, with the times that it gave them
+abbrev pub times_of : List Given → List Timed
+times_of [] = []
+times_of (given ∷ rest) = (record { item = given.line.item; ns = given.ns }) ∷ times_of rest
+
+-- each line was asked for with the greatest of all squares
+abbrev pub AskForMost : List Event → Type 0
+AskForMost [] = Unit {0}
+AskForMost (put item ∷ rest) = AskForMost rest
+AskForMost (end ∷ rest) = AskForMost rest
+AskForMost (ask wanted answer ∷ rest) = (wanted ≡ 2 ^ 64 - 1) × AskForMost rest
+
+-- these are the times of a stream with these limits that was empty and at rest at first, whatever was put in since, and
+-- as fast as may be; this is the square of the rate that is left
+pub record ArePaced (limits : Limits) (timed : List Timed) (left : ℕ) : Type 0 where
+  pub room : ℕ
+  pub first : Flow
+  pub events : List Event
+  pub last : Flow
+  pub empty : IsEmpty first limits room
+  pub run : IsRun first events last
+  pub haste : AskForMost events
+  pub times : timed ≡ times_of (lines_given events)
+  -- from rest, the square goes from line to line within the ramp of each, and each takes the time of its squares
+  pub squares : ArePassed (start_of limits) 0 (lines_given events) left
+  -- no axis is asked for more than its acceleration and its greatest rate
+  pub axes : KeepsToPaths limits (start_of limits) events last
+
 -- what is written of a line that is due at a time
 abbrev pub due_text : Shown → ℕ → Item → List ℕ
 due_text Lines due item = decimal due ++ 32 ∷ item_line item
@@ -56,17 +91,19 @@ too_late_text number = codes "refused line " ++ decimal number ++ codes ": over 
 abbrev pub BeginsNoLine : List ℕ → Type 0
 BeginsNoLine bytes = (item : Item) (after : List ℕ) → IsItem item → bytes ≡ item_line item ++ after → ⊥
 
--- all is lines
-pub record IsWhole (shown : Shown) (text : List ℕ) (written : List ℕ) : Type 0 where
+-- all is lines, and everything stands still at their end
+pub record IsWhole (limits : Limits) (shown : Shown) (text : List ℕ) (written : List ℕ) : Type 0 where
   pub timed : List Timed
   pub never_sooner : AreNeverSooner timed
+  pub paced : ArePaced limits timed 0
   pub lines : text ≡ lines_of timed
   pub writes : written ≡ timed_text shown 0 timed ++ end_text shown (span timed)
 
--- what follows the lines before this number isn't a line
-pub record StopsAtOther (shown : Shown) (text : List ℕ) (number : ℕ) (written : List ℕ) : Type 0 where
+-- what follows the lines before this number isn't a line; everything stands still at their end
+pub record StopsAtOther (limits : Limits) (shown : Shown) (text : List ℕ) (number : ℕ) (written : List ℕ) : Type 0 where
   pub timed : List Timed
   pub never_sooner : AreNeverSooner timed
+  pub paced : ArePaced limits timed 0
   pub rest : List ℕ
   pub lines : text ≡ lines_of timed ++ rest
   pub some : rest ≢ []
@@ -75,11 +112,13 @@ pub record StopsAtOther (shown : Shown) (text : List ℕ) (number : ℕ) (writte
   pub writes : written ≡ timed_text shown 0 timed ++ not_a_line_text number
 
 -- the line of this number would be over after more than 584 years
-pub record StopsTooLate (shown : Shown) (text : List ℕ) (number : ℕ) (written : List ℕ) : Type 0 where
+pub record StopsTooLate (limits : Limits) (shown : Shown) (text : List ℕ) (number : ℕ) (written : List ℕ) : Type 0 where
   pub timed : List Timed
   pub never_sooner : AreNeverSooner timed
   pub late : Timed
   pub least : least_ns late.item ≤ late.ns
+  pub left : ℕ
+  pub paced : ArePaced limits (timed ++ late ∷ []) left
   pub rest : List ℕ
   pub lines : text ≡ lines_of timed ++ (item_line late.item ++ rest)
   pub beyond : 2 ^ 64 - 1 ≤ span timed + late.ns
@@ -87,9 +126,10 @@ pub record StopsTooLate (shown : Shown) (text : List ℕ) (number : ℕ) (writte
   pub writes : written ≡ timed_text shown 0 timed ++ too_late_text number
 
 -- a beginning of such a text
-pub record IsBroken (shown : Shown) (text : List ℕ) (written : List ℕ) : Type 0 where
+pub record IsBroken (limits : Limits) (shown : Shown) (text : List ℕ) (written : List ℕ) : Type 0 where
   pub timed : List Timed
   pub never_sooner : AreNeverSooner timed
+  pub paced : (timed ≡ []) ⊎ ((left : ℕ) × ArePaced limits timed left)
   pub rest : List ℕ
   pub lines : text ≡ lines_of timed ++ rest
   pub last : List ℕ
@@ -97,12 +137,12 @@ pub record IsBroken (shown : Shown) (text : List ℕ) (written : List ℕ) : Typ
   pub after : List ℕ
   pub begins : timed_text shown 0 timed ++ last ≡ written ++ after
 
-abbrev pub EndsSo : Shown → List ℕ → Result Ended ScheduleFault → List ℕ → Type 0
-EndsSo shown text (Ok Done) written = IsWhole shown text written
-EndsSo shown text (Ok (NotALine number)) written = StopsAtOther shown text number written
-EndsSo shown text (Ok (TooLate number)) written = StopsTooLate shown text number written
-EndsSo shown text (Err fault) written = IsBroken shown text written
+abbrev pub EndsSo : Limits → Shown → List ℕ → Result Ended ScheduleFault → List ℕ → Type 0
+EndsSo limits shown text (Ok Done) written = IsWhole limits shown text written
+EndsSo limits shown text (Ok (NotALine number)) written = StopsAtOther limits shown text number written
+EndsSo limits shown text (Ok (TooLate number)) written = StopsTooLate limits shown text number written
+EndsSo limits shown text (Err fault) written = IsBroken limits shown text written
 
 -- a run over a text wrote what it had to, and returns how it ended
-abbrev pub ScheduleSpec : Shown → List ℕ → Option (List ℕ) → Option (List ℕ) → Result Ended ScheduleFault → Type 0
-ScheduleSpec shown text old new result = (written : List ℕ) × Appends old new written × EndsSo shown text result written
+abbrev pub ScheduleSpec : Limits → Shown → List ℕ → Option (List ℕ) → Option (List ℕ) → Result Ended ScheduleFault → Type 0
+ScheduleSpec limits shown text old new result = (written : List ℕ) × Appends old new written × EndsSo limits shown text result written

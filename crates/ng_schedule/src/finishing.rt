@@ -1,8 +1,10 @@
 //! The end of a run.
 ghost use Rattle.std.specs.Prelude.{◌≡◌, ◌≢◌, ◌++◌, [], List, OnOk, Option, ℕ};
+ghost use Rattle.ng_pace.specs.declared.limits.Limits.{Limits};
 ghost use Rattle.ng_schedule.specs.Flush.{FlushSpec};
 ghost use Rattle.ng_schedule.specs.Schedule.{BeginsNoLine, ScheduleSpec, end_text};
-ghost use Rattle.ng_schedule.specs.Private.Parts.{HaltSpec, HasNoNewline, IsUnderWay, StopSpec};
+ghost use Rattle.ng_text.specs.Newlines.{HasNoNewline};
+ghost use Rattle.ng_schedule.specs.Private.Parts.{HaltSpec, IsUnderWay, StopSpec};
 
 use crate::ending::{Ended, Halt, ScheduleFault, Shown, Stop};
 use crate::giving::Schedule;
@@ -31,9 +33,9 @@ fn put_end<W: Write, A: Allocator + Copy + Drop>(
 impl<A: Allocator + Copy + Drop> Schedule<A> {
     /// Ends the run: no more lines are given.
     fn halt<W: Write>(&mut self, writer: &mut W, halt: Halt) -> Result<Ended, ScheduleFault>
-        ensures { (start : Option (List ℕ)) (bytes more : List ℕ)
-            → HaltSpec start (W.contents writer.old) bytes self.old halt
-            → ScheduleSpec self.old.shown (bytes ++ more) start (W.contents writer.new) result }
+        ensures { (limits : Limits) (start : Option (List ℕ)) (bytes more : List ℕ)
+            → HaltSpec limits start (W.contents writer.old) bytes self.old halt
+            → ScheduleSpec limits self.old.shown (bytes ++ more) start (W.contents writer.new) result }
     {
         match halt {
             Halt::Fault(fault) => Err(fault),
@@ -55,9 +57,9 @@ impl<A: Allocator + Copy + Drop> Schedule<A> {
 
     /// Ends the run: all lines are there.
     fn finish<W: Write>(&mut self, writer: &mut W) -> Result<Ended, ScheduleFault>
-        ensures { (start : Option (List ℕ)) (bytes : List ℕ)
-            → IsUnderWay start (W.contents writer.old) bytes [] self.old
-            → ScheduleSpec self.old.shown bytes start (W.contents writer.new) result }
+        ensures { (limits : Limits) (start : Option (List ℕ)) (bytes : List ℕ)
+            → IsUnderWay limits start (W.contents writer.old) bytes [] self.old
+            → ScheduleSpec limits self.old.shown bytes start (W.contents writer.new) result }
     {
         match self.give_all(writer) {
             Ok(()) => match put_end(self.shown, &mut self.text, writer, self.due_ns) {
@@ -70,9 +72,9 @@ impl<A: Allocator + Copy + Drop> Schedule<A> {
 
     /// Ends the run: what follows isn't a line.
     fn refuse<W: Write>(&mut self, writer: &mut W) -> Result<Ended, ScheduleFault>
-        ensures { (start : Option (List ℕ)) (bytes rest : List ℕ)
-            → IsUnderWay start (W.contents writer.old) bytes [] self.old → rest ≢ [] → BeginsNoLine rest
-            → ScheduleSpec self.old.shown (bytes ++ rest) start (W.contents writer.new) result }
+        ensures { (limits : Limits) (start : Option (List ℕ)) (bytes rest : List ℕ)
+            → IsUnderWay limits start (W.contents writer.old) bytes [] self.old → rest ≢ [] → BeginsNoLine rest
+            → ScheduleSpec limits self.old.shown (bytes ++ rest) start (W.contents writer.new) result }
     {
         match self.give_all(writer) {
             Ok(()) => {
@@ -100,9 +102,9 @@ impl<A: Allocator + Copy + Drop> LineSplitter<A> {
         writer: &mut W,
         stop: Stop,
     ) -> Result<Ended, ScheduleFault>
-        ensures { (start : Option (List ℕ)) (bytes more : List ℕ)
-            → StopSpec start (W.contents writer.old) bytes self.old.schedule stop
-            → ScheduleSpec self.old.schedule.shown (bytes ++ more) start (W.contents writer.new) result }
+        ensures { (limits : Limits) (start : Option (List ℕ)) (bytes more : List ℕ)
+            → StopSpec limits start (W.contents writer.old) bytes self.old.schedule stop
+            → ScheduleSpec limits self.old.schedule.shown (bytes ++ more) start (W.contents writer.new) result }
     {
         match stop {
             Stop::NotALine => self.schedule.refuse(writer),
@@ -113,9 +115,9 @@ impl<A: Allocator + Copy + Drop> LineSplitter<A> {
     /// Ends the run: there are no more bytes.
     pub(crate) fn close<W: Write>(&mut self, writer: &mut W) -> Result<Ended, ScheduleFault>
         requires { HasNoNewline self.old.kept.items }
-        ensures { (start : Option (List ℕ)) (bytes : List ℕ)
-            → IsUnderWay start (W.contents writer.old) bytes self.old.kept.items self.old.schedule
-            → ScheduleSpec self.old.schedule.shown bytes start (W.contents writer.new) result }
+        ensures { (limits : Limits) (start : Option (List ℕ)) (bytes : List ℕ)
+            → IsUnderWay limits start (W.contents writer.old) bytes self.old.kept.items self.old.schedule
+            → ScheduleSpec limits self.old.schedule.shown bytes start (W.contents writer.new) result }
     {
         if self.kept.is_empty() {
             return self.schedule.finish(writer);

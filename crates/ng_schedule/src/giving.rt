@@ -3,6 +3,7 @@ ghost use Rattle.std.specs.Prelude.{◌≡◌, ◌+◌, ◌<◌, ◌++◌, [], �
 ghost use Rattle.ng_canon.specs.declared.item.Item.{Item};
 ghost use Rattle.ng_lines.specs.Lines.{IsItem, item_line};
 ghost use Rattle.ng_pace.specs.Flow.{all_items};
+ghost use Rattle.ng_pace.specs.declared.limits.Limits.{Limits};
 ghost use Rattle.ng_schedule.specs.Flush.{FlushSpec};
 ghost use Rattle.ng_schedule.specs.Schedule.{due_text};
 ghost use Rattle.ng_schedule.specs.Private.Parts.{GiveSpec, HasRoom, IsUnderWay};
@@ -49,9 +50,9 @@ impl<A: Allocator + Copy + Drop> Schedule<A> {
     /// Gives the next line whose limits are final. False if there is none.
     #[inline(always)]
     fn give_next<W: Write>(&mut self, writer: &mut W) -> Result<bool, Halt>
-        ensures step { (start : Option (List ℕ)) (bytes kept : List ℕ)
-            → IsUnderWay start (W.contents writer.old) bytes kept self.old
-            → GiveSpec start (W.contents writer.new) bytes kept self.new result }
+        ensures step { (limits : Limits) (start : Option (List ℕ)) (bytes kept : List ℕ)
+            → IsUnderWay limits start (W.contents writer.old) bytes kept self.old
+            → GiveSpec limits start (W.contents writer.new) bytes kept self.new result }
         ensures one { IfOk result (λ gave. IsTrue gave → length (all_items self.new.stream) + 1 ≡ length (all_items self.old.stream)) }
         ensures none { IfOk result (λ gave. IsFalse gave → self.old.stream.motion.known ≡ []) }
         ensures same { IfOk result (λ gave. IsFalse gave → self.new.stream ≡ self.old.stream) }
@@ -87,9 +88,9 @@ impl<A: Allocator + Copy + Drop> Schedule<A> {
     /// Gives one line. If the limits of none are final, all that are known come to rest at their end.
     #[inline(always)]
     fn give_one<W: Write>(&mut self, writer: &mut W) -> Result<(), Halt>
-        ensures step { (start : Option (List ℕ)) (bytes kept : List ℕ)
-            → IsUnderWay start (W.contents writer.old) bytes kept self.old
-            → GiveSpec start (W.contents writer.new) bytes kept self.new result }
+        ensures step { (limits : Limits) (start : Option (List ℕ)) (bytes kept : List ℕ)
+            → IsUnderWay limits start (W.contents writer.old) bytes kept self.old
+            → GiveSpec limits start (W.contents writer.new) bytes kept self.new result }
         ensures one { OnOk result (length (all_items self.new.stream) + 1 ≡ length (all_items self.old.stream)) }
         ensures shown { self.new.shown ≡ self.old.shown }
     {
@@ -110,9 +111,9 @@ impl<A: Allocator + Copy + Drop> Schedule<A> {
     /// Gives lines until there is room for one more.
     #[inline(always)]
     fn make_room<W: Write>(&mut self, writer: &mut W) -> Result<(), Halt>
-        ensures step { (start : Option (List ℕ)) (bytes kept : List ℕ)
-            → IsUnderWay start (W.contents writer.old) bytes kept self.old
-            → GiveSpec start (W.contents writer.new) bytes kept self.new result }
+        ensures step { (limits : Limits) (start : Option (List ℕ)) (bytes kept : List ℕ)
+            → IsUnderWay limits start (W.contents writer.old) bytes kept self.old
+            → GiveSpec limits start (W.contents writer.new) bytes kept self.new result }
         ensures room { OnOk result (HasRoom self.new) }
         ensures shown { self.new.shown ≡ self.old.shown }
     {
@@ -128,9 +129,9 @@ impl<A: Allocator + Copy + Drop> Schedule<A> {
     /// Takes the item of the next line.
     #[inline(always)]
     pub(crate) fn take_item<W: Write>(&mut self, writer: &mut W, item: Item) -> Result<(), Halt>
-        ensures step { (start : Option (List ℕ)) (bytes : List ℕ)
-            → IsUnderWay start (W.contents writer.old) bytes [] self.old
-            → GiveSpec start (W.contents writer.new) (bytes ++ item_line item) [] self.new result }
+        ensures step { (limits : Limits) (start : Option (List ℕ)) (bytes : List ℕ)
+            → IsUnderWay limits start (W.contents writer.old) bytes [] self.old
+            → GiveSpec limits start (W.contents writer.new) (bytes ++ item_line item) [] self.new result }
         ensures shown { self.new.shown ≡ self.old.shown }
     {
         match self.make_room(writer) {
@@ -144,9 +145,9 @@ impl<A: Allocator + Copy + Drop> Schedule<A> {
 
     /// Gives all lines: nothing more comes.
     pub(crate) fn give_all<W: Write>(&mut self, writer: &mut W) -> Result<(), Halt>
-        ensures step { (start : Option (List ℕ)) (bytes kept : List ℕ)
-            → IsUnderWay start (W.contents writer.old) bytes kept self.old
-            → GiveSpec start (W.contents writer.new) bytes kept self.new result }
+        ensures step { (limits : Limits) (start : Option (List ℕ)) (bytes kept : List ℕ)
+            → IsUnderWay limits start (W.contents writer.old) bytes kept self.old
+            → GiveSpec limits start (W.contents writer.new) bytes kept self.new result }
         ensures all { OnOk result (all_items self.new.stream ≡ []) }
         ensures shown { self.new.shown ≡ self.old.shown }
     {

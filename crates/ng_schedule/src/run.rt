@@ -1,6 +1,6 @@
 //! A run: lines go in, and their times come out.
 ghost use Rattle.std.specs.Prelude.{◌≡◌, [], IfOk, IfSome};
-ghost use Rattle.ng_pace.specs.Flow.{all_items};
+ghost use Rattle.ng_pace.specs.Calls.{IsEmpty};
 ghost use Rattle.ng_schedule.specs.Schedule.{ScheduleSpec};
 
 use crate::ending::{Ended, ScheduleFault, Shown};
@@ -24,7 +24,7 @@ const BUFFER: usize = 65_536;
 impl<A: Allocator + Copy + Drop> Schedule<A> {
     /// A run before its first line, with all the room that it ever takes.
     fn new(alloc: A, limits: Limits, shown: Shown) -> Result<Schedule<A>, ScheduleFault>
-        ensures nothing { IfOk result (λ s. all_items s.stream ≡ []) }
+        ensures empty { IfOk result (λ s. IsEmpty s.stream limits 8192) }
         ensures text { IfOk result (λ s. s.text.items ≡ []) }
         ensures shown { IfOk result (λ s. s.shown ≡ shown) }
         ensures due { IfOk result (λ s. s.due_ns ≡ 0) }
@@ -70,7 +70,7 @@ pub fn schedule<R: Read, W: Write, A: Allocator + Copy + Drop>(
     shown: Shown,
 ) -> Result<Ended, ScheduleFault>
     ensures { IfSome (R.remaining reader.old) (λ text.
-        ScheduleSpec shown text (W.contents writer.old) (W.contents writer.new) result) }
+        ScheduleSpec limits shown text (W.contents writer.old) (W.contents writer.new) result) }
 {
     let schedule = match Schedule::new(alloc, limits, shown) {
         Ok(schedule) => schedule,

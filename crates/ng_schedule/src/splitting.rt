@@ -1,12 +1,14 @@
 //! Splitting the bytes of OUT into lines as they come.
-ghost use Rattle.std.specs.Prelude.{◌≡◌, ◌∷◌, ◌++◌, [], List, MatchOption, OnOk, Option, ℕ};
-ghost use Rattle.ng_schedule.specs.Private.Parts.{HasNoNewline, IsUnderWay, StopSpec, TakeSpec};
+ghost use Rattle.std.specs.Prelude.{◌≡◌, ◌∷◌, ◌++◌, [], List, Option, ℕ};
+ghost use Rattle.ng_pace.specs.declared.limits.Limits.{Limits};
+ghost use Rattle.ng_text.specs.Newlines.{HasNoNewline};
+ghost use Rattle.ng_schedule.specs.Private.Parts.{IsUnderWay, StopSpec, TakeSpec};
 
 use crate::ending::Stop;
 use crate::giving::Schedule;
 use arrayvec::ArrayVec;
-use memchr::memchr;
 use ng_lines::read_item;
+use ng_text::split_line;
 use std::alloc::Allocator;
 use std::io::Write;
 
@@ -20,26 +22,14 @@ pub(crate) struct LineSplitter<A: Allocator> {
     pub(crate) kept: ArrayVec<u8, KEPT>,
 }
 
-/// The first line of some bytes, without its newline, and what follows it.
-#[inline(always)]
-fn split_line(bytes: &[u8]) -> Option<(&[u8], &[u8])>
-    ensures { MatchOption result (HasNoNewline bytes.now)
-        (λ x. HasNoNewline x.0.now × (bytes.now ≡ x.0.now ++ 10 ∷ x.1.now)) }
-{
-    match memchr(b'\n', bytes) {
-        Some(end) => Some((&bytes[..end], &bytes[end + 1..])),
-        None => None,
-    }
-}
-
 impl<A: Allocator + Copy + Drop> Schedule<A> {
     /// Takes the next line, without its newline.
     #[inline(always)]
     fn take_line<W: Write>(&mut self, writer: &mut W, line: &[u8]) -> Result<(), Stop>
         requires { HasNoNewline line.now }
-        ensures step { (start : Option (List ℕ)) (bytes : List ℕ)
-            → IsUnderWay start (W.contents writer.old) bytes [] self.old
-            → TakeSpec start (W.contents writer.new) (bytes ++ (line.now ++ 10 ∷ [])) [] self.new result }
+        ensures step { (limits : Limits) (start : Option (List ℕ)) (bytes : List ℕ)
+            → IsUnderWay limits start (W.contents writer.old) bytes [] self.old
+            → TakeSpec limits start (W.contents writer.new) (bytes ++ (line.now ++ 10 ∷ [])) [] self.new result }
         ensures shown { self.new.shown ≡ self.old.shown }
     {
         match read_item(line) {
@@ -58,9 +48,9 @@ impl<A: Allocator + Copy + Drop> LineSplitter<A> {
     fn end_line<W: Write>(&mut self, writer: &mut W, line: &[u8]) -> Result<(), Stop>
         requires kept { HasNoNewline self.old.kept.items }
         requires line { HasNoNewline line.now }
-        ensures step { (start : Option (List ℕ)) (bytes : List ℕ)
-            → IsUnderWay start (W.contents writer.old) bytes self.old.kept.items self.old.schedule
-            → TakeSpec start (W.contents writer.new) (bytes ++ (line.now ++ 10 ∷ [])) self.new.kept.items self.new.schedule result }
+        ensures step { (limits : Limits) (start : Option (List ℕ)) (bytes : List ℕ)
+            → IsUnderWay limits start (W.contents writer.old) bytes self.old.kept.items self.old.schedule
+            → TakeSpec limits start (W.contents writer.new) (bytes ++ (line.now ++ 10 ∷ [])) self.new.kept.items self.new.schedule result }
         ensures kept { HasNoNewline self.new.kept.items }
         ensures shown { self.new.schedule.shown ≡ self.old.schedule.shown }
     {
@@ -75,9 +65,9 @@ impl<A: Allocator + Copy + Drop> LineSplitter<A> {
     fn end_kept<W: Write>(&mut self, writer: &mut W, line: &[u8]) -> Result<(), Stop>
         requires kept { HasNoNewline self.old.kept.items }
         requires line { HasNoNewline line.now }
-        ensures step { (start : Option (List ℕ)) (bytes : List ℕ)
-            → IsUnderWay start (W.contents writer.old) bytes self.old.kept.items self.old.schedule
-            → TakeSpec start (W.contents writer.new) (bytes ++ (line.now ++ 10 ∷ [])) self.new.kept.items self.new.schedule result }
+        ensures step { (limits : Limits) (start : Option (List ℕ)) (bytes : List ℕ)
+            → IsUnderWay limits start (W.contents writer.old) bytes self.old.kept.items self.old.schedule
+            → TakeSpec limits start (W.contents writer.new) (bytes ++ (line.now ++ 10 ∷ [])) self.new.kept.items self.new.schedule result }
         ensures kept { HasNoNewline self.new.kept.items }
         ensures shown { self.new.schedule.shown ≡ self.old.schedule.shown }
     {
@@ -95,9 +85,9 @@ impl<A: Allocator + Copy + Drop> LineSplitter<A> {
     fn keep(&mut self, bytes: &[u8]) -> Result<(), Stop>
         requires kept { HasNoNewline self.old.kept.items }
         requires bytes { HasNoNewline bytes.now }
-        ensures step { (start now : Option (List ℕ)) (before : List ℕ)
-            → IsUnderWay start now before self.old.kept.items self.old.schedule
-            → TakeSpec start now (before ++ bytes.now) self.new.kept.items self.new.schedule result }
+        ensures step { (limits : Limits) (start now : Option (List ℕ)) (before : List ℕ)
+            → IsUnderWay limits start now before self.old.kept.items self.old.schedule
+            → TakeSpec limits start now (before ++ bytes.now) self.new.kept.items self.new.schedule result }
         ensures kept { HasNoNewline self.new.kept.items }
         ensures shown { self.new.schedule.shown ≡ self.old.schedule.shown }
     {
@@ -110,9 +100,9 @@ impl<A: Allocator + Copy + Drop> LineSplitter<A> {
     /// Takes the next bytes, and writes the lines that are given.
     pub(crate) fn take<W: Write>(&mut self, writer: &mut W, bytes: &[u8]) -> Result<(), Stop>
         requires { HasNoNewline self.old.kept.items }
-        ensures step { (start : Option (List ℕ)) (before : List ℕ)
-            → IsUnderWay start (W.contents writer.old) before self.old.kept.items self.old.schedule
-            → TakeSpec start (W.contents writer.new) (before ++ bytes.now) self.new.kept.items self.new.schedule result }
+        ensures step { (limits : Limits) (start : Option (List ℕ)) (before : List ℕ)
+            → IsUnderWay limits start (W.contents writer.old) before self.old.kept.items self.old.schedule
+            → TakeSpec limits start (W.contents writer.new) (before ++ bytes.now) self.new.kept.items self.new.schedule result }
         ensures kept { HasNoNewline self.new.kept.items }
         ensures shown { self.new.schedule.shown ≡ self.old.schedule.shown }
     {

@@ -15,6 +15,8 @@ mod lines;
 #[cfg(test)]
 mod numbers;
 #[cfg(test)]
+mod pacing;
+#[cfg(test)]
 mod parameters;
 #[cfg(test)]
 mod printing;

@@ -5,7 +5,7 @@ pub returns-then-chord-saturating_mul-clause-advances : goal.returns-then-chord-
 returns-then-chord-saturating_mul-clause-advances g c = λ leg rest path some.
     decide-path c.args.limits.now 0 c.args.chord.now _ c.args.pacer.now c.pass_corner.new.pacer c.args.waiting.now.items c.pass_corner.new.waiting.items leg
     rest c.slopes_ahead-slopes.result
-    path c.if-chord.true some c.requires.limits.half (λ opened. c.slopes_ahead-slopes.ensures c.args.limits.now.slack leg.pulses opened.cones)
+    path c.if-chord.true some c.requires.limits.half (λ opened. c.slopes_ahead-slopes.ensures.all c.args.limits.now.slack leg.pulses opened.cones)
     c.pass_corner.ensures.passes c.pass_corner.ensures.chord
 
 pub returns-else-chord-clause-advances : goal.returns-else-chord-clause-advances

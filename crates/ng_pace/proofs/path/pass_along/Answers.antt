@@ -10,7 +10,13 @@ returns-clause-passes g c =
     record {
       most = c.along-caps.result.most;
       ramp = c.along-caps.result.ramp;
-      allowed = allow-along c.args.limits.now c.args.slopes.now c.sizes.result c.along-caps.result.most c.along-caps.result.ramp c.sizes.ensures
+      allowed = allow-along c.args.limits.now c.args.slopes.now c.sizes.result c.along-caps.result.most c.along-caps.result.ramp c.sizes.ensures.most
           c.along-caps.ensures.allowed;
+      full = record {
+        sizes = c.sizes.result;
+        sizes_are = c.sizes.ensures.exact;
+        rate = c.along-caps.ensures.rate;
+        accel = c.along-caps.ensures.ramp;
+      };
       makes = rw count at c.settle.ensures.makes;
     }

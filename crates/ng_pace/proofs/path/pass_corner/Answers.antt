@@ -1,5 +1,6 @@
 use Rattle.std.proofs.Common.{arith, rules, ◌≡◌, ◌-◌, ◌/◌, length, deque_len}
 use Rattle.ng_pace.proofs.ExactLemmas.{allow-along, takes-corner}
+use Rattle.ng_pace.proofs.FlowLemmas.{marks_on}
 use Rattle.ng_pace.proofs.path.pass_corner.Goals as goal
 
 pub returns-clause-passes : goal.returns-clause-passes
@@ -18,7 +19,13 @@ returns-clause-passes g c =
       before_most = c.along-before.result.most;
       before_ramp = c.along-before.result.ramp;
       before_allowed = allow-along c.args.limits.now c.args.chord.now.before c.sizes.result c.along-before.result.most c.along-before.result.ramp
-          c.sizes.ensures c.along-before.ensures.allowed;
+          c.sizes.ensures.most c.along-before.ensures.allowed;
+      before_full = record {
+        sizes = c.sizes.result;
+        sizes_are = c.sizes.ensures.exact;
+        rate = c.along-before.ensures.rate;
+        accel = c.along-before.ensures.ramp;
+      };
       first = rw count at c.settle.ensures.makes;
       most = c.corner_caps-caps.result.most;
       ramp = c.corner_caps-caps.result.ramp;
@@ -27,3 +34,6 @@ returns-clause-passes g c =
           c.between-turn.ensures.most c.corner_pulses-pulses.ensures.near c.corner_caps-caps.ensures.allowed;
       then = c.settle-2.ensures.makes;
     }
+
+pub returns-clause-marks : goal.returns-clause-marks
+returns-clause-marks g c = marks_on c.settle.ensures.marks c.settle-2.ensures.keeps c.settle-2.ensures.marks

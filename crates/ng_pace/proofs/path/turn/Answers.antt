@@ -11,10 +11,11 @@ pub returns-then-is_left-clause-turns : goal.returns-then-is_left-clause-turns
 returns-then-is_left-clause-turns g c = λ legs path begun.
     turned-path c.args.limits.now c.args.chord.now c.close.new.chord c.open-then-is_left.new.self c.args.pacer.now c.close.new.pacer
     (length c.args.waiting.now.items) (length c.close.new.waiting.items) c.kept_of-kept.result c.args.pulse.now legs
-    path begun c.if-not-chord.false c.kept_of-kept.ensures c.close.ensures.closes c.open-then-is_left.ensures.same
+    path begun c.if-not-chord.false c.kept_of-kept.ensures
+    (λ pulses cones count. c.is_left.ensures.leaves c.args.limits.now.slack pulses cones count c.if-is_left.true) c.close.ensures.closes c.open-then-is_left.ensures.same
     (c.open-then-is_left.ensures.cones c.args.limits.now.slack)
 
 pub returns-else-is_left-clause-turns : goal.returns-else-is_left-clause-turns
 returns-else-is_left-clause-turns g c = λ legs path begun.
-    going-path c.args.limits.now c.args.chord.now c.args.pacer.now (length c.args.waiting.now.items) c.args.pulse.now legs path c.if-not-chord.false
+    going-path c.args.limits.now c.args.chord.now c.args.pacer.now (length c.args.waiting.now.items) c.args.pulse.now legs path begun c.if-not-chord.false
     (λ pulses cones count. c.is_left.ensures.stays c.args.limits.now.slack pulses cones count c.if-is_left.false)

@@ -1,4 +1,6 @@
-use Rattle.std.proofs.Common.{arith, rules, refl, sym, ◌∙◌, ◌≡◌, length}
+use Rattle.std.proofs.Common.{arith, rules, refl, sym, ap, ◌∙◌, ◌≡◌, ◌<◌, ◌-◌, ℕ, zero, suc, List, [], ◌∷◌, length, slice_index_or}
+use Rattle.ng_pace.specs.declared.planning.Slot.{Slot}
+use Rattle.ng_pace.specs.Plan.{most_now}
 use Rattle.ng_pace.proofs.PlanLemmas.{untouched, same_lines, grows, ahead-end, step, next, all_at, kept_at}
 use Rattle.ng_pace.proofs.planning.plan.Goals as goal
 
@@ -11,14 +13,23 @@ loop-k-init g c =
       room = refl;
     }
 
+-- the element at a place of a list, whichever stands for none
+same_read : (ys : List Slot) (k : ℕ) (a b : Slot) → k < length ys → a ≡ slice_index_or ys k a → b ≡ slice_index_or ys k b → a ≡ b
+same_read [] k a b h p q = absurd (omega arith)
+same_read (y ∷ ys) zero a b h p q = p ∙ sym q
+same_read (y ∷ ys) (suc k) a b h p q = same_read ys k a b (omega arith) p q
+
 pub loop-k-preserved : goal.loop-k-preserved
-loop-k-preserved g c = record {
-  anew = step c.loop-k.k c.args.planned c.args.slots.now.items c.loop-k.slots.items c.index.result.now c.loop-k.after c.best_square-square.result
-      (omega arith) c.loop-k.invariant.within c.requires c.loop-k.invariant.anew (search rules) c.loop-k.invariant.next c.best_square-square.ensures;
-  next = next c.loop-k.k c.loop-k.slots.items c.index.result.now c.best_square-square.result (omega arith) c.loop-k.invariant.within;
-  within = search rules;
-  room = search rules;
-}
+loop-k-preserved g c =
+    let same : c.index-slot.result.now ≡ c.index_mut.result.now = same_read c.loop-k.slots.items (c.loop-k.k - 1) c.index-slot.result.now
+    c.index_mut.result.now (omega (arith, c.loop-k.invariant.within)) (search rules) (search rules) in record {
+      anew = step c.loop-k.k c.args.planned c.args.slots.now.items c.loop-k.slots.items c.index_mut.result.now c.loop-k.after c.best_square-square.result
+          (omega arith) c.loop-k.invariant.within c.requires c.loop-k.invariant.anew (search rules) c.loop-k.invariant.next
+          (c.best_square-square.ensures ∙ ap (λ t. most_now t.line c.loop-k.after) same);
+      next = next c.loop-k.k c.loop-k.slots.items c.index_mut.result.now c.best_square-square.result (omega arith) c.loop-k.invariant.within;
+      within = search rules;
+      room = search rules;
+    }
 
 pub returns-after-loop-k-clause-plan : goal.returns-after-loop-k-clause-plan
 returns-after-loop-k-clause-plan g c = all_at c.loop-k.k c.args.slots.now.items c.loop-k.slots.items (omega arith) c.loop-k.invariant.anew
@@ -30,7 +41,7 @@ pub returns-after-loop-k-clause-grows : goal.returns-after-loop-k-clause-grows
 returns-after-loop-k-clause-grows g c = grows c.loop-k.k c.args.slots.now.items c.loop-k.slots.items c.loop-k.invariant.anew
 
 pub returns-then-square-slot-clause-plan : goal.returns-then-square-slot-clause-plan
-returns-then-square-slot-clause-plan g c = kept_at c.loop-k.k c.args.planned c.args.slots.now.items c.loop-k.slots.items c.index.result.now c.loop-k.after
+returns-then-square-slot-clause-plan g c = kept_at c.loop-k.k c.args.planned c.args.slots.now.items c.loop-k.slots.items c.index-slot.result.now c.loop-k.after
     c.requires (omega arith) (omega arith) c.loop-k.invariant.within c.loop-k.invariant.anew (search rules) c.loop-k.invariant.next
     (sym c.if-square-slot.true ∙ c.best_square-square.ensures)
 

@@ -20,4 +20,11 @@ returns-clause-advances g c = λ legs path begun.
     (length-append c.turn.new.waiting.items (pushed ∷ [])) in
     turns-on c.args.limits.now c.args.pacer.now c.turn.new.pacer c.extend.new.pacer c.turn.new.chord c.extend.new.chord (length c.turn.new.waiting.items)
     (length c.extend.new.waiting.items) c.args.pulse.now (pulses_of legs) (lines_of legs) turned
-    (c.extend.ensures.advances (length c.turn.new.waiting.items) turned.leg turned.rest turned.path one turned.straight turned.few)
+    (c.extend.ensures.advances (length c.turn.new.waiting.items) turned.leg turned.rest turned.path one turned.straight turned.few turned.farthest)
+
+pub returns-clause-some : goal.returns-clause-some
+returns-clause-some g c = λ some.
+    let pushed : Waiting = record { item = c.args.item; feed = c.min-feed.result } in
+    let one : length c.push_back_reserved.new.self.items ≡ length c.turn.new.waiting.items + 1 = rw c.push_back_reserved.ensures.items
+    (length-append c.turn.new.waiting.items (pushed ∷ [])) in
+    c.extend.ensures.some (length c.turn.new.waiting.items) (c.turn.ensures.some some) c.turn.ensures.open c.turn.ensures.short one

@@ -1,44 +1,45 @@
 use Rattle.std.proofs.Common.{Err, subst, ◌<◌, ◌∙◌, ◌++◌, [], List, ℕ, arith, length, refl, sym, take}
-use Rattle.ng_schedule.specs.Private.Parts.{HasNoNewline, IsUnderWay}
+use Rattle.ng_text.specs.Newlines.{HasNoNewline}
+use Rattle.ng_schedule.specs.Private.Parts.{IsUnderWay}
 use Rattle.ng_schedule.specs.declared.ending.ScheduleFault.TheVariants.{Reader}
 use Rattle.ng_schedule.proofs.FinishLemmas.{ScheduleSpec-from, begun, cut_broken, nothing_written, run_ends, run_stops}
 use Rattle.ng_schedule.proofs.RunLemmas.{cut}
-use Rattle.ng_schedule.proofs.Streams.{Consumes-nil, Consumes-trans}
+use Rattle.ng_text.proofs.Streams.{Consumes-nil, Consumes-trans}
 use Rattle.ng_schedule.proofs.run.schedule.Goals as goal
 
 pub returns-in-Err : goal.returns-in-Err
-returns-in-Err g c = nothing_written c.args.shown _ _ c.in-Err.fault
+returns-in-Err g c = nothing_written c.args.limits c.args.shown _ _ c.in-Err.fault
 
 pub returns-in-Err-read : goal.returns-in-Err-read
 returns-in-Err-read g c =
     let so_far = c.loop-turn.invariant.0 in
     let s = c.loop-turn.splitter.schedule in
-    run_stops _ _ _ _ so_far.0 c.args.shown (Err Reader) so_far.1
-    (λ more. cut_broken c.args.shown _ _ so_far.0 more Reader (cut _ _ so_far.0 c.loop-turn.splitter.kept.items s c.args.shown (sym c.loop-turn.invariant.2) so_far.2))
+    run_stops c.args.limits _ _ _ _ so_far.0 c.args.shown (Err Reader) so_far.1
+    (λ more. cut_broken c.args.limits c.args.shown _ _ so_far.0 more Reader (cut c.args.limits _ _ so_far.0 c.loop-turn.splitter.kept.items s c.args.shown (sym c.loop-turn.invariant.2) so_far.2))
 
 pub returns-in-Ok-eq0 : goal.returns-in-Ok-eq0
 returns-in-Ok-eq0 g c =
     let so_far = c.loop-turn.invariant.0 in
     let r = c.in-Ok-eq0.ensures.bytes in
     let room : 0 < length c.read.new.buf = omega arith in
-    run_ends _ _ _ _ _ so_far.0 _ _ c.args.shown c.close.result so_far.1 r.0 c.in-Ok-eq0.field-0-test (r.1 c.in-Ok-eq0.field-0-test room)
-    (ScheduleSpec-from _ c.args.shown so_far.0 so_far.0 _ _ c.close.result (sym c.loop-turn.invariant.2) refl (c.close.ensures _ so_far.0 so_far.2))
+    run_ends c.args.limits _ _ _ _ _ so_far.0 _ _ c.args.shown c.close.result so_far.1 r.0 c.in-Ok-eq0.field-0-test (r.1 c.in-Ok-eq0.field-0-test room)
+    (ScheduleSpec-from c.args.limits _ c.args.shown so_far.0 so_far.0 _ _ c.close.result (sym c.loop-turn.invariant.2) refl (c.close.ensures c.args.limits _ so_far.0 so_far.2))
 
 pub returns-in-Err-take : goal.returns-in-Err-take
 returns-in-Err-take g c =
     let so_far = c.loop-turn.invariant.0 in
     let r = c.in-Ok-read.ensures.bytes in
     let bytes = take c.in-Ok-read.n c.read.new.buf in
-    run_stops _ _ _ _ (so_far.0 ++ bytes) c.args.shown c.stop.result (Consumes-trans _ _ _ _ _ so_far.1 r.0)
-    (λ more. ScheduleSpec-from _ c.args.shown _ _ _ _ c.stop.result (sym (c.take.ensures.shown ∙ c.loop-turn.invariant.2)) refl
-    (c.stop.ensures _ (so_far.0 ++ bytes) more (c.in-Err-take.ensures.step _ so_far.0 so_far.2)))
+    run_stops c.args.limits _ _ _ _ (so_far.0 ++ bytes) c.args.shown c.stop.result (Consumes-trans _ _ _ _ _ so_far.1 r.0)
+    (λ more. ScheduleSpec-from c.args.limits _ c.args.shown _ _ _ _ c.stop.result (sym (c.take.ensures.shown ∙ c.loop-turn.invariant.2)) refl
+    (c.stop.ensures c.args.limits _ (so_far.0 ++ bytes) more (c.in-Err-take.ensures.step c.args.limits _ so_far.0 so_far.2)))
 
 pub loop-turn-preserved : goal.loop-turn-preserved
 loop-turn-preserved g c =
     let so_far = c.loop-turn.invariant.0 in
     let r = c.in-Ok-read.ensures.bytes in
     let bytes = take c.in-Ok-read.n c.read.new.buf in (
-      (so_far.0 ++ bytes, Consumes-trans _ _ _ _ _ so_far.1 r.0, c.in-Ok-take.ensures.step _ so_far.0 so_far.2),
+      (so_far.0 ++ bytes, Consumes-trans _ _ _ _ _ so_far.1 r.0, c.in-Ok-take.ensures.step c.args.limits _ so_far.0 so_far.2),
       c.take.ensures.kept,
       c.take.ensures.shown ∙ c.loop-turn.invariant.2,
     )
@@ -47,15 +48,15 @@ pub returns : goal.returns
 returns g c =
     let so_far = c.loop-turn.invariant.0 in
     let s = c.loop-turn.splitter.schedule in
-    run_stops _ _ _ _ so_far.0 c.args.shown (Err Reader) so_far.1
-    (λ more. cut_broken c.args.shown _ _ so_far.0 more Reader (cut _ _ so_far.0 c.loop-turn.splitter.kept.items s c.args.shown (sym c.loop-turn.invariant.2) so_far.2))
+    run_stops c.args.limits _ _ _ _ so_far.0 c.args.shown (Err Reader) so_far.1
+    (λ more. cut_broken c.args.limits c.args.shown _ _ so_far.0 more Reader (cut c.args.limits _ _ so_far.0 c.loop-turn.splitter.kept.items s c.args.shown (sym c.loop-turn.invariant.2) so_far.2))
 
 pub loop-turn-init : goal.loop-turn-init
 loop-turn-init g c =
     let w = g.W.Write.contents c.args.writer.now in
     let made = c.in-Ok.ensures in
-    let nothing = begun w c.in-Ok.schedule made.nothing made.text made.due made.number in (
-      ([], Consumes-nil _, subst (λ (k : List ℕ). IsUnderWay w w [] k c.in-Ok.schedule) (sym c.new-2.ensures) nothing),
+    let nothing = begun c.args.limits 8192 w c.in-Ok.schedule made.empty made.text made.due made.number in (
+      ([], Consumes-nil _, subst (λ (k : List ℕ). IsUnderWay c.args.limits w w [] k c.in-Ok.schedule) (sym c.new-2.ensures) nothing),
       subst HasNoNewline (sym c.new-2.ensures) tt,
       made.shown,
     )

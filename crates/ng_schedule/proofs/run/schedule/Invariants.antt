@@ -1,11 +1,12 @@
 use Rattle.std.proofs.Common.{◌≡◌, List, ℕ}
 use Rattle.std.specs.Io.KnownBytes.{Consumes}
-use Rattle.ng_schedule.specs.Private.Parts.{HasNoNewline, IsUnderWay}
+use Rattle.ng_text.specs.Newlines.{HasNoNewline}
+use Rattle.ng_schedule.specs.Private.Parts.{IsUnderWay}
 use Rattle.ng_schedule.proofs.run.schedule.Given as goal
 
 abbrev pub invariant-loop-turn : goal.invariant-loop-turn
 invariant-loop-turn g l =
     ((before : List ℕ) × Consumes (g.R.Read.remaining l.fn.reader) (g.R.Read.remaining l.reader) before
-    × IsUnderWay (g.W.Write.contents l.fn.writer) (g.W.Write.contents l.writer) before l.splitter.kept.items l.splitter.schedule)
+    × IsUnderWay l.fn.limits (g.W.Write.contents l.fn.writer) (g.W.Write.contents l.writer) before l.splitter.kept.items l.splitter.schedule)
     × HasNoNewline l.splitter.kept.items
     × (l.splitter.schedule.shown ≡ l.fn.shown)

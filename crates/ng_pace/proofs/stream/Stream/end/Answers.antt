@@ -2,7 +2,7 @@ use Rattle.std.proofs.Common.{arith, ◌≡◌, ◌∙◌, [], length, refl, sym
 use Rattle.ng_pace.specs.Flow.{Flow, all_items, timed_waiting}
 use Rattle.ng_pace.specs.Legs.{pulses_of, lines_of}
 use Rattle.ng_pace.specs.Underway.{IsPath, Finishes}
-use Rattle.ng_pace.proofs.FlowLemmas.{length-timed_waiting, settles_rest, settles_end, end_items}
+use Rattle.ng_pace.proofs.FlowLemmas.{length-timed_waiting, settles_rest, settles_end, end_items, end-stands}
 use Rattle.ng_pace.proofs.PutLemmas.{rest-flow}
 use Rattle.ng_pace.proofs.stream.Stream.end.Goals as goal
 
@@ -14,6 +14,8 @@ invariant_of-self g c = record {
   limits_are = c.self.invariant.limits_are;
   rests = settles_rest c.finish.ensures.keeps.settles c.self.invariant.rests;
   few = c.finish.ensures.few;
+  some = c.finish.ensures.some;
+  stands = λ none. end-stands c.finish.ensures.keeps c.self.invariant.stands c.finish.ensures.marks tt none;
 }
 
 pub returns : goal.returns
@@ -39,6 +41,8 @@ returns g c =
       items = items;
       settles = settles_end c.finish.ensures.keeps c.finish.ensures.none;
       none = rw c.finish.ensures.none refl;
+      stands = end-stands c.finish.ensures.keeps c.self.invariant.stands c.finish.ensures.marks tt c.finish.ensures.none;
+      marked = λ some. c.finish.ensures.marks.marked tt (omega (arith, length-timed_waiting c.self.inside.waiting.items, some)) c.finish.ensures.none;
       before = c.finish.ensures.before;
       rests = settles_rest c.finish.ensures.keeps.settles c.self.invariant.rests;
       limits = refl;

@@ -24,6 +24,8 @@ invariant_of-self g c =
       limits_are = c.self.invariant.limits_are;
       rests = adds_rest c.push_item.ensures.adds c.self.invariant.rests;
       few = c.push_item.ensures.few c.self.invariant.few;
+      some = c.push_item.ensures.some c.self.invariant.some;
+      stands = c.push_item.ensures.behind c.self.invariant.some;
     }
 
 pub returns : goal.returns

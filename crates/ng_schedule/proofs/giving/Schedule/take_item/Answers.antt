@@ -3,8 +3,8 @@ use Rattle.ng_schedule.proofs.RunLemmas.{HaltSpec-more, takes}
 use Rattle.ng_schedule.proofs.giving.Schedule.take_item.Goals as goal
 
 pub returns-in-Ok-clause-step : goal.returns-in-Ok-clause-step
-returns-in-Ok-clause-step g c start bytes here =
-    takes start _ bytes c.make_room.new.self _ c.args.item (c.in-Ok.ensures.step start bytes [] here) c.push.ensures refl refl refl refl
+returns-in-Ok-clause-step g c limits start bytes here =
+    takes limits start _ bytes c.make_room.new.self _ c.args.item (c.in-Ok.ensures.step limits start bytes [] here) c.push.ensures refl refl refl refl
 
 pub returns-in-Err-clause-step : goal.returns-in-Err-clause-step
-returns-in-Err-clause-step g c start bytes here = HaltSpec-more start _ bytes _ c.make_room.new.self c.in-Err.halt (c.in-Err.ensures.step start bytes [] here)
+returns-in-Err-clause-step g c limits start bytes here = HaltSpec-more limits start _ bytes _ c.make_room.new.self c.in-Err.halt (c.in-Err.ensures.step limits start bytes [] here)

@@ -5,8 +5,8 @@ use Rattle.ng_schedule.proofs.StepLemmas.{unkept}
 use Rattle.ng_schedule.proofs.splitting.LineSplitter.close.Goals as goal
 
 pub returns : goal.returns
-returns g c start bytes here =
+returns g c limits start bytes here =
     let kept = c.args.self.now.kept.items in
-    let parts = unkept start _ bytes kept c.args.self.now.schedule here in
-    ScheduleSpec-from _ _ _ bytes start _ c.refuse.result refl parts.2
-    (c.refuse.ensures start parts.0 kept parts.1 (not_empty kept c.is_empty.result c.is_empty.ensures c.if-is_empty.false) (unended kept c.requires))
+    let parts = unkept limits start _ bytes kept c.args.self.now.schedule here in
+    ScheduleSpec-from limits _ _ _ bytes start _ c.refuse.result refl parts.2
+    (c.refuse.ensures limits start parts.0 kept parts.1 (not_empty kept c.is_empty.result c.is_empty.ensures c.if-is_empty.false) (unended kept c.requires))

@@ -5,7 +5,7 @@ use Rattle.ng_schedule.proofs.FinishLemmas.{ScheduleSpec-from, some_more}
 use Rattle.ng_schedule.proofs.splitting.LineSplitter.stop.Goals as goal
 
 pub returns-in-NotALine : goal.returns-in-NotALine
-returns-in-NotALine g c start bytes more h =
-    let stopped = subst (λ (why : Stop). StopSpec start (g.W.Write.contents c.args.writer.now) bytes c.args.self.now.schedule why) c.in-NotALine.is h in
-    ScheduleSpec-from _ _ _ _ start _ c.refuse.result refl (ap (λ l. l ++ more) stopped.parts ∙ append_assoc stopped.before stopped.rest more)
-    (c.refuse.ensures start stopped.before (stopped.rest ++ more) stopped.under_way (some_more stopped.rest more stopped.some) (stopped.other more))
+returns-in-NotALine g c limits start bytes more h =
+    let stopped = subst (λ (why : Stop). StopSpec limits start (g.W.Write.contents c.args.writer.now) bytes c.args.self.now.schedule why) c.in-NotALine.is h in
+    ScheduleSpec-from limits _ _ _ _ start _ c.refuse.result refl (ap (λ l. l ++ more) stopped.parts ∙ append_assoc stopped.before stopped.rest more)
+    (c.refuse.ensures limits start stopped.before (stopped.rest ++ more) stopped.under_way (some_more stopped.rest more stopped.some) (stopped.other more))

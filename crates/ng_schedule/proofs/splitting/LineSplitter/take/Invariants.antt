@@ -1,11 +1,13 @@
 use Rattle.std.proofs.Common.{◌≡◌, ◌++◌, List, ℕ, Option, length}
-use Rattle.ng_schedule.specs.Private.Parts.{HasNoNewline, IsUnderWay}
+use Rattle.ng_pace.specs.declared.limits.Limits.{Limits}
+use Rattle.ng_text.specs.Newlines.{HasNoNewline}
+use Rattle.ng_schedule.specs.Private.Parts.{IsUnderWay}
 use Rattle.ng_schedule.proofs.splitting.LineSplitter.take.Given as goal
 
 abbrev pub invariant-loop-line : goal.invariant-loop-line
 invariant-loop-line g l =
     ((taken : List ℕ) × (l.fn.bytes ≡ taken ++ l.left)
-    × ((start : Option (List ℕ)) (before : List ℕ) → IsUnderWay start (g.W.Write.contents l.fn.writer) before l.fn.self.kept.items l.fn.self.schedule → IsUnderWay start (g.W.Write.contents l.writer) (before ++ taken) l.self.kept.items l.self.schedule))
+    × ((limits : Limits) (start : Option (List ℕ)) (before : List ℕ) → IsUnderWay limits start (g.W.Write.contents l.fn.writer) before l.fn.self.kept.items l.fn.self.schedule → IsUnderWay limits start (g.W.Write.contents l.writer) (before ++ taken) l.self.kept.items l.self.schedule))
     × HasNoNewline l.self.kept.items
     × (l.self.schedule.shown ≡ l.fn.self.schedule.shown)
 
