@@ -14,10 +14,9 @@ with_bytes place bytes held = take place held ++ bytes ++ drop (place + length b
 abbrev pub Put : ℕ → List ℕ → Option (List ℕ) → Option (List ℕ) → Type 0
 Put place bytes old new = IfSome old (λ held. place + 512 ≤ length held → new ≡ Some (with_bytes place bytes held))
 
--- nothing is changed, or any 512 bytes are put there
-abbrev pub PutInPart : ℕ → Option (List ℕ) → Option (List ℕ) → Type 0
-PutInPart place old new = IfSome old (λ held. place + 512 ≤ length held →
-    (new ≡ Some held) ⊎ ((bytes : List ℕ) × (length bytes ≡ 512) × (new ≡ Some (with_bytes place bytes held))))
+-- nothing is changed, or the bytes are put there
+abbrev pub PutInPart : ℕ → List ℕ → Option (List ℕ) → Option (List ℕ) → Type 0
+PutInPart place bytes old new = IfSome old (λ held. place + 512 ≤ length held → (new ≡ Some held) ⊎ (new ≡ Some (with_bytes place bytes held)))
 
 -- a beginning of these bytes is appended, perhaps none of them or all
 abbrev pub AppendsBeginning : Option (List ℕ) → Option (List ℕ) → List ℕ → Type 0

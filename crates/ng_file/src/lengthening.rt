@@ -3,14 +3,16 @@ ghost use Rattle.std.specs.Prelude.{◌≡◌, ◌≤◌, ℕ, IfSome, OnOk, OnE
 ghost use Rattle.std.specs.Io.KnownBytes.{Appends};
 ghost use Rattle.ng_file.specs.Bytes.{Lengthened, LengthenedInPart};
 
+use crate::rewriting::rewrite_sector;
 use crate::storage::{Append, SECTOR};
 use std::io;
 
 /// Appends zeros to a file until it has this many bytes, and makes all of it durable (own). A file with as many bytes
 /// or more isn't changed.
 ///
-/// The zeros are written, so the disk has room for them. After an error the file may have any number of the zeros that
-/// it lacked, and may not be durable.
+/// The zeros are written, so the disk has room for them. So is the last sector of a file that is long enough, again as
+/// it is read, since a sync of an earlier call may have failed (`rewrite`). After an error the file may have any number
+/// of the zeros that it lacked, and may not be durable.
 pub fn lengthen<S: Append>(file: &mut S, bytes: u64) -> io::Result<()>
     ensures lasts { OnOk result (IfSome (S.lasting file.new) (λ kept. S.content file.new ≡ Some kept)) }
     ensures whole { OnOk result (Lengthened bytes (S.content file.old) (S.content file.new)) }
@@ -18,7 +20,18 @@ pub fn lengthen<S: Append>(file: &mut S, bytes: u64) -> io::Result<()>
 {
     let missing = bytes.saturating_sub(file.length()?);
     append_zeros(file, missing)?;
-    file.sync()
+    rewrite_last(file)?;
+    file.sync_all()
+}
+
+/// Writes the last sector of a file again as it is read, if there is one. No byte changes, also where it fails.
+fn rewrite_last<S: Append>(file: &mut S) -> io::Result<()>
+    ensures { IfSome (S.content file.old) (λ held. S.content file.new ≡ Some held) }
+{
+    match file.length()? / SECTOR as u64 {
+        0 => Ok(()),
+        sectors => rewrite_sector(file, sectors - 1),
+    }
 }
 
 /// Appends this many zeros. After an error it may have appended fewer.

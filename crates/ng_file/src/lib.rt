@@ -7,16 +7,17 @@
 //! it appends zeros, and changes no byte.
 //!
 //! Some things are trusted, and no contract states them: that a file of the system returns the bytes that were put at a
-//! place; that after `sync_all` a loss of power leaves what a read returns; that a write of 512 bytes at a multiple of
-//! 512 is kept whole or not at all; that the file for hand-outs keeps the lines in the order in which they were
-//! appended; and that no other program writes to either file. So to the prover a `FileRig` is never honest, and what is
-//! proved of honest devices holds of it only as far as the files keep this.
+//! place; that after a sync (`fdatasync`; `fsync` where the length changed) a loss of power leaves what a read returns;
+//! that a write of 512 bytes at a multiple of 512 is kept whole or not at all; that the file for hand-outs keeps the
+//! lines in the order in which they were appended; and that no other program writes to either file. So to the prover a
+//! `FileRig` is never honest, and what is proved of honest devices holds of it only as far as the files keep this.
 #![tactic(auto)]
 
 mod device;
 mod hold;
 mod lengthening;
 mod opened;
+mod rewriting;
 mod rig;
 mod same;
 mod storage;
@@ -26,6 +27,7 @@ pub use device::{NoDevice, make_device, open_device};
 pub use hold::{Hold, NotHeld};
 pub use lengthening::lengthen;
 pub use opened::OpenedFile;
+pub use rewriting::rewrite;
 pub use rig::FileRig;
 pub use same::is_same_file;
 pub use storage::{Append, Storage};

@@ -36,8 +36,10 @@ impl<F: Read + Write + Seek + OpenFile> Storage for OpenedFile<F> {
         self.file.write_all(bytes)
     }
 
+    /// By the system's sync of data alone: the length stays, and to have its time of change durable too would take
+    /// another flush of the disk.
     fn sync(&mut self) -> io::Result<()> {
-        self.file.sync_all()
+        self.file.sync_data()
     }
 }
 
@@ -45,5 +47,9 @@ impl<F: Read + Write + Seek + OpenFile> Append for OpenedFile<F> {
     fn append(&mut self, bytes: &[u8]) -> io::Result<()> {
         self.file.seek(SeekFrom::End(0))?;
         self.file.write_all(bytes)
+    }
+
+    fn sync_all(&mut self) -> io::Result<()> {
+        self.file.sync_all()
     }
 }

@@ -73,7 +73,7 @@ impl<S: Storage + Drop, W: Write + Drop, A: Allocator + Copy + Drop> FileRig<S, 
         requires { sector < sector_count self.old }
         ensures ok { OnOk result (IfSome (S.content (storage self.old)) (λ held. 512 * sector + 512 ≤ length held)) }
         ensures put { OnOk result (Put (512 * sector) bytes.now (S.content (storage self.old)) (S.content (storage self.new))) }
-        ensures part { OnErr result (PutInPart (512 * sector) (S.content (storage self.old)) (S.content (storage self.new))) }
+        ensures part { OnErr result (PutInPart (512 * sector) bytes.now (S.content (storage self.old)) (S.content (storage self.new))) }
         ensures others { (outlet self.new ≡ outlet self.old) × (sector_count self.new ≡ sector_count self.old)
             × (failure_count self.new ≡ failure_count self.old) }
     {
@@ -148,7 +148,7 @@ impl<S: Storage + Drop, W: Write + Drop, A: Allocator + Copy + Drop> Rig for Fil
         requires { sector < sector_count self.old }
         ensures whole { OnOk result (IfSome (S.content (storage self.old)) (λ held. 512 * sector + 512 ≤ length held)) }
         ensures put { OnOk result (Put (512 * sector) bytes.now (S.content (storage self.old)) (S.content (storage self.new))) }
-        ensures part { OnErr result (PutInPart (512 * sector) (S.content (storage self.old)) (S.content (storage self.new))) }
+        ensures part { OnErr result (PutInPart (512 * sector) bytes.now (S.content (storage self.old)) (S.content (storage self.new))) }
         ensures stays { outlet self.new ≡ outlet self.old }
         ensures call { IsCall result (device_of self.old) (device_of self.new) }
     {

@@ -26,13 +26,13 @@ pub trait Storage {
         ensures value { OnOk result (IfSome (content self.old) (λ held. into.new ≡ slice_range held place (place + 512))) }
         ensures bytes { content self.new ≡ content self.old };
 
-    /// Replaces the 512 bytes from a place on. After an error some of them may have been written.
+    /// Replaces the 512 bytes from a place on. After an error the old bytes are there or the new ones.
     fn write_at(&mut self, place: u64, bytes: &[u8; 512]) -> io::Result<()>
         requires { place + 512 < 2 ^ 64 }
         ensures ok { OnOk result (Put place bytes.now (content self.old) (content self.new)) }
-        ensures err { OnErr result (PutInPart place (content self.old) (content self.new)) };
+        ensures err { OnErr result (PutInPart place bytes.now (content self.old) (content self.new)) };
 
-    /// Makes what was written durable.
+    /// Makes what was written durable. No call of this trait changes the length.
     fn sync(&mut self) -> io::Result<()>
         ensures lasts { OnOk result (IfSome (lasting self.new) (λ kept. content self.new ≡ Some kept)) }
         ensures bytes { content self.new ≡ content self.old };
@@ -44,4 +44,9 @@ pub trait Append: Storage {
     fn append(&mut self, bytes: &[u8]) -> io::Result<()>
         ensures whole { OnOk result (Appends (Self.content self.old) (Self.content self.new) bytes.now) }
         ensures part { OnErr result (AppendsBeginning (Self.content self.old) (Self.content self.new) bytes.now) };
+
+    /// Makes everything durable, the length too.
+    fn sync_all(&mut self) -> io::Result<()>
+        ensures lasts { OnOk result (IfSome (Self.lasting self.new) (λ kept. Self.content self.new ≡ Some kept)) }
+        ensures bytes { Self.content self.new ≡ Self.content self.old };
 }

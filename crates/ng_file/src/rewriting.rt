@@ -1,0 +1,30 @@
+//! Writing sectors of a file again as they are.
+ghost use Rattle.std.specs.Prelude.{◌≡◌, ◌+◌, ◌*◌, ◌<◌, ◌^◌, IfSome, Some};
+
+use crate::storage::{SECTOR, Storage};
+use std::io;
+
+/// Writes the first two sectors and the last one again as they are read (own). No byte changes, also where it fails. It
+/// fails if the file does, and if it has fewer than two sectors.
+///
+/// What a sync couldn't write a system may take for written, so that a read returns it and the next sync succeeds, and
+/// the disk has it not. What is written again is written by the next sync, though, or that fails too.
+pub fn rewrite<S: Storage>(file: &mut S) -> io::Result<()>
+    ensures { IfSome (S.content file.old) (λ held. S.content file.new ≡ Some held) }
+{
+    let sectors = file.length()? / SECTOR as u64;
+    rewrite_sector(file, 0)?;
+    rewrite_sector(file, 1)?;
+    rewrite_sector(file, sectors.saturating_sub(1))
+}
+
+/// Writes a sector again as it is read. No byte changes, also where it fails.
+pub(crate) fn rewrite_sector<S: Storage>(file: &mut S, sector: u64) -> io::Result<()>
+    requires { 512 * sector + 512 < 2 ^ 64 }
+    ensures { IfSome (S.content file.old) (λ held. S.content file.new ≡ Some held) }
+{
+    let mut bytes = [0; SECTOR];
+    let place = sector * SECTOR as u64;
+    file.read_at(place, &mut bytes)?;
+    file.write_at(place, &bytes)
+}
