@@ -1,11 +1,12 @@
 -- What the job `run` does (own): an operator commands a controller over a device in a file, and what it hands out is
 -- appended to another file.
-use Rattle.std.specs.Prelude.{ℕ, ◌⊎◌, List, Option, Some, None, Result, Ok, Err}
+use Rattle.std.specs.Prelude.{ℕ, ◌≡◌, ◌⊎◌, List, Option, Some, None, Result, Ok, Err, IfSome}
 use Rattle.std.specs.declared.io.Error.{Error}
 use Rattle.std.specs.declared.alloc.Global.{Global}
 use Rattle.ng_settings.specs.declared.standard.Settings.{Settings}
 use Rattle.ng_file.specs.FileRig.{device_of}
 use Rattle.ng_file.specs.declared.device.NoDevice.{NoDevice}
+use Rattle.ng_file.specs.declared.device.NoDevice.TheVariants.{Unusable}
 use Rattle.ng_file.specs.declared.opened.OpenedFile.{OpenedFile}
 use Rattle.ng_file.specs.declared.rig.FileRig.{FileRig}
 use Rattle.ng_run.specs.Consoles.{ConsoleSpec}
@@ -14,25 +15,30 @@ use Rattle.ng_console.specs.Devices.{IsOver}
 use Rattle.ng_console.specs.Refusals.{IsSilent, RefusesDevice, RefusesSettings, RefusesStorage}
 use Rattle.ng_console.specs.declared.settings_file.NoSettings.{NoSettings}
 
--- the console's conversation over that device; or these bytes can't be made a device, since their number can't be read,
--- or there is no memory
-abbrev pub OperatesDevice : {S O : Type 0} → (S → Option (List ℕ)) → Settings → S → O → Option (List ℕ) → Option (List ℕ) → Option (List ℕ) → ℕ → Type 0
-OperatesDevice {S} {O} content settings device out text old new status =
-    ((rig : FileRig S O Global) × (left : FileRig S O Global) × IsOver content device out rig
-    × ConsoleSpec Global device_of settings rig text old new (status, left))
-    ⊎ ((error : Error) × RefusesStorage error old new status)
+-- No byte has changed, and a loss of power leaves what a read returns.
+pub record IsSettled {S : Type 0} (content lasting : S → Option (List ℕ)) (device settled : S) : Type 0 where
+  pub same : IfSome (content device) (λ held. content settled ≡ Some held)
+  pub lasts : IfSome (lasting settled) (λ kept. content settled ≡ Some kept)
+
+-- The console's conversation over that device, once it is settled; or the file fails at that; or these bytes can't be
+-- made a device, since their number can't be read, or there is no memory.
+abbrev pub OperatesDevice : {S O : Type 0} → (S → Option (List ℕ)) → (S → Option (List ℕ)) → Settings → S → O → Option (List ℕ) → Option (List ℕ) → Option (List ℕ) → ℕ → Type 0
+OperatesDevice {S} {O} content lasting settings device out text old new status =
+    ((settled : S) × (rig : FileRig S O Global) × (left : FileRig S O Global) × IsSettled content lasting device settled
+    × IsOver content settled out rig × ConsoleSpec Global device_of settings rig text old new (status, left))
+    ⊎ (RefusesDevice Unusable old new status ⊎ ((error : Error) × RefusesStorage error old new status))
 
 -- the same for a file as it was opened
-abbrev pub OperatesInto : {S O : Type 0} → (S → Option (List ℕ)) → Settings → S → Result O Error → Option (List ℕ) → Option (List ℕ) → Option (List ℕ) → ℕ → Type 0
-OperatesInto content settings device (Err error) text old new status = IsSilent old new status
-OperatesInto content settings device (Ok out) text old new status = OperatesDevice content settings device out text old new status
+abbrev pub OperatesInto : {S O : Type 0} → (S → Option (List ℕ)) → (S → Option (List ℕ)) → Settings → S → Result O Error → Option (List ℕ) → Option (List ℕ) → Option (List ℕ) → ℕ → Type 0
+OperatesInto content lasting settings device (Err error) text old new status = IsSilent old new status
+OperatesInto content lasting settings device (Ok out) text old new status = OperatesDevice content lasting settings device out text old new status
 
 module _ {F : Type 0} where
   -- the same for a device as it was opened; if there is no device, no other file is opened
   abbrev pub OperatesOpened : Settings → Result (OpenedFile F) NoDevice → Option (List ℕ) → Option (List ℕ) → Option (List ℕ) → ℕ → Type 0
   OperatesOpened settings (Err why) text old new status = RefusesDevice why old new status
   OperatesOpened settings (Ok device) text old new status =
-      (out : Result F Error) × OperatesInto (λ (file : OpenedFile F). None) settings device out text old new status
+      (out : Result F Error) × OperatesInto (λ (file : OpenedFile F). None) (λ (file : OpenedFile F). None) settings device out text old new status
 
 -- the same for some device, with the settings that were found; if there are none, no device is opened
 abbrev pub OperatesChosen : (F : Type 0) → Result Settings NoSettings → Option (List ℕ) → Option (List ℕ) → Option (List ℕ) → ℕ → Type 0

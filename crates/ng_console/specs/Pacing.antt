@@ -33,10 +33,11 @@ pace_status (Ok (NotALine number)) = 1
 pace_status (Ok (TooLate number)) = 1
 pace_status (Err fault) = 2
 
--- the times of the lines that a reader gives, if they are known
-abbrev pub IsPaced : Bool → Option (List ℕ) → Option (List ℕ) → Option (List ℕ) → ℕ → Type 0
-IsPaced total given old new status =
-    IfSome given (λ text. (ended : Result Ended ScheduleFault) × (status ≡ pace_status ended) × ScheduleSpec (shown_of total) text old new ended)
+-- the times of the lines that a reader gives, if they are known, on motors with these limits
+abbrev pub IsPaced : Limits → Bool → Option (List ℕ) → Option (List ℕ) → Option (List ℕ) → ℕ → Type 0
+IsPaced limits total given old new status =
+    IfSome given (λ text. (ended : Result Ended ScheduleFault) × (status ≡ pace_status ended)
+    × ScheduleSpec limits (shown_of total) text old new ended)
 
 -- what is written of a machine that is refused
 abbrev pub refused_machine_text : MotionFault → List ℕ
@@ -50,7 +51,7 @@ FindsLimits text machine (Err Unread) = ⊤
 
 -- the times, with the limits that were found; if there are none, no line is read
 abbrev pub PacesFound : Result Limits NoLimits → Bool → Option (List ℕ) → Option (List ℕ) → Option (List ℕ) → ℕ → Type 0
-PacesFound (Ok limits) total text old new status = IsPaced total text old new status
+PacesFound (Ok limits) total text old new status = IsPaced limits total text old new status
 PacesFound (Err Unread) total text old new status = IsSilent old new status
 PacesFound (Err (Refused fault)) total text old new status = (status ≡ 2) × Appends old new (refused_machine_text fault)
 
@@ -61,10 +62,12 @@ module _ {F : Type 0} (bytes_of : F → Option (List ℕ)) where
   FindsIn (Err error) machine found = found ≡ Err Unread
 
   -- the times, with the settings that were found; if there are none, the file of the machine isn't used
-  abbrev pub PacesChosen : Result Settings NoSettings → Result F Error → Bool → Option (List ℕ) → Option (List ℕ) → Option (List ℕ) → ℕ → Type 0
+  abbrev pub PacesChosen : Result Settings NoSettings → Result F Error → Bool → Option (List ℕ) → Option (List ℕ)
+      → Option (List ℕ) → ℕ → Type 0
   PacesChosen (Err why) machine_file total text old new status = RefusesSettings why old new status
   PacesChosen (Ok settings) machine_file total text old new status =
-      (found : Result Limits NoLimits) × FindsIn machine_file settings.geometry found × PacesFound found total text old new status
+      (found : Result Limits NoLimits) × FindsIn machine_file settings.geometry found
+      × PacesFound found total text old new status
 
   -- the same with the settings of some file, and some file of the machine
   abbrev pub Paces : Bool → Option (List ℕ) → Option (List ℕ) → Option (List ℕ) → ℕ → Type 0

@@ -87,7 +87,7 @@ fn lengthen_device<S: Append>(file: &mut S) -> Result<(), Fault>
 }
 
 /// Whether a file is a device: it has enough sectors, and one of the two headers is valid.
-fn is_device<S: Storage>(file: &mut S) -> io::Result<bool>
+pub(crate) fn is_device<S: Storage>(file: &mut S) -> io::Result<bool>
     ensures value { IfOk result (λ truth. IfSome (S.content file.old) (λ held. truth ≡ is_device held)) }
     ensures stays { S.content file.new ≡ S.content file.old }
 {

@@ -26,4 +26,5 @@ mod size;
 pub use command_line::{Job, words};
 pub use format::format_rig;
 pub use grow::grow_file;
+pub use operating::operate_device;
 pub use program::{ngc, run_dry, start};

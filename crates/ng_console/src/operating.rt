@@ -1,13 +1,14 @@
 //! The job `run`: an operator commands a controller over a device.
-ghost use Rattle.std.specs.Prelude.{◌≤◌, Result, IfOk};
+ghost use Rattle.std.specs.Prelude.{◌≡◌, ◌≤◌, Result, Some, IfOk, IfSome, OnOk};
 ghost use Rattle.ng_file.specs.declared.device.NoDevice.{NoDevice};
 ghost use Rattle.ng_file.specs.declared.opened.OpenedFile.{OpenedFile};
 ghost use Rattle.ng_console.specs.Operating.{OperatesChosen, OperatesDevice, OperatesOpened};
 
 use crate::format::{refuse_device, refuse_storage};
+use crate::grow::is_device;
 use crate::program::refuse_settings;
 use crate::settings_file::NoSettings;
-use ng_file::{FileRig, Hold, NotHeld, Storage, is_same_file, open_device};
+use ng_file::{FileRig, Hold, NoDevice, NotHeld, Storage, is_same_file, open_device, rewrite};
 use ng_run::{FAILED, console};
 use ng_settings::Settings;
 use std::alloc::Global;
@@ -87,21 +88,26 @@ where
     }
 }
 
-/// Operates the machine of the device in these bytes, and appends what is handed out to a file. The error is the
-/// writer's, and is possible only if the length can't be read or there is no memory for a line.
-fn operate_device<S: Storage + Drop, O: Write + Drop, I: Read, W: Write>(
+/// Operates the machine of the device in these bytes, and appends what is handed out to a file. Before that it makes
+/// what a read of them returns durable (`settle`). If that fails, the line of J1 is written, and nothing else is done.
+/// The error is the writer's, and is possible only then, or if the length can't be read or there is no memory for a line
+/// of the file.
+pub fn operate_device<S: Storage + Drop, O: Write + Drop, I: Read, W: Write>(
     alloc: Global,
     settings: Settings,
-    device: S,
+    mut device: S,
     out: O,
     reader: &mut I,
     writer: &mut W,
 ) -> io::Result<u8>
     ensures run { IfOk result
-        (OperatesDevice S.content settings device out (I.remaining reader.old) (W.contents writer.old)
+        (OperatesDevice S.content S.lasting settings device out (I.remaining reader.old) (W.contents writer.old)
         (W.contents writer.new)) }
     ensures range { IfOk result (λ status. status ≤ 2) }
 {
+    if settle(&mut device).is_err() {
+        return refuse_device(writer, NoDevice::Unusable);
+    }
     match FileRig::over(alloc, device, out) {
         Ok(rig) => {
             let (status, _) = console(alloc, reader, writer, rig, settings);
@@ -109,4 +115,30 @@ fn operate_device<S: Storage + Drop, O: Write + Drop, I: Read, W: Write>(
         }
         Err(error) => refuse_storage(writer, error),
     }
+}
+
+/// Makes what a read of a device returns durable, before anything else is done with it. No byte changes, also where it
+/// fails. A file that isn't a device isn't written.
+///
+/// A sync of an earlier session may have failed, and then the system may take what it couldn't write for written: a read
+/// returns it, and the disk has what was there before. A session makes no call after a failed one, so of what its sync
+/// should have kept each part either counts again only once it is written anew, or is lost with a loss of power without
+/// harm, or is written again here:
+///
+/// - a snapshot, a program or a tool area, for which no header stood yet: no header that is read names them, and they are
+///   written anew before one does;
+/// - records: nobody was told of the entry or the segment, so it may be kept or lost; and power on stores all anew, what
+///   it read of them too, and then counts no record;
+/// - a header: power on would write over what the header before it names, which on the disk is in force. What it names
+///   itself was synced before it was written. So both headers are written again;
+/// - the end of a device that was grown: a header may name its last areas only where the disk has its length. So its last
+///   sector is written again.
+fn settle<S: Storage>(device: &mut S) -> io::Result<()>
+    ensures same { IfSome (S.content device.old) (λ held. S.content device.new ≡ Some held) }
+    ensures lasts { OnOk result (IfSome (S.lasting device.new) (λ kept. S.content device.new ≡ Some kept)) }
+{
+    if is_device(device)? {
+        rewrite(device)?;
+    }
+    device.sync()
 }

@@ -2,7 +2,8 @@
 ghost use Rattle.std.specs.Prelude.{◌≡◌, ◌≢◌, ◌≤◌, IfOk, IfSome, OnOk, Result};
 ghost use Rattle.std.specs.Io.KnownBytes.{Appends};
 ghost use Rattle.ng_pace.specs.declared.limits.Limits.{Limits};
-ghost use Rattle.ng_console.specs.Pacing.{FindsIn, FindsLimits, IsPaced, PacesChosen, PacesFound, pace_status, refused_machine_text, shown_of};
+ghost use Rattle.ng_console.specs.Pacing.{FindsIn, FindsLimits, IsPaced, PacesChosen, PacesFound};
+ghost use Rattle.ng_console.specs.Pacing.{pace_status, refused_machine_text, shown_of};
 
 use crate::program::refuse_settings;
 use crate::settings_file::NoSettings;
@@ -74,6 +75,7 @@ fn refuse_machine<W: Write>(writer: &mut W, fault: MotionFault) -> io::Result<()
 {
     writer.write_all(b"refused MACHINE")?;
     writer.write_all(fault.text())?;
+    writer.write_all(fault.name())?;
     writer.write_all(b"\n")
 }
 
@@ -104,7 +106,7 @@ fn pace_lines<I: Read, W: Write>(
     reader: &mut I,
     writer: &mut W,
 ) -> u8
-    ensures run { IsPaced total (I.remaining reader.old) (W.contents writer.old) (W.contents writer.new) result }
+    ensures run { IsPaced limits total (I.remaining reader.old) (W.contents writer.old) (W.contents writer.new) result }
     ensures range { result ≤ 2 }
 {
     let ended = schedule(alloc, reader, writer, limits, shown(total));
@@ -120,7 +122,8 @@ fn pace_found<I: Read, W: Write>(
     reader: &mut I,
     writer: &mut W,
 ) -> io::Result<u8>
-    ensures run { IfOk result (PacesFound found total (I.remaining reader.old) (W.contents writer.old) (W.contents writer.new)) }
+    ensures run { IfOk result
+        (PacesFound found total (I.remaining reader.old) (W.contents writer.old) (W.contents writer.new)) }
     ensures range { IfOk result (λ status. status ≤ 2) }
 {
     match found {

@@ -25,3 +25,5 @@ pub mod Powering
 pub mod Living
 pub mod Stopping
 pub mod Ahead
+pub mod Growing
+pub mod Lifetimes

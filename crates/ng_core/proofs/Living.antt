@@ -11,20 +11,26 @@ use Rattle.ng_journal.specs.Journal.{StandsFor, StandsBeside}
 use Rattle.ng_canon.specs.declared.geometry.Geometry.{Geometry}
 use Rattle.ng_session.specs.Cuts.{Nothing_open}
 use Rattle.ng_core.specs.Headline.{IsAccounted}
-use Rattle.ng_core.specs.Lives.{CutSession, IsCutWithinPowerOn, IsSession, CommittedSession, state_after_session, items_of_session, SessionKeepsToFold, CutsOfImageHistory}
+use Rattle.ng_core.specs.Lives.{CutSession, IsCutWithinPowerOn, IsSession, CommittedSession, state_after_session, items_of_session, KeepsToFold, SessionKeepsToFold, CutsOfImageHistory}
 
 -- what a session did, in terms of the fold
-record IsLived (geometry : Geometry) (tools : List ℤ) (x : DurableState) (s : CutSession) : Type 0 where
-  committed : Option CommittedSession
-  keeps : SessionKeepsToFold geometry x s committed
-  stands_for : StandsBeside tools (state_after_session geometry x committed) (items_of_session geometry x committed) s.image s.items
+pub record IsLived (geometry : Geometry) (tools : List ℤ) (x : DurableState) (s : CutSession) : Type 0 where
+  pub committed : Option CommittedSession
+  pub keeps : SessionKeepsToFold geometry x s committed
+  pub stands_for : StandsBeside tools (state_after_session geometry x committed) (items_of_session geometry x committed) s.image s.items
+
+-- the same of one that was cut after power on
+pub record IsLivedSince (geometry : Geometry) (tools : List ℤ) (x : DurableState) (s : CutSession) : Type 0 where
+  pub committed : CommittedSession
+  pub keeps : KeepsToFold geometry x s committed
+  pub stands_for : StandsBeside tools (state_after_session geometry x (Some committed)) (items_of_session geometry x (Some committed)) s.image s.items
 
 -- an image that stands for a state by itself also stands for it with this table
 read_with : (tools : List ℤ) (standing : DurableState) (given : List Item) (image : Image) (handed : List Item) → StandsFor standing given image handed → StandsBeside tools standing given image handed
 read_with tools standing given image handed p = record { state = modern-beside tools image p.modern ∙ p.state; written = p.written; handed_is = p.handed_is }
 
 -- if the state was recovered before the cut, the session committed no entry
-lived_within : (geometry : Geometry) (tools : List ℤ) (x : DurableState) (s : CutSession) → IsCutWithinPowerOn tools x s → IsLived geometry tools x s
+pub lived_within : (geometry : Geometry) (tools : List ℤ) (x : DurableState) (s : CutSession) → IsCutWithinPowerOn tools x s → IsLived geometry tools x s
 lived_within geometry tools x s p = elim p.stands_for [
   | inl before ↦ record { committed = None; keeps = p.acknowledged; stands_for = before }
   | inr after ↦ record {
@@ -34,16 +40,19 @@ lived_within geometry tools x s p = elim p.stands_for [
   }
 ]
 
-lived_after : (geometry : Geometry) (tools : List ℤ) (x : DurableState) (s : CutSession) → IsAccounted geometry s.lines (recovered x) [] s.executed s.begun s.acknowledged s.image s.items → IsLived geometry tools x s
-lived_after geometry tools x s p =
+pub lived_since : (geometry : Geometry) (tools : List ℤ) (x : DurableState) (s : CutSession) → IsAccounted geometry s.lines (recovered x) [] s.executed s.begun s.acknowledged s.image s.items → IsLivedSince geometry tools x s
+lived_since geometry tools x s p =
     let committed : CommittedSession = record { entries = take p.count s.executed; saved = p.left.standing.saved; more = p.cut.more } in
     let there : p.left.standing ≡ state_after_session geometry x (Some committed) = ap (λ (program : List ℕ). let y : DurableState = record { saved = p.left.standing.saved; program = program } in y) p.cut.program in
     record {
-      committed = Some committed;
+      committed = committed;
       keeps = record { count = p.count; all = p.all; few = p.few; within = p.within; entries = refl; valid = p.cut.valid; follows = p.cut.follows };
       stands_for = read_with tools _ _ _ _ (subst (λ (y : DurableState). StandsFor y (items_of_session geometry x (Some committed)) s.image s.items) there
           (subst (λ (given : List Item). StandsFor p.left.standing given s.image s.items) p.cut.items p.stands_for));
     }
+
+lived_after : (geometry : Geometry) (tools : List ℤ) (x : DurableState) (s : CutSession) → IsAccounted geometry s.lines (recovered x) [] s.executed s.begun s.acknowledged s.image s.items → IsLived geometry tools x s
+lived_after geometry tools x s p = let l = lived_since geometry tools x s p in record { committed = Some l.committed; keeps = l.keeps; stands_for = l.stands_for }
 
 same_standing : (x y : DurableState) → (let found : Result DurableState Fault = Ok x in found) ≡ Ok y → x ≡ y
 same_standing x y is = cc

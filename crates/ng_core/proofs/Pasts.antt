@@ -46,7 +46,7 @@ are_run seen events replies moments old new t is = record {
       (adds_to_past seen events replies old new t);
 }
 
-powered_on : {R : Type 0} (tools : List ℤ) (seen : R → Device) (c : ControllerModel R) (old : Trace) (x : DurableState) → (c.journal.broken ≡ false) × (c.session ≡ resting c.journal.saved)
+pub powered_on : {R : Type 0} (tools : List ℤ) (seen : R → Device) (c : ControllerModel R) (old : Trace) (x : DurableState) → (c.journal.broken ≡ false) × (c.session ≡ resting c.journal.saved)
     → IsControllerRecovered tools c old (seen c.journal.rig).trace → recovered_of (stands_beside tools (reads old)) ≡ Ok x → IsPoweredOn seen x c
 powered_on tools seen c old x begun r is =
     let same : record { saved = c.session.stored; program = r.program } ≡ x = ok_same (sym r.is ∙ is) in

@@ -44,7 +44,7 @@ left_within geometry tools x old image handed state written p = record {
 }
 
 -- a stop of a synced device leaves the image that is read
-left_synced : (tools : List ℤ) (old : Trace) (image : Image) (handed : List Item) → IsSynced old → IsWritten (reads old) → IsStop old image handed
+pub left_synced : (tools : List ℤ) (old : Trace) (image : Image) (handed : List Item) → IsSynced old → IsWritten (reads old) → IsStop old image handed
     → IsEitherBeside tools (stands_beside tools (reads old)) (recovered_of (stands_beside tools (reads old))) (items old) image handed
 left_synced tools old image handed synced written stop =
     let same : image ≡ reads old = one_image old image handed synced stop in

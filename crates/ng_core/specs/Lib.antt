@@ -8,4 +8,5 @@ pub mod Moments
 pub mod Runs
 pub mod Headline
 pub mod Lives
+pub mod Lifetime
 pub mod Private

@@ -14,6 +14,7 @@ ghost use Rattle.ng_layout.specs.Stands.{stands_beside, recovered};
 ghost use Rattle.ng_layout.specs.Stored.{DurableState};
 ghost use Rattle.ng_core.specs.Headline.{IsPast, Accounts, AddsToPast, CountsAcknowledged};
 ghost use Rattle.ng_core.specs.Lives.{CutsOfImageHistory, SessionsWithinPowerOn, SessionsAfterPowerOn, SessionsAnew};
+ghost use Rattle.ng_core.specs.Lifetime.{IsGrown, StandsGrown, KeepsFromFormat, KeepsFromImage};
 
 use ng_rig::Rig;
 use std::alloc::Allocator;
@@ -78,4 +79,22 @@ pub fn sessions<R: Rig, A: Allocator>()
 
     // Since another one began with no cut before it, as after the device failed.
     ensures anew { SessionsAnew A R.seen }
+{}
+
+/// However often power is cut over the lifetime of a device, within power on or after it, from what the calls promise
+/// alone. Each stop stands for what the plain interpreter makes of the entries that were asked for: of each session the
+/// first of those that it executed for its events, every acknowledged one and at most one more, the next, and no other.
+/// What was handed out is what these hand out, then at most a beginning of the one segment, or approach, that is stored
+/// as open.
+pub fn lifetime<R: Rig, A: Allocator>()
+    // From `format` on.
+    ensures formatted { KeepsFromFormat A R.seen }
+
+    // From any image on that only such a controller wrote, of either format.
+    ensures found { KeepsFromImage A R.seen }
+{}
+
+/// A small device that became a large one stands for what it stood for, but for its room for a program.
+pub fn grown()
+    ensures { (old new : Image) → IsGrown old new → StandsGrown old new }
 {}

@@ -6,7 +6,7 @@
 //!
 //! `specs/Events.antt` says what an event leaves of the device, also at a stop within the call. `specs/Runs.antt` says
 //! this of a list of events, `specs/Headline.antt` of all that happened since power on, in terms of the plain
-//! interpreter, and `specs/Lives.antt` of all sessions of a device, over any number of power cuts.
+//! interpreter, and `specs/Lifetime.antt` of all sessions of a device, over any number of power cuts.
 //!
 //! This crate names no sector and no code of the language: the journal deals with the first, the session with the
 //! second.

@@ -2,7 +2,7 @@
 //! storage or a writer fails.
 use linked_list_allocator::LocalHeap;
 use ng_canon::{AxisStep, Item, Outputs, Pulse, Spindle};
-use ng_file::{FileRig, OpenedFile, Storage};
+use ng_file::{FileRig, OpenedFile, Storage, lengthen};
 use ng_num::Num;
 use ng_rig::{Failed, Rig};
 use std::alloc::{AllocError, Global};
@@ -333,9 +333,11 @@ fn opening_a_device_fails_without_memory(rt: HostRuntime) -> Result<(), Fail> {
     Ok(())
 }
 
-/// An empty file of the system that can't make what is written durable.
+/// An empty file of the system that can make its data durable but not all of it, or all of it but not the data alone.
 #[derive(Drop)]
-struct Unlasting;
+struct Unlasting {
+    data: bool,
+}
 
 impl Read for Unlasting {
     fn read(&mut self, _: &mut [u8]) -> io::Result<usize> {
@@ -369,17 +371,33 @@ impl OpenFile for Unlasting {
     }
 
     fn sync_all(&self) -> io::Result<()> {
-        Err(io::Error::from(ErrorKind::Other))
+        if self.data {
+            Err(io::Error::from(ErrorKind::Other))
+        } else {
+            Ok(())
+        }
     }
 
     fn sync_data(&self) -> io::Result<()> {
-        Ok(())
+        if self.data {
+            Ok(())
+        } else {
+            Err(io::Error::from(ErrorKind::Other))
+        }
     }
 }
 
+/// Whether a device over such a file is synced, and whether such a file can be lengthened.
+fn synced_and_lengthened(alloc: Global, data: bool) -> io::Result<(bool, bool)> {
+    let mut rig = FileRig::over(alloc, OpenedFile::of(Unlasting { data }), io::sink())?;
+    let synced = rig.sync().is_ok();
+    let mut file = OpenedFile::of(Unlasting { data });
+    Ok((synced, lengthen(&mut file, 512).is_ok()))
+}
+
 #[test]
-fn sync_reaches_the_file(rt: HostRuntime) -> Result<(), Fail> {
-    let mut rig = FileRig::over(rt.alloc(), OpenedFile::of(Unlasting), io::sink())?;
-    assert_eq!(rt; (rig.sync(), rig.failures()), (Err(Failed), 1));
+fn a_device_syncs_its_data_and_a_file_that_gets_longer_all(rt: HostRuntime) -> Result<(), Fail> {
+    assert_eq!(rt; synced_and_lengthened(rt.alloc(), true)?, (true, false));
+    assert_eq!(rt; synced_and_lengthened(rt.alloc(), false)?, (false, true));
     Ok(())
 }

@@ -12,7 +12,9 @@ use Rattle.ng_journal.specs.Storing.{ledger_of}
 use Rattle.ng_journal.specs.Recover.{RecoverSpec, IsJournalRecovered}
 use Rattle.ng_journal.specs.Recovery.{IsNextEpoch}
 use Rattle.ng_num.specs.declared.fault.Fault.{Fault}
-use Rattle.ng_num.specs.declared.fault.Fault.TheVariants.{DeviceFailed}
+use Rattle.ng_num.specs.declared.fault.Fault.TheVariants.{DeviceFailed, OutOfMemory}
+use Rattle.ng_rig.proofs.Running.{stays}
+use Rattle.ng_journal.proofs.Restoring.{none_renews}
 use Rattle.ng_journal.specs.Private.RecoverySteps.{IsReady, IsRefusal, RestoreSpec}
 
 ready-rests : {R : Type 0} (tools : List ℤ) (journal : JournalModel R) (header : Header) (saved : StoredModel) (old new : Trace) → tip_of (ledger_of journal) ≡ record { header = header; end = no_records } → journal.saved ≡ saved → IsReady tools header saved old new → IsJournalRecovered tools journal old new
@@ -33,6 +35,10 @@ recovered_all tools journal header saved old new same held r = record {
       let k = r.kept written in
       record { stops = k.stops; ready = ready-rests tools journal header saved old new same held k.ready };
 }
+
+-- without memory the device isn't called
+pub recovered_nothing : {R : Type 0} (tools : List ℤ) (rig : R) (trace : Trace) → RecoverSpec tools (Err (OutOfMemory, rig)) trace trace
+recovered_nothing tools rig trace = record { finds = tt; refused = tt; renews = none_renews tools trace; laid = tt; synced = tt; kept = λ written. record { stops = stays trace _; ready = tt } }
 
 -- why nothing was recovered
 pub recovered_failed : {R E : Type 0} (tools : List ℤ) (rig : R) (e : E) (saved : StoredModel) (old new : Trace) → RestoreSpec tools (Err e) saved old new → RecoverSpec tools (Err (DeviceFailed, rig)) old new

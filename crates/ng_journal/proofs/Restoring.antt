@@ -8,7 +8,7 @@ use Rattle.ng_canon.specs.declared.item.Item.{Item}
 use Rattle.ng_rig.specs.Trace.{Image, Trace, Synced, reads, items}
 use Rattle.ng_rig.specs.Continuation.{IsContinuation, IsSynced}
 use Rattle.ng_rig.specs.Only.{WritesOnly}
-use Rattle.ng_rig.proofs.Running.{joined, weaker, on_sync, is_synced}
+use Rattle.ng_rig.proofs.Running.{joined, weaker, stays, on_sync, is_synced}
 use Rattle.ng_rig.proofs.Writes_only.{only_more, only_none, only_synced, only_wider}
 use Rattle.ng_layout.specs.declared.header.Format.{Format}
 use Rattle.ng_layout.specs.declared.header.Format.TheVariants.{One, Two}
@@ -19,7 +19,7 @@ use Rattle.ng_layout.specs.Stored.{StoredModel, DurableState}
 use Rattle.ng_layout.proofs.Images.{force-within}
 use Rattle.ng_journal.specs.Private.CheckpointSteps.{FitsDevice, IsOwnImage, IsBegun, IsEitherUnder, MayFollow, WritesState, StoresState, beside, CheckpointSpec}
 use Rattle.ng_journal.specs.AtRest.{BelongsTo, IsLaidOut, next_header}
-use Rattle.ng_journal.specs.Recovery.{recovered_of, epochs_for, HasCause, BelongsToNext, Renews, IsEitherBeside}
+use Rattle.ng_journal.specs.Recovery.{recovered_of, epochs_for, HasCause, BelongsToNext, BelongsToMigration, IsRenewed, Renews, IsEitherBeside}
 use Rattle.ng_journal.specs.Journal.{StandsBeside}
 use Rattle.ng_journal.specs.Private.RecoverySteps.{StandsUnder, IsRead, RestoreSpec, ModernizeSpec, StoresModern, BelongsToModern, modern_by}
 
@@ -42,11 +42,30 @@ module _ (tools : List ℤ) where
       let same : image ≡ reads old = λ i n. s.0 n i in
       record { state = inl (ap (stands_beside tools) same); written = subst IsWritten (sym same) written; handed_is = s.1 })
 
-  -- a sync writes nothing
+  -- no call writes nothing, and a sync neither
+  pub none_renews : (trace : Trace) → Renews tools trace trace
+  none_renews trace = record {
+    middle = trace;
+    first = only_none (BelongsToNext (reads trace)) trace;
+    second = only_none (BelongsToMigration tools (reads trace)) trace;
+    between = inl refl;
+  }
+
   sync_renews : (old new : Trace) → new ≡ Synced old → Renews tools old new
   sync_renews old new is =
-      let May = λ (n : ℕ) (bytes : List ℕ). BelongsToNext tools (reads old) n bytes in
-      subst (λ (l : Trace). Renews tools old l) (sym is) (only_synced May old old (only_none May old))
+      subst (λ (l : Trace). Renews tools old l) (sym is) (record {
+        middle = Synced old;
+        first = only_synced (BelongsToNext (reads old)) old old (only_none (BelongsToNext (reads old)) old);
+        second = only_none (BelongsToMigration tools (reads old)) (Synced old);
+        between = inl refl;
+      })
+
+  -- the first sync failed
+  unsynced : {E : Type 0} (e : E) (saved : StoredModel) (old : Trace) → RestoreSpec tools (Err e) saved old old
+  unsynced e saved old = record { outcome = tt; refused = tt; renews = none_renews old; laid = tt; synced = tt; kept = λ written. record { stops = stays old (Same old); ready = tt } }
+
+  pub exit_unsynced : {E : Type 0} (e : E) (saved : StoredModel) (old new : Trace) → new ≡ old → RestoreSpec tools (Err e) saved old new
+  exit_unsynced e saved old new same = subst (λ (l : Trace). RestoreSpec tools (Err e) saved old l) (sym same) (unsynced e saved old)
 
   -- nothing but the sync was done, and a read failed
   pub exit_failed : {E : Type 0} (e : E) (saved : StoredModel) (old new : Trace) → new ≡ Synced old → RestoreSpec tools (Err e) saved old new
@@ -166,23 +185,32 @@ module _ (tools : List ℤ) (header : Header) (found saved : StoredModel) (old n
       }))
 
   -- what a checkpoint writes of what was found is the recovered state
-  May : ℕ → List ℕ → Type 0
-  May n bytes = BelongsToNext tools (reads old) n bytes
+  rewritten : (next : Header) (new : Trace) → next ≡ Next header saved → WritesState next saved now new → WritesOnly (BelongsToNext (reads old)) old new
+  rewritten next new is_next writes =
+      let w = subst (λ (h : Header). WritesState h saved now new) is_next writes in
+      only_more (BelongsToNext (reads old)) old now new
+      (subst (λ (l : Trace). WritesOnly (BelongsToNext (reads old)) old l) (sym is) (only_synced (BelongsToNext (reads old)) old old (only_none (BelongsToNext (reads old)) old)))
+      (only_wider (λ n bytes. BelongsTo (Next header saved) saved n bytes) (BelongsToNext (reads old)) now new
+      (λ n bytes own. record { header = header; force = was; standing = standing; is = recovered_is; said = own }) w)
 
   renewed : (next : Header) (new : Trace) → next ≡ Next header saved → WritesState next saved now new → Renews tools old new
   renewed next new is_next writes =
-      let w = subst (λ (h : Header). WritesState h saved now new) is_next writes in
-      only_more (λ n bytes. BelongsToNext tools (reads old) n bytes) old now new (sync_renews tools old now is)
-      (only_wider (λ n bytes. BelongsTo (Next header saved) saved n bytes) (λ n bytes. BelongsToNext tools (reads old) n bytes) now new
-      (λ n bytes own. record { header = header; force = was; standing = standing; is = recovered_is; own = inl own }) w)
+      record { middle = new; first = rewritten next new is_next writes; second = only_none (BelongsToMigration tools (reads old)) new; between = inl refl }
 
-  -- and so is what is written then in format 2
-  renewed_again : (next : Header) (mid new : Trace) → next ≡ Next header saved → WritesState next saved now mid → WritesOnly (λ n bytes. BelongsToModern tools next saved n bytes) mid new → Renews tools old new
-  renewed_again next mid new is_next writes modern =
+  -- and so is what is written then in format 2, once all of it is there
+  renewed_again : {T E : Type 0} (v : T) (next : Header) (mid new : Trace) → next ≡ Next header saved → StoresState {E = E} (Ok v) next saved now mid → WritesOnly (λ n bytes. BelongsToModern tools next saved n bytes) mid new → Renews tools old new
+  renewed_again v next mid new is_next stores modern =
       let w = subst (λ (h : Header). WritesOnly (λ n bytes. BelongsToModern tools h saved n bytes) mid new) is_next modern in
-      only_more (λ n bytes. BelongsToNext tools (reads old) n bytes) old mid new (renewed next mid is_next writes)
-      (only_wider (λ n bytes. BelongsToModern tools (Next header saved) saved n bytes) (λ n bytes. BelongsToNext tools (reads old) n bytes) mid new
-      (λ n bytes own. record { header = header; force = was; standing = standing; is = recovered_is; own = inr own }) w)
+      record {
+        middle = mid;
+        first = rewritten next mid is_next stores.writes;
+        second = only_wider (λ n bytes. BelongsToModern tools (Next header saved) saved n bytes) (BelongsToMigration tools (reads old)) mid new
+            (λ n bytes own. record { header = header; force = was; standing = standing; is = recovered_is; said = own }) w;
+        between = inr (record {
+          laid = record { header = header; force = was; standing = standing; is = recovered_is; said = subst (λ (h : Header). IsLaidOut h saved (reads mid)) is_next stores.laid };
+          synced = stores.synced;
+        });
+      }
 
   pub within : {T E F : Type 0} (e : E) (result : Result T F) (next : Header) (kept : StoredModel) (new : Trace) → next ≡ Next header saved → WritesState next saved now new → Promised result next saved now new → RestoreSpec tools (Err e) kept old new
   within e result next kept new is_next writes c = record {
@@ -219,7 +247,7 @@ module _ (tools : List ℤ) (header : Header) (found saved : StoredModel) (old n
     exit_modern e result kept modern m = record {
       outcome = tt;
       refused = tt;
-      renews = renewed_again next mid new is_next stores.writes modern.writes;
+      renews = renewed_again {E = F} v next mid new is_next stores modern.writes;
       laid = tt;
       synced = tt;
       kept = λ written. record { stops = again result written (made result written m); ready = tt };
@@ -236,7 +264,7 @@ module _ (tools : List ℤ) (header : Header) (found saved : StoredModel) (old n
             record { before = header; force = was; is = is_last ∙ modern_next header.format header saved.length refl (ap (λ (s : StoredModel). s.length) closed_is ∙ u.long) },
           );
           refused = tt;
-          renews = renewed_again next mid new is_next stores.writes modern.writes;
+          renews = renewed_again {E = F} v next mid new is_next stores modern.writes;
           laid = subst (λ (s : StoredModel). IsLaidOut last s (reads new)) (sym kept_is) (modern.laid stores.laid);
           synced = modern.synced stores.synced;
           kept = λ written.

@@ -4,6 +4,7 @@ use Rattle.ng_canon.specs.declared.item.Item.{Item}
 use Rattle.ng_num.specs.declared.fault.Fault.{Fault}
 use Rattle.ng_num.specs.declared.fault.Fault.TheVariants.{NotFormatted, Damaged, CountersUsed}
 use Rattle.ng_rig.specs.Trace.{Image, Trace, reads}
+use Rattle.ng_rig.specs.Continuation.{IsSynced}
 use Rattle.ng_rig.specs.Only.{WritesOnly}
 use Rattle.ng_layout.specs.declared.header.Format.{Format}
 use Rattle.ng_layout.specs.declared.header.Format.TheVariants.{One, Two}
@@ -11,7 +12,7 @@ use Rattle.ng_layout.specs.declared.header.Header.{Header}
 use Rattle.ng_layout.specs.Limits.{greatest_count}
 use Rattle.ng_layout.specs.Stands.{in_force, stands, stands_beside, recovered, IsWritten}
 use Rattle.ng_layout.specs.Stored.{StoredModel, DurableState}
-use Rattle.ng_journal.specs.AtRest.{BelongsTo, next_header, migrated}
+use Rattle.ng_journal.specs.AtRest.{BelongsTo, IsLaidOut, next_header, migrated}
 
 -- the recovered state, if there is a state
 abbrev pub recovered_of : Result DurableState Fault → Result DurableState Fault
@@ -49,24 +50,39 @@ pub record IsNextEpoch (header : Header) (image : Image) : Type 0 where
   pub force : in_force image ≡ Some before
   pub is : header ≡ record before { format = Two; epoch = before.epoch + epochs_for before.format }
 
--- These bytes belong in sector n if this is stored under the epoch after a header and, over format 1, with a table in
--- format 2 under the one after that.
-abbrev pub BelongsToRenewal : List ℤ → Header → StoredModel → ℕ → List ℕ → Type 0
-BelongsToRenewal tools header saved n bytes =
-    let next = next_header header header.area saved.length in
-    BelongsTo next saved n bytes ⊎ ((header.format ≡ One) × BelongsTo (migrated next) (record saved { tools = tools }) n bytes)
-
--- the bytes that belong there for the recovered state of an image
-pub record BelongsToNext (tools : List ℤ) (image : Image) (n : ℕ) (bytes : List ℕ) : Type 0 where
+-- This holds of the header in force of an image, and of the recovered state.
+pub record HoldsOfFound (image : Image) (Said : Header → StoredModel → Type 0) : Type 0 where
   pub header : Header
   pub force : in_force image ≡ Some header
   pub standing : DurableState
   pub is : recovered_of (stands image) ≡ Ok standing
-  pub own : BelongsToRenewal tools header standing.saved n bytes
+  pub said : Said header standing.saved
 
--- Only what belongs there is written, and nothing is handed out.
-abbrev pub Renews : List ℤ → Trace → Trace → Type 0
-Renews tools old new = WritesOnly (BelongsToNext tools (reads old)) old new
+-- the header under which it is written first, of the same format
+abbrev pub renewed_header : Header → StoredModel → Header
+renewed_header header saved = next_header header header.area saved.length
+
+-- the bytes that belong in sector n for the recovered state under the next epoch
+abbrev pub BelongsToNext : Image → ℕ → List ℕ → Type 0
+BelongsToNext image n bytes = HoldsOfFound image (λ header saved. BelongsTo (renewed_header header saved) saved n bytes)
+
+-- the bytes that belong there over format 1 under the one after that, in format 2 with a table
+abbrev pub BelongsToMigration : List ℤ → Image → ℕ → List ℕ → Type 0
+BelongsToMigration tools image n bytes =
+    HoldsOfFound image (λ header saved. (header.format ≡ One) × BelongsTo (migrated (renewed_header header saved)) (record saved { tools = tools }) n bytes)
+
+-- All of the recovered state is there under the next epoch, and synced.
+pub record IsRenewed (image : Image) (trace : Trace) : Type 0 where
+  pub laid : HoldsOfFound image (λ header saved. IsLaidOut (renewed_header header saved) saved (reads trace))
+  pub synced : IsSynced trace
+
+-- Only what belongs there is written, and nothing is handed out: first under the next epoch, up to a middle trace. Of the
+-- migration nothing is written before all of that is there and synced.
+pub record Renews (tools : List ℤ) (old new : Trace) : Type 0 where
+  pub middle : Trace
+  pub first : WritesOnly (BelongsToNext (reads old)) old middle
+  pub second : WritesOnly (BelongsToMigration tools (reads old)) middle new
+  pub between : (new ≡ middle) ⊎ IsRenewed (reads old) middle
 
 -- An image stands for one of the two states with the table of the settings, and has no record of a later epoch; nothing
 -- was handed out.

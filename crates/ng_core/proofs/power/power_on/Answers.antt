@@ -1,4 +1,4 @@
-use Rattle.std.proofs.Common.{◌≡◌, ℤ, List, Ok, Err, refl, sym, ◌∙◌, ap, subst}
+use Rattle.std.proofs.Common.{◌≡◌, inl, ℤ, List, Ok, Err, refl, sym, ◌∙◌, ap, subst, arith}
 use Rattle.std.specs.Result.{IsErrAnd}
 use Rattle.ng_num.specs.declared.fault.Fault.{Fault}
 use Rattle.ng_rig.specs.Device.{Device}
@@ -6,10 +6,11 @@ use Rattle.ng_rig.specs.Trace.{Trace}
 use Rattle.ng_settings.specs.declared.standard.Settings.{Settings}
 use Rattle.ng_core.specs.Headline.{BeginsPast}
 use Rattle.ng_core.specs.Powers.{PowerOnResult, PowerOnSpec}
-use Rattle.ng_rig.proofs.Promise.{meaning}
+use Rattle.ng_rig.proofs.Promise.{promised, meaning}
 use Rattle.ng_layout.specs.Storable.{IsStorable}
 use Rattle.ng_canon.specs.declared.geometry.Geometry.{Geometry}
 use Rattle.ng_session.specs.Session.{SessionModel, resting}
+use Rattle.ng_journal.proofs.Recovering.{recovered_nothing}
 use Rattle.ng_core.proofs.Pasts.{begins_past}
 use Rattle.ng_core.proofs.Powering.{powered}
 use Rattle.ng_core.proofs.power.power_on.Goals as goal
@@ -30,6 +31,19 @@ returns-clause-gives g c =
       size = c.in_ok-journal.ensures.size;
       failures = c.in_ok-journal.ensures.failures;
     }
+
+-- without memory the device isn't called
+pub returns-in-Err-clause-gives : goal.returns-in-Err-clause-gives
+returns-in-Err-clause-gives g c = record {
+  powers = λ room tools table. promised (record { recovers = recovered_nothing tools c.args.rig (g.R.Rig.seen c.args.rig).trace; rests = λ written. tt });
+  rests = tt;
+  geometry = tt;
+  small = λ few. absurd (omega (arith, few, c.size.ensures.value, c.if-size-lt-LEAST_SIZE.false));
+  faults = inl refl;
+  memory = λ is. refl;
+  size = refl;
+  failures = refl;
+}
 
 -- what holds of a fault holds of the result that has it
 gave : {R : Type 0} (seen : R → Device) (settings : Settings) (rig : R) (e : Fault × R) (answer : PowerOnResult R)

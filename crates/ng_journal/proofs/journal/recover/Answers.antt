@@ -1,11 +1,14 @@
-use Rattle.ng_rig.proofs.Promise.{meaning}
-use Rattle.ng_journal.proofs.Recovering.{recovered_all, recovered_failed, recovered_refused}
+use Rattle.ng_rig.proofs.Promise.{promised, meaning}
+use Rattle.ng_journal.proofs.Recovering.{recovered_all, recovered_nothing, recovered_failed, recovered_refused}
 use Rattle.ng_journal.proofs.journal.recover.Goals as goal
 
 pub returns-in-Ok-Ok-clause-recovers : goal.returns-in-Ok-Ok-clause-recovers
 returns-in-Ok-Ok-clause-recovers g c = λ room table over.
     let restores = rw c.in-Ok-Ok.field-0-is at c.in-Ok-Ok.ensures.restores in
     meaning restores (λ r. recovered_all table _ c.in-Ok-Ok.header c.restore.new.stored _ _ c.beginning.ensures c.take_over.ensures (r table over))
+
+pub returns-in-Err-clause-recovers : goal.returns-in-Err-clause-recovers
+returns-in-Err-clause-recovers g c = λ room table over. promised (recovered_nothing table c.args.rig (g.R.Rig.seen c.args.rig).trace)
 
 pub returns-in-Err-restore-clause-recovers : goal.returns-in-Err-restore-clause-recovers
 returns-in-Err-restore-clause-recovers g c = λ room table over.

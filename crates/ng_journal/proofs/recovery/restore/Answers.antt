@@ -4,8 +4,14 @@ use Rattle.ng_layout.specs.declared.header.Header.{Header}
 use Rattle.ng_layout.specs.declared.header.Format.TheVariants.{One}
 use Rattle.ng_layout.specs.Stands.{in_force}
 use Rattle.std.proofs.lemmas.Result.{err_from_is_err_and}
-use Rattle.ng_journal.proofs.Restoring.{one_more, exit_failed, exit_found, exit_used, found_under, next_is, within, exit_modern, exit_restored}
+use Rattle.ng_rig.proofs.Promise.{meaning}
+use Rattle.ng_journal.proofs.Restoring.{one_more, exit_unsynced, exit_failed, exit_found, exit_used, found_under, next_is, within, exit_modern, exit_restored}
 use Rattle.ng_journal.proofs.recovery.restore.Goals as goal
+
+pub returns-in_err-sync-clause-restores : goal.returns-in_err-sync-clause-restores
+returns-in_err-sync-clause-restores g c =
+    let p = err_from_is_err_and c.from_residual.result c.from_residual.ensures.1 in
+    rw p.1 (meaning c.in_err-sync.ensures.trace (λ same table over. exit_unsynced table _ _ _ _ same))
 
 pub returns-in_err-fault-clause-restores : goal.returns-in_err-fault-clause-restores
 returns-in_err-fault-clause-restores g c =

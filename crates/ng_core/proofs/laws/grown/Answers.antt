@@ -1,0 +1,5 @@
+use Rattle.ng_core.proofs.Growing.{grown_stands}
+use Rattle.ng_core.proofs.laws.grown.Goals as goal
+
+pub returns : goal.returns
+returns c = grown_stands
