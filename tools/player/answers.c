@@ -12,11 +12,12 @@
 #include <sys/un.h>
 #include <unistd.h>
 
+#include "askers.h"
 #include "player.h"
 #include "scan.h"
 #include "schedule.h"
 
-enum { QUESTION_ROOM = 128, LOOKS_MS = 50 };
+enum { QUESTION_ROOM = 192, LOOKS_MS = 50 };
 
 /* Removes a socket to which nobody listens any more. */
 static bool remove_stale(const char *path, const struct sockaddr_un *address, struct cause *why) {
@@ -75,7 +76,7 @@ static void report(struct player *player, char *text, size_t room, const char *q
     player_lock(player);
     bool took = source_take_all(&player->source);
     uint64_t lines = player->lines;
-    uint64_t received = player->source.received;
+    uint64_t received = player->errand.is_there ? errand_line(player) : player->source.received;
     player_place(player, nm);
     outputs_print(outputs, sizeof outputs, &player->outputs);
     player_unlock(player);
@@ -83,15 +84,18 @@ static void report(struct player *player, char *text, size_t room, const char *q
         eventfd_write(player->wake, 1);
     }
     place_print(place, sizeof place, nm);
-    snprintf(text, room, "%s carried %" PRIu64 " received %" PRIu64 " %s reference %s outputs %s out %s", question,
-             lines, received, does, place, outputs, player->out);
+    int percent = atomic_load(&player->percent);
+    unsigned wants = atomic_load(&player->wants);
+    snprintf(text, room, "%s carried %" PRIu64 " received %" PRIu64 " %s reference %s outputs %s percent %d wants %u"
+             " out %s", question, lines, received, does, place, outputs, percent, wants, player->out);
 }
 
 /* Takes where the machine stands, as after its axes were moved by hand, if nothing is behind. */
 static void stand_at(struct player *player, const int64_t nm[3]) {
     player_lock(player);
     bool took = source_take_all(&player->source);
-    for (int axis = 0; axis < 3 && player->source.received == player->lines; axis++) {
+    bool is_behind = player->errand.is_there || player->source.received != player->lines;
+    for (int axis = 0; axis < 3 && !is_behind; axis++) {
         player->steps[axis] = in_steps(nm[axis], player->step_nm[axis]);
     }
     player_unlock(player);
@@ -100,9 +104,49 @@ static void stand_at(struct player *player, const int64_t nm[3]) {
     }
 }
 
-static bool is_question(const char *text, size_t size) {
+/* What stands in OUT now is all that comes for now. Where it has no room in hand, that isn't known. */
+static void note_last(struct player *player) {
+    player_lock(player);
+    bool took = source_take_all(&player->source);
+    if (!source_is_more(&player->source)) {
+        atomic_store(&player->last, player->source.received);
+    }
+    player_unlock(player);
+    if (took) {
+        eventfd_write(player->wake, 1);
+    }
+}
+
+/* Takes how many bytes of OUT are on the disk. */
+static void take_synced(struct player *player, uint64_t bytes) {
+    player_lock(player);
+    bool is_heeded = player->source.follows && !player->errand.is_there;
+    if (is_heeded) {
+        player->source.limit = bytes;
+    }
+    bool took = is_heeded && source_take_all(&player->source);
+    player_unlock(player);
+    if (took) {
+        eventfd_write(player->wake, 1);
+    }
+}
+
+/* Sends the motors where somebody wants them. */
+static void send_there(struct player *player, const struct wish *wish) {
+    static struct cause why;
+    player_lock(player);
+    source_take_all(&player->source);
+    bool is_taken = errand_take(player, wish, &why);
+    player_unlock(player);
+    if (!is_taken) {
+        say("%s: it doesn't go: %s", player->source.path, why.text);
+    }
+    eventfd_write(player->wake, 1);
+}
+
+static bool is_question(const char *text, size_t size, const char *word) {
     struct scan scan = {text, text + size};
-    if (!scan_word(&scan, "progress ") || scan_is_over(&scan) || scan.end - scan.at > 20) {
+    if (!scan_word(&scan, word) || scan_is_over(&scan) || scan.end - scan.at > 20) {
         return false;
     }
     while (!scan_is_over(&scan) && *scan.at >= '0' && *scan.at <= '9') {
@@ -115,7 +159,7 @@ static bool is_word(const char *text, size_t size, const char *word) {
     return size == strlen(word) && memcmp(text, word, size) == 0;
 }
 
-/* Reads "percent N", 1 to 100. */
+/* Reads "percent N", 1 to 999. */
 static bool read_percent(const char *text, size_t size, int *percent) {
     struct scan scan = {text, text + size};
     uint64_t number = 0;
@@ -123,7 +167,22 @@ static bool read_percent(const char *text, size_t size, int *percent) {
         return false;
     }
     *percent = (int)number;
-    return number >= 1 && number <= 100;
+    return number >= 1;
+}
+
+/* Reads "synced BYTES". */
+static bool read_synced(const char *text, size_t size, uint64_t *bytes) {
+    struct scan scan = {text, text + size};
+    return scan_word(&scan, "synced ") && scan_whole(&scan, 18, bytes, NULL) && scan_is_over(&scan);
+}
+
+/* What the record on the disk counts. */
+static int kept(struct player *player, char *text, size_t room, const char *question) {
+    player_lock(player);
+    int size = snprintf(text, room, "%s lines %" PRIu64 " bytes %" PRIu64, question, player->kept_lines,
+                        player->kept_bytes);
+    player_unlock(player);
+    return size;
 }
 
 /* Does what a datagram asks for; others are left alone. */
@@ -132,7 +191,10 @@ static void heed(struct player *player, const char *text, size_t size, const str
     static char answer[2 * PATH_MAX];
     int64_t nm[3];
     int percent = 0;
-    if (is_question(text, size)) {
+    uint64_t bytes = 0;
+    struct wish wish;
+    if (is_question(text, size, "progress ")) {
+        askers_note(from, named);
         atomic_store(&player->has_ended, false);
         atomic_store(&player->asked_at, schedule_now());
         report(player, answer, sizeof answer, text);
@@ -143,9 +205,19 @@ static void heed(struct player *player, const char *text, size_t size, const str
         atomic_store(&player->is_held, true);
     } else if (is_word(text, size, "release")) {
         atomic_store(&player->is_held, false);
-    } else if (read_percent(text, size, &percent)) {
+    } else if (read_percent(text, size, &percent) && percent <= player->most_percent) {
         atomic_store(&player->percent, percent);
+    } else if (is_word(text, size, "last")) {
+        note_last(player);
+    } else if (read_synced(text, size, &bytes)) {
+        take_synced(player, bytes);
+    } else if (is_question(text, size, "kept ")) {
+        int length = kept(player, answer, sizeof answer, text);
+        sendto(player->socket, answer, (size_t)length, MSG_DONTWAIT, (const struct sockaddr *)from, named);
+    } else if (wish_read(text, size, &wish)) {
+        send_there(player, &wish);
     } else if (is_word(text, size, "end")) {
+        note_last(player);
         atomic_store(&player->has_ended, true);
     } else if (size > 3 && memcmp(text, "at ", 3) == 0 && place_read(text + 3, size - 3, nm)) {
         stand_at(player, nm);

@@ -7,7 +7,6 @@
 #include <stdlib.h>
 #include <string.h>
 
-#include "machine.h"
 #include "pins.h"
 #include "times.h"
 
@@ -56,6 +55,9 @@ static bool begin_record(struct player *player, const struct options *options, s
         && (!keeper_read(&player->keeper, &record, why) || !where_to_begin(player, options, &record, &goes_on, why))) {
         return false;
     }
+    bool is_known = player->keeper.file >= 0 && (goes_on || record.bytes == 0);
+    player->left = record;
+    player->has_left = is_known;
     record.lines = goes_on ? record.lines : 0;
     record.bytes = goes_on ? record.bytes : 0;
     if (!source_skip(&player->source, &record)) {
@@ -72,16 +74,30 @@ static bool begin_record(struct player *player, const struct options *options, s
     return true;
 }
 
+/* Of a file nothing is carried out before a console says so: neither lines that the last session left, nor those that
+ * a console puts back. */
+static void stay(struct player *player) {
+    if (player->source.is_pipe) {
+        return;
+    }
+    player->source.limit = player->bytes;
+    if (source_size(&player->source) > player->bytes) {
+        say("%s: lines that no motor carried out stand behind line %" PRIu64 ": nothing moves before a console says so;"
+            " recover in ngc-operate goes on or back", player->source.path, player->lines);
+    }
+}
+
 bool player_begin(struct player *player, const struct options *options, struct settings *settings,
-                  struct pace_limits *limits, struct cause *why) {
-    static struct record first;
+                  struct machine *machine, struct cause *why) {
     const char *const others[] = {options->out, options->settings, options->position, NULL};
     if (!settings_read(options->settings, settings, why)
-        || (options->machine != NULL && !machine_read(options->machine, settings->step_nm, limits, why))
-        || !source_open(&player->source, options->out, options->pipe_bytes, why)) {
+        || (options->machine != NULL && !machine_read(options->machine, settings->step_nm, machine, why))
+        || !source_open(&player->source, options->out, options->pipe_bytes, options->follows, why)) {
         return false;
     }
     memcpy(player->step_nm, settings->step_nm, sizeof player->step_nm);
+    player->least_us = (uint64_t)settings->period_us;
+    player->traverse_nm_per_min = settings->traverse_nm_per_min;
     if (realpath(options->out, player->out) == NULL) {
         return because(why, "%s: %s", options->out, strerror(errno));
     }
@@ -93,6 +109,15 @@ bool player_begin(struct player *player, const struct options *options, struct s
     if (options->machine == NULL && !options->is_untimed) {
         say("%s: no --machine: no ramps, and no motor follows full rates from rest", options->out);
     }
+    if (options->follows && options->socket != NULL) {
+        stay(player);
+    }
+    return true;
+}
+
+bool player_keep_first(struct player *player, struct cause *why) {
+    static struct record first;
     player_record(player, &first);
+    player_kept(player, &first, 0);
     return keeper_begin(&player->keeper, &first, why);
 }

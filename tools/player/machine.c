@@ -5,10 +5,25 @@
 
 #include "scan.h"
 #include "toml.h"
+#include "window.h"
 
-enum { KEYS = 5, HALF = 64, LEAST_ACCEL = 3, GREATEST_ACCEL = 1000000000, NM_PER_MM = 1000000, S_PER_MIN = 60 };
+enum { HALF = 64, LEAST_ACCEL = 3, GREATEST_ACCEL = 1000000000, NM_PER_MM = 1000000, S_PER_MIN = 60 };
+enum { DEFAULT_SLACK = 2, DEFAULT_PERCENT = 100 };
+
+#define NS_PER_S INT64_C(1000000000)
+
+enum { MOTION, WINDOW, WAIT, TABLES }; /* the numbers of `tables` */
+enum { ACCEL, RATE, START, SLACK, MOST, LINES, SPINDLE, KEYS }; /* the numbers of `keys` */
+
+struct table {
+    const char *name;
+    const char *keys; /* in words */
+};
+
+static const struct table tables[TABLES] = {{"motion", "one of its five"}, {"window", "lines"}, {"wait", "spindle_s"}};
 
 struct key {
+    int table;
     const char *name;
     int values; /* 3, one for each axis, or 1 */
     int64_t least;
@@ -16,19 +31,19 @@ struct key {
     const char *takes; /* the same in words */
 };
 
-enum { ACCEL, RATE, START, SLACK, MOST }; /* the numbers of `keys` */
-
 static const struct key keys[KEYS] = {
-    {"accel_mm_s2", 3, 1, 1000000, "three whole numbers from 1 to 1000000"},
-    {"rate_mm_min", 3, 0, 100000, "three whole numbers from 0 to 100000"},
-    {"start_mm_min", 3, 0, 100000, "three whole numbers from 0 to 100000"},
-    {"slack_steps", 1, 1, 64, "a whole number from 1 to 64"},
-    {"most_percent", 1, 100, 100, "100"},
+    {MOTION, "accel_mm_s2", 3, 1, 1000000, "three whole numbers from 1 to 1000000"},
+    {MOTION, "rate_mm_min", 3, 0, 100000, "three whole numbers from 0 to 100000"},
+    {MOTION, "start_mm_min", 3, 0, 100000, "three whole numbers from 0 to 100000"},
+    {MOTION, "slack_steps", 1, 1, 64, "a whole number from 1 to 64"},
+    {MOTION, "most_percent", 1, 100, 100, "100"},
+    {WINDOW, "lines", 1, 0, WINDOW_MOST, "a whole number from 0 to 8000"},
+    {WAIT, "spindle_s", 1, 0, 3600, "a whole number from 0 to 3600"},
 };
 
-/* What was read of [motion]. */
-struct motion {
-    bool is_found;
+/* What was read. */
+struct content {
+    bool is_found[TABLES];
     bool is_there[KEYS];
     struct value values[KEYS];
 };
@@ -38,49 +53,56 @@ static bool is_name(const struct scan *name, const char *word) {
     return strlen(word) == size && memcmp(word, name->at, size) == 0;
 }
 
-static bool read_entry(struct toml *toml, struct motion *motion) {
+/* Reads a key of a table and its value. */
+static bool read_entry(struct toml *toml, int table, struct content *content) {
     struct scan name;
     int number = 0;
     if (!toml_read_key(toml, &name)) {
         return false;
     }
-    while (number < KEYS && !is_name(&name, keys[number].name)) {
+    while (number < KEYS && (keys[number].table != table || !is_name(&name, keys[number].name))) {
         number++;
     }
     if (number == KEYS) {
-        return because(toml->why, "%s: motion has a key that isn't one of its five: %.*s", toml->path,
-                       (int)(name.end - name.at), name.at);
+        return because(toml->why, "%s: %s has a key that isn't %s: %.*s", toml->path, tables[table].name,
+                       tables[table].keys, (int)(name.end - name.at), name.at);
     }
-    if (motion->is_there[number]) {
+    if (content->is_there[number]) {
         return toml_refuse(toml, "the key stands twice");
     }
-    motion->is_there[number] = true;
-    return toml_read_value(toml, &motion->values[number]);
+    content->is_there[number] = true;
+    return toml_read_value(toml, &content->values[number]);
 }
 
-/* Reads the name of a table; `is_motion` says whether it is that. */
-static bool begin_table(struct toml *toml, struct motion *motion, bool *is_motion) {
+/* Reads the name of a table: its number, TABLES for one of others. */
+static bool begin_table(struct toml *toml, struct content *content, int *table) {
     struct scan name;
     if (!toml_read_table(toml, &name)) {
         return false;
     }
-    *is_motion = is_name(&name, "motion");
-    if (*is_motion && motion->is_found) {
-        return toml_refuse(toml, "the table [motion] stands twice");
+    *table = 0;
+    while (*table < TABLES && !is_name(&name, tables[*table].name)) {
+        (*table)++;
     }
-    motion->is_found = motion->is_found || *is_motion;
+    if (*table == TABLES) {
+        return true;
+    }
+    if (content->is_found[*table]) {
+        return because(toml->why, "%s:%d: the table [%s] stands twice", toml->path, toml->line, tables[*table].name);
+    }
+    content->is_found[*table] = true;
     return true;
 }
 
-/* Reads the table of a file; lines of other tables are passed. */
-static bool read_motion(struct toml *toml, struct motion *motion) {
-    bool is_motion = false;
+/* Reads the tables of a file; lines of others are passed. */
+static bool read_tables(struct toml *toml, struct content *content) {
+    int table = TABLES;
     bool is_right = toml_pass_space(toml);
     while (is_right && !scan_is_over(&toml->scan)) {
         if (scan_word(&toml->scan, "[")) {
-            is_right = begin_table(toml, motion, &is_motion);
-        } else if (is_motion) {
-            is_right = read_entry(toml, motion);
+            is_right = begin_table(toml, content, &table);
+        } else if (table < TABLES) {
+            is_right = read_entry(toml, table, content);
         } else {
             toml_pass_line(toml);
         }
@@ -97,19 +119,26 @@ static bool is_in_range(const struct key *key, const struct value *value) {
     return is_right;
 }
 
-static bool check(const struct toml *toml, const struct motion *motion) {
-    if (!motion->is_found) {
+static bool check(const struct toml *toml, const struct content *content) {
+    if (!content->is_found[MOTION]) {
         return because(toml->why, "%s: the table [motion] is missing: it says what the motors allow", toml->path);
     }
-    if (!motion->is_there[ACCEL]) {
+    if (!content->is_there[ACCEL]) {
         return because(toml->why, "%s: motion: accel_mm_s2 is missing: %s", toml->path, keys[ACCEL].takes);
     }
     for (int number = 0; number < KEYS; number++) {
-        if (motion->is_there[number] && !is_in_range(&keys[number], &motion->values[number])) {
-            return because(toml->why, "%s: motion: %s takes %s", toml->path, keys[number].name, keys[number].takes);
+        const struct key *key = &keys[number];
+        if (content->is_there[number] && !is_in_range(key, &content->values[number])) {
+            return because(toml->why, "%s: %s: %s takes %s", toml->path, tables[key->table].name, key->name,
+                           key->takes);
         }
     }
     return true;
+}
+
+/* The first number of a key, or another where it isn't there. */
+static int64_t number_of(const struct content *content, int key, int64_t otherwise) {
+    return content->is_there[key] ? content->values[key].numbers[0] : otherwise;
 }
 
 /* Steps a second of so many millimetres in so many seconds. */
@@ -117,17 +146,14 @@ static uint64_t in_whole_steps(int64_t mm, int64_t step_nm, int64_t seconds) {
     return (uint64_t)(mm * NM_PER_MM / (seconds * step_nm));
 }
 
-bool machine_read(const char *path, const int64_t step_nm[3], struct pace_limits *limits, struct cause *why) {
-    static struct motion motion;
-    struct toml toml;
-    if (!toml_open(&toml, path, why) || !read_motion(&toml, &motion) || !check(&toml, &motion)) {
-        return false;
-    }
+/* What the motors allow, in steps. */
+static bool read_limits(const char *path, const struct content *content, const int64_t step_nm[3],
+                        struct pace_limits *limits, struct cause *why) {
     for (int axis = 0; axis < 3; axis++) {
-        int64_t rate = motion.values[RATE].numbers[axis];
-        limits->accel[axis] = in_whole_steps(motion.values[ACCEL].numbers[axis], step_nm[axis], 1);
+        int64_t rate = content->values[RATE].numbers[axis];
+        limits->accel[axis] = in_whole_steps(content->values[ACCEL].numbers[axis], step_nm[axis], 1);
         limits->rate[axis] = in_whole_steps(rate, step_nm[axis], S_PER_MIN);
-        limits->start[axis] = in_whole_steps(motion.values[START].numbers[axis], step_nm[axis], S_PER_MIN);
+        limits->start[axis] = in_whole_steps(content->values[START].numbers[axis], step_nm[axis], S_PER_MIN);
         if (limits->accel[axis] < LEAST_ACCEL) {
             return because(why, "%s: motion: accel_mm_s2 is less than 3 steps a second, each second", path);
         }
@@ -139,6 +165,18 @@ bool machine_read(const char *path, const int64_t step_nm[3], struct pace_limits
         }
     }
     limits->half = HALF;
-    limits->slack = motion.is_there[SLACK] ? (uint64_t)motion.values[SLACK].numbers[0] : 2;
+    limits->slack = (uint64_t)number_of(content, SLACK, DEFAULT_SLACK);
     return true;
+}
+
+bool machine_read(const char *path, const int64_t step_nm[3], struct machine *machine, struct cause *why) {
+    static struct content content;
+    struct toml toml;
+    if (!toml_open(&toml, path, why) || !read_tables(&toml, &content) || !check(&toml, &content)) {
+        return false;
+    }
+    machine->window_lines = (uint64_t)number_of(&content, LINES, 0);
+    machine->spindle_ns = number_of(&content, SPINDLE, 0) * NS_PER_S;
+    machine->most_percent = (int)number_of(&content, MOST, DEFAULT_PERCENT);
+    return read_limits(path, &content, step_nm, &machine->limits, why);
 }

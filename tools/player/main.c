@@ -2,7 +2,7 @@
  *
  *     cc -std=c11 -O2 -pthread *.c -o player
  *
- * docs/TOOLS.md says what it does: it is ngc-player, but for --follow, --spindle and --live. What drives the motors is
+ * docs/TOOLS.md says what it does: it is ngc-player, but for --spindle and --live. What drives the motors is
  * pins.c, which a builder replaces. Nothing is allocated once it plays. */
 #define _GNU_SOURCE
 #include <errno.h>
@@ -17,13 +17,15 @@
 #include <unistd.h>
 
 #include "beginning.h"
+#include "going.h"
 #include "play.h"
 #include "times.h"
 #include "waits.h"
 
 enum { NS_PER_MS = 1000000 };
 
-static struct player player = {.socket = -1, .wake = -1, .stopped = "", .tool = NO_TOOL, .percent = 100};
+static struct player player = {.socket = -1, .wake = -1, .stopped = "", .tool = NO_TOOL, .percent = 100,
+                               .last = UINT64_MAX};
 
 static int fail(const struct cause *why) {
     say("player: %s", why->text);
@@ -103,6 +105,10 @@ static bool tell(const struct play *play) {
         printf("late at most %" PRId64 " us, slower by %" PRId64 ".%" PRId64 " ms in all\n", schedule->latest / 1000,
                schedule->slower / NS_PER_MS, schedule->slower % NS_PER_MS / 100000);
     }
+    if (counts->dry > 0) {
+        printf("OUT ran dry %" PRIu64 " time%s; the motors came to rest, and went on once more came\n", counts->dry,
+               counts->dry > 1 ? "s" : "");
+    }
     printf("reference %s\n", place);
     if (fflush(stdout) != 0) {
         say("player: standard output: %s", strerror(errno));
@@ -142,6 +148,7 @@ static int run(struct play *play, const struct options *options) {
     struct cause why;
     pthread_t keeper;
     pthread_t answers;
+    play_begin(play);
     if (!begin_threads(&keeper, &answers, &why)) {
         return fail(&why);
     }
@@ -169,10 +176,12 @@ int main(int count, char **given) {
     heed_signals();
     prctl(PR_SET_TIMERSLACK, 1, 0, 0, 0);
     player.wake = eventfd(0, EFD_NONBLOCK | EFD_CLOEXEC);
-    bool has_begun = player_begin(&player, &options, &settings, &play.limits, &why);
+    bool has_begun = player_begin(&player, &options, &settings, &play.machine, &why);
     play.player = &player;
     play.options = &options;
     play.least_us = (uint64_t)settings.period_us;
+    has_begun = has_begun && (!options.goes || going_prepare(&play, &settings, &why))
+        && player_keep_first(&player, &why);
     int status = has_begun ? run(&play, &options) : fail(&why);
     if (player.socket >= 0) {
         unlink(options.socket);

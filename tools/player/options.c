@@ -8,8 +8,8 @@
 
 #include "record.h"
 
-static const char usage[] = "usage: player [-unrt] [-a X Y Z] [-o SECONDS] [-b BYTES] [-s SOCKET] [-p PINS] [-m FILE]"
-                            " [-i FILE] OUT SETTINGS POSITION";
+static const char usage[] = "usage: player [-unrtfy] [-a X Y Z] [-o SECONDS] [-b BYTES] [-s SOCKET] [-p PINS] [-m FILE]"
+                            " [-i FILE] [-g LINE] [-l Z] OUT SETTINGS POSITION";
 
 static const struct option words[] = {
     {"untimed", no_argument, NULL, 'u'},        {"anew", no_argument, NULL, 'n'},
@@ -17,7 +17,9 @@ static const struct option words[] = {
     {"at", required_argument, NULL, 'a'},       {"off-after", required_argument, NULL, 'o'},
     {"pipe", required_argument, NULL, 'b'},     {"progress", required_argument, NULL, 's'},
     {"pins", required_argument, NULL, 'p'},     {"machine", required_argument, NULL, 'm'},
-    {"times", required_argument, NULL, 'i'},    {NULL, 0, NULL, 0},
+    {"times", required_argument, NULL, 'i'},    {"follow", no_argument, NULL, 'f'},
+    {"go-to-line", required_argument, NULL, 'g'}, {"lift", required_argument, NULL, 'l'},
+    {"yes", no_argument, NULL, 'y'},            {NULL, 0, NULL, 0},
 };
 
 /* Seconds, as "2.5", in nanoseconds. */
@@ -42,6 +44,13 @@ static bool read_pipe_bytes(const char *text, int *bytes, struct cause *why) {
     }
     *bytes = (int)value;
     return true;
+}
+
+static bool read_line_number(const char *text, struct options *options, struct cause *why) {
+    size_t size = strlen(text);
+    options->goes = size > 0 && size <= 18 && strspn(text, "0123456789") == size;
+    options->goes_to = options->goes ? strtoull(text, NULL, 10) : 0;
+    return options->goes || because(why, "not a number of lines: %s", text);
 }
 
 /* The three words of --at. */
@@ -93,6 +102,17 @@ static bool read_option(int option, int count, char **given, struct options *opt
     case 'i':
         options->times = optarg;
         return true;
+    case 'f':
+        options->follows = true;
+        return true;
+    case 'g':
+        return read_line_number(optarg, options, why);
+    case 'l':
+        options->lift = optarg;
+        return true;
+    case 'y':
+        options->is_agreed = true;
+        return true;
     default:
         return because(why, "%s", usage);
     }
@@ -101,15 +121,18 @@ static bool read_option(int option, int count, char **given, struct options *opt
 bool options_read(int count, char **given, struct options *options, struct cause *why) {
     *options = (struct options){.pipe_bytes = 4096, .off_after_ns = INT64_C(10000000000)};
     opterr = 0;
-    int option = getopt_long(count, given, "unrta:o:b:s:p:m:i:", words, NULL);
+    int option = getopt_long(count, given, "unrtfya:o:b:s:p:m:i:g:l:", words, NULL);
     while (option != -1) {
         if (!read_option(option, count, given, options, why)) {
             return false;
         }
-        option = getopt_long(count, given, "unrta:o:b:s:p:m:i:", words, NULL);
+        option = getopt_long(count, given, "unrtfya:o:b:s:p:m:i:g:l:", words, NULL);
     }
     if (count - optind != 3) {
         return because(why, "%s", usage);
+    }
+    if (!options->goes && (options->lift != NULL || options->is_agreed)) {
+        return because(why, "--lift and --yes go with --go-to-line B");
     }
     options->out = given[optind];
     options->settings = given[optind + 1];

@@ -12,6 +12,11 @@ struct options {
     bool begins_anew;
     bool is_restored;
     bool asks_no_tool;
+    bool follows;
+    bool goes;          /* to a line of OUT first .. */
+    uint64_t goes_to;   /* .. which is this .. */
+    bool is_agreed;     /* .. without a question .. */
+    const char *lift;   /* .. by legs over this height; NULL for none */
     bool has_place;
     int64_t place_nm[3];
     int64_t off_after_ns;

@@ -7,6 +7,7 @@
 #include "pace.h"
 #include "play_parts.h"
 #include "waits.h"
+#include "window.h"
 
 enum {
     FEW = 8,             /* lines are read after each one while it moves: more would make the next one late */
@@ -21,15 +22,25 @@ struct ahead {
 };
 
 static struct pace pace;
+static struct window window;
 static struct ahead lines[PACE_ROOM];
 
 static bool is_all;      /* no more lines come: a file's end, or a line that isn't one .. */
 static bool is_bad;      /* .. which it is .. */
 static struct cause bad; /* .. and why */
 static int64_t newest_at; /* when the last line was read */
+static uint64_t ended;   /* before this line all comes to rest, as it was said or had to be that no more come for now */
+static bool is_on_path;  /* behind the last line that was carried out the motors were to go on .. */
+static bool is_dry;      /* .. and came to rest, as there were no more lines */
 
 static struct ahead *line_at(uint64_t index) {
     return &lines[index % PACE_ROOM];
+}
+
+/* What is known is carried out to its end. */
+static void end_here(void) {
+    pace_end(&pace);
+    ended = pace.known;
 }
 
 /* Takes a line that stands in OUT; false if none does. */
@@ -41,9 +52,13 @@ static bool read_one(struct play *play) {
     size_t length = ahead->size - (ahead->text[ahead->size - 1] == '\n');
     newest_at = schedule_now();
     play->left_at = 0;
+    play->counts.dry += is_dry;
+    is_on_path = is_on_path && !is_dry; /* counted once */
+    is_dry = false;
     is_bad = !line_read(ahead->text, length, play->least_us, &ahead->line, &bad);
     if (!is_bad) {
         pace_push(&pace, &ahead->line);
+        window_take(&window, &ahead->line);
     }
     return !is_bad;
 }
@@ -54,10 +69,16 @@ static void read_ahead(struct play *play, int most) {
     for (int count = 0; count < most && !is_all && !pace_is_full(&pace) && is_there; count++) {
         is_there = read_one(play);
     }
-    if (!is_all && (is_bad || (!is_there && !play->player->source.is_pipe))) {
+    bool is_end = !is_there && source_ends(&play->player->source) && !has_errand(play);
+    if (!is_all && (is_bad || is_end)) {
         is_all = true;
-        pace_end(&pace);
+        end_here();
     }
+    if (play->player->lines + (pace.known - pace.first) == atomic_load(&play->player->last)) {
+        end_here();
+        is_dry = false;
+    }
+    atomic_store(&play->player->wants, window_lines(&window));
 }
 
 /* The square that is wanted: 0 where somebody asks for a rest. */
@@ -68,21 +89,23 @@ static uint64_t wanted(struct play *play) {
     return pace_wanted(&pace, (unsigned)atomic_load(&play->player->percent));
 }
 
-/* What became of the next line. */
-enum next { GIVEN, WAITS, STOPS, FAILS };
-
-static enum next carry_out_next(struct play *play) {
+/* Carries out the next line, if one is to be: `is_given` says so. */
+static enum end carry_out_next(struct play *play, bool *is_given) {
     const struct ahead *ahead = line_at(pace.first);
     uint64_t square = wanted(play);
     uint64_t ns = 0;
+    *is_given = false;
     if (pace.first < pace.final && square != 0 && !is_tool_in(play, &ahead->line)) {
-        return STOPS;
+        return STOPPED;
     }
     if (!pace_next(&pace, square, &ns)) {
-        return WAITS;
+        return AT_OUTS_END;
     }
+    *is_given = true;
+    is_on_path = ahead->line.kind == 'P' && pace.first != ended;
     play->is_moving = pace.square != 0;
-    return carry_out(play, &ahead->line, ahead->text, ahead->size, ns) ? GIVEN : FAILS;
+    window_leave(&window, pace.first);
+    return carry_out(play, &ahead->line, ahead->text, ahead->size, ns);
 }
 
 /* Waits a little: in a hold, or for more lines. */
@@ -102,8 +125,9 @@ static enum end await_lines(struct play *play, bool *is_over) {
     bool is_known = pace.first < pace.known;
     bool is_held = wanted(play) == 0;
     atomic_store(&play->player->stands_held, is_held);
+    is_dry = is_dry || (is_on_path && !is_held);
     if (is_known && !is_held && schedule_now() - newest_at >= STARVES_NS) {
-        pace_end(&pace);
+        end_here();
         return AT_OUTS_END;
     }
     if (is_known && is_held && is_left_held(play)) {
@@ -123,10 +147,17 @@ static enum end await_lines(struct play *play, bool *is_over) {
     return end;
 }
 
+void begin_paced(struct play *play) {
+    pace_begin(&pace, &play->machine.limits);
+    window_begin(&window, &play->machine.limits, play->machine.window_lines);
+    play->player->most_percent = play->machine.most_percent;
+    atomic_store(&play->player->wants, window_lines(&window));
+}
+
 enum end carry_out_paced(struct play *play) {
     bool is_over = false;
+    bool is_given = false;
     enum end end = AT_OUTS_END;
-    pace_begin(&pace, &play->limits);
     while (end == AT_OUTS_END && !is_over) {
         if (play->options->is_untimed ? has_to_stop(play) : !wait_until_due(play)) {
             return STOPPED;
@@ -135,17 +166,11 @@ enum end carry_out_paced(struct play *play) {
         if (!play->is_moving) {
             schedule_pause(&play->schedule); /* as long as it took to read */
         }
-        enum next next = carry_out_next(play);
-        if (next == STOPS) {
-            return STOPPED;
-        }
-        if (next == FAILS) {
-            return FAILED;
-        }
-        if (next == WAITS) {
-            end = await_lines(play, &is_over);
-        } else {
+        end = carry_out_next(play, &is_given);
+        if (is_given) {
             atomic_store(&play->player->stands_held, false);
+        } else if (end == AT_OUTS_END) {
+            end = await_lines(play, &is_over);
         }
     }
     return end == AT_OUTS_END ? end_of_out(play) : end;

@@ -36,20 +36,29 @@ bool is_tool_in(struct play *play, const struct line *line) {
     return !changes_tool || play->options->asks_no_tool || await_tool(play, line->outputs.slot);
 }
 
-bool carry_out(struct play *play, const struct line *line, const char *text, size_t size, uint64_t lasts_ns) {
+/* Waits for the spindle, if a switch starts it, stops it or turns it the other way; false where it has to stop. */
+static bool has_spindle(struct play *play, const struct line *line) {
+    return line->outputs.spindle == play->player->outputs.spindle || wait_for(play, play->machine.spindle_ns);
+}
+
+enum end carry_out(struct play *play, const struct line *line, const char *text, size_t size, uint64_t lasts_ns) {
     struct schedule *schedule = &play->schedule;
     times_add(schedule->due - schedule->begun, text, size);
     schedule_begin(schedule, lasts_ns);
     int error = pins_set(line, text, size);
     if (error != 0) {
         note_stop(play, "pins");
-        return because(&play->why, "the pins: %s", strerror(error));
+        because(&play->why, "the pins: %s", strerror(error));
+        return FAILED;
     }
     if (line->kind == 'S') {
+        if (!has_spindle(play, line)) {
+            return STOPPED;
+        }
         schedule_pause(schedule); /* as long as the tool and the spindle took */
     }
     count(play, line, size);
-    return true;
+    return AT_OUTS_END;
 }
 
 /* Whether OUT, of which nothing is in hand and which nobody writes any more, has ended: at once where spindle and
@@ -59,7 +68,7 @@ static enum end end_of_session(struct play *play, bool *has_ended) {
     bool is_on = outputs_are_on(&shared->outputs);
     answers_catch_up(shared);
     bool was_asked = atomic_load(&shared->asked_at) != 0;
-    *has_ended = !shared->source.is_pipe;
+    *has_ended = source_ends(&shared->source);
     if (*has_ended) {
         return AT_OUTS_END;
     }
@@ -90,13 +99,18 @@ enum end await_more(struct play *play, bool *has_ended) {
     struct player *shared = play->player;
     int file = shared->source.is_pipe ? shared->source.file : -1;
     struct pollfd on[2] = {{file, POLLIN, 0}, {shared->wake, POLLIN, 0}};
-    poll(on, 2, shared->source.is_pipe ? SLICE_MS : 0);
+    poll(on, 2, shared->source.is_pipe ? SLICE_MS : shared->source.follows);
     if (on[1].revents & POLLIN) {
         eventfd_t events;
         eventfd_read(shared->wake, &events);
+    }
+    if (has_errand(play)) {
+        return do_errand(play);
+    }
+    if (on[1].revents & POLLIN) {
         return AT_OUTS_END;
     }
-    if (!shared->source.is_pipe || (on[0].revents & (POLLHUP | POLLIN)) == POLLHUP) {
+    if (is_left(play) && (!shared->source.is_pipe || (on[0].revents & (POLLHUP | POLLIN)) == POLLHUP)) {
         return end_of_session(play, has_ended);
     }
     play->left_at = 0;
@@ -117,6 +131,9 @@ static enum end next_line(struct play *play, char *line, size_t *size) {
             return AT_OUTS_END;
         }
         end = await_more(play, &has_ended);
+        if (end != AT_OUTS_END) {
+            return end;
+        }
         schedule_pause(&play->schedule); /* nothing was there */
     }
     return end;
@@ -175,8 +192,9 @@ static enum end carry_out_all(struct play *play) {
         if (!is_ready(play, &line)) {
             return STOPPED;
         }
-        if (!carry_out(play, &line, text, size, lasts_ns(&line))) {
-            return FAILED;
+        end = carry_out(play, &line, text, size, lasts_ns(&line));
+        if (end != AT_OUTS_END) {
+            return end;
         }
     }
 }
@@ -194,6 +212,12 @@ static bool switch_off(struct play *play) {
     outputs_stop(&shared->outputs);
     player_unlock(shared);
     return true;
+}
+
+void play_begin(struct play *play) {
+    if (play->options->machine != NULL) {
+        begin_paced(play);
+    }
 }
 
 int play_out(struct play *play) {

@@ -2,8 +2,8 @@
 #ifndef PLAY_H
 #define PLAY_H
 
+#include "machine.h"
 #include "options.h"
-#include "pace.h"
 #include "player.h"
 #include "schedule.h"
 
@@ -12,19 +12,23 @@ struct counts {
     uint64_t pulses;
     uint64_t waits;
     uint64_t switches;
+    uint64_t dry; /* times that motors came to rest in the midst of a path, as OUT had no more lines for them */
 };
 
 struct play {
     struct player *player;
     const struct options *options;
     uint64_t least_us;
-    struct pace_limits limits; /* of the motors, with --machine */
-    bool is_moving;            /* by the pacer: it can't stop at once */
+    struct machine machine; /* with --machine */
+    bool is_moving;         /* by the pacer: it can't stop at once */
     struct schedule schedule;
     struct counts counts;
     int64_t left_at;  /* since when nobody writes OUT any more; 0 */
     struct cause why; /* it stops */
 };
+
+/* Makes it ready, before other threads begin. */
+void play_begin(struct play *play);
 
 /* Plays, and returns the exit status, but for a record that can't be kept. Spindle and coolant are off then. */
 int play_out(struct play *play);

@@ -3,6 +3,7 @@
 #define PLAY_PARTS_H
 
 #include "play.h"
+#include "way.h"
 
 /* How a play ends. */
 enum end { AT_OUTS_END, STOPPED, FAILED };
@@ -16,8 +17,9 @@ enum end await_more(struct play *play, bool *has_ended);
 /* Waits for the tool that a line changes to, if a person has to put it in; false where the play has to stop. */
 bool is_tool_in(struct play *play, const struct line *line);
 
-/* Carries out a line now, which lasts so many nanoseconds; false, with the cause, where the pins fail. */
-bool carry_out(struct play *play, const struct line *line, const char *text, size_t size, uint64_t lasts_ns);
+/* Carries out a line now, which lasts so many nanoseconds. FAILED, with the cause, where the pins fail; STOPPED where
+ * it has to stop while the spindle takes its time; else AT_OUTS_END, as of what goes on. */
+enum end carry_out(struct play *play, const struct line *line, const char *text, size_t size, uint64_t lasts_ns);
 
 /* Stops at a line that isn't one. */
 enum end stop_at_line(struct play *play, const struct cause *what);
@@ -25,7 +27,17 @@ enum end stop_at_line(struct play *play, const struct cause *what);
 /* At OUT's end: a part of a line isn't carried out. */
 enum end end_of_out(struct play *play);
 
-/* paced.c: carries out lines with ramps until OUT ends, or it has to stop. */
+/* retrace.c: whether there is an errand, and does it. */
+bool has_errand(struct play *play);
+enum end do_errand(struct play *play);
+
+/* Sums up the legs of an errand. */
+void legs_look(struct play *play, struct way_sum *sum);
+
+/* paced.c: makes ready for ramps. */
+void begin_paced(struct play *play);
+
+/* Carries out lines with ramps until OUT ends, or it has to stop. */
 enum end carry_out_paced(struct play *play);
 
 #endif

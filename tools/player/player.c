@@ -40,13 +40,24 @@ int64_t in_steps(int64_t nm, int64_t step_nm) {
     return nm < 0 ? -steps : steps;
 }
 
+void player_kept(struct player *player, const struct record *record, int error) {
+    player_lock(player);
+    if (error == 0) {
+        player->kept_lines = record->lines;
+        player->kept_bytes = record->bytes;
+    }
+    player_unlock(player);
+}
+
 void *record_keep(void *shared) {
     struct player *player = shared;
     const struct timespec pause = {0, KEEPS_NS};
     struct record record;
     while (!atomic_load(&player->over) && atomic_load(&player->record_error) == 0) {
         player_record(player, &record);
-        atomic_store(&player->record_error, keeper_write(&player->keeper, &record));
+        int error = keeper_write(&player->keeper, &record);
+        player_kept(player, &record, error);
+        atomic_store(&player->record_error, error);
         nanosleep(&pause, NULL);
     }
     return NULL;

@@ -9,6 +9,7 @@
 #include <stdint.h>
 
 #include "cause.h"
+#include "errand.h"
 #include "keeper.h"
 #include "line.h"
 #include "record.h"
@@ -20,6 +21,9 @@ struct player {
     /* Set before the threads begin. */
     char out[PATH_MAX]; /* the path of OUT, without links in it */
     int64_t step_nm[3];
+    uint64_t least_us;
+    int64_t traverse_nm_per_min;
+    int most_percent; /* how much `percent` may be; 0 where there are no ramps */
     struct keeper keeper;
     int socket; /* -1 where nobody can ask */
     int wake;   /* an event: there are lines in hand */
@@ -32,12 +36,19 @@ struct player {
     int64_t steps[3];
     struct outputs outputs;
     const char *stopped; /* what ended it before OUT's end, in a word; "" */
+    struct errand errand;
+    struct record left; /* the record as it was, if it speaks of this OUT */
+    bool has_left;
+    uint64_t kept_lines; /* by the record on the disk */
+    uint64_t kept_bytes;
 
     atomic_int tool;          /* the slot that a person is asked for, or NO_TOOL */
     atomic_int record_error;  /* why the record can't be kept any more; 0 */
     atomic_bool is_held;      /* somebody asks for a rest */
     atomic_bool stands_held;  /* it has come to rest for that */
     atomic_int percent;       /* of OUT's rates */
+    atomic_uint wants;        /* how many lines are wanted in hand; 0 doesn't say */
+    _Atomic uint64_t last;    /* after so many lines no more come for now, as was said */
     atomic_bool over;         /* the other threads are to end */
     atomic_bool has_ended;    /* whoever asks said that the session is over */
     _Atomic int64_t asked_at; /* when the last question came; 0 */
@@ -48,6 +59,9 @@ void player_unlock(struct player *player);
 
 /* What stands now, for the record. */
 void player_record(struct player *player, struct record *record);
+
+/* Notes which record is on the disk, if it could be written. */
+void player_kept(struct player *player, const struct record *record, int error);
 
 /* Where the machine stands, in nanometres. `lock` is held. */
 void player_place(const struct player *player, int64_t nm[3]);

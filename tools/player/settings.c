@@ -129,6 +129,9 @@ bool settings_read(const char *path, struct settings *settings, struct cause *wh
         return false;
     }
     memcpy(settings->step_nm, table.values[STEP].numbers, sizeof settings->step_nm);
+    memcpy(settings->low_nm, table.values[LOW].numbers, sizeof settings->low_nm);
+    memcpy(settings->high_nm, table.values[HIGH].numbers, sizeof settings->high_nm);
+    settings->traverse_nm_per_min = table.values[TRAVERSE].numbers[0];
     settings->period_us = table.values[PERIOD].numbers[0];
     return true;
 }

@@ -10,6 +10,9 @@
 struct settings {
     int64_t step_nm[3];
     int64_t period_us;
+    int64_t low_nm[3];
+    int64_t high_nm[3];
+    int64_t traverse_nm_per_min;
 };
 
 /* Reads a file of settings. It takes no settings that `ngc` refuses; of those that `ngc` takes it wants the plain form

@@ -24,8 +24,21 @@ static void resize(const struct source *source, int bytes) {
     }
 }
 
-bool source_open(struct source *source, const char *path, int pipe_bytes, struct cause *why) {
+static ssize_t read_at(int file, char *to, size_t size, uint64_t from) {
+    size_t done = 0;
+    while (done < size) {
+        ssize_t got = pread(file, to + done, size - done, (off_t)(from + done));
+        if (got == 0 || (got < 0 && errno != EINTR)) {
+            break;
+        }
+        done += got > 0 ? (size_t)got : 0;
+    }
+    return (ssize_t)done;
+}
+
+bool source_open(struct source *source, const char *path, int pipe_bytes, bool follows, struct cause *why) {
     struct stat what;
+    source->limit = UINT64_MAX;
     source->path = path;
     source->file = open(path, O_RDONLY | O_NONBLOCK | O_CLOEXEC);
     if (source->file < 0 || fstat(source->file, &what) != 0) {
@@ -41,7 +54,37 @@ bool source_open(struct source *source, const char *path, int pipe_bytes, struct
     if (source->is_pipe) {
         resize(source, pipe_bytes);
     }
+    source->follows = follows && !source->is_pipe;
     return true;
+}
+
+bool source_ends(const struct source *source) {
+    return !source->is_pipe && !source->follows;
+}
+
+void source_go_to(struct source *source, uint64_t lines, uint64_t bytes) {
+    source->first = source->end = 0;
+    source->received = lines;
+    lseek(source->file, (off_t)bytes, SEEK_SET);
+}
+
+uint64_t source_size(const struct source *source) {
+    struct stat what;
+    return fstat(source->file, &what) == 0 ? (uint64_t)what.st_size : 0;
+}
+
+size_t source_read_at(const struct source *source, char *to, size_t size, uint64_t from) {
+    return (size_t)read_at(source->file, to, size, from);
+}
+
+/* So many bytes, or as many as there are before the limit. */
+static uint64_t allowed(const struct source *source, uint64_t most) {
+    if (source->limit == UINT64_MAX) {
+        return most;
+    }
+    uint64_t at = (uint64_t)lseek(source->file, 0, SEEK_CUR);
+    uint64_t left = source->limit > at ? source->limit - at : 0;
+    return most < left ? most : left;
 }
 
 bool source_skip(struct source *source, const struct record *begun) {
@@ -58,18 +101,6 @@ static uint32_t crc32_of(const char *bytes, size_t size) {
         }
     }
     return ~sum;
-}
-
-static ssize_t read_at(int file, char *to, size_t size, uint64_t from) {
-    size_t done = 0;
-    while (done < size) {
-        ssize_t got = pread(file, to + done, size - done, (off_t)(from + done));
-        if (got == 0 || (got < 0 && errno != EINTR)) {
-            break;
-        }
-        done += got > 0 ? (size_t)got : 0;
-    }
-    return (ssize_t)done;
 }
 
 struct file_mark source_mark(const struct source *source, uint64_t bytes) {
@@ -117,7 +148,7 @@ bool source_read(struct source *source, size_t most) {
         memmove(source->hand, source->hand + source->first, source->end);
         source->first = 0;
     }
-    size_t room = HAND_ROOM - source->end;
+    size_t room = (size_t)allowed(source, HAND_ROOM - source->end);
     ssize_t got = -1;
     do {
         got = read(source->file, source->hand + source->end, most < room ? most : room);
@@ -137,7 +168,11 @@ static uint64_t waiting(const struct source *source) {
         return ioctl(source->file, FIONREAD, &there) == 0 ? (uint64_t)there : 0;
     }
     off_t at = lseek(source->file, 0, SEEK_CUR);
-    return fstat(source->file, &what) == 0 && what.st_size > at ? (uint64_t)(what.st_size - at) : 0;
+    return fstat(source->file, &what) == 0 && what.st_size > at ? allowed(source, (uint64_t)(what.st_size - at)) : 0;
+}
+
+bool source_is_more(const struct source *source) {
+    return waiting(source) > 0;
 }
 
 bool source_take_all(struct source *source) {

@@ -19,14 +19,28 @@ struct source {
     const char *path;
     int file;
     bool is_pipe;
+    bool follows;      /* a file's end isn't the end of OUT */
+    uint64_t limit;    /* a file isn't read beyond so many bytes; the greatest number for none */
     uint64_t received; /* whole lines that were read, from OUT's first on */
     size_t first;      /* what is in hand begins here .. */
     size_t end;        /* .. and ends here */
     char hand[HAND_ROOM];
 };
 
-/* Opens a file or a named pipe, which gets so many bytes. Returns false, with the cause. */
-bool source_open(struct source *source, const char *path, int pipe_bytes, struct cause *why);
+/* Opens a file, which may be followed, or a named pipe, which gets so many bytes. Returns false, with the cause. */
+bool source_open(struct source *source, const char *path, int pipe_bytes, bool follows, struct cause *why);
+
+/* Whether OUT ends where no more stands in it. */
+bool source_ends(const struct source *source);
+
+/* Goes on, or back, to behind so many lines and bytes of a file; what is in hand is let go. */
+void source_go_to(struct source *source, uint64_t lines, uint64_t bytes);
+
+/* How many bytes a file has. */
+uint64_t source_size(const struct source *source);
+
+/* Reads so many bytes of a file from a byte on, fewer at its end; returns how many. */
+size_t source_read_at(const struct source *source, char *to, size_t size, uint64_t from);
 
 /* Goes to the first line of a file that isn't carried out. */
 bool source_skip(struct source *source, const struct record *begun);
@@ -42,6 +56,9 @@ bool source_next(struct source *source, char line[LONGEST_LINE + 2], size_t *siz
 
 /* Reads up to so many bytes, without waiting; whether there were any. */
 bool source_read(struct source *source, size_t most);
+
+/* Whether something stands in OUT that isn't in hand. */
+bool source_is_more(const struct source *source);
 
 /* Takes into hand what stands in OUT now, as far as there is room; whether there was anything. */
 bool source_take_all(struct source *source);

@@ -7,6 +7,7 @@
 #include <string.h>
 #include <time.h>
 
+#include "askers.h"
 #include "person.h"
 
 enum { SLICE_NS = SLICE_MS * 1000000 };
@@ -48,11 +49,12 @@ bool has_to_stop(struct play *play) {
     return false;
 }
 
-bool wait_until_due(struct play *play) {
+/* Waits until a moment; false where the play has to stop before. */
+static bool wait_until(struct play *play, int64_t due) {
     int64_t now = schedule_now();
-    while (now < play->schedule.due && !has_to_stop(play)) {
-        int64_t rest = play->schedule.due - now;
-        int64_t until = rest > SLICE_NS ? now + SLICE_NS : play->schedule.due;
+    while (now < due && !has_to_stop(play)) {
+        int64_t rest = due - now;
+        int64_t until = rest > SLICE_NS ? now + SLICE_NS : due;
         struct timespec moment = {(time_t)(until / 1000000000), (long)(until % 1000000000)};
         clock_nanosleep(CLOCK_MONOTONIC, TIMER_ABSTIME, &moment, NULL);
         now = schedule_now();
@@ -60,8 +62,24 @@ bool wait_until_due(struct play *play) {
     return !has_to_stop(play);
 }
 
-/* Whether nobody writes OUT any more, which is a pipe. */
-static bool is_left(const struct play *play) {
+bool wait_until_due(struct play *play) {
+    return wait_until(play, play->schedule.due);
+}
+
+bool wait_for(struct play *play, int64_t ns) {
+    return ns == 0 || wait_until(play, schedule_now() + ns);
+}
+
+bool is_left(struct play *play) {
+    struct player *player = play->player;
+    if (player->source.follows) {
+        bool was_asked = atomic_load(&player->asked_at) != 0;
+        return atomic_load(&player->has_ended)
+            || (outputs_are_on(&player->outputs) && was_asked && askers_are_gone());
+    }
+    if (!player->source.is_pipe) {
+        return true;
+    }
     struct pollfd on = {play->player->source.file, POLLIN, 0};
     return poll(&on, 1, 0) > 0 && (on.revents & POLLHUP) != 0;
 }
@@ -78,7 +96,7 @@ bool have_seconds_passed(struct play *play) {
 
 /* Whether the console died, some time ago. */
 static bool is_left_alone(struct play *play) {
-    if (atomic_load(&play->player->asked_at) == 0 || !play->player->source.is_pipe || !is_left(play)) {
+    if (atomic_load(&play->player->asked_at) == 0 || source_ends(&play->player->source) || !is_left(play)) {
         play->left_at = 0;
         return false;
     }

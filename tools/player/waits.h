@@ -17,8 +17,14 @@ bool is_rest_asked(const struct play *play);
 /* Whether the play has to stop now: where it moves only if it is asked for once more. Notes why. */
 bool has_to_stop(struct play *play);
 
+/* Waits for so many nanoseconds; false where the play has to stop before. */
+bool wait_for(struct play *play, int64_t ns);
+
 /* Waits until the next line is due; false where the play has to stop before. */
 bool wait_until_due(struct play *play);
+
+/* Whether nobody writes OUT any more. Of a file that is followed only those who ask can be seen. */
+bool is_left(struct play *play);
 
 /* Whether the seconds of --off-after have passed since the last writer was gone and the last question came. */
 bool have_seconds_passed(struct play *play);

@@ -1,0 +1,93 @@
+#include "moves.h"
+
+#include <stdlib.h>
+#include <string.h>
+
+typedef unsigned __int128 wide;
+
+/* The root of a number, rounded down, by Newton. */
+static wide whole_root(wide square) {
+    wide root = square;
+    wide next = square / 2 + square % 2;
+    while (next < root) {
+        root = next;
+        next = (root + square / root) / 2;
+    }
+    return root;
+}
+
+/* Begins a leg: all axes together, at the traverse rate. */
+static void begin_leg(struct moves *from) {
+    const struct player *player = from->play->player;
+    const int64_t *end = player->errand.legs[from->leg];
+    wide square = 0;
+    from->count = 0;
+    from->number = 0;
+    for (int axis = 0; axis < 3; axis++) {
+        int64_t steps = end[axis] - from->at[axis];
+        wide nm = (wide)(llabs(steps) * player->step_nm[axis]);
+        from->begun[axis] = from->at[axis];
+        from->count = llabs(steps) > from->count ? llabs(steps) : from->count;
+        square += nm * nm;
+    }
+    wide rate = (wide)player->traverse_nm_per_min * (wide)(from->count > 0 ? from->count : 1);
+    from->us = (uint64_t)((whole_root(square) * 60000000 + rate - 1) / rate);
+    from->us = from->us > player->least_us ? from->us : player->least_us;
+}
+
+/* The next pulse of the legs; false behind the last one. */
+static bool next_pulse(struct moves *from, struct move *move) {
+    const struct player *player = from->play->player;
+    while (from->number == from->count) {
+        from->leg++;
+        if (from->leg == LEGS) {
+            return false;
+        }
+        begin_leg(from);
+    }
+    from->number++;
+    memset(move, 0, sizeof *move);
+    move->is_done = true;
+    move->line.kind = 'P';
+    move->line.us = from->us;
+    move->lines = player->lines;
+    move->bytes = player->bytes;
+    for (int axis = 0; axis < 3; axis++) {
+        int64_t all = player->errand.legs[from->leg][axis] - from->begun[axis];
+        int64_t twice = 2 * from->number * all + from->count;
+        int64_t there = from->begun[axis] + (twice >= 0 ? twice / (2 * from->count)
+                                                        : -((2 * from->count - 1 - twice) / (2 * from->count)));
+        move->line.step[axis] = (int)(there - from->at[axis]);
+        from->at[axis] = there;
+    }
+    return true;
+}
+
+enum step moves_next(struct moves *from, struct move *move, struct cause *why) {
+    const struct errand *errand = &from->play->player->errand;
+    if (!from->is_by_legs) {
+        return way_next(&from->way, move, why);
+    }
+    bool is_there = from->has_later;
+    *move = from->later;
+    from->has_later = is_there && next_pulse(from, &from->later);
+    if (is_there && !from->has_later) {
+        move->lines = errand->legs_lines;
+        move->bytes = errand->legs_bytes;
+    }
+    return is_there ? MOVE : NO_MORE;
+}
+
+void moves_begin(struct moves *from, struct play *play) {
+    const struct player *player = play->player;
+    from->play = play;
+    from->is_by_legs = player->errand.wish.is_by_legs;
+    from->leg = -1;
+    from->number = from->count = 0;
+    memcpy(from->at, player->steps, sizeof from->at);
+    if (from->is_by_legs) {
+        from->has_later = next_pulse(from, &from->later);
+    } else {
+        way_begin(&from->way, &player->source, player->lines, player->bytes, player->errand.bytes, play->least_us);
+    }
+}

@@ -1,0 +1,210 @@
+/* An errand, done: back along OUT, or by legs, each move in its time, or by ramps. */
+#define _GNU_SOURCE
+#include <inttypes.h>
+#include <poll.h>
+#include <stdio.h>
+#include <string.h>
+
+#include "moves.h"
+#include "pace.h"
+#include "pins.h"
+#include "play_parts.h"
+#include "waits.h"
+
+static struct moves moves;
+static struct pace pace;
+static struct move ahead[PACE_ROOM];
+static uint64_t first_ahead; /* what is known, and isn't made .. */
+static uint64_t end_ahead;   /* .. up to here */
+
+void legs_look(struct play *play, struct way_sum *sum) {
+    struct move move;
+    const struct player *player = play->player;
+    moves_begin(&moves, play);
+    memcpy(sum->steps, player->steps, sizeof sum->steps);
+    sum->low_nm = sum->steps[2] * player->step_nm[2];
+    while (moves_next(&moves, &move, &play->why) == MOVE) {
+        way_add(sum, &move.line, player->step_nm);
+    }
+}
+
+/* Makes a move now, which lasts so many nanoseconds, and counts it. */
+static enum end make(struct play *play, const struct move *move, uint64_t lasts_ns) {
+    struct player *player = play->player;
+    char text[LONGEST_LINE];
+    const int *step = move->line.step;
+    if (move->is_done) {
+        int size = snprintf(text, sizeof text, "P %d %d %d %" PRIu64 "\n", step[0], step[1], step[2], move->line.us);
+        schedule_begin(&play->schedule, lasts_ns);
+        int error = pins_set(&move->line, text, (size_t)size);
+        if (error != 0) {
+            note_stop(play, "pins");
+            because(&play->why, "the pins: %s", strerror(error));
+            return FAILED;
+        }
+        play->counts.pulses++;
+    }
+    player_lock(player);
+    for (int axis = 0; axis < 3 && move->is_done; axis++) {
+        player->steps[axis] += step[axis];
+    }
+    player->lines = move->lines;
+    player->bytes = move->bytes;
+    player_unlock(player);
+    return AT_OUTS_END;
+}
+
+static bool is_ready(struct play *play) {
+    return play->options->is_untimed ? !has_to_stop(play) : wait_until_due(play);
+}
+
+/* At rest, since it is to; false where it has to stop. */
+static bool rest(struct play *play) {
+    atomic_store(&play->player->stands_held, atomic_load(&play->player->is_held));
+    poll(NULL, 0, SLICE_MS / 4);
+    schedule_pause(&play->schedule);
+    return !has_to_stop(play) && !is_left_held(play);
+}
+
+static enum end go_unpaced(struct play *play) {
+    struct move move;
+    struct cause what;
+    enum step step = MOVE;
+    while ((step = moves_next(&moves, &move, &what)) == MOVE) {
+        if (!is_ready(play)) {
+            return STOPPED;
+        }
+        while (atomic_load(&play->player->is_held)) {
+            if (!rest(play)) {
+                return STOPPED;
+            }
+        }
+        atomic_store(&play->player->stands_held, false);
+        if (make(play, &move, move.line.us * 1000) == FAILED) {
+            return FAILED;
+        }
+    }
+    return step == NO_LINE ? stop_at_line(play, &what) : AT_OUTS_END;
+}
+
+/* Takes moves into the window, as long as it has room; `is_all` says that there are no more. */
+static enum step take(bool *is_all, struct cause *what) {
+    enum step step = MOVE;
+    while (!*is_all && step == MOVE && end_ahead - first_ahead < PACE_ROOM && !pace_is_full(&pace)) {
+        struct move *move = &ahead[end_ahead % PACE_ROOM];
+        step = moves_next(&moves, move, what);
+        if (step == NO_MORE) {
+            *is_all = true;
+            pace_end(&pace);
+        } else if (step == MOVE) {
+            end_ahead++;
+            if (move->is_done) {
+                pace_push(&pace, &move->line);
+            }
+        }
+    }
+    return step;
+}
+
+static enum end go_paced(struct play *play) {
+    bool is_all = false;
+    struct cause what;
+    pace_begin(&pace, &play->machine.limits);
+    first_ahead = end_ahead = 0;
+    while (!is_all || first_ahead < end_ahead) {
+        uint64_t ns = 0;
+        if (!is_ready(play)) {
+            return STOPPED;
+        }
+        if (take(&is_all, &what) == NO_LINE) {
+            return stop_at_line(play, &what);
+        }
+        if (!play->is_moving) {
+            schedule_pause(&play->schedule); /* as long as it took to read */
+        }
+        const struct move *move = &ahead[first_ahead % PACE_ROOM];
+        bool is_held = is_rest_asked(play) || atomic_load(&play->player->is_held);
+        uint64_t wanted = is_held ? 0 : pace_wanted(&pace, (unsigned)atomic_load(&play->player->percent));
+        if (first_ahead < end_ahead && move->is_done && !pace_next(&pace, wanted, &ns)) {
+            play->is_moving = false;
+            if (!rest(play)) {
+                return STOPPED;
+            }
+            continue;
+        }
+        if (first_ahead < end_ahead) {
+            play->is_moving = pace.square != 0;
+            atomic_store(&play->player->stands_held, false);
+            first_ahead++;
+            if (make(play, move, ns) == FAILED) {
+                return FAILED;
+            }
+        }
+    }
+    play->is_moving = false;
+    return AT_OUTS_END;
+}
+
+/* Sets outputs, but for the tool, which stays in the spindle, and waits for the spindle. */
+static enum end switch_on(struct play *play, const struct outputs *outputs) {
+    struct line line = {.kind = 'S', .outputs = *outputs};
+    char text[LONGEST_LINE];
+    line.outputs.slot = play->player->outputs.slot;
+    size_t size = outputs_print(text, sizeof text - 1, &line.outputs);
+    text[size] = '\n';
+    bool turns = outputs->spindle != play->player->outputs.spindle;
+    int error = pins_set(&line, text, size + 1);
+    if (error != 0) {
+        note_stop(play, "pins");
+        because(&play->why, "the pins: %s", strerror(error));
+        return FAILED;
+    }
+    player_lock(play->player);
+    play->player->outputs = line.outputs;
+    player_unlock(play->player);
+    bool is_on = wait_for(play, turns ? play->machine.spindle_ns : 0);
+    schedule_pause(&play->schedule);
+    return is_on ? AT_OUTS_END : STOPPED;
+}
+
+/* Reads on from where the motors are, up to the line of the errand. The lock is held. */
+static void arrive(struct player *player) {
+    const struct errand *errand = &player->errand;
+    if (errand->wish.is_by_legs) {
+        player->lines = errand->legs_lines;
+        player->bytes = errand->legs_bytes;
+    }
+    if (!player->source.is_pipe) {
+        source_go_to(&player->source, player->lines, player->bytes);
+        player->source.limit = errand->bytes;
+    }
+}
+
+bool has_errand(struct play *play) {
+    player_lock(play->player);
+    bool is_there = play->player->errand.is_there;
+    player_unlock(play->player);
+    return is_there;
+}
+
+enum end do_errand(struct play *play) {
+    struct player *player = play->player;
+    const struct errand *errand = &player->errand;
+    enum end end = AT_OUTS_END;
+    schedule_pause(&play->schedule);
+    if (errand->wish.is_on) {
+        end = switch_on(play, &errand->wish.on);
+    }
+    if (end == AT_OUTS_END && (errand->wish.is_by_legs || errand->bytes < player->bytes)) {
+        moves_begin(&moves, play);
+        end = play->options->machine != NULL ? go_paced(play) : go_unpaced(play);
+        end = end == AT_OUTS_END && !is_ready(play) ? STOPPED : end;
+    }
+    if (end == AT_OUTS_END) {
+        player_lock(player);
+        arrive(player);
+        player->errand.is_there = false;
+        player_unlock(player);
+    }
+    return end;
+}
