@@ -1,0 +1,15 @@
+/* 64 KB of flash, 20 KB of RAM, the stack at the RAM's end. */
+MEMORY {
+    FLASH (rx) : ORIGIN = 0x08000000, LENGTH = 64K
+    RAM (rw) : ORIGIN = 0x20000000, LENGTH = 20K
+}
+ENTRY(vectors)
+SECTIONS {
+    .text : { KEEP(*(.vectors)) *(.text*) *(.rodata*) . = ALIGN(4); } > FLASH
+    data_from = LOADADDR(.data);
+    .data : { data_begin = .; *(.data*) . = ALIGN(4); data_end = .; } > RAM AT > FLASH
+    .bss (NOLOAD) : { bss_begin = .; *(.bss* COMMON) . = ALIGN(4); bss_end = .; } > RAM
+    stack_top = ORIGIN(RAM) + LENGTH(RAM);
+    ASSERT(bss_end + 2048 <= stack_top, "no room for the stack")
+    /DISCARD/ : { *(.ARM.exidx*) *(.comment) }
+}

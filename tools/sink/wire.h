@@ -1,0 +1,112 @@
+/* The bytes between sender and sink: words, frames, and what marks a damaged one. docs/SINK.md has them by bytes. */
+#ifndef WIRE_H
+#define WIRE_H
+
+#include <stdbool.h>
+#include <stddef.h>
+#include <stdint.h>
+
+enum {
+    WIRE_WORD = 5,   /* bytes of a word: 32 bits of ticks, then the bits below */
+    WIRE_WORDS = 48, /* most words of a frame */
+    WIRE_HEAD = 9,   /* bytes before the words: kind, session, the number of the first word */
+    WIRE_CRC = 4,
+    WIRE_BODY = WIRE_HEAD + WIRE_WORDS * WIRE_WORD + WIRE_CRC, /* most bytes of a frame: 253 */
+    WIRE_LINE = WIRE_BODY + 2,                                 /* and as it goes over the line */
+    WIRE_BEGIN = 13,  /* bytes of a frame that begins a session, without its CRC */
+    WIRE_STOP = 5,    /* of one that stops */
+    WIRE_ANSWER = 23, /* of an answer */
+    WIRE_FIFO = 512,  /* words that the sink has room for: 20 ms at 25,600 words a second */
+    WIRE_TICKS_A_MS = 8000,
+    WIRE_LEAST_TICKS = 40 /* 5 us: no word is shorter; an output word lasts that long */
+};
+
+/* The last byte of a word. */
+enum {
+    WORD_STEPS = 0x07,  /* a step of X (bit 0), Y and Z .. */
+    WORD_DOWN = 0x38,   /* .. which counts down: X (bit 3), Y and Z */
+    WORD_REST = 0x40,   /* the motors stand once this word's step is made: it may be the last one for any time */
+    WORD_OUTPUT = 0x80, /* not a step: the 32 bits are of the outputs .. */
+    WORD_SWITCH = 0x01  /* .. the switches, which take effect now; else the low bits of the speed for the next ones */
+};
+
+enum wire_kind { KIND_WORDS = 1, KIND_BEGIN = 2, KIND_STOP = 3, KIND_ANSWER = 4 };
+
+/* What a sink does. */
+enum sink_state {
+    SINK_NEW,     /* power came on, and no session has begun */
+    SINK_STANDS,  /* at rest; words are taken */
+    SINK_RUNS,    /* it makes words */
+    SINK_STOPPED, /* a fault, at rest: the count is where the motors are */
+    SINK_BROKEN   /* a fault, in motion: the motors were stopped dead, and where they are isn't to be trusted */
+};
+
+enum sink_fault {
+    FAULT_NONE,
+    FAULT_STARVED, /* the last word in hand was made, and it wasn't one that ends at rest */
+    FAULT_SILENT,  /* nothing came from the sender for SINK_SILENCE_MS */
+    FAULT_INPUT,   /* an input that stops */
+    FAULT_WORD,    /* a frame that isn't damaged holds a word that isn't one */
+    FAULT_ASKED    /* the sender asked for a stop at once */
+};
+
+/* The outputs, as an S line of OUT has them. */
+struct sink_outputs {
+    uint64_t speed;   /* in millionths, below 2^44 */
+    uint8_t spindle;  /* 0 stopped, 1 clockwise, 2 counter-clockwise */
+    uint8_t mist;
+    uint8_t flood;
+    uint8_t selected; /* 0 to 128 */
+    uint8_t slot;
+};
+
+/* What an answer says. */
+struct sink_answer {
+    uint32_t session;
+    uint32_t taken;  /* words made, and those in the FIFO */
+    uint32_t made;   /* words made since the chip started; counts on from 2^32 - 1 to 0 */
+    uint8_t state;
+    uint8_t fault;
+    uint16_t inputs; /* 1 where one is on */
+    uint16_t lost;   /* frames that were damaged, or came without the one before them; counts on from 65,535 to 0 */
+    uint32_t token;  /* of the sender that began the session */
+};
+
+/* A frame as it comes, byte by byte. */
+struct wire_reader {
+    uint8_t body[WIRE_BODY];
+    uint16_t used;
+    uint8_t left; /* bytes up to the next zero that was left out */
+    bool is_begun;
+    bool is_bad;
+};
+
+enum wire_taken { WIRE_MORE, WIRE_FRAME, WIRE_DAMAGED };
+
+void wire_put16(uint8_t *to, uint16_t value);
+void wire_put32(uint8_t *to, uint32_t value);
+uint16_t wire_get16(const uint8_t *from);
+uint32_t wire_get32(const uint8_t *from);
+
+/* The CRC-32 of IEEE 802.3, as zlib has it. */
+uint32_t wire_crc(const uint8_t *bytes, size_t size);
+
+/* Puts the CRC behind `size` bytes of `body`, which has room for WIRE_BODY, and writes the frame to `line`, which has
+ * room for WIRE_LINE, without zeros in it and with one at its end. Returns how many bytes that is. */
+size_t wire_frame(uint8_t *line, uint8_t *body, size_t size);
+
+/* Takes a byte. At WIRE_FRAME `body` holds a whole frame of `*size` bytes without its CRC, until the next byte. */
+enum wire_taken wire_take(struct wire_reader *reader, uint8_t byte, size_t *size);
+
+/* Whether 5 bytes are a word: of at least WIRE_LEAST_TICKS, or of outputs as an S line may have them. */
+bool wire_is_word(const uint8_t *word);
+
+/* Writes and reads an answer's body; false where it isn't one. */
+size_t wire_put_answer(uint8_t *body, const struct sink_answer *answer);
+bool wire_get_answer(const uint8_t *body, size_t size, struct sink_answer *answer);
+
+/* The two words of outputs, of which the second takes effect; and the outputs of two words. */
+void wire_put_outputs(uint32_t *low, uint32_t *switches, const struct sink_outputs *outputs);
+void wire_get_outputs(uint32_t low, uint32_t switches, struct sink_outputs *outputs);
+
+#endif
