@@ -3,6 +3,8 @@ from collections.abc import Iterator
 from contextlib import contextmanager
 from pathlib import Path
 
+from ngc_tools.formats.text import shown
+
 
 class Failure(Exception):
     """Why a tool ends: what is so, and what to do next. `exit_status` is what the tool ends with; `of` is the file that
@@ -13,7 +15,7 @@ class Failure(Exception):
 
     def said(self) -> str:
         """The text for people, with what it speaks of before it."""
-        return f"{self.of}: {self}" if self.of else str(self)
+        return f"{shown(self.of)}: {self}" if self.of else str(self)
 
 
 class WrongWords(Failure):

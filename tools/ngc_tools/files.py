@@ -7,6 +7,7 @@ import sys
 from collections.abc import Iterable, Iterator
 from contextlib import contextmanager, suppress
 from pathlib import Path
+from typing import BinaryIO
 
 from ngc_tools.failure import Failure
 from ngc_tools.formats.text import shown
@@ -46,9 +47,30 @@ def naming(path: str | Path) -> Iterator[None]:
 def read(path: str | Path) -> bytes:
     """All bytes of a file. Raises OSError with its path, also where it has more than a program could be."""
     with naming(path), open(path, "rb") as file:
-        data = file.read(MOST + 1)
-        if len(data) > MOST:
-            raise OSError(errno.EFBIG, f"it has more than {MOST:,} bytes")
+        return _all(file)
+
+
+def read_input() -> bytes:
+    """The same of standard input."""
+    with naming("standard input"):
+        return _all(sys.stdin.buffer)
+
+
+def read_regular(path: str | Path) -> bytes:
+    """The same of a file alone: of a pipe nothing may ever come, and whoever waits for it can't do anything else."""
+    if "\0" in str(path):
+        raise OSError(errno.EINVAL, "no name of a file has a byte 0 in it", str(path))
+    with naming(path):
+        mode = os.stat(path).st_mode
+        if not stat.S_ISREG(mode) and not stat.S_ISDIR(mode):
+            raise OSError(errno.EINVAL, f"no file, but {_what(mode)}")
+    return read(path)
+
+
+def _all(file: BinaryIO) -> bytes:
+    data = file.read(MOST + 1)
+    if len(data) > MOST:
+        raise OSError(errno.EFBIG, f"it has more than {MOST:,} bytes")
     return data
 
 

@@ -1,9 +1,11 @@
-"""A folder for a while, which is removed whatever ends the work."""
+"""Folders and files for a while, which are removed whatever ends the work."""
 import signal
 import tempfile
 from collections.abc import Iterator
-from contextlib import contextmanager
+from contextlib import ExitStack, contextmanager
 from pathlib import Path
+
+from ngc_tools.files import naming
 
 _MEMORY = "/dev/shm"  # a sync costs nothing there
 _ENDINGS = {signal.SIGINT, signal.SIGTERM, signal.SIGHUP}
@@ -21,6 +23,19 @@ class Scratch(tempfile.TemporaryDirectory):
         """Removes it."""
         with _waiting():
             super().cleanup()
+
+
+@contextmanager
+def scratch_file(text: bytes | str, stem: str, suffix: str) -> Iterator[str]:
+    """The path of a file with this text, which is removed. Ctrl-C and `kill` wait while it is made. Raises OSError with
+    its path."""
+    with ExitStack() as stack:
+        with _waiting():
+            file = stack.enter_context(tempfile.NamedTemporaryFile(prefix=f"ngc-{stem}-", suffix=suffix))
+        with naming(file.name):
+            file.write(text.encode() if isinstance(text, str) else text)
+            file.flush()
+        yield file.name
 
 
 @contextmanager

@@ -1,7 +1,8 @@
-"""What tests of the pacer share: streams of pulses, the pacer of tools/player, and a check that knows no pacer."""
+"""What tests of the pacer share: programs and streams of pulses, the pacer of tools/player, and a check that knows no
+pacer."""
+import math
 import random
 import subprocess
-from bisect import bisect_right
 from collections.abc import Iterable, Iterator
 from functools import cache
 
@@ -11,23 +12,46 @@ from session_support import TOOLS
 from ngc_tools.formats.out import read_line
 from ngc_tools.player.pace import FULL, Pace
 from ngc_tools.player.pace_path import Limits
+from ngc_tools.player.window import Window
 
 GIVE = f"N {FULL}"
-DRIVE = TOOLS / "tests" / "pace_drive.c"
 
 
-@cache
-def drive() -> str:
-    """The path of a program that paces in C, under the sanitizers where the compiler has them."""
+def short_segments() -> str:
+    """A rose of 0.4 mm lines, in space."""
+    turns = (2 * math.pi * k / 200 for k in range(201))
+    points = ((math.cos(t) * (5 + 3 * math.cos(5 * t)), math.sin(t) * (5 + 3 * math.cos(5 * t)), -math.sin(7 * t))
+              for t in turns)
+    return "".join(f"G1 X{x:.4f} Y{y:.4f} Z{z:.4f}\n" for x, y, z in points)
+
+
+def small_circles() -> str:
+    """Full turns in the three planes."""
+    return "".join(f"G17 G2 X0 Y0 I{r}\nG18 G3 X0 Z0 I{r}\nG19 G2 Y0 Z0 J{r}\n" for r in ("0.2", "0.5", "1", "2"))
+
+
+def zigzag() -> str:
+    """Corners of 90 degrees, 0.1 to 1 mm apart, and reversals."""
+    corners = ((0.1 + 0.05 * k) * (-1) ** k for k in range(20))
+    return "".join(f"G91 G1 X{abs(size):.2f}\nY{size:.2f}\n" for size in corners)
+
+
+PROGRAMS = {"short segments": short_segments, "small circles": small_circles, "zigzag": zigzag}
+
+
+def with_pacer(name: str, *options: str) -> str:
+    """The path of a program of this folder with the pacer of tools/player."""
     parts = [path for path in SOURCES if path.stem.startswith("pace_")
-             or path.stem in ("pace", "line", "scan", "cause", "utf8")]
-    return built(*(SANITIZERS if has_sanitizers() else ()), sources=(DRIVE, *parts))
+             or path.stem in ("pace", "window", "line", "scan", "cause", "utf8")]
+    return built(*options, sources=(TOOLS / "tests" / name, *parts))
 
 
 def paced_in_c(limits: Limits, events: Iterable[str]) -> list[str]:
     """What the pacer of tools/player answers to the events of pace_drive.c."""
     words = (*limits.accel, *limits.rate, *limits.start, limits.half, limits.slack)
-    done = subprocess.run([drive(), *map(str, words)], input="\n".join(events) + "\n", capture_output=True, text=True)
+    drive = with_pacer("pace_drive.c", *(SANITIZERS if has_sanitizers() else ()))
+    command = [drive, *map(str, words)]
+    done = subprocess.run(command, input="\n".join(events) + "\n", capture_output=True, text=True)
     if done.returncode:
         raise AssertionError(done.stderr)
     return done.stdout.split()
@@ -35,16 +59,21 @@ def paced_in_c(limits: Limits, events: Iterable[str]) -> list[str]:
 
 def paced(limits: Limits, events: Iterable[str]) -> list[str]:
     """What Pace answers to the same events."""
-    pace, answers = Pace(limits), []
+    pace, window, answers = Pace(limits), Window(limits), []
     for event in events:
         if event == "E":
             pace.end()
+        elif event == "W":
+            answers.append(str(window.lines()))
         elif event[0] in "NO":
             square = int(event[2:]) if event[0] == "N" else pace.wanted(int(event[2:]))
             ns = pace.next(square)
+            window.leave(pace.first)
             answers.append("-" if ns is None else str(ns))
         else:
-            pace.push(read_line(event, 1))
+            line = read_line(event, 1)
+            pace.push(line)
+            window.take(line)
     return answers
 
 
@@ -91,6 +120,7 @@ def disturbed(chance: random.Random, lines: Iterable[str]) -> Iterator[str]:
             yield "E"
         elif what < 0.95:
             yield from [GIVE] * 20
+        yield from ["W"] * (what > 0.98)
         yield from ["N 0"] * (what < 0.03) + [f"O {chance.randint(1, 99)}"] * (what < 0.06)
     yield from ["E", *[GIVE] * 400]
 
@@ -104,32 +134,26 @@ def some_limits(chance: random.Random) -> Limits:
                   axes(0, 100, 2000, 2**40), chance.choice((1, 4, 16, 64)), chance.choice((1, 2, 4, 64)))
 
 
-def excess(lines: list[str], times: list[int], accel: tuple[int, int, int]) -> float:
-    """By how many steps the axes leave all motions of these accelerations, in steps a second, each second.
-
-    It knows the steps and their times alone. Where an axis may follow a motion within e steps, its position q meets
-    |q(t + 2L) - 2 q(t + L) + q(t)| <= a L^2 + 4 e for each t and L. Returned is the greatest e that one of them
-    needs."""
-    worst, at = 0.0, 0
-    steps: list[tuple[list[float], list[int]]] = [([], [0]) for _ in range(3)]
-    for line, ns in zip(lines, times, strict=True):
-        moves = map(int, line.split()[1:4]) if line[0] == "P" else (0, 0, 0)
-        for (moments, places), step in zip(steps, moves, strict=True):
-            if step:
-                moments.append(at / 1e9)
-                places.append(places[-1] + step)
-        at += ns
-    for (moments, places), most in zip(steps, accel, strict=True):
-        for size in (0.001, 0.002, 0.005, 0.01, 0.02, 0.05, 0.1, 0.2):
-            worst = max(worst, _needed(moments, places, most, size))
-    return worst
+def timed(lines: Iterable[str], lasting_ns: Iterable[int]) -> Iterator[str]:
+    """The lines behind the nanosecond at which each is due, as a file of --times has them."""
+    due = 0
+    for line, ns in zip(lines, lasting_ns, strict=True):
+        yield f"{due} {line}\n"
+        due += ns
 
 
-def _needed(moments: list[float], places: list[int], most: int, size: float) -> float:
-    """What windows of one size, which begin, turn or end at a step, need."""
-    worst = 0.0
-    for moment in moments:
-        for begin in (moment, moment - size, moment - 2 * size):
-            first, middle, last = (places[bisect_right(moments, begin + part * size)] for part in range(3))
-            worst = max(worst, (abs(last - 2 * middle + first) - most * size**2) / 4)
-    return worst
+def as_out_says(lines: Iterable[str]) -> Iterator[int]:
+    """How many nanoseconds each line lasts by itself."""
+    return (0 if line[0] == "S" else int(line.split()[-1]) * 1000 for line in lines)
+
+
+def excess(due: Iterable[str] | bytes, accel: tuple[int, int, int]) -> float:
+    """By how many steps the axes leave all motions of these accelerations, in steps a second, each second. It knows the
+    steps and their times alone: `due` is what a file of --times has. Raises AssertionError where a line is sooner than
+    OUT has it."""
+    text = due if isinstance(due, bytes) else "".join(due).encode()
+    command = [built("-O2", sources=(TOOLS / "tests" / "follow_check.c",)), *map(str, accel)]
+    thousandths, early = map(int, subprocess.run(command, input=text, capture_output=True, check=True).stdout.split())
+    if early:
+        raise AssertionError(f"{early} lines are sooner than OUT has them")
+    return thousandths / 1000

@@ -28,7 +28,7 @@ def built(*options: str, compiler: str = "cc", pins: Path | None = None, sources
     folder = tempfile.mkdtemp(prefix="ngc-player-")
     atexit.register(shutil.rmtree, folder)
     sources = sources or [path for path in SOURCES if not pins or path.name != "pins.c"] + ([pins] if pins else [])
-    command = [compiler, *STANDARD, *options, *sources, "-I", TOOLS / "player", "-o", f"{folder}/player"]
+    command = [compiler, *STANDARD, *options, *sources, "-I", TOOLS / "player", "-lm", "-o", f"{folder}/player"]
     done = subprocess.run(command, capture_output=True, text=True)
     if done.returncode:
         raise AssertionError("tools/player isn't built:\n" + done.stderr)

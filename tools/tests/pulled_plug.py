@@ -3,6 +3,7 @@
 ever carries out.
 
     pulled_plug.py --ngc PATH [--moments N] [--ahead LINES | --unmetered] [--pipe BYTES] [--player PATH] [--seed N]
+                   [--machine FILE]
 
 A job cuts 80 short blocks, an arc and a drilled hole. A tick and a status at a time give its lines and where each
 segment of it begins, uncut. Then it is run over a named pipe by a player that keeps the times, and cut, and taken up
@@ -111,6 +112,7 @@ class Options:
     pipe: int
     player: str | None
     longest_s: float
+    machine: str | None = None  # what the motors allow, for ramps
 
 
 @dataclass
@@ -246,14 +248,16 @@ class Session:
 
     def _start_player(self) -> int:
         words = [self.fifo, self.folder / "settings.toml", self.record]
+        ramps = ["--machine", self.options.machine] if self.options.machine else []
         said, how = self.folder / "said", os.O_WRONLY | os.O_CREAT | os.O_APPEND
         if self.options.player:
-            given = ["-t", "-b", self.options.pipe, "-s", self.socket, "-p", self.log, *words]
+            given = ["-t", "-b", self.options.pipe, "-s", self.socket, "-p", self.log, *ramps, *words]
             command = [str(word) for word in (self.options.player, *given)]
             quiet = [(os.POSIX_SPAWN_OPEN, 1, os.devnull, os.O_WRONLY, 0),
                      (os.POSIX_SPAWN_OPEN, 2, str(said), how, 0o600)]
             return os.posix_spawn(command[0], command, os.environ, file_actions=quiet)
-        given = [*words, "--no-ask-tool", "--pipe", self.options.pipe, "--progress", self.socket, "--pins", self.log]
+        given = [*words, "--no-ask-tool", "--pipe", self.options.pipe, "--progress", self.socket, "--pins", self.log,
+                 *ramps]
         child = os.fork()
         if child == 0:
             try:
@@ -320,6 +324,7 @@ class Session:
                     raise Wrong(" ".join(replies))
                 raise Ended(-9, replies)
             if "idle" in replies or "stopped" in replies:
+                self.link.last()
                 return
 
     def _pulled(self) -> bool:
@@ -390,9 +395,11 @@ def main() -> int:
     parser.add_argument("--unmetered", action="store_true")
     parser.add_argument("--pipe", type=int, default=4096)
     parser.add_argument("--player", help="the player of tools/player, in place of ngc-player")
+    parser.add_argument("--machine", help="the file of the player's ramps: it makes none without")
     parser.add_argument("--longest", type=float, default=0.3, help="a cut comes after so many seconds at most")
     given = parser.parse_args()
-    options = Options(given.ngc, None if given.unmetered else given.ahead, given.pipe, given.player, given.longest)
+    ahead = None if given.unmetered else given.ahead
+    options = Options(given.ngc, ahead, given.pipe, given.player, given.longest, given.machine)
     begun = time.monotonic()
     result = pull(options, given.moments, given.seed, given.blocks)
     lost = sorted(result.lost)

@@ -1,8 +1,10 @@
 """ngc-adapt: ten headers of CAM systems, arcs by radius, what is asked, what is told, and files; all texts by hand."""
+import os
 import sys
 import unittest
 from decimal import Decimal
 from pathlib import Path
+from unittest import mock
 
 sys.path.insert(0, str(Path(__file__).resolve().parent))
 
@@ -149,15 +151,16 @@ class Words(InFolder):
             self.assertRegex(self.adapt(text, *words)[2], "part.nc: T[0-9]+ and T20[12] would both be slot 1; give")
 
     def test_asked(self) -> None:
-        """At a terminal it asks, and an answer that is no number is refused."""
+        """At a terminal it asks, and an answer that is no number, or no text, is refused."""
+        self.enterContext(mock.patch.dict(os.environ, PYTHONIOENCODING="utf-8:strict"))  # as in most locales
         Path("part.nc").write_text("G21 G91 G28 Z0\nT201\nG28 X0\nM2\n")
         for answers, status in (((b"-2\n", b"1\n", b"-10 20.5\n"), 0), ((b"high\n",), 2), ((b"\n",), 2),
-                                ((b"1 2\n",), 2), ((b"1\n", b"129\n"), 2)):
+                                ((b"1 2\n",), 2), ((b"1\n", b"129\n"), 2), ((b"\xff\n",), 2)):
             terminal = Terminal(str(TOOLS / "ngc-adapt"), "part.nc", "--ngc", ngc(), "-o", "out.ngc")
             for answer, question in zip(answers, (b"in millimetres: ", b"1 to 128: ", b"in millimetres: ")):
                 terminal.read_to(question)
                 terminal.send(answer)
-            terminal.read_to(b"never")
+            self.assertNotIn(b"internal error", terminal.read_to(b"never"))
             self.assertEqual(terminal.status(), status, answers)
             self.assertEqual(Path("out.ngc").exists(), status == 0)
             if status == 0:

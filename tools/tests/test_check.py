@@ -240,14 +240,14 @@ class Refused(Check):
                 "is said of that text"]
         text = HEAD + "G0 X1 (\u00fc)\nQ1\nM2\n"
         fault = ["p.ngc:4: B12 UnusedWord", "Q1", "^^"]
-        utf_16 = "the text is UTF-16, and ngc reads none of its lines"
+        utf_16 = "it is UTF-16, of which ngc reads no line"
         for data, why in ((b"\xff\xfe" + text.encode("utf-16-le"), utf_16),
                           (b"\xfe\xff" + text.encode("utf-16-be"), utf_16),
                           (text.replace("\n", "\r").encode(),
-                           "the lines end in carriage returns alone, and ngc takes them for one line")):
+                           "its lines end in carriage returns alone, so ngc takes it for one line")):
             self.assertEqual(self.said(data)[:6], [f"p.ngc: {why}", *mend, *fault])
         self.assertEqual(self.check(("\ufeff" + HEAD + "M2\n").encode("utf-16-le")), (1, """\
-p.ngc: the text is UTF-16, and ngc reads none of its lines
+p.ngc: it is UTF-16, of which ngc reads no line
     mend: save it in UTF-8, with newlines at the ends of its lines, as ngc-adapt does. What follows
     is said of that text
 p.ngc: 1 refusal, no warnings
@@ -633,6 +633,7 @@ class Words(InFolder):
         self.assertEqual(self.failed("--ngc", ngc()), "ngc-check: error: name the file of a program")
         self.assertEqual(self.failed("--settings-only", "--ngc", ngc()),
                          "ngc-check: error: --settings-only takes --settings FILE and no program")
+        self.assertIn("not a whole number of at most nine digits: -5", self.failed("p.ngc", "--most", "-5"))
 
     def test_files(self) -> None:
         """No `ngc`, no program, a folder, settings that are refused."""

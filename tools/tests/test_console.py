@@ -69,31 +69,60 @@ class Consoles(InFolder):
 class FakeLink:
     """A player that says what a test has it say."""
 
-    def __init__(self, *behind: int) -> None:
-        self.behind = list(behind)
+    def __init__(self, *behind: int, wants: int = 0, held: int = 0) -> None:
+        self.behind, self.wants, self.held = list(behind), wants, held
+        self.words: list[str] = []
 
     def ask(self) -> Report:
-        """The next of its reports."""
-        return Report(1000, 1000 + self.behind.pop(0), False, "0.000000 0.000000 0.000000", "/axis")
+        """The next of its reports, the last of them for ever; of the first `held` it says that it is held."""
+        self.held -= 1
+        behind = self.behind.pop(0) if len(self.behind) > 1 else self.behind[0]
+        return Report(1000, 1000 + behind, False, "0.000000 0.000000 0.000000", "/axis", is_held=self.held >= 0,
+                      wants=self.wants)
+
+    def last(self) -> None:
+        """Nothing more comes for now."""
+        self.words.append("last")
 
 
 class Meters(unittest.TestCase):
     """How many ticks there is room for."""
 
     def test_room(self) -> None:
-        """Never more than the bound, with what the player has in hand."""
+        """Never more than the bound, with what the player has in hand; as soon as a sixteenth of it is carried out, 6
+        of 100."""
         self.assertEqual(Meter(FakeLink(0)).room(), 100)
-        self.assertEqual(Meter(FakeLink(99, 51, 50)).room(), 50)
-        self.assertEqual(Meter(FakeLink(2, 1), 3).room(), 2)
+        self.assertEqual(Meter(FakeLink(99, 95, 94)).room(), 6)
+        self.assertEqual(Meter(FakeLink(3, 2), 3).room(), 1)
         self.assertEqual(Meter(FakeLink(99)).room(lambda report: False), 0)
-        for limit in (1, 0, -5, 5001):
+        for limit in (1, 0, -5, 8001):
             with self.assertRaises(ValueError):
-                Meter(FakeLink(), limit)
+                Meter(FakeLink(0), limit)
+
+    def test_room_by_need(self) -> None:
+        """As many as the player wants, at most the bound; no more at once than fit into the smallest pipe: 200 lines of
+        20 bytes into 4,096."""
+        self.assertEqual(Meter(FakeLink(1600, 1566, 1565, wants=1669)).room(), 104)  # 1669 // 16
+        self.assertEqual(Meter(FakeLink(0, wants=1669)).room(), 200)
+        self.assertEqual(Meter(FakeLink(0, wants=40)).room(), 40)
+        self.assertEqual(Meter(FakeLink(280, wants=1669), 300).room(), 20)
+        self.assertEqual(Meter(FakeLink(7501, 7500, wants=9000)).room(), 200)  # 8,000 at most: 500 of them are free
+        self.assertEqual(Meter(FakeLink(0), 150).room(), 150)
 
     def test_drained(self) -> None:
-        """It waits until nothing is left, or somebody says no."""
-        self.assertTrue(Meter(FakeLink(2, 1, 0)).drained())
+        """It says that nothing more comes for now, once, and waits until nothing is left, or somebody says no."""
+        link = FakeLink(2, 1, 0)
+        self.assertTrue(Meter(link).drained())
+        self.assertEqual(link.words, ["last"])
         self.assertFalse(Meter(FakeLink(2, 1)).drained(lambda report: report.behind > 1))
+        link = FakeLink(0)
+        self.assertTrue(Meter(link).drained())
+        self.assertEqual(link.words, [])
+
+    def test_drained_held(self) -> None:
+        """It doesn't wait for motors that are held; the first reports after a release may still say it."""
+        self.assertFalse(Meter(FakeLink(2, held=10**9)).drained())
+        self.assertTrue(Meter(FakeLink(2, 2, 2, 1, 0, held=2)).drained())
 
 
 if __name__ == "__main__":

@@ -14,7 +14,9 @@ sys.path.insert(0, str(Path(__file__).resolve().parent))
 from session_support import PATIENCE_S, TOOLS, InFolder, Terminal, ngc  # noqa: E402
 from test_rehearse import HOLE, OUT  # noqa: E402
 
+from ngc_tools.formats.out import Switch  # noqa: E402
 from ngc_tools.formats.record import Record  # noqa: E402
+from ngc_tools.player.source import Source  # noqa: E402
 
 DOCS = TOOLS.parent / "docs"
 CAM = Path(__file__).resolve().parent / "cam"
@@ -30,7 +32,8 @@ CHAPTERS = {
                  "ngc-rehearse: what a resume would do", "ngc-device: what a device stands for",
                  "ngc-adapt: CAM text as ngc accepts it",
                  "ngc-split: a program above the device's limit"),
-    "RECOVERY.md": ("A half-done block",), "POST_PROCESSOR.md": ("",), "OUTPUT.md": (),
+    "RECOVERY.md": ("`recover`: back the way it came", "A half-done block"),
+    "POST_PROCESSOR.md": ("",), "OUTPUT.md": (),
     "SESSION.md": ("The device", "A first session"),
 }
 
@@ -123,7 +126,7 @@ class Tools(Documents):
     def test_player(self) -> None:
         """A pipe with a player; tools/player is built, and its words are those of the page."""
         text, tried = self.chapter("TOOLS.md", "ngc-player")
-        (synopsis, _), (fifo, _), (play, shown), (build, _), (words, _) = tried
+        (synopsis, _), (fifo, _), (play, shown), (build, _), (words, more) = tried
         record = shown[shown.index("out /"):]
         self.same_options("ngc-player", text, synopsis)
         self.shell(fifo)
@@ -134,7 +137,7 @@ class Tools(Documents):
                          [line.split()[0] for line in Path("position").read_text().splitlines() if line.strip()])
         self.shell(build)
         done = subprocess.run("./player", capture_output=True, text=True)
-        self.assertEqual((done.returncode, done.stderr), (2, f"player: usage: {words}\n"))
+        self.assertEqual((done.returncode, done.stderr), (2, f"player: usage: {words} {more.strip()}\n"))
 
     def test_operate(self) -> None:
         """The session, to the byte, and the record that the player keeps of it."""
@@ -184,21 +187,29 @@ class Tools(Documents):
 
     def test_plug(self) -> None:
         """Its words, and two moments."""
-        _, ((synopsis, _),) = self.chapter("TOOLS.md", "The plug")
+        _, ((synopsis, _), (file, _)) = self.chapter("TOOLS.md", "The plug")
         program = synopsis.split()[0]
         known = set(re.findall(r"--[a-z-]+", self.shell(f"{program} --help --ngc x")))
         self.assertEqual(set(re.findall(r"--[a-z-]+", synopsis)) - known, set())
         self.assertIn("2 moments in ", self.shell(f"{program} --ngc {ngc()} --moments 2"))
+        program = file.split()[0]
+        self.assertEqual(set(re.findall(r"--[a-z-]+", file)) - set(re.findall(r"--[a-z-]+", self.shell(
+            f"{program} --help --ngc x"))), set())
+        self.assertIn("2 moments in ", self.shell(f"{program} --ngc {ngc()} --moments 2 --cut"))
 
     def test_check(self) -> None:
         """A refused line, settings, and settings that are refused."""
-        text, ((synopsis, _), (check, said), (only, _), (first, report)) = self.chapter("TOOLS.md", "ngc-check")
+        text, tried = self.chapter("TOOLS.md", "ngc-check")
+        (synopsis, _), (check, said), (only, _), (first, report), (ramps, times) = tried
         self.same_options("ngc-check", text, synopsis + only)
         shutil.copy(CAM / "freecad_linuxcnc.ngc", "part.ngc")
         self.assertEqual(self.shell(check, status=1), said)
         report, wrong = report.split("ngc-check: mill.toml")
         self.assertEqual(self.shell(first), report)
         self.assertIn("6,000 mm/min", self.shell(only.replace("FILE", "first.toml")))
+        Path("player.toml").write_text("[motion]\naccel_mm_s2 = [500, 500, 300]\nrate_mm_min = [0, 0, 600]\n")
+        Path("part.ngc").write_text("G17 G21 G40 G49 G54 G80 G90 G94\nM3 S1000\nG0 X0 Y0 Z0\nG1 X40 F1200\nM2\n")
+        self.assertEqual(self.shell(ramps), times)
         Path("mill.toml").write_text(Path("mill.toml").read_text().replace("period_us = 40", "period_us = 50.0"))
         error = self.shell(only.replace("FILE", "mill.toml") + " 2>&1", status=2)
         self.assertEqual(error, "ngc-check: mill.toml" + wrong)
@@ -274,6 +285,29 @@ class Others(Documents):
                 self.device()
             self.assertEqual(self.shell(command), "")
             self.assertGreaterEqual(Path("mill.dev").stat().st_size, 875_520)
+
+    def test_recover(self) -> None:
+        """docs/RECOVERY.md: a move that was cut off after 1,289 of its pulses, and `recover`."""
+        text, ((play, _), (operate, typed)) = self.chapter("RECOVERY.md", "`recover`")
+        program = "M3 S1000\nG0 X2 Y1 Z-1\nG1 X4 F600\nM2\n"
+        self.device()
+        self.run_ngc(f"load {len(program)}\n{program}start\ntick 3300\nquit\n")
+        lines = Path("out").read_bytes().splitlines(True)
+        self.assertEqual(len(lines), 2002 + 1289)
+        source, size = Source("out"), sum(map(len, lines[:3202]))
+        outputs = Switch(1, 1000_000_000, False, False, 0, 0)
+        at_nm = (3_200_000, 1_000_000, -1_000_000)
+        kept = Record(f"{self.folder}/out", 3202, size, outputs, at_nm, source.mark(size))
+        source.close()
+        Path("position").write_bytes(kept.text())
+        rehearse = re.search(r"`(ngc-rehearse [^`]*)`", text)[1]
+        self.assertEqual(self.shell(rehearse).splitlines()[1:3], [
+            "the open segment begins behind line 2002 of out",
+            re.search("^back through what.*", typed, re.MULTILINE)[0].join(("recover: ", ""))])
+        self.begin(play)
+        answers = re.findall(r"(?:ngc> |: )(recover|yes|quit)\n", typed)
+        shown = re.sub(r"(ngc> |: )(?:recover|yes|quit)\n", r"\1", typed)
+        self.assertEqual(self.shell(f"{operate} --ngc {ngc()}", "".join(word + "\n" for word in answers)), shown)
 
     def test_recovery(self) -> None:
         """docs/RECOVERY.md: a rehearsal by the tool, and by hand over a copy, with the OUT of the example's resume."""

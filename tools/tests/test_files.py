@@ -4,6 +4,7 @@ import resource
 import signal
 import subprocess
 import sys
+import tempfile
 import unittest
 from pathlib import Path
 from unittest import mock
@@ -16,7 +17,7 @@ from ngc_tools import files  # noqa: E402
 from ngc_tools.files import NotWritten, kind, read, write_new  # noqa: E402
 from ngc_tools.formats.record import Record  # noqa: E402
 from ngc_tools.formats.settings import KEYS  # noqa: E402
-from ngc_tools.scratch import Scratch  # noqa: E402
+from ngc_tools.scratch import Scratch, scratch_file  # noqa: E402
 
 
 class Written(InFolder):
@@ -131,10 +132,13 @@ class Read(InFolder):
         with self.assertRaises(OSError) as caught:
             read("/dev/zero")
         self.assertEqual(files.cause(caught.exception), "/dev/zero: it has more than 1,000 bytes")
+        with open("/dev/zero") as zero, mock.patch.object(sys, "stdin", zero), self.assertRaises(OSError) as caught:
+            files.read_input()
+        self.assertEqual(files.cause(caught.exception), "standard input: it has more than 1,000 bytes")
 
 
 class Scratched(unittest.TestCase):
-    """`Scratch`."""
+    """`Scratch` and `scratch_file`."""
 
     def test_interrupted_while_it_is_removed(self) -> None:
         """Ctrl-C in the midst of the removal comes after it."""
@@ -152,6 +156,23 @@ class Scratched(unittest.TestCase):
         with mock.patch.object(os, "unlink", interrupted), self.assertRaises(KeyboardInterrupt):
             folder.cleanup()
         self.assertFalse(os.path.exists(folder.name))
+
+    def test_interrupted_while_a_file_is_made(self) -> None:
+        """Ctrl-C right after the file is there leaves none."""
+        before = signal.signal(signal.SIGINT, signal.default_int_handler)
+        self.addCleanup(signal.signal, signal.SIGINT, before)
+        folder = self.enterContext(tempfile.TemporaryDirectory())
+        self.enterContext(mock.patch.object(tempfile, "tempdir", folder))
+        opens, made = os.open, []
+
+        def interrupted(*words: object, **options: object) -> int:
+            made.append(opens(*words, **options))
+            os.kill(os.getpid(), signal.SIGINT)
+            return made[-1]
+
+        with mock.patch.object(os, "open", interrupted), self.assertRaises(KeyboardInterrupt):
+            self.enterContext(scratch_file("M2\n", "test", ".ngc"))
+        self.assertEqual((len(made), os.listdir(folder)), (1, []))
 
 
 if __name__ == "__main__":

@@ -28,7 +28,7 @@ MAINS = {"ngc-adapt": adapt.main, "ngc-check": check.main, "ngc-device": device.
          "ngc-player": player.main, "ngc-plot": plot.main, "ngc-rehearse": rehearse.main, "ngc-split": split.main}
 ASKS = [name for name in MAINS if name not in ("ngc-device", "ngc-player")]
 TEXT = "G21 G90 G17\n(Stück)\nM3 S1000\nG0 X5 Y0 Z5\nG1 X8 F600\nG2 X9 Y1 I1\nM2\n"
-LIMIT_S = 20
+LIMIT_S = 60  # also where the machine has other work
 # Each tool with words that go well; ODD stands in turn for each file that it takes.
 GOOD = {
     "ngc-adapt": ("part.ngc",), "ngc-check": ("part.ngc",), "ngc-device": ("mill.dev",),
@@ -74,7 +74,7 @@ def begin(name: str, words: Iterable[str], before: Callable[[], object]) -> int:
         for stream, number, mode in (("stdin", 0, "r"), ("stdout", 1, "w"), ("stderr", 2, "w")):
             setattr(sys, stream, open(number, mode, closefd=False))
         warnings.simplefilter("ignore")  # as outside of tests
-        tempfile.mkdtemp = noted(tempfile.mkdtemp)
+        tempfile.mkdtemp, tempfile.tempdir = noted(tempfile.mkdtemp), os.path.abspath("tmp")
         before()
         own = ("--ngc", ngc()) if name in ASKS else ()
         status = MAINS[name]([*words, *own])
@@ -123,6 +123,8 @@ class Odd(InFolder):
         Path("part.ngc").write_text(TEXT)
         Path("part.txt").write_bytes(subprocess.run([ngc(), "dry", "part.ngc"], capture_output=True).stdout)
         Path("pulses").write_text("P 1 0 0 50\nP 0 1 0 50\n")
+        Path("tmp").mkdir()
+        Path("tmp").chmod(0o777)
         self.device()
 
     def ended(self, name: str, *words: str, before: Callable[[], object] = lambda: None,
@@ -175,8 +177,8 @@ class Odd(InFolder):
         self.assertEqual([child.wait(LIMIT_S) for child in begun], [0] * 7)
 
     def test_interrupted(self) -> None:
-        """Ctrl-C at ten moments: a line and the page's status, and nothing is left in /dev/shm. A tool that is through
-        by then has ended as ever."""
+        """Ctrl-C at ten moments: a line and the page's status, and none of its folders and files is left. A tool that
+        is through by then has ended as ever."""
         Path("part.ngc").write_text(TEXT.replace("M2\n", "G1 X1 F600\nX2\nX1\n" * 60 + "M2\n"))
         Path("part.txt").write_bytes(subprocess.run([ngc(), "dry", "part.ngc"], capture_output=True).stdout)
         self.run_ngc("load 16\nG0 X1\nG0 X2\nM2\n\nquit\n")
@@ -189,7 +191,7 @@ class Odd(InFolder):
                 self.assertFalse("Traceback" in end.error, (name, moment))
                 stopped += "stopped" in end.error
             self.assertGreater(stopped, 0 if name in ("ngc-check", "ngc-plot", "ngc-adapt", "ngc-split") else -1, name)
-        self.assertEqual([path for path in self.folders() if os.path.exists(path)], [])
+        self.assertEqual([path for path in self.folders() if os.path.exists(path)] + os.listdir("tmp"), [])
 
     def _lasts(self, name: str, words: tuple[str, ...]) -> float:
         """How long a tool takes."""
@@ -249,6 +251,35 @@ class Odd(InFolder):
                 if data is not None:
                     self.assertTrue(Path(path).read_bytes()[:len(data)] == data, (name, words, path))
 
+    def test_odd_names(self) -> None:
+        """What a terminal obeys, in a name, is shown escaped; so are newlines, on standard output."""
+        Path("long.ngc").write_text("G21 G90 G17\nG0 X0 Y0 Z5\n" + "G1 Z-1 F600\nG0 Z5\nG0 X1\n" * 20 + "M2\n")
+        odd = {path: f"{path}\x1b[2J\n{path}" for path in ("part.ngc", "part.txt", "long.ngc", "first.toml", "mill.dev",
+                                                         "pulses", "out", "position")}
+        for path, name in odd.items():
+            if Path(path).exists():
+                os.rename(path, name)
+        part = ("ngc-split", "long.ngc", "--settings", "first.toml", "--limit", "500")
+        for name, *words in (*((name, *words) for name, words in GOOD.items()), part,
+                             ("ngc-split", *part[1:], "--device", "mill.dev", "--force"),
+                             ("ngc-plot", "part.ngc", "--settings", "part.ngc"), ("ngc-check", "part.ngc", "pulses"),
+                             ("ngc-rehearse", "pulses", "first.toml"), ("ngc-device", "pulses"),
+                             ("ngc-player", "part.ngc", "first.toml", "position"), ("ngc-check", "pulses")):
+            end = self.ended(name, *(odd.get(word, word) for word in words))
+            self.check_end(name, end, (name, words))
+            self.assertFalse("\x1b" in end.out + end.error, (name, words, end))
+            begins = [line for line in end.out.splitlines() if line.startswith(tuple(odd)) and "\\x1b" not in line]
+            self.assertEqual(begins, [], (name, words))
+
+    def test_odd_input(self) -> None:
+        """Standard input that can't be read is named."""
+        def unreadable() -> None:
+            os.dup2(os.open("/dev/null", os.O_WRONLY), 0)
+
+        for name, *words in (("ngc-plot",), ("ngc-plot", "-"), ("ngc-adapt", "-")):
+            end = self.ended(name, *words, before=unreadable)
+            self.assertEqual((end.status, end.error), (2, f"{name}: standard input: Bad file descriptor\n"))
+
     def test_escapes_on_a_device(self) -> None:
         """A program and a line of the operator's with escape sequences on a device are shown without them."""
         text = "G0 X1 (\x1b[2J)\n(MSG, \x1b]0;x\x07)\nM0\n"
@@ -283,10 +314,14 @@ class Odd(InFolder):
         """It waits for one, as `cat` does, or says that this is no file; Ctrl-C ends the waiting."""
         os.mkfifo("axis")
         for name, *words in ODD:
-            Path("position").unlink(missing_ok=True)
-            end = self.ended(name, *("axis" if word == "ODD" else word for word in words), interrupted_s=0.1)
+            for patience_s in (0.1, 1, 10):
+                Path("position").unlink(missing_ok=True)
+                end = self.ended(name, *("axis" if word == "ODD" else word for word in words), interrupted_s=patience_s)
+                if end.status != -signal.SIGINT:  # it had begun
+                    break
             self.check_end(name, end, (name, words))
             self.assertIn(end.status, (1, 2), (name, words))
+            self.assertTrue("axis: " in end.error or "stopped" in end.error, (name, words, end.error))
 
     def test_plain_locale(self) -> None:
         """LC_ALL=C without Python's UTF-8 mode: texts, names and sentences with other letters do no harm."""

@@ -18,12 +18,12 @@ sys.path.insert(0, str(Path(__file__).resolve().parent))
 from session_support import TOOLS, InFolder, Terminal, ngc, told  # noqa: E402
 
 from ngc_tools.ngc import faults  # noqa: E402
-from ngc_tools.formats.lines import Program  # noqa: E402
+from ngc_tools.formats.lines import Program, percent_bytes  # noqa: E402
 from ngc_tools.formats.out import OFF, Switch, read_line  # noqa: E402
 from ngc_tools.formats.position import Position, nanometres  # noqa: E402
 from ngc_tools.operator.sentences import HELP, explained  # noqa: E402
 from ngc_tools.cli.operate import main  # noqa: E402
-from ngc_tools.player.progress import Listener, Report  # noqa: E402
+from ngc_tools.player.progress import Link, Listener, Report  # noqa: E402
 
 PROMPT = b"ngc> "
 PART = """G21 G90 G17
@@ -95,11 +95,11 @@ ngc> g1 f60 x3
 
 held; up to 50 lines that are handed out are still carried out
 held; X 0.500000 Y 0.000000 Z 0.000000 before the block; segment 0 of your line g1 f60 x3
-the motors are at X 0.500000 Y 0.000000 Z 0.000000, 49 lines behind
+the motors are at X 0.500000 Y 0.000000 Z 0.000000, 49 lines behind, up to 0.085 mm
 ngc> continue
 ^Cheld; up to 50 lines that are handed out are still carried out
 held; X 0.500000 Y 0.000000 Z 0.000000 before the block; segment 0 of your line g1 f60 x3
-the motors are at X 0.500000 Y 0.000000 Z 0.000000, 49 lines behind
+the motors are at X 0.500000 Y 0.000000 Z 0.000000, 49 lines behind, up to 0.085 mm
 ngc> quit
 segment 0 of your line g1 f60 x3 stays half-done: it is taken up or given up in the next session
 quit? yes ends the session, anything else doesn't: 
@@ -197,6 +197,16 @@ class Scripted(InFolder):
         done = self.tool("ngc-operate", *operate("mill.dev", "first.toml", "out"), text="load \x1b[2Jx\nquit\n")
         self.assertIn("ngc> \\x1b[2Jx: No such file or directory\n", done.stdout)
 
+    def test_load_of_no_file(self) -> None:
+        """What can't be a program's file ends no session, and nothing waits for it."""
+        os.mkfifo("pipe")
+        typed = "load pipe\nload a\0b\nload /dev/zero\nload .\nload none/\nquit\n"
+        done = self.tool("ngc-operate", *operate("mill.dev", "first.toml", "out"), text=typed)
+        self.assertEqual((done.stdout.splitlines()[2:], done.stderr, done.returncode), ([
+            "ngc> pipe: no file, but a pipe", "ngc> a\\x00b: no name of a file has a byte 0 in it",
+            "ngc> /dev/zero: no file, but a terminal or a line to a machine", "ngc> .: Is a directory",
+            "ngc> none/: No such file or directory", "ngc> "], "", 0))
+
     def test_bytes_that_are_no_text(self) -> None:
         """A byte that isn't UTF-8 ends no session: it goes to `ngc` as it is."""
         words = [sys.executable, str(TOOLS / "ngc-operate"), *operate("mill.dev", "first.toml", "out")]
@@ -236,7 +246,7 @@ class Scripted(InFolder):
              " address"),
             (("mill.dev", "first.toml", "out", "--player", "socket"), "socket: no player listens there: Connection"
              " refused"),
-            (("mill.dev", "first.toml", "out", "--ahead", "1"), "1 lines: the bound is from 2 to 5,000"),
+            (("mill.dev", "first.toml", "out", "--ahead", "1"), "1 lines: the bound is from 2 to 8,000"),
             (("short.dev", "first.toml", "out"), "short.dev: not a device: it has 600 bytes of 875,520; remove it, then"
              " `ngc format short.dev`"),
             (("blank.dev", "first.toml", "out"), "blank.dev: not a device: it isn't formatted. `ngc format blank.dev`"
@@ -249,6 +259,7 @@ class Scripted(InFolder):
              " the same one: give a new OUT, or cut that part off"),
             (("mill.dev", "first.toml", "part.ngc"), "part.ngc: it holds something else than lines of OUT, and pulses"
              " would be appended to it: give a new OUT. Its last line is not a line of OUT: 'M2'"),
+            (("/dev/null", "first.toml", "out"), "/dev/null: not a device: it has 0 bytes of 875,520"),
             (("mill.dev", "first.toml", "out", "--player", "none"), "none: no player listens there: No such file or"
              " directory"),
         ]
@@ -342,7 +353,8 @@ ngc> """)
 
 class FakePlayer:
     """A player that reads what stands in OUT, and carries out nothing until it is told to. It takes where it stands by
-    the word `at`, if it `heeds` it; `words` are those that it was told besides questions."""
+    the word `at`, if it `heeds` it; `words` are those that it was told besides questions. One that `wants` lines in
+    hand makes ramps: it is held, let go on and made slower."""
 
     def __init__(self) -> None:
         self.listener = Listener("progress")
@@ -354,7 +366,9 @@ class FakePlayer:
         self.outputs = OFF
         self.lazy = self.waits = False
         self.heeds = True
-        self.tool = 0
+        self.tool = self.wants = 0
+        self.is_held = False
+        self.percent = 100
         self.words: list[bytes] = []
         self.most_behind = self.asked = 0
         self.end = threading.Event()
@@ -368,10 +382,18 @@ class FakePlayer:
                     self._answer(*asked)
                     continue
                 self.words.append(asked[0])
+                self._move(asked[0])
                 if asked[0] == b"go":
                     self.waits = self.lazy = False
                 if asked[0].startswith(b"at ") and self.heeds:
                     self.position = Position((1000, 1000, 1000), list(map(nanometres, asked[0].decode().split()[1:])))
+
+    def _move(self, word: bytes) -> None:
+        """Heeds a word that is for ramps."""
+        if self.wants and word in (b"hold", b"release"):
+            self.is_held = word == b"hold"
+        if self.wants and word.startswith(b"percent "):
+            self.percent = int(word[8:])
 
     def _answer(self, question: bytes, sender: str | bytes) -> None:
         try:
@@ -381,13 +403,13 @@ class FakePlayer:
         lines = self.got.split(b"\n")[:-1]
         self.most_behind = max(self.most_behind, len(lines) - self.carried)
         self.asked += 1
-        for line in [] if self.lazy else lines[self.carried:]:
+        for line in [] if self.lazy or self.is_held else lines[self.carried:]:
             what = read_line(line, 1)
             self.position.take(what)
             self.outputs = what if isinstance(what, Switch) else self.outputs
             self.carried += 1
         report = Report(self.carried, len(lines), self.waits, str(self.position), os.path.abspath("axis"), self.outputs,
-                        self.tool)
+                        self.tool, self.is_held, self.percent, self.wants)
         self.listener.answer(question + b" " + report.text(), sender)
 
     def close(self) -> None:
@@ -585,6 +607,46 @@ class AtTerminal(InFolder):
             terminal.read_to(PROMPT)
             self.player.lazy = True
 
+    def test_ramps(self) -> None:
+        """Keys and a percentage while something runs; Enter holds the motors; run lets them go on. Shown is how far
+        behind they are: of 120 ticks the first opens the move, and 119 pulses, each of up to 0.001 mm on each axis, are
+        0.2061 mm."""
+        self.player.wants = 120
+        words = operate("mill.dev", "first.toml", "axis", "--player", "progress")
+        terminal = Terminal(str(TOOLS / "ngc-operate"), *words, kind="xterm", columns=80)
+        self.assertIn("metered by need: OUT is ahead of the player by as many lines as its motors need for a stop, now"
+                      " 120 and never more than 8,000, which is what a loss of power can cost",
+                      " ".join(terminal.read_to(PROMPT).decode().split()))
+        self.player.lazy = True
+        terminal.send(b"G1 X3 F60\n")
+        terminal.read_to(b"your line: G1 X3 F60  X0.000 Y0.000 Z0.000  100 %  119 lines, <0.3 mm")
+        for typed, percent in ((b"-\n", 90), (b"percent 25\n", 25), (b"--\n", 10), (b"0\n", 100)):
+            terminal.send(typed)
+            terminal.read_to(b"%d %% of OUT's rates\r\n" % percent)
+            terminal.read_to(b"  %d %%  119 lines, <0.3 mm" % percent)
+        self.assertEqual(self.player.words, [b"percent 90", b"percent 25", b"percent 10", b"percent 100"])
+        terminal.send(b"\n")
+        shown = " ".join(terminal.read_to(PROMPT).decode().split())
+        self.assertIn("held the motors stand, with 119 lines in hand, up to 0.207 mm, which run or release lets them"
+                      " carry out held; X 0.000000", shown)
+        self.assertTrue(shown.endswith("119 lines behind, up to 0.207 mm, held, 100 % ngc>"), shown)
+        self.assertEqual(self.player.words[-1], b"hold")
+        self.player.lazy = False
+        terminal.send(b"run\n")
+        self.assertIn(b"idle; X 3.000000", terminal.read_to(PROMPT))
+        self.assertEqual(self.player.words[-1], b"release")
+        self.assertEqual(self.player.carried, 3000)
+        self.assertLessEqual(self.player.most_behind, 120)
+
+    def test_override_from_a_pipe(self) -> None:
+        """The lines that set the override are taken while something runs; the next command isn't."""
+        self.player.wants = 200
+        done = self.tool("ngc-operate", *operate("mill.dev", "first.toml", "axis", "--player", "progress"),
+                         text="G1 X0.5 F600\n-\npercent 50\r\n+\nG0 X0.6\n0\nquit\n")
+        self.assertEqual((done.stderr, done.returncode), ("", 0))
+        self.assertEqual(self.player.words, [b"percent 90", b"percent 50", b"percent 60", b"percent 100", b"end"])
+        self.assertEqual(done.stdout.count(PROMPT.decode()), 3)
+
     def test_at_the_prompt(self) -> None:
         """A history; Ctrl-C at the prompt ends nothing; where `ngc` is killed that is said."""
         terminal = Terminal(str(TOOLS / "ngc-operate"), *operate("mill.dev", "first.toml", "out"))
@@ -664,6 +726,48 @@ class AtTerminal(InFolder):
                          (f"ngc-operate: progress: that player reads {self.folder}/axis, not out\n", 2))
 
 
+class Ramps(InFolder):
+    """With a player that makes ramps."""
+
+    def test_hold(self) -> None:
+        """Enter brings the motors to rest within what is in hand; run lets them go on, slower; the pins get each line
+        of the job once, in order. Of 600 lines of 2 ms 360 and 500 / 50 are wanted in hand."""
+        self.device()
+        Path("part.ngc").write_text("G21 G90\nM3 S500\nG1 X0.6 F30\nM5\nM2\n")
+        Path("motion.toml").write_text("[motion]\naccel_mm_s2 = [500, 500, 500]\n")
+        os.mkfifo("axis")
+        player = self.start("ngc-player", "axis", "first.toml", "position", "--machine", "motion.toml", "--pins",
+                            "pins", "--progress", "progress")
+        self.wait_for("the player listens", lambda: os.path.exists("progress"))
+        link = Link("progress", 60)
+        self.addCleanup(link.close)
+        words = operate("mill.dev", "first.toml", "axis", "--player", "progress")
+        terminal = Terminal(str(TOOLS / "ngc-operate"), *words)
+        terminal.read_to(PROMPT)
+        terminal.send(b"load part.ngc\n")
+        terminal.read_to(PROMPT)
+        terminal.send(b"run\n")
+        self.wait_for("it moves", lambda: link.ask().carried > 100)
+        terminal.send(b"\n")
+        shown = terminal.read_to(PROMPT).decode()
+        report = link.ask()
+        self.assertTrue(report.is_held)
+        self.assertIn(f"held\r\nthe motors stand, with {report.behind} lines in hand, up to 0.", shown)
+        self.assertGreater(report.behind, 0)
+        self.assertLessEqual(report.behind, 370)
+        terminal.send(b"percent 90\n")
+        terminal.read_to(PROMPT)
+        self.assertEqual((link.ask().carried, link.ask().percent), (report.carried, 90))
+        terminal.send(b"run\n")
+        self.assertIn(b"idle; X 0.600000 ", terminal.read_to(PROMPT))
+        self.assertEqual(link.ask().behind, 0)
+        terminal.send(b"quit\n")
+        terminal.read_to(b"never")
+        self.assertEqual((terminal.status(), player.wait(60)), (0, 0))
+        self.assertEqual(Path("pins").read_text().splitlines(), ["S 0 500.000000 0 0 0 0", "S 1 500.000000 0 0 0 0"]
+                         + ["P 1 0 0 2000"] * 600 + ["S 0 500.000000 0 0 0 0"] * 2)
+
+
 class Lines(unittest.TestCase):
     """A program's lines for people."""
 
@@ -676,6 +780,11 @@ class Lines(unittest.TestCase):
         every = (0, len(program.text))
         self.assertEqual(program.messages(*every, False), [(3, "last\\x01"), (4, "deleted")])
         self.assertEqual(program.messages(*every, True), [(3, "last\\x01")])
+
+    def test_percent(self) -> None:
+        """Up to the first percent sign, by docs/LANGUAGE.md: blanks and tabs beside it, and no other sign, aside."""
+        for text, length in ((b"\n\t% \r\nG0 X1\n%\n", 6), (b"%", 1), (b"\x0c%\nM2\n", 0), (b"%5\n%\n", 0), (b"", 0)):
+            self.assertEqual(percent_bytes(text), length, text)
 
 
 if __name__ == "__main__":

@@ -32,6 +32,7 @@ class ListFace:
         self.given: list[str] = []
         self.holds_at = 0
         self.looks = 0
+        self.gone = False
 
     def say(self, text: str, kind: str = SAID) -> None:
         """Keeps it."""
@@ -63,6 +64,10 @@ class ListFace:
         """Whether it holds now."""
         self.looks += 1
         return self.looks == self.holds_at
+
+    def is_gone(self) -> bool:
+        """Whether nobody is there any more."""
+        return self.gone
 
 
 class FileLink:
@@ -99,6 +104,47 @@ class FileLink:
     def end(self) -> None:
         """The session is over."""
         self.words.append("end")
+
+
+class RampLink(FileLink):
+    """A player of the file `out` that makes ramps: it carries out 40 lines each time that it is asked, and none while
+    it is held. It wants 340 in hand. `most` is how far behind it ever was."""
+
+    def __init__(self) -> None:
+        super().__init__()
+        self.at_once = 40
+        self.is_held = False
+        self.percent = 100
+        self.most = 0
+
+    def ask(self) -> Report:
+        """Carries out some of what stands in OUT."""
+        lines = Path("out").read_bytes().split(b"\n")[:-1]
+        self.most = max(self.most, len(lines) - self.carried)
+        for text in [] if self.is_held else lines[self.carried:self.carried + self.at_once]:
+            self.position.take(read_line(text, 1))
+            self.carried += 1
+        return Report(self.carried, len(lines), False, str(self.position), "out", self.outputs, 0, self.is_held,
+                      self.percent, 340)
+
+    def hold(self) -> None:
+        """Stands still."""
+        self.is_held = True
+        self.words.append("hold")
+
+    def release(self) -> None:
+        """Goes on."""
+        self.is_held = False
+        self.words.append("release")
+
+    def override(self, percent: int) -> None:
+        """Takes up to 100 percent."""
+        self.words.append(f"percent {percent}")
+        self.percent = percent
+
+    def last(self) -> None:
+        """Nothing more comes for now; how many lines stand in OUT then."""
+        self.words.append(f"last {len(Path('out').read_bytes().splitlines())}")
 
 
 class Core(InFolder):
@@ -578,7 +624,8 @@ class Beginnings(Core):
         self.assertIn("Z 0.004000", self.do("rehearse 0 0 0.004")[0])
         self.assertEqual(self.do("rehearse 1")[0], "rehearse, rehearse player, or rehearse X Y Z: where the machine"
                          " stands, in machine mm")
-        self.assertTrue(self.do("rehearse 5000 0 0")[0].startswith("reference 5000 0 0: refused X2 OutsideTravel"))
+        self.assertEqual(self.do("rehearse 5000 0 0"), ["reference 5000 0 0: refused X2 OutsideTravel: X 5,000 is"
+                         " outside the travel, which ends at 1,000 (high_nm of the settings)"])
         self.hold_after(1)
         self.assertEqual(self.do("rehearse"), ["the rehearsal was broken off; the machine wasn't touched"])
         self.assertEqual((Path("mill.dev").read_bytes(), self.out()), (image, []))
@@ -710,8 +757,214 @@ class Shown(Core):
         self.assertEqual(view.fitted(80), whole)
         self.assertEqual(view.fitted(100), whole + "  about 1:05 left")
         self.assertEqual(view.fitted(39), "line 12: G1..  X40.550 Y30.000 Z-5.000")
+        moving = replace(view, motion=("100 %", "312 lines, <1.4 mm"))
+        self.assertEqual(moving.fitted(79),
+                         "line 12: G1 X40.55 Y30 F600  X40.550 Y30.000 Z-5.000  100 %  312 lines, <1.4 mm")
         for width in range(20, 100):
-            self.assertLessEqual(len(view.fitted(width)), width)
+            self.assertLessEqual(max(len(view.fitted(width)), len(moving.fitted(width))), width)
+
+
+class Motors(Core):
+    """A player that makes ramps: it is held, let go on and made slower; so much is handed out as it wants."""
+
+    def begin_ramps(self) -> RampLink:
+        """A session with such a player, whose words are kept beside the commands to hold that `ngc` gets."""
+        link = RampLink()
+        console, words = self.begin(link).console, link.words
+        real = console.ask
+
+        def ask(command: str | bytes) -> list[str]:
+            """Keeps the commands to hold."""
+            words.extend(["ngc hold"] if command == "hold" else [])
+            return real(command)
+
+        console.ask = ask
+        return link
+
+    def test_hold(self) -> None:
+        """The motors are held first, and then `ngc`; nothing more is handed out; run lets both go on, and all is
+        carried out: 1,000 lines, of which never more than 340 are in hand."""
+        link = self.begin_ramps()
+        self.load("G21 G90\nG1 X1 F600\nM2\n")
+        self.hold_after(30)
+        said = self.do("run")
+        self.assertEqual(link.words, ["hold", "ngc hold"])
+        there = link.ask()
+        up_to = f"{there.behind * 3**0.5 / 1000 + 0.0005:.3f} mm"  # each axis may make a step of 0.001 mm in each
+        self.assertEqual(said[:2], ["held", f"the motors stand, with {there.behind} lines in hand, up to {up_to}, which"
+                                            " run or release lets them carry out"])
+        self.assertEqual(said[-1], f"the motors are at X {there.at.split()[0]} Y 0.000000 Z 0.000000, {there.behind}"
+                                   f" lines behind, up to {up_to}, held, 100 %")
+        self.assertIn("held, 100 %", self.do("where")[-2])
+        self.assertIn("held, 100 %", self.do("status")[-2])
+        self.assertEqual(len(self.out()), there.received)
+        self.do("run")
+        self.assertEqual((link.words[2], self.status().does, link.carried), ("release", "idle", 1001))
+        self.assertLessEqual(link.most, 340)
+        self.assertGreater(link.most, 300)  # a sixteenth is 21
+
+    def test_live(self) -> None:
+        """While something runs it is shown how far behind they are, the override, and that they are held: by somebody
+        else too, and then it waits for a person alone."""
+        link = self.begin_ramps()
+        self.load("G21 G90\nG1 X1 F600\nM2\n")
+        real = link.ask
+
+        def held_from_there() -> Report:
+            """Somebody holds them after 500 lines."""
+            link.is_held = link.is_held or link.carried >= 500
+            return real()
+
+        link.ask = held_from_there
+        self.hold_after(60)
+        said = self.do("run")
+        shown = [view.motion for view in self.face.views if view]
+        self.assertEqual([motion[0] for motion in shown if len(motion) == 2][0], "100 %")
+        self.assertRegex(next(motion[1] for motion in shown if len(motion) == 2), r"^\d+ lines, <0\.\d mm$")
+        self.assertIn("held", [motion[0] for motion in shown])
+        self.assertEqual(said[0], "held")
+        self.assertLessEqual(link.most, 340)
+        link.ask = real
+        self.do("run")
+        self.assertEqual((link.carried, self.status().does), (1001, "idle"))
+
+    def test_last(self) -> None:
+        """At a stop and at the end the player is told that nothing more comes for now, once all is handed out: 700
+        lines up to M0, 301 more up to the end."""
+        link = self.begin_ramps()
+        self.load("G21 G90\nG1 X0.7 F600\nM0\nX1\nM2\n")
+        self.do("run")
+        self.assertEqual(link.words, ["last 700"])
+        self.do("run")
+        self.assertEqual(link.words, ["last 700", "last 1001"])
+        self.assertEqual(link.carried, 1001)
+
+    def test_held_at_the_end(self) -> None:
+        """All is handed out, and the motors are held before they have made it. Nothing else is begun; run lets them go
+        on, and doesn't begin the program anew."""
+        link = self.begin_ramps()
+        self.load("G21 G90\nG1 X0.3 F600\nM2\n")
+        link.at_once = 1
+        self.hold_after(40)
+        said = self.do("run")
+        self.assertEqual((link.words[1:], said[0]), (["hold"], "the player isn't through with its lines yet"))
+        self.assertIn("the motors stand, with ", said[1])
+        left = link.ask().behind
+        held = (f"nothing is done: the motors are held with {left} lines in hand. release lets them carry those out,"
+                " and run goes on")
+        self.assertEqual(self.do("M5"), [held])
+        self.assertEqual(self.do("anyway G0 X0"), [held])
+        self.assertEqual(self.do("reference 1 0 0")[::2], ["the player isn't through with its lines yet", held])
+        self.assertEqual(link.carried + left, 301)
+        link.at_once = 40
+        self.do("run")
+        self.assertEqual((link.carried, len(self.out()), link.is_held), (301, 301, False))
+        self.do("G0 X0", "run")
+        self.assertEqual(len(self.out()), 301 + 300 + 301)
+
+    def test_release(self) -> None:
+        """What is in hand is carried out, and `ngc` stays held."""
+        link = self.begin_ramps()
+        self.assertEqual(self.do("release"), ["the motors aren't held"])
+        self.hold_after(12)
+        self.do("G1 X1 F600")
+        self.assertGreater(link.ask().behind, 0)
+        self.do("release")
+        self.assertEqual((link.ask().behind, self.status().does), (0, "held"))
+        self.assertEqual(self.do("hold")[:1], ["held"])
+        self.assertTrue(link.is_held)
+        self.do("run")
+        self.assertEqual((link.carried, self.status().does), (1000, "idle"))
+        self.do("hold", "G1 X0.9")  # with nothing in hand a line of one's own lets them go on
+        self.assertEqual((link.carried, link.is_held), (1100, False))
+
+    def test_held_before(self) -> None:
+        """Motors that were held before the session: it is shown, and release lets them go on."""
+        Path("out").write_text("P 1 0 0 50\n" * 100)
+        link = RampLink()
+        link.carried, link.is_held = 0, True
+        self.begin(link)
+        self.assertIn("100 lines behind, up to 0.174 mm, held, 100 %", self.begun[-1])
+        self.assertEqual(self.do("G0 X1"), ["nothing is done: the motors are held with 100 lines in hand. release lets"
+                                            " them carry those out, and run goes on"])
+        self.assertEqual(link.words, [])
+        self.do("release")
+        self.assertEqual((link.words[0], link.carried), ("release", 100))
+
+    def test_resume(self) -> None:
+        """A block that is half-done while the motors are held: nobody says where the machine stands before they have
+        carried out what is in hand; resume lets them go on too."""
+        link = self.begin_ramps()
+        self.hold_after(12)
+        self.do("G1 X1 F600")
+        self.cut()
+        self.begin(link)
+        self.assertTrue(self.do("resume")[0].startswith("refused K3"))
+        self.assertTrue(self.do("reference player")[-1].startswith("nothing is done: the motors are held with "))
+        self.do("release", "reference player", "hold")
+        self.assertTrue(link.is_held)
+        self.do("resume", answers=("yes",))
+        self.assertEqual((link.is_held, self.status().at[0], link.ask().at), (False, "1.000000", "1.000000 0.000000"
+                                                                                                " 0.000000"))
+
+    def test_override(self) -> None:
+        """By tens, to one percent at least, back to 100; typed, and while something runs. What isn't taken is refused
+        with its range."""
+        link = self.begin_ramps()
+        self.assertEqual(self.do("-", "percent 25", "-", "--", "-", "+", "+", "0", "+", "percent"), [
+            f"{percent} % of OUT's rates" for percent in (90, 25, 20, 1, 1, 10, 20, 100, 100, 100)])
+        self.assertEqual(link.words, [f"percent {percent}" for percent in (90, 25, 20, 1, 10, 20, 100)])
+        wrong = "percent takes a whole number from 1 to 100: so many percent of OUT's rates"
+        self.assertEqual(self.do("percent 0", "percent 101", "percent x", "percent 1.5"), [wrong] * 4)
+        self.assertEqual({kind for kind, _ in self.face.said}, {REFUSED})
+        self.load("G21 G90\nG1 X0.5 F600\nM2\n")
+        self.face.given = ["percent 70 %", "-"]
+        self.assertEqual(self.do("run")[:2], ["70 % of OUT's rates", "60 % of OUT's rates"])
+        self.assertIn("60 %", [view.motion[0] for view in self.face.views if view])
+        self.assertTrue(self.do("where")[-2].endswith(", 60 %"))
+        link.override = link.words.append
+        self.assertEqual(self.do("+"), ["the player stays at 60 %: it takes 1 to 100, as far as its most_percent goes"])
+
+    def test_without_ramps(self) -> None:
+        """A player without a machine's file isn't told, and takes no percentage."""
+        link = FileLink()
+        link.override = lambda percent: link.words.append(f"percent {percent}")
+        self.begin(link)
+        self.hold_after(2)
+        self.assertEqual(self.do("G1 X1 F600")[0], "held; up to 100 lines that are handed out are still carried out")
+        self.assertEqual(link.words, [])
+        self.assertEqual(self.do("percent 50"), ["the player stays at 100 %: it makes no ramps: start it with --machine"
+                                                 " FILE"])
+        self.end()
+        self.begin()
+        self.assertEqual(self.do("-"), ["no player is known: --player SOCKET"])
+
+    def test_no_rest(self) -> None:
+        """In a dwell nothing says that they stand: it isn't waited for longer than a moment."""
+        link = self.begin_ramps()
+        link.hold = lambda: link.words.append("hold")
+        link.at_once = 0
+        self.hold_after(12)
+        said = self.do("G1 X1 F600")
+        self.assertRegex(said[1], r"^the motors come to rest, with \d+ lines in hand, up to 0\.\d{3} mm, which run or")
+
+    def test_nobody_there(self) -> None:
+        """Where nobody can let them go on any more they aren't held: what is in hand is carried out."""
+        link = self.begin_ramps()
+        self.face.gone = True
+        self.hold_after(12)
+        self.do("G1 X1 F600")
+        self.assertEqual((link.words, self.status().does), (["ngc hold"], "held"))
+
+    def test_quit(self) -> None:
+        """Lines in the hands of held motors are told of before the session ends."""
+        link = self.begin_ramps()
+        self.hold_after(12)
+        self.do("G1 X1 F600")
+        left = link.ask().behind
+        said = self.do("quit", answers=("",))
+        self.assertTrue(said[1].startswith(f"the motors are held, and {left} lines behind, up to 0."), said)
+        self.assertFalse(self.operator.over)
 
 
 class Ends(Core):

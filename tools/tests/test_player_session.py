@@ -20,6 +20,8 @@ from ngc_tools.formats.out import OFF, Switch  # noqa: E402
 from ngc_tools.player.progress import Report  # noqa: E402
 
 ON = b"S 1 5.000000 0 1 0 0\n"
+LEFT = ("out: lines that no motor carried out stand behind line 0: nothing moves before a console says so; recover in"
+        " ngc-operate goes on or back\n")
 OFF_RECORD = "outputs S 0 5.000000 0 0 0 0\nreference 0.001000 0.000000 0.000000\n"
 # Ends a program in the midst of the making of its record: what is written isn't synced.
 CUT = """#include <unistd.h>
@@ -365,12 +367,13 @@ class Python(Sessions, PlayerTest):
         child = self.begin("--follow", "--untimed", "--off-after", "0.2", "--progress", "progress", "out", "first.toml",
                            "position")
         link = self.linked()
+        link.synced(32)
         self.wait_for("it is through", lambda: link.ask().carried == 2)
         time.sleep(0.5)
         self.assertIsNone(child.poll())
         link.close()
         self.assertEqual(self.ended(child),
-                         (1, "out: the console is gone without a word, after line 2; spindle and coolant off\n"))
+                         (1, LEFT + "out: the console is gone without a word, after line 2; spindle and coolant off\n"))
         self.assertEqual(record(), f"lines 2\nbytes 32\n{OFF_RECORD}stopped console\n")
 
     def test_follow_to_an_end(self) -> None:
@@ -378,9 +381,10 @@ class Python(Sessions, PlayerTest):
         Path("out").write_bytes(b"P 1 0 0 50\n")
         child = self.begin("--follow", "--untimed", "--progress", "progress", "out", "first.toml", "position")
         link = self.linked()
+        link.synced(11)
         self.wait_for("it is through", lambda: link.ask().carried == 1)
         link.end()
-        self.assertEqual(self.ended(child), (0, ""))
+        self.assertEqual(self.ended(child), (0, LEFT))
 
 
 class C(Sessions, InC, PlayerTest):

@@ -308,6 +308,7 @@ tool 3    moves 2.000 s   waits 0.001 s   in all 2.001 s
         self.assertEqual((done.stdout, done.returncode), (self.plot(text=TEXT).stdout, 1))
         self.assertEqual(done.stderr, "ngc-plot: standard input:9: B4 GroupTwice: two words of one G group or of one M"
                                       " group, those left out among them; the picture ends before that line\n")
+        self.assertTrue(self.plot(text="G0 X1\nQ1\nM2\n").stderr.endswith("\n  ngc-check FILE says what to write\n"))
 
     def test_program(self) -> None:
         """A program is drawn as what `ngc dry` prints of it, from the work's zero that is named."""

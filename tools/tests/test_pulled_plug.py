@@ -1,8 +1,10 @@
 """Power is lost for controller and player together, over a named pipe: what is never carried out is bounded.
 
-NGC_MOMENTS says how many moments are tried (default 200, an eighth of them with tools/player)."""
+NGC_MOMENTS says how many moments are tried (default 200, an eighth of them with tools/player, and as many with ramps by
+each player)."""
 import os
 import sys
+import tempfile
 import unittest
 from pathlib import Path
 
@@ -21,7 +23,7 @@ class PulledPlug(unittest.TestCase):
 
     def test_python(self) -> None:
         """Metered by 100 lines, the player of ngc-player."""
-        wanted = MOMENTS - MOMENTS // 8
+        wanted = MOMENTS - 3 * (MOMENTS // 8)
         result = pull(Options(ngc(), 100, 4096, None, 0.3), wanted, seed=1)
         self.assertEqual((len(result.lost), max(result.lost) <= 100), (wanted, True))
         self.assertGreaterEqual(result.finished + result.ended_short, 1)
@@ -32,6 +34,18 @@ class PulledPlug(unittest.TestCase):
         result = pull(Options(ngc(), 20, 4096, built("-O2"), 0.3), wanted, seed=2)
         self.assertEqual((len(result.lost), max(result.lost) <= 20), (wanted, True))
         self.assertGreaterEqual(result.finished + result.ended_short, 1)
+
+    def test_ramps(self) -> None:
+        """With ramps, metered by as many lines as those of F600 want: 30 for a stop, 200 and 360. Some are lost."""
+        with tempfile.TemporaryDirectory(prefix="ngc-plug-") as folder:
+            machine = Path(folder) / "machine.toml"
+            machine.write_text("[motion]\naccel_mm_s2 = [2000, 2000, 2000]\n")
+            for player, seed in ((None, 3), (built("-O2"), 4)):
+                wanted = MOMENTS // 8
+                result = pull(Options(ngc(), 590, 4096, player, 0.3, str(machine)), wanted, seed)
+                self.assertEqual((len(result.lost), max(result.lost) <= 590), (wanted, True))
+                self.assertGreater(sum(result.lost), 0)
+                self.assertGreaterEqual(result.finished + result.ended_short, 1)
 
 
 if __name__ == "__main__":

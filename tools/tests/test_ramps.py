@@ -1,5 +1,6 @@
 """Both players with --machine: ramps, holds and overrides, and the file of --times."""
 import os
+import random
 import re
 import signal
 import subprocess
@@ -9,6 +10,7 @@ from pathlib import Path
 
 sys.path.insert(0, str(Path(__file__).resolve().parent))
 
+from pace_support import PROGRAMS, excess, stream  # noqa: E402
 from player_support import NO_RAMPS, InC, InProcess, PlayerTest, Sanitized  # noqa: E402
 from session_support import FIRST, TOOLS, ngc  # noqa: E402
 
@@ -21,9 +23,14 @@ accel_mm_s2 = [500, 500, 500] # of each axis
 slack_steps = 2
 most_percent = 100
 
-[wait] # of others
-spindle_s = [4, 3]
-stop_at = ["tool", "spindle"]
+[window]
+lines = 0
+
+[wait]
+spindle_s = 0
+
+[home] # of others
+order = ["Z", "XY"]
 """
 LONG = "P 1 0 0 50\n" * 4000  # 10 mm at 3,000 mm a minute, 400 steps a mm: 0.2 s at full rate, 0.1 s in ramps
 REFUSED = {
@@ -41,6 +48,12 @@ BESIDES = {
     "slack_steps = 65\n": "motion: slack_steps takes a whole number from 1 to 64",
     "slack_steps = [2]\n": "motion: slack_steps takes a whole number from 1 to 64",
     "most_percent = 101\n": "motion: most_percent takes 100",
+    "[window]\nsize = 1\n": "window has a key that isn't lines: size",
+    "[window]\nlines = 8001\n": "window: lines takes a whole number from 0 to 8000",
+    "[window]\nlines = [100]\n": "window: lines takes a whole number from 0 to 8000",
+    "[wait]\nstop_at = 1\n": "wait has a key that isn't spindle_s: stop_at",
+    "[wait]\nspindle_s = 3601\n": "wait: spindle_s takes a whole number from 0 to 3600",
+    "[wait]\nspindle_s = -1\n": "wait: spindle_s takes a whole number from 0 to 3600",
 }
 
 
@@ -127,18 +140,113 @@ class Ramps(PlayerTest):
         self.assertIn("out:4001: not a line of OUT: 'P 2 0 0 50'; stopped, spindle and coolant off", done.stderr)
         self.assertIn("reference 10.000000 0.000000 0.000000\n", done.stdout)
 
+    def piped(self, *words: str) -> tuple[subprocess.Popen[str], int]:
+        """A player of a pipe, and the pipe."""
+        os.mkfifo("axis")
+        child = self.begin("--no-ask-tool", "--pipe", "1048576", "--progress", "progress", *words, "axis", "first.toml",
+                           "position")
+        self.link = self.linked()
+        return child, os.open("axis", os.O_WRONLY)
+
     def fed(self, *words: str, least: int = 200) -> tuple[subprocess.Popen[str], int]:
         """A player of a pipe, and the pipe, into which 7.5 mm were written, once more than `least` lines are made."""
-        os.mkfifo("axis")
-        names = ("axis", "first.toml", "position")
-        child = self.begin("--no-ask-tool", "--machine", "motion.toml", "--pipe", "1048576", "--progress", "progress",
-                           *words, *names)
-        link = self.linked()
-        pipe = os.open("axis", os.O_WRONLY)
+        child, pipe = self.piped("--machine", "motion.toml", *words)
         os.write(pipe, b"P 1 0 0 500\n" * 3000)
-        self.wait_for("it moves", lambda: link.ask().carried > least)
-        self.link = link
+        self.wait_for("it moves", lambda: self.link.ask().carried > least)
         return child, pipe
+
+    def asked(self) -> tuple[int, int]:
+        """The override, and how many lines are wanted in hand."""
+        report = self.link.ask()
+        return report.percent, report.wants
+
+    def test_wants(self) -> None:
+        """So many lines as the fastest in hand needs: 20,000 pulses a second take 1,000 to rest from. That is 1,200
+        with a fifth, 400 for 20 ms, and 360 for corners; 2,000 a second want 12, 40 and 360."""
+        child, pipe = self.piped("--machine", "motion.toml")
+        self.assertEqual(self.asked(), (100, 360))
+        self.link.hold()
+        os.write(pipe, b"P 1 0 0 500\n" + b"P 1 0 0 50\n" * 100 + b"P 1 0 0 500\n" * 500)
+        self.wait_for("it sees fast lines", lambda: self.asked() == (100, 1960))
+        for percent in (40, 101, 999):
+            self.link.override(percent)
+        self.link.last()
+        self.assertEqual(self.asked(), (40, 1960))
+        self.link.release()
+        self.wait_for("the fast lines are carried out", lambda: self.asked() == (40, 412))
+        self.wait_for("all are", lambda: self.link.ask().carried == 601 and self.asked() == (40, 360))
+        self.link.end()
+        os.close(pipe)
+        self.assertEqual(child.wait(60), 0)
+
+    def test_wants_as_told(self) -> None:
+        """So many lines as the machine's file says; without one it doesn't say, and heeds no override."""
+        for words, wants in (("--machine", "fixed.toml"), 70), ((), 0):
+            Path("fixed.toml").write_text("[motion]\naccel_mm_s2 = [9, 9, 9]\n[window]\nlines = 70\n")
+            child, pipe = self.piped(*words)
+            os.write(pipe, b"P 1 0 0 50\n")
+            self.link.override(50 if wants else 30)
+            self.wait_for("all is carried out", lambda: self.link.ask().carried == 1)
+            self.assertEqual(self.asked(), (50, 70) if wants else (100, 0))
+            self.link.end()
+            os.close(pipe)
+            child.wait(60)
+            Path("axis").unlink()
+
+    def test_last(self) -> None:
+        """Told that no more lines come for now, it comes to rest at the end of those that are there, and no sooner:
+        where more may come, the last 64 wait for what is behind them. More may come later. `end` says it too."""
+        Path("motion.toml").write_text("[motion]\naccel_mm_s2 = [50, 50, 50]\n")
+        child, pipe = self.piped("--machine", "motion.toml", "--times", "times")
+        for count, tell in ((400, self.link.last), (800, self.link.end)):
+            self.link.hold()
+            os.write(pipe, b"P 1 0 0 500\n" * 400)
+            tell()
+            self.wait_for("all are in hand", lambda: self.link.ask().received == count)
+            self.link.release()
+            self.wait_for("all are carried out", lambda: self.link.ask().carried == count)
+        self.link.end()
+        os.close(pipe)
+        self.assertNotIn("ran dry", child.communicate(timeout=60)[0])
+        times = self.times()
+        for rest in (336, 736):  # 64 pulses before a rest there are 1,600 a second, and 400 at 4 before one
+            self.assertLess(min(after - at for at, after in zip(times[rest - 4:], times[rest - 3:rest])), 1_250_000)
+        self.assertGreater(times[400] - times[399], 1_200_000)
+
+    def test_dry(self) -> None:
+        """Where OUT has no more lines for a while it comes to rest at the last, goes on as they come, and tells how
+        often that was. A wait before the first line, or at rest for those behind it, is none."""
+        child, pipe = self.piped("--machine", "motion.toml")
+        for count in (400, 800, 1200):
+            os.write(pipe, b"P 1 0 0 500\n" * 400)
+            self.wait_for("all are carried out", lambda: self.link.ask().carried == count)
+        os.write(pipe, b"D 100\n")
+        self.wait_for("it waits", lambda: self.link.ask().carried == 1201)
+        for count in (1211, 1221, 1231):
+            os.write(pipe, b"P 1 0 0 500\n" * 10)
+            self.wait_for("all are carried out", lambda: self.link.ask().carried == count)
+        self.link.end()
+        os.close(pipe)
+        said = child.communicate(timeout=60)[0]
+        self.assertIn("\nOUT ran dry 3 times; the motors came to rest, and went on once more came\nreference ", said)
+
+    def test_late(self) -> None:
+        """Each line is a little late, and moves all behind it: to make up for that would be a leap of the rate."""
+        Path("out").write_text("P 1 0 0 20000\n" * 10)
+        self.play("--machine", "motion.toml", "--times", "times")
+        times = self.times()
+        self.assertGreater(min(after - at for at, after in zip(times[1:], times[2:])), 20_000_000)
+
+    def test_spindle(self) -> None:
+        """After a switch that starts the spindle it waits as long as the machine's file says, and can be stopped."""
+        Path("motion.toml").write_text(MOTION.replace("spindle_s = 0", "spindle_s = 3600"))
+        Path("out").write_text("S 0 5.000000 0 1 0 0\nS 1 5.000000 0 1 0 0\nP 1 0 0 50\n")
+        child = self.begin("--pins", "pins", "--machine", "motion.toml", "--untimed", "out", "first.toml", "position")
+        switches = "S 0 5.000000 0 1 0 0\nS 1 5.000000 0 1 0 0\n"
+        self.wait_for("it is switched on", lambda: Path("pins").exists() and Path("pins").read_text() == switches)
+        child.send_signal(signal.SIGTERM)
+        self.assertEqual(child.communicate(timeout=60)[1], "out: stopped after line 1; spindle and coolant off\n")
+        self.assertEqual(Path("pins").read_text(), switches + "off\n")
 
     def test_hold(self) -> None:
         """It comes to rest and says so, and goes on; slower by an override. Nothing is lost."""
@@ -200,6 +308,13 @@ class Ramps(PlayerTest):
 class RampsInPython(InProcess, Ramps):
     """ngc-player."""
 
+    def test_spindle_word(self) -> None:
+        """What the words say goes before what the file does."""
+        Path("motion.toml").write_text(MOTION.replace("spindle_s = 0", "spindle_s = 3600"))
+        Path("out").write_text("S 1 5.000000 0 1 0 0\nP 1 0 0 50\n")
+        self.assertEqual(self.play("--untimed", "--machine", "motion.toml", "--spindle", "0").returncode, 0)
+        self.assertEqual(Path("pins").read_text(), Path("out").read_text() + "off\n")
+
 
 class RampsInC(InC, Ramps):
     """tools/player."""
@@ -230,20 +345,47 @@ class Same(InC, PlayerTest):
             words = [ngc(), "pace", "first.toml", "motion.toml"]
             return subprocess.run(words, stdin=out, capture_output=True, check=True).stdout
 
+    def check_as_ngc(self, name: str) -> bytes:
+        """Of `out` the player's times are those of `ngc pace`; returns them."""
+        for path in ("c", "position"):
+            Path(path).unlink(missing_ok=True)
+        self.play("--untimed", "--machine", "motion.toml", "--times", "c")
+        times = Path("c").read_bytes()
+        self.assertEqual(times, self.paced(), name)
+        self.assertGreater(len(times), 1000, name)
+        return times
+
+    def hand_out(self, program: str) -> None:
+        """Makes `out` of a program, from a fresh device."""
+        for path in ("mill.dev", "out"):
+            Path(path).unlink(missing_ok=True)
+        self.device()
+        self.run_ngc(f"tool 1 50\ntool 2 62.5\ntool 3 0\nload {len(program.encode())}\n{program}start\n"
+                     + "tick 1000000\ncontinue\n" * 3)
+
     def test_as_ngc(self) -> None:
-        """Of all examples the players' times are those of `ngc pace`, to the nanosecond."""
+        """Of all examples the player's times are those of `ngc pace`, to the nanosecond; motors can follow them."""
         Path("first.toml").write_text(COARSE)
         Path("motion.toml").write_text(MOTION)
         for example in EXAMPLES:
-            for path in ("mill.dev", "out", "c", "position"):
-                Path(path).unlink(missing_ok=True)
-            self.device()
-            program = example.read_text()
-            self.run_ngc(f"tool 1 50\ntool 2 62.5\ntool 3 0\nload {len(program.encode())}\n{program}start\n"
-                         + "tick 1000000\ncontinue\n" * 3)
-            self.play("--untimed", "--no-ask-tool", "--machine", "motion.toml", "--times", "c")
-            self.assertEqual(Path("c").read_bytes(), self.paced(), example.name)
-            self.assertGreater(Path("c").stat().st_size, 1000, example.name)
+            self.hand_out(example.read_text())
+            self.assertLess(excess(self.check_as_ngc(example.name), (10_000,) * 3), 4, example.name)
+
+    def test_as_ngc_of_motion(self) -> None:
+        """The same of short lines, small circles and corners, with limits that differ by axes."""
+        Path("first.toml").write_text(FIRST.replace("[1000, 1000, 1000]", "[5000, 5000, 5000]"))
+        Path("motion.toml").write_text("[motion]\naccel_mm_s2 = [500, 400, 300]\nrate_mm_min = [2500, 0, 2000]\n")
+        for name, program in PROGRAMS.items():
+            self.hand_out(f"G17 G21 G90 G94\nF3000\n{program()}M2\n")
+            self.assertLess(excess(self.check_as_ngc(name), (100_000, 80_000, 60_000)), 4, name)
+
+    def test_as_ngc_by_chance(self) -> None:
+        """The same of streams by chance, which motors start and stop at once at some rates."""
+        Path("first.toml").write_text(FIRST.replace("period_us = 50", "period_us = 1"))
+        Path("motion.toml").write_text("[motion]\naccel_mm_s2 = [500, 400, 300]\nstart_mm_min = [60, 90, 120]\n")
+        for seed in range(6):
+            Path("out").write_text("".join(f"{line}\n" for line in stream(random.Random(seed), 25)))
+            self.check_as_ngc(str(seed))
 
 
 del Ramps

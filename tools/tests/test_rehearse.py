@@ -308,14 +308,19 @@ there is no program
         """Each refusal, by `ngc` and of the files."""
         self.hole(OUT + 100)
         self.assertEqual(self.refused(1, "0", "0", "2000"),
-                         "ngc-rehearse: mill.dev: reference 0 0 2000: refused X2 OutsideTravel\n")
+                         "ngc-rehearse: mill.dev: reference 0 0 2000: refused X2 OutsideTravel: Z 2,000 is outside the"
+                         " travel, which ends at 1,000 (high_nm of the settings)\n")
+        self.assertEqual(self.refused(1, "0", "0", "low"), "ngc-rehearse: mill.dev: reference 0 0 low: refused U1"
+                         " BadCommand: reference X Y Z: three machine coordinates in millimetres, without letters, as"
+                         " in `reference 7.21 0 -5`\n")
         self.assertIn("N is at least 1", self.refused(1, "--carried-out", "0"))
         self.assertIn("three numbers, or none", self.refused(2, "1", "2"))
         self.assertIn("goes with --carried-out", self.refused(2, "--before", "mill.dev"))
         self.assertEqual(self.refused(2, "--carried-out", "5", "--before", "none.dev"),
                          "ngc-rehearse: none.dev: No such file or directory\n")
         Path("first.toml").write_text(FIRST.replace("high_nm = [1000000000", "high_nm = [1500000"))
-        self.assertEqual(self.refused(1, "1", "2", "5"), "ngc-rehearse: mill.dev: resume: refused X2 OutsideTravel\n")
+        said = self.refused(1, "1", "2", "5")
+        self.assertIn("ngc-rehearse: mill.dev: resume: refused X2 OutsideTravel: the end of a move lies outside", said)
         Path("first.toml").write_text(FIRST.replace("period_us = 50", "period_us = 0"))
         self.assertIn("ngc-rehearse: first.toml: S5 OutOfLimits: a number is beyond its limits\n"
                       "    line 5: period_us = 0", self.refused(2))
@@ -352,7 +357,7 @@ there is no program
         image = bytearray(Path("mill.dev").read_bytes())
         image[512 * 88 + 152] = 9
         Path("mill.dev").write_bytes(image)
-        self.assertEqual(self.refused(2), "mill.dev: damaged: sector 88: spindle 9\n"
+        self.assertEqual(self.refused(2), "ngc-rehearse: mill.dev: damaged: sector 88: spindle 9\n"
                                           "ngc-rehearse: mill.dev: ngc ended with status 2: refused J3 Damaged\n")
 
     def test_line_refused(self) -> None:

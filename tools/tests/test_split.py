@@ -182,7 +182,8 @@ class Splits(InFolder):
 
     def test_large(self) -> None:
         """For a large device a part has at most 1,048,576 bytes, and one program of so many is left whole."""
-        row = "G0 X0 Y0 Z5\n" + "G1 X1 Z-1\nG1 X0 Z-2\n" * 1000
+        comment = f"({'x' * 200})"
+        row = "G0 X0 Y0 Z5\n" + f"G1 X1 Z-1 {comment}\nG1 X0 Z-2 {comment}\n" * 50
         lines = ["G21 G90 G17 G94 G54\n", "F6000\n", *[row] * 60]
         text = "".join(lines) + "G0 Z5\nM2\n"
         Path("part.ngc").write_text(text)
@@ -194,7 +195,8 @@ class Splits(InFolder):
         self.assertGreater(sizes[0], 1_048_576 - len(row) - 300)
         self.assertLessEqual(max(sizes), 1_048_576)
         self.assertIn("2 parts do what the whole does", said)
-        Path("part.ngc").write_text(text[:1_048_566].rpartition("\n")[0].ljust(1_048_573) + "\nM2")
+        whole = text[:text.rindex("\n", 0, 1_048_560) + 1]
+        Path("part.ngc").write_text(whole.ljust(1_048_573) + "\nM2")
         self.assertEqual(told(main, *words), (0, "part.ngc: 1,048,576 bytes: ngc run takes it as it is\n", ""))
         self.assertEqual(told(main, *words, "--limit", "9")[0], 2)
 
@@ -219,6 +221,10 @@ class Splits(InFolder):
         self.assertIn("lines 6 to 68 have", self.split(pocket, limit=400, status=1))
         self.assertIn("2 parts", self.split(pocket, "--above", "-1", limit=400))
         self.assertIn("\nG0 Z-1.000000\n", "".join(self.parts()))
+
+    def test_limit(self) -> None:
+        """Bytes that are none."""
+        self.assertIn("not a whole number of at most nine digits: -1", self.split("M2\n", limit=-1, status=2))
 
     def test_cannot(self) -> None:
         """What M2 between the parts takes away: G92, parameters, an origin by G10."""

@@ -1,13 +1,12 @@
 """The words of `ngc-adapt`, and what it writes."""
 import argparse
 import sys
-import tempfile
 from collections.abc import Callable, Iterator, Sequence
 from dataclasses import replace
 
 from ngc_tools import files
 from ngc_tools.cli.beginning import add_beginning, chosen_beginning
-from ngc_tools.cli.run import new_parser, run
+from ngc_tools.cli.run import add_ngc, new_parser, run
 from ngc_tools.failure import BadNumber, Failure, WrongWords, speaking_of
 from ngc_tools.formats.device import SLOTS
 from ngc_tools.formats.position import nanometres
@@ -25,6 +24,7 @@ from ngc_tools.ngc import cures
 from ngc_tools.ngc.beginning import Beginning
 from ngc_tools.ngc.run import Refusal, find_ngc, refusal
 from ngc_tools.ngc.usable_settings import look_at_settings
+from ngc_tools.scratch import scratch_file
 
 ABOUT = """Write a CAM system's text as `ngc` accepts it, and list each line that is changed.
 
@@ -57,8 +57,7 @@ def make_parser() -> argparse.ArgumentParser:
                         help=f"T and H of this NUMBER become those of SLOT, 1 to {SLOTS}; may be given several times")
     parser.add_argument("--settings", metavar="FILE", help="the machine's settings, for the dry run")
     add_beginning(parser)
-    parser.add_argument("--ngc", metavar="PATH",
-                        help="the program ngc; without it the one beside this tool, or on PATH")
+    add_ngc(parser)
     return parser
 
 
@@ -92,16 +91,13 @@ def _centre(ngc: str, args: argparse.Namespace, begin: Beginning, lines: list[Ca
     travel, and all slots. Raises OSError, CannotSetUp."""
     known = Settings.read(args.settings) if args.settings else DEFAULT
     tools = (*known.tools_nm, *(0,) * (SLOTS - len(known.tools_nm)))
-    with tempfile.NamedTemporaryFile("w", prefix="ngc-settings-", suffix=".toml") as file:
-        with files.naming(file.name):
-            file.write(replace(widest(known), tools_nm=tools).text())
-            file.flush()
-        centred(lines, lambda asked: begin.dry(ngc, asked, file.name))
+    with scratch_file(replace(widest(known), tools_nm=tools).text(), "settings", ".toml") as path:
+        centred(lines, lambda asked: begin.dry(ngc, asked, path))
 
 
 def _read(program: str) -> ProgramText:
     """The text of a file, or of standard input. Raises OSError, NotText."""
-    data = sys.stdin.buffer.read() if program == "-" else files.read(program)
+    data = files.read_input() if program == "-" else files.read(program)
     with speaking_of("standard input" if program == "-" else program, NotText):
         return ProgramText.read(data)
 

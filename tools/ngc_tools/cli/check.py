@@ -1,24 +1,31 @@
 """The words of `ngc-check`, and what it says."""
 import argparse
-import tempfile
 import textwrap
 
 from ngc_tools import files
 from ngc_tools.cli.beginning import add_beginning, chosen_beginning
-from ngc_tools.cli.run import new_parser, run
+from ngc_tools.cli.machine import Progress, add_machine, chosen_motion, times_words
+from ngc_tools.cli.run import add_ngc, new_parser, run, whole_number
 from ngc_tools.failure import WrongWords, speaking_of
+from ngc_tools.formats.canonical import BadText, read_commands
 from ngc_tools.formats.device import MOST_LARGE_PROGRAM
+from ngc_tools.formats.out import BadLine
 from ngc_tools.formats.program_text import NotText, ProgramText
 from ngc_tools.formats.settings import DEFAULT, Settings
 from ngc_tools.formats.text import shown
 from ngc_tools.job.danger import Danger
 from ngc_tools.job.dangers import Conditions, dangers
 from ngc_tools.job.in_force import InForce
+from ngc_tools.job.moves import of_canonical
 from ngc_tools.job.outside import breach, widest
 from ngc_tools.job.refused import Finding, Lines, Piece, find_all
-from ngc_tools.ngc import cures, faults, settings_report
+from ngc_tools.ngc import cures, faults, machine_report, settings_report
+from ngc_tools.ngc.machine_report import Motion
+from ngc_tools.ngc.pacing import NotTimed
 from ngc_tools.ngc.run import Refusal, find_ngc, refusal
+from ngc_tools.ngc.timing import with_ramps
 from ngc_tools.ngc.usable_settings import look_at_settings
+from ngc_tools.scratch import scratch_file
 
 ABOUT = """Say of each line of PROGRAM that `ngc` refuses what is wrong with it, and warn of what is valid and
 dangerous.
@@ -32,11 +39,12 @@ EXAMPLE = """example:
   ngc-check part.ngc --settings mill.toml --device mill.dev
   ngc-check part.ngc --settings mill.toml --origin 20 30 -85.5
   ngc-check --settings mill.toml --settings-only
+  ngc-check part.ngc --settings mill.toml --machine player.toml
 
 exit status:
   0  no line is refused; there may be warnings
   1  a line is refused
-  2  the words are wrong, a file can't be read, or the settings are refused"""
+  2  the words are wrong, a file can't be read, or the settings or the machine are refused"""
 
 AFTER = """What was left out would have moved or set something, so later lines may be refused, or taken, for that alone.
 Mend these, and check again."""
@@ -48,14 +56,15 @@ def make_parser() -> argparse.ArgumentParser:
     parser = new_parser("ngc-check", ABOUT, EXAMPLE)
     parser.add_argument("program", metavar="PROGRAM", nargs="?", help="the file of the program")
     parser.add_argument("--settings", metavar="FILE", help="the machine's settings; without it the default ones hold")
+    add_machine(parser)
     add_beginning(parser)
     parser.add_argument("--settings-only", action="store_true", help="check the settings, and no program")
     parser.add_argument("--block-delete", action="store_true", help="leave out the lines that begin with a slash")
     parser.add_argument("--large", action="store_true",
                         help=f"the device is large: a program may have {MOST_LARGE_PROGRAM:,} bytes")
-    parser.add_argument("--most", metavar="N", type=int, default=0, help="stop after N refusals; else all are found")
-    parser.add_argument("--ngc", metavar="PATH",
-                        help="the program ngc; without it the one beside this tool, or on PATH")
+    parser.add_argument("--most", metavar="N", type=whole_number, default=0, help="stop after N refusals;"
+                        " else all are found")
+    add_ngc(parser)
     return parser
 
 
@@ -74,25 +83,29 @@ def work(args: argparse.Namespace) -> int:
     ngc = find_ngc(args.ngc)
     if args.settings:
         look_at_settings(ngc, args.settings)
-    return say_settings(args.settings) if args.settings_only else check(ngc, args)
+    motion = chosen_motion(ngc, args)
+    if args.settings_only:
+        settings = Settings.read(args.settings)
+        say_file(args.settings, settings_report.report(settings), settings_report.warnings(settings))
+    if motion:
+        say_file(args.machine, machine_report.report(motion), machine_report.warnings(motion))
+    return 0 if args.settings_only else check(ngc, args, motion)
 
 
-def say_settings(path: str) -> int:
-    """Prints the settings of a valid file."""
-    settings = Settings.read(path)
-    print("\n".join([f"{shown(path)}:", *(f"    {line}" for line in settings_report.report(settings)),
-                     *(f"{shown(path)}: warning: {line}" for line in settings_report.warnings(settings))]))
-    return 0
+def say_file(path: str, report: list[str], warnings: list[str]) -> None:
+    """Prints what a valid file says, and what may be meant otherwise."""
+    print("\n".join([f"{shown(path)}:", *(f"    {line}" for line in report),
+                     *(f"{shown(path)}: warning: {line}" for line in warnings)]))
 
 
-def check(ngc: str, args: argparse.Namespace) -> int:
+def check(ngc: str, args: argparse.Namespace, motion: Motion | None) -> int:
     """Checks a program, and returns the exit status. Raises what `work` raises."""
-    dry_run = DryRun(ngc, args)
+    dry_run = DryRun(ngc, args, motion)
     report = Listing(args.program)
     data = files.read(args.program)
     with speaking_of(args.program, NotText):
         text = ProgramText.read(data)
-    if why := _unreadable(text, data):
+    if why := text.why_unreadable(data):
         report.unreadable(why)
         data = text.data
     lines, whole = Lines(data), Lines(data)
@@ -100,29 +113,23 @@ def check(ngc: str, args: argparse.Namespace) -> int:
         report.refused(finding, dry_run.breach(lines, finding.refusal), dry_run.is_placed)
     more = bool(args.most and report.count >= args.most and dry_run.ask(b"".join(lines.all)))
     report.warned([] if more else dangers(lines, dry_run.run, dry_run.conditions()), whole, more)
+    if motion and not report.count:
+        print(f"{shown(args.program)}: {dry_run.times(data)}")
     return 1 if report.count else 0
-
-
-def _unreadable(text: ProgramText, data: bytes) -> str | None:
-    """Why `ngc` can read no line of a text as it is meant, if it can't."""
-    if text.encoding == "UTF-16":
-        return "the text is UTF-16, and ngc reads none of its lines"
-    if b"\n" not in data and b"\r" in data.rstrip(b"\r"):
-        return "the lines end in carriage returns alone, and ngc takes them for one line"
-    return None
 
 
 class DryRun:
     """Dry runs of a program from where it begins, with the settings of the command line."""
 
-    def __init__(self, ngc: str, args: argparse.Namespace) -> None:
+    def __init__(self, ngc: str, args: argparse.Namespace, motion: Motion | None) -> None:
         """Raises NoDevice, CannotSetUp, OSError, BadSettings."""
-        self.ngc, self.args = ngc, args
+        self.ngc, self.args, self.motion = ngc, args, motion
         self.beginning = chosen_beginning(args)
         self.is_placed = args.device is not None or args.origin is not None
         self.settings = Settings.read(args.settings) if args.settings else None
+        self.before = self.beginning.set_up(ngc, args.settings)
         self.begun = InForce()
-        for command in self.beginning.set_up(ngc, args.settings):
+        for command in self.before:
             self.begun = self.begun.after(command)
 
     def run(self, text: bytes) -> bytes:
@@ -138,16 +145,23 @@ class DryRun:
         if refused.code != "X2":
             return None
         settings = self.settings or DEFAULT
-        with tempfile.NamedTemporaryFile("w", prefix="ngc-settings-", suffix=".toml", encoding="utf-8") as file:
-            file.write(widest(settings).text())
-            file.flush()
-            return breach(lines, refused.line, lambda text: self._dry(text, file.name)[1], settings, self.begun,
+        with scratch_file(widest(settings).text(), "settings", ".toml") as path:
+            return breach(lines, refused.line, lambda text: self._dry(text, path)[1], settings, self.begun,
                           self.beginning.point_nm)
 
     def conditions(self) -> Conditions:
         """What the program is checked under."""
         is_large = self.args.large or self.beginning.is_large
-        return Conditions(self.beginning, self.begun, self.settings, is_large, self.is_placed)
+        return Conditions(self.beginning, self.begun, self.settings, is_large, self.is_placed, self.motion)
+
+    def times(self, text: bytes) -> str:
+        """How long a valid program takes, without ramps and with them. Raises OSError."""
+        try:
+            steps = list(of_canonical(read_commands(self.run(text)), self.before))
+            files = (self.args.settings, self.args.machine)
+            return times_words(with_ramps(self.ngc, *files, steps, Progress("ngc-check")))
+        except (BadText, BadLine, NotTimed) as error:
+            return f"its time can't be told: {error}"
 
     def _dry(self, text: bytes, settings: str | None) -> tuple[int, bytes]:
         return self.beginning.dry(self.ngc, text, settings, self.args.block_delete)

@@ -15,21 +15,25 @@ from ngc_tools.cli.run import new_parser, run
 from ngc_tools.failure import Failure
 from ngc_tools.ngc.before_start import CannotBegin, look
 from ngc_tools.ngc.console import Console, Ended
-from ngc_tools.operator.meter import LIMIT, Meter, check_limit
+from ngc_tools.operator.meter import LIMIT, LIMITS, Meter, check_limit
 from ngc_tools.operator.operator import Operator
+from ngc_tools.operator.recovery import Found
 from ngc_tools.operator.sentences import explained
-from ngc_tools.player.progress import Link
+from ngc_tools.operator.synced import SYNCED_AT_ONCE, SYNCED_PARTS, SyncedLink
+from ngc_tools.player.progress import Link, Report
 from ngc_tools.ngc.run import find_ngc
 from ngc_tools.ngc.usable_settings import look_at_settings
 from ngc_tools.cli.terminal import AskedToEnd, Screen
 from ngc_tools.formats.device import Device, NoDevice
 from ngc_tools.formats.settings import Settings
+from ngc_tools.formats.text import shown
 
 ABOUT = """A console for people over `ngc run`: programs by name, G-code as typed, Enter or Ctrl-C holds.
 
-With --player it is metered: it gives ticks only while the player is at most --ahead lines behind, so that a loss of
-power costs at most so many lines. And nothing moves from where the player says that the motors aren't, unless that is
-asked for by `anyway`."""
+With --player it is metered: it gives ticks only while the player has less lines in hand than it wants for its motors to
+stop in, so that a loss of power costs at most so many lines. And nothing moves from where the player says that the
+motors aren't, unless that is asked for by `anyway`. A player with --machine is held by ramps, and goes slower by
+`percent N`, or by `-`, `+` and `0` and Enter while something runs."""
 
 EXAMPLE = """example:
   ngc format mill.dev                                   (once; it OVERWRITES mill.dev)
@@ -51,8 +55,9 @@ def make_parser() -> argparse.ArgumentParser:
     parser.add_argument("settings", metavar="SETTINGS", help="the machine's settings, in TOML")
     parser.add_argument("out", metavar="OUT", help="where pulses go: a named pipe with a player, a file, a serial line")
     parser.add_argument("--player", metavar="SOCKET", help="the socket of ngc-player's --progress")
-    parser.add_argument("--ahead", type=int, default=LIMIT, metavar="N",
-                        help=f"how many lines OUT may be ahead of the player (default {LIMIT})")
+    parser.add_argument("--ahead", type=int, metavar="N",
+                        help="how many lines OUT may be ahead of the player at most (without it as many as the player"
+                        f" wants, {LIMIT} of one that doesn't say it)")
     parser.add_argument("--ngc", metavar="PATH", help="the program ngc (else beside this tool, else on PATH)")
     return parser
 
@@ -76,38 +81,58 @@ def work(args: argparse.Namespace) -> int:
 
 def metered(args: argparse.Namespace) -> Meter | None:
     """The meter, if a player is named. Raises CannotBegin if that player reads another OUT, NoAnswer, ValueError."""
-    check_limit(args.ahead)
+    if args.ahead is not None:
+        check_limit(args.ahead)
     if args.player is None:
         return None
     meter = Meter(Link(args.player), args.ahead)
     report = meter.link.ask()
     if os.path.realpath(report.out) != os.path.realpath(args.out):
         raise CannotBegin(f"{args.player}: that player reads {report.out}, not {args.out}")
+    if os.path.isfile(args.out):
+        meter.link.close()
+        meter.link = link = SyncedLink(args.player, args.out)
+        meter.parts, meter.at_once = SYNCED_PARTS, SYNCED_AT_ONCE
+        if part := link.cut_part():
+            print(f"{args.out}: a part of a line at its end is cut off: {part} bytes", file=sys.stderr)
     return meter
 
 
 def bound(args: argparse.Namespace, meter: Meter | None, pipe: int | None) -> str:
     """How far OUT may be ahead of the motors, in words."""
     if meter:
-        return (f"metered: OUT is at most {meter.limit} lines ahead of the player, which is what a loss of power can"
-                " cost")
+        return metered_by(meter, meter.link.ask())
     if pipe is None:
         kind = "a file" if not os.path.exists(args.out) or stat.S_ISREG(os.stat(args.out).st_mode) else "no pipe"
-        return f"not metered: {args.out} is {kind}, which takes any number of lines ahead of the motors"
+        return f"not metered: {shown(args.out)} is {kind}, which takes any number of lines ahead of the motors"
     size = fcntl.fcntl(pipe, fcntl.F_GETPIPE_SZ)
     line = len(f"P 1 0 0 {Settings.read(args.settings).period_us}\n")
-    return (f"not metered: {args.out} holds {size:,} bytes, so some {size // line:,} lines can be ahead of the motors,"
-            " and a loss of power can cost them; --player bounds it")
+    return (f"not metered: {shown(args.out)} holds {size:,} bytes, so some {size // line:,} lines can be ahead of the"
+            " motors, and a loss of power can cost them; --player bounds it")
+
+
+def metered_by(meter: Meter, report: Report) -> str:
+    """How far OUT may be ahead of a player, in words."""
+    costs = "which is what a loss of power can cost"
+    if isinstance(meter.link, SyncedLink):
+        costs = "and synced before it goes on: a loss of power costs none"
+    if not report.wants:
+        return f"metered: OUT is at most {meter.limit(report):,} lines ahead of the player, {costs}"
+    return (f"metered by need: OUT is ahead of the player by as many lines as its motors need for a stop, now"
+            f" {meter.limit(report):,} and never more than {meter.most or LIMITS[-1]:,}, {costs}")
 
 
 def session(ngc: str, args: argparse.Namespace, meter: Meter | None, pipe: int | None) -> int:
     """From the start of `ngc` to its end. Raises Ended if it ends by itself."""
     found = as_found(args.device)
+    link = meter.link if meter else None
+    out = Found.of(ngc, args.settings, link, found) if isinstance(link, SyncedLink) else None
     with closing(Screen()) as screen:
         console = Console(ngc, args.device, args.settings, args.out, Patience(screen))
         try:
             console.status()
             operator = Operator(console, screen, meter)
+            operator.recover.found = out
             said = bound(args, meter, pipe)
             if pipe is not None:
                 os.close(pipe)

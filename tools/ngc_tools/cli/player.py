@@ -8,13 +8,16 @@ import threading
 from contextlib import ExitStack
 
 from ngc_tools.cli.run import new_parser, run
+from ngc_tools.failure import WrongWords
 from ngc_tools.formats.out import BadLine
 from ngc_tools.formats.position import Position, millimetres
-from ngc_tools.formats.record import check_path, machine_nm
+from ngc_tools.formats.record import Record, check_path, machine_nm
 from ngc_tools.formats.settings import Settings
+from ngc_tools.formats.text import shown
 from ngc_tools.player.answers import Answers
+from ngc_tools.player.going import Going
 from ngc_tools.player.keeper import Keeper, RecordFile
-from ngc_tools.player.machine import read_limits
+from ngc_tools.player.machine import Machine, read_machine
 from ngc_tools.player.manner import Manner, Stopped
 from ngc_tools.player.paced import PacedPlayer
 from ngc_tools.player.person import Person, Voice
@@ -59,6 +62,13 @@ def pipe_size(text: str) -> int:
     return int(text)
 
 
+def line_number(text: str) -> int:
+    """A number of lines. Raises ArgumentTypeError."""
+    if not re.fullmatch("[0-9]{1,18}", text):
+        raise argparse.ArgumentTypeError(f"not a number of lines: {text}")
+    return int(text)
+
+
 def make_parser() -> argparse.ArgumentParser:
     """The words that it takes."""
     parser = new_parser("ngc-player", ABOUT, EXAMPLE)
@@ -70,17 +80,22 @@ def make_parser() -> argparse.ArgumentParser:
     parser.add_argument("--anew", action="store_true", help="begin with a file's first line, not where POSITION ends")
     parser.add_argument("--restored", action="store_true", help="OUT is a copy of the file of which POSITION speaks")
     parser.add_argument("--follow", action="store_true", help="wait for more at a file's end, until Ctrl-C")
+    parser.add_argument("--go-to-line", type=line_number, metavar="B", help="first go to where the first B lines of"
+                        " OUT, a file, lead: on along its lines, or back; without --follow it ends there")
+    parser.add_argument("--lift", metavar="Z", help="go there by legs: up to this machine coordinate, over, and down")
+    parser.add_argument("--yes", action="store_true", help="go without a question")
     parser.add_argument("--no-ask-tool", action="store_true", help="don't wait for a person at a tool change, as the"
                         " pins change the tool")
-    parser.add_argument("--spindle", type=seconds, default="0", metavar="SECONDS",
-                        help="wait so long after a switch that starts, stops or turns the spindle the other way")
+    parser.add_argument("--spindle", type=seconds, metavar="SECONDS", help="wait so long after a switch that starts,"
+                        " stops or turns the spindle the other way (default 0, or what --machine says)")
     parser.add_argument("--off-after", type=seconds, default="10", metavar="SECONDS", help="how long spindle and"
                         " coolant stay on once the console is gone (default 10)")
     parser.add_argument("--pipe", type=pipe_size, default=PIPE_BYTES, metavar="BYTES",
                         help=f"make the pipe as small as this (default {PIPE_BYTES:,})")
     parser.add_argument("--progress", metavar="SOCKET", help="tell there how far it is, to whoever asks")
     parser.add_argument("--pins", metavar="FILE", help="append there each line as it is carried out")
-    parser.add_argument("--machine", metavar="FILE", help="go by ramps: its table [motion] says what the motors allow")
+    parser.add_argument("--machine", metavar="FILE", help="go by ramps: its table [motion] says what the motors allow,"
+                        " [window] how far ahead it reads, [wait] how long the spindle takes")
     parser.add_argument("--times", metavar="FILE", help="write there, to a new file, each line with the nanosecond at"
                         " which it is due")
     parser.add_argument("--untimed", action="store_true", help="keep no times")
@@ -102,39 +117,64 @@ def work(args: argparse.Namespace) -> int:
 
 def prepared(args: argparse.Namespace, voice: Voice, stack: ExitStack) -> Player:
     """The player, with its record and its socket, which `stack` lets go. Raises Failure or OSError."""
+    if args.go_to_line is None and (args.lift or args.yes):
+        raise WrongWords("--lift and --yes go with --go-to-line B")
     at_nm = tuple(map(machine_nm, args.at)) if args.at else None
     settings = Settings.read(args.settings)
-    limits = read_limits(args.machine, settings.step_nm) if args.machine else None
+    machine = read_machine(args.machine, settings.step_nm) if args.machine else None
     source = Source(args.out, args.pipe, args.follow)
     stack.callback(source.close)
     check_path(os.path.realpath(args.out))
     file = RecordFile(args.position)
     stack.callback(file.close)
-    begun, notice = where_to_begin(file.read(), source, args.anew, args.restored)
+    found = file.read()
+    begun, notice = where_to_begin(found, source, args.anew, args.restored)
     if notice:
         voice.say(f"{args.out}: {notice}")
     if source.pipe_bytes >= 2 * max(args.pipe, PIPE_BYTES):
         voice.say(f"{args.out}: the pipe stays at {source.pipe_bytes:,} bytes")
     source.skip(begun)
+    if args.follow and args.progress:
+        stay(source, begun, voice)
     position = Position(settings.step_nm, begun.at_nm if at_nm is None else at_nm)
     pins = Pins(args.pins, (args.out, args.settings, args.position))
     stack.callback(pins.close)
     times = Times(args.times) if args.times else None
     if times:
         stack.callback(times.close)
-    manner = Manner(settings.period_us, not args.untimed, args.spindle, args.off_after,
-                    None if args.no_ask_tool else Person(sys.stdin, voice), times)
+    manner = Manner(settings.period_us, not args.untimed, spindle_us(args.spindle, machine), args.off_after,
+                    None if args.no_ask_tool else Person(sys.stdin, voice), times, settings.traverse_nm_per_min,
+                    voice.say)
     parts = (source, position, begun, pins, manner)
-    player = PacedPlayer(*parts, limits) if limits else Player(*parts)
-    if limits is None and manner.timed:
+    player = PacedPlayer(*parts, machine) if machine else Player(*parts)
+    if machine is None and manner.timed:
         voice.say(f"{args.out}: no --machine: no ramps, and no motor follows full rates from rest")
     stack.callback(player.close)
+    if args.go_to_line is not None:
+        Going(player, settings, args, voice).prepare(found, begun)
     if args.progress:
         listener = Listener(args.progress)
         stack.callback(listener.close)
         player.answers = Answers(listener, player)
     player.keeper = Keeper(file, player.standing)
     return player
+
+
+def stay(source: Source, begun: Record, voice: Voice) -> None:
+    """Of a file nothing is carried out before a console says so: neither lines that the last session left, nor those
+    that a console puts back."""
+    if source.is_file:
+        source.limit = begun.size
+    if source.is_file and source.size() > begun.size:
+        voice.say(f"{source.path}: lines that no motor carried out stand behind line {begun.lines}: nothing moves"
+                  " before a console says so; recover in ngc-operate goes on or back")
+
+
+def spindle_us(told: int | None, machine: Machine | None) -> int:
+    """How long the spindle takes, in microseconds: as the words say, else as the machine's file does."""
+    if told is not None:
+        return told
+    return machine.spindle_s * 1_000_000 if machine else 0
 
 
 def play(player: Player, args: argparse.Namespace, voice: Voice) -> int:
@@ -172,10 +212,14 @@ def tell(player: Player, out: str) -> None:
     """What was carried out, how well, and where the machine stands."""
     counts, schedule = player.counts, player.schedule
     total = counts.pulses + counts.waits + counts.switches
-    print(f"{out}: {total} lines carried out, {counts.pulses} pulses, {counts.waits} waits, {counts.switches} switches")
+    print(f"{shown(out)}: {total} lines carried out, {counts.pulses} pulses, {counts.waits} waits,"
+          f" {counts.switches} switches")
     if player.manner.timed:
         print(f"late at most {schedule.latest_ns / 1000:.0f} us, slower by {schedule.slower_ns / 1e6:.1f} ms in all;"
               f" the record was behind by at most {player.keeper.worst_ms:.0f} ms")
+    if counts.dry:
+        print(f"OUT ran dry {counts.dry} time{'s' if counts.dry > 1 else ''}; the motors came to rest, and went on once"
+              " more came")
     print(player.position.reference())
 
 

@@ -6,9 +6,10 @@ from dataclasses import dataclass
 from pathlib import Path
 
 from ngc_tools.cli.beginning import add_beginning, chosen_beginning
+from ngc_tools.cli.machine import Progress, add_machine, chosen_motion, times_words
 from ngc_tools.cli.run import new_parser, run
 from ngc_tools.failure import WrongWords, speaking_of
-from ngc_tools.files import is_out, read, write_new
+from ngc_tools.files import is_out, read, read_input, write_new
 from ngc_tools.formats.canonical import BadText, Command, read_commands
 from ngc_tools.formats.out import BadLine
 from ngc_tools.formats.position import nanometres
@@ -18,8 +19,9 @@ from ngc_tools.job import figures, moves
 from ngc_tools.job.picture import picture
 from ngc_tools.ngc import faults
 from ngc_tools.ngc.beginning import Beginning
+from ngc_tools.ngc.pacing import Pacing
 from ngc_tools.ngc.run import find_ngc, refusal
-from ngc_tools.ngc.timing import timed
+from ngc_tools.ngc.timing import timed, with_ramps
 from ngc_tools.ngc.usable_settings import look_at_settings
 
 ABOUT = """Draw a job as SVG: from above, from the front, from the right and aslant, traverses dashed, cuts the darker
@@ -54,6 +56,7 @@ def make_parser() -> argparse.ArgumentParser:
     parser.add_argument("input", metavar="INPUT", nargs="?",
                         help="a program, canonical text, or an OUT; - or none: standard input")
     parser.add_argument("--settings", metavar="FILE", help="the machine's settings: exact times, the travel as a frame")
+    add_machine(parser)
     add_beginning(parser)
     parser.add_argument("--block-delete", action="store_true", help="leave out the lines that begin with a slash")
     parser.add_argument("--output", "-o", metavar="FILE", help="write the SVG here, and the figures to standard output")
@@ -75,13 +78,14 @@ def main(arguments: list[str] | None = None) -> int:
 @dataclass(frozen=True, slots=True)
 class Drawn:
     """What is drawn: the steps, the work zeros, whether the times are exact, what is said besides, after the input's
-    name, and whether the picture ends before a refused line."""
+    name, whether the picture ends before a refused line, and the time with ramps, if it is asked for."""
 
     steps: list[moves.Step]
     zeros: list[moves.Point]
     is_exact: bool
     notes: tuple[str, ...] = ()
     is_cut: bool = False
+    pacing: Pacing | None = None
 
 
 def draw(args: argparse.Namespace) -> int:
@@ -89,9 +93,11 @@ def draw(args: argparse.Namespace) -> int:
     at = _point(args.at)
     name = args.input if args.input not in (None, "-") else ""
     of = name or "standard input"
-    text = read(name) if name else sys.stdin.buffer.read()
+    text = read(name) if name else read_input()
     if args.settings:
         look_at_settings(find_ngc(args.ngc), args.settings)
+    if args.machine:
+        chosen_motion(find_ngc(args.ngc), args)
     settings = Settings.read(args.settings) if args.settings else None
     with speaking_of(of, BadText, BadLine):
         drawn = _of_out(args, text, settings) if is_out(text) else _of_program(args, text, of)
@@ -99,6 +105,8 @@ def draw(args: argparse.Namespace) -> int:
         print(f"ngc-plot: {shown(of)}{note}", file=sys.stderr)
     title = args.title if args.title is not None else Path(name).name
     said = figures.lines(drawn.steps, settings, drawn.is_exact)
+    if drawn.pacing:
+        said.append(f"in all    {times_words(drawn.pacing)}")
     _write(args, picture(drawn.steps, title, said, settings, at, drawn.zeros), said)
     return 1 if drawn.is_cut else 0
 
@@ -113,7 +121,16 @@ def _of_out(args: argparse.Namespace, text: bytes, settings: Settings | None) ->
         notes.append(": its steps are taken as 0.001 mm; name the machine's settings by --settings FILE")
     if not text.endswith(b"\n"):
         notes.append(": the part of a line at its end isn't drawn")
-    return Drawn(moves.of_out(text, settings, _point(args.start) or (0, 0, 0)), [], True, tuple(notes))
+    steps = moves.of_out(text, settings, _point(args.start) or (0, 0, 0))
+    return Drawn(steps, [], True, tuple(notes), pacing=_paced(args, text) if args.machine else None)
+
+
+def _paced(args: argparse.Namespace, text: bytes) -> Pacing:
+    """The time of the lines of an OUT with ramps. Raises NotTimed, OSError."""
+    with Pacing(find_ngc(args.ngc), args.settings, args.machine) as pacing:
+        pacing.take(text[:text.rfind(b"\n") + 1])
+        pacing.end()
+    return pacing
 
 
 def _of_program(args: argparse.Namespace, text: bytes, of: str) -> Drawn:
@@ -129,12 +146,15 @@ def _of_program(args: argparse.Namespace, text: bytes, of: str) -> Drawn:
         raise WrongWords("--device, --origin and --block-delete are of a program, and this is canonical text")
     commands = read_commands(text)
     steps = list(moves.of_canonical(commands, before))
+    pacing = None
     if args.settings:
         steps = timed(find_ngc(args.ngc), args.settings, steps)
+    if args.machine:
+        pacing = with_ramps(find_ngc(args.ngc), args.settings, args.machine, steps, Progress("ngc-plot"))
     last = commands[-1] if commands else Command("")
     is_cut = last.name == "REFUSED"
     notes = (_refused(args, of, last, is_program),) if is_cut else ()
-    return Drawn(steps, moves.work_zeros(commands, before), bool(args.settings), notes, is_cut)
+    return Drawn(steps, moves.work_zeros(commands, before), bool(args.settings), notes, is_cut, pacing)
 
 
 def _refused(args: argparse.Namespace, of: str, last: Command, is_program: bool) -> str:
@@ -144,7 +164,8 @@ def _refused(args: argparse.Namespace, of: str, last: Command, is_program: bool)
     said = f":{line}: {code} {name}: {why}; the picture ends before that line"
     if code == "X2" and chosen_beginning(args) == Beginning() and is_program:
         return f"{said}\n  say where the work is by --device DEVICE or --origin X Y Z"
-    return f"{said}\n  ngc-check {shown(of)} says what to write" if is_program else said
+    file = "FILE" if args.input in (None, "-") else shown(args.input)
+    return f"{said}\n  ngc-check {file} says what to write" if is_program else said
 
 
 def _point(words: list[str] | None) -> moves.Point | None:

@@ -3,14 +3,21 @@ import argparse
 import sys
 
 from ngc_tools.ngc.carried import CannotTell, Found, Replay, Run, runs
-from ngc_tools.cli.run import new_parser, run
-from ngc_tools.failure import WrongWords, speaking_of
+from ngc_tools.cli.run import add_ngc, new_parser, run
+from ngc_tools.failure import Failure, WrongWords, speaking_of
 from ngc_tools.formats.device import Device, NoDevice, copied
 from ngc_tools.ngc.console import Ended
 from ngc_tools.ngc.copies import CommandRefused
 from ngc_tools.formats.lines import Program
-from ngc_tools.formats.text import shown_line
-from ngc_tools.operator.rehearsal import Rehearsal
+from ngc_tools.formats.settings import Settings
+from ngc_tools.formats.text import shown, shown_line
+from ngc_tools.operator.causes import rehearsed
+from ngc_tools.operator.rehearsal import Rehearsal, point
+from ngc_tools.formats.position import millimetres
+from ngc_tools.formats.record import Record
+from ngc_tools.operator.display import on_words
+from ngc_tools.operator.recovery import Looking, Recovery
+from ngc_tools.player.source import OtherFile, Source, where_to_begin
 from ngc_tools.ngc.run import find_ngc
 from ngc_tools.ngc.usable_settings import look_at_settings
 
@@ -24,11 +31,18 @@ millimetres, as `reference X Y Z` takes it."""
 EXAMPLE = """example:
   ngc-rehearse mill.dev mill.toml 32.000 21.412 -2.000
   ngc-rehearse mill.dev mill.toml --carried-out 8503
+  ngc-rehearse mill.dev mill.toml --out out --position position
 
 exit status:
   0  it is rehearsed to the end
   1  ngc refuses something: the line says what; or where the motors were can't be told
   2  the words are wrong, or a file can't be used"""
+
+
+class Refused(Failure):
+    """`ngc` refuses a command over the copy; the text names it, and says why."""
+
+    exit_status = 1
 
 
 def make_parser() -> argparse.ArgumentParser:
@@ -43,8 +57,10 @@ def make_parser() -> argparse.ArgumentParser:
     parser.add_argument("--before", metavar="COPY",
                        help="a copy of the device, made before `start`; N counts the lines from there. Without it N"
                             " counts from where the device was last written anew: at power on, or by the last load")
-    parser.add_argument("--ngc", metavar="PATH",
-                        help="the program ngc; without it the one beside this tool, or on PATH")
+    parser.add_argument("--out", metavar="OUT", help="the OUT of the session, a file: behind which of its lines"
+                        " the open segment begins, and how recover goes there")
+    parser.add_argument("--position", metavar="POSITION", help="the player's record of that OUT")
+    add_ngc(parser)
     return parser
 
 
@@ -57,10 +73,16 @@ def work(args: argparse.Namespace) -> int:
     """Looks at the words, and rehearses. Raises WrongWords and the errors of the parts."""
     if len(args.at) not in (0, 3):
         raise WrongWords("X Y Z are three numbers, or none")
+    if (args.out is None) != (args.position is None):
+        raise WrongWords("--out OUT and --position POSITION go together")
     if args.before and args.carried_out is None:
         raise WrongWords("--before COPY goes with --carried-out N")
-    with speaking_of(args.device, CommandRefused, CannotTell, NoDevice, Ended):
-        return rehearse(args)
+    try:
+        with speaking_of(args.device, CannotTell, NoDevice, Ended):
+            return rehearse(args)
+    except CommandRefused as error:
+        why = rehearsed(error.reply, error.asked, Settings.read(args.settings))
+        raise Refused(f"{args.device}: {why}") from None
 
 
 def rehearse(args: argparse.Namespace) -> int:
@@ -69,16 +91,49 @@ def rehearse(args: argparse.Namespace) -> int:
     look_at_settings(ngc, args.settings)
     image = copied(args.device)
     for damage in Device(image).damage:
-        print(f"{args.device}: damaged: {damage}", file=sys.stderr)
+        print(f"ngc-rehearse: {shown(args.device)}: damaged: {damage}", file=sys.stderr)
     at = args.at or None
     if args.carried_out is not None:
         found, since = _find(args, ngc, image)
         print("\n".join(_said(found, args.carried_out, since, Device(image))))
         at = at or str(found.position).split()
         print()
+    if args.out:
+        recovery = recovered(args, ngc, image)
+        print("\n".join(recover_lines(recovery, args.out, bool(Device(image).state.half))))
+        print()
+        at = at or [millimetres(nm) for nm in recovery.at_nm]
     rehearsal = Rehearsal(ngc, args.settings, image, at)
     print("\n".join(rehearsal.lines()))
     return 1 if rehearsal.refused else 0
+
+
+def recovered(args: argparse.Namespace, ngc: str, image: bytes) -> Recovery:
+    """How recover would go. Raises CannotTell, OtherFile, BadRecord, OSError, which name what doesn't belong."""
+    record = Record.read(args.position)
+    source = Source(args.out)
+    try:
+        begun, _ = where_to_begin(record, source, False, False)
+        if begun.size != record.size:
+            raise OtherFile(f"{args.position} speaks of {record.out}, not of {args.out}")
+        found = Looking(ngc, args.settings, image).look(args.out, source.file, record.lines, record.size, record.at_nm,
+                                                       record.outputs)
+    finally:
+        source.close()
+    if found.beginning is None:
+        raise CannotTell(found.problem)
+    return found
+
+
+def recover_lines(found: Recovery, out: str, is_half: bool) -> list[str]:
+    """How recover would go, for people."""
+    at = point([millimetres(nm) for nm in found.stands_nm])
+    said = [f"{found.lines} lines of {out} are carried out; the motors are at {at}",
+            (f"the open segment begins behind line {found.line} of {out}" if is_half else
+             f"{found.line} lines of {out} were handed out"), f"recover: {found.words()}"]
+    if not found.is_there() and (on := on_words(found.outputs)):
+        said.append(f"    on before, if you say yes to it: {on}")
+    return said
 
 
 def _find(args: argparse.Namespace, ngc: str, image: bytes) -> tuple[Found, Device]:

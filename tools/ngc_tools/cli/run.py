@@ -11,6 +11,7 @@ import traceback
 from collections.abc import Callable, Iterator
 from contextlib import contextmanager, suppress
 from types import FrameType
+from typing import NoReturn
 
 from ngc_tools.failure import Failure, WrongWords
 from ngc_tools.files import cause
@@ -21,6 +22,7 @@ Work = Callable[[argparse.Namespace], int]
 
 _FAILED = 2
 _OUTPUT = "standard output: "
+_ESCAPES = "backslashreplace"
 _FULL = (errno.ENOSPC, errno.EDQUOT, errno.EFBIG, errno.EIO)  # of writing; all files but this one are named
 
 
@@ -47,7 +49,28 @@ def run(parser: argparse.ArgumentParser, work: Work, arguments: list[str] | None
 def new_parser(prog: str, about: str, epilog: str) -> argparse.ArgumentParser:
     """A parser of words whose help fits the terminal: paragraphs are filled, and lines that begin with a blank stay
     lines."""
-    return argparse.ArgumentParser(prog, description=about, epilog=epilog, formatter_class=_Help)
+    return _Parser(prog, description=about, epilog=epilog, formatter_class=_Help)
+
+
+def add_ngc(parser: argparse.ArgumentParser) -> None:
+    """Adds the word --ngc, by which a tool is told which `ngc` it asks."""
+    parser.add_argument("--ngc", metavar="PATH",
+                        help="the program ngc; without it the one beside this tool, or on PATH")
+
+
+def whole_number(text: str) -> int:
+    """A word that is a count. Raises ArgumentTypeError."""
+    if not re.fullmatch("[0-9]{1,9}", text):
+        raise argparse.ArgumentTypeError(f"not a whole number of at most nine digits: {text}")
+    return int(text)
+
+
+class _Parser(argparse.ArgumentParser):
+    """Shows wrong words without anything that a terminal would obey."""
+
+    def error(self, message: str) -> NoReturn:
+        """Says what is wrong, and ends with status 2."""
+        super().error(shown(message))
 
 
 class _Help(argparse.HelpFormatter):
@@ -100,7 +123,8 @@ def _ended(parser: argparse.ArgumentParser, work: Work, arguments: list[str] | N
 
 
 def _open_streams() -> None:
-    """A standard stream that is closed is /dev/null from here on, before a file can take its number."""
+    """A standard stream that is closed is /dev/null from here on, before a file can take its number. Neither bytes that
+    are no text nor letters that the locale doesn't have end a tool."""
     for number, name, mode in ((0, "stdin", "r"), (1, "stdout", "w"), (2, "stderr", "w")):
         try:
             os.fstat(number)
@@ -108,9 +132,9 @@ def _open_streams() -> None:
             os.set_inheritable(os.open(os.devnull, os.O_RDWR), True)  # it gets the lowest number that is free
         if getattr(sys, name) is None:
             setattr(sys, name, open(number, mode, closefd=False))
-    for stream in (sys.stdout, sys.stderr):
+    for stream, errors in ((sys.stdin, "surrogateescape"), (sys.stdout, _ESCAPES), (sys.stderr, _ESCAPES)):
         if hasattr(stream, "reconfigure"):
-            stream.reconfigure(errors="backslashreplace")
+            stream.reconfigure(errors=errors)
 
 
 class _Killed(BaseException):

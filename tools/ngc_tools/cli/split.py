@@ -2,12 +2,13 @@
 import argparse
 from pathlib import Path
 
-from ngc_tools.cli.run import new_parser, run
+from ngc_tools.cli.run import add_ngc, new_parser, run, whole_number
 from ngc_tools.failure import Failure, WrongWords, speaking_of
 from ngc_tools.files import look_before_write, read, write_new
 from ngc_tools.formats.device import MOST_LARGE_PROGRAM, MOST_PROGRAM, Device, NoDevice, copied
 from ngc_tools.formats.position import millimetres, nanometres
 from ngc_tools.formats.settings import DEFAULT, Settings
+from ngc_tools.formats.text import shown
 from ngc_tools.job.parts_compared import compare_dry, compare_run
 from ngc_tools.job.split import CannotPart, LongProgram, Part, parted
 from ngc_tools.ngc import cures
@@ -56,11 +57,10 @@ def make_parser() -> argparse.ArgumentParser:
     size = parser.add_mutually_exclusive_group()
     size.add_argument("--large", action="store_true",
                       help=f"the device is large: a part has at most {MOST_LARGE_PROGRAM:,} bytes")
-    size.add_argument("--limit", metavar="BYTES", type=int,
+    size.add_argument("--limit", metavar="BYTES", type=whole_number,
                       help=f"bytes of a part at most; without it {MOST_PROGRAM:,}")
     parser.add_argument("--force", action="store_true", help="write over files that are there")
-    parser.add_argument("--ngc", metavar="PATH",
-                        help="the program ngc; without it the one beside this tool, or on PATH")
+    add_ngc(parser)
     return parser
 
 
@@ -95,7 +95,7 @@ def write_parts(args: argparse.Namespace) -> int:
     worlds = two_worlds(ngc, Settings.read(args.settings) if args.settings else DEFAULT)
     places = program.places(worlds, above)
     if len(text) <= limit:
-        print(f"{args.program}: {len(text):,} bytes: ngc run takes it as it is")
+        print(f"{shown(args.program)}: {len(text):,} bytes: ngc run takes it as it is")
         return 0
     parts = parted(program, places, limit, _plain(Path(args.program).name))
     whole = program.first_part(program.lines)
@@ -115,7 +115,7 @@ def compared_by(args: argparse.Namespace, ngc: str, image: bytes, whole: bytes, 
     if len(whole) > MOST_LARGE_PROGRAM:
         return ""
     pulses = compare_run(ngc, args.settings, image, whole, parts)
-    return f"ngc run over a copy of {args.device}: {pulses:,} pulses and waits"
+    return f"ngc run over a copy of {shown(args.device)}: {pulses:,} pulses and waits"
 
 
 def _plain(name: str) -> str:
@@ -136,4 +136,4 @@ def _write(args: argparse.Namespace, parts: list[Part]) -> None:
         if part.place:
             x, y, z = map(millimetres, part.place.at)
             where = f"from X {x} Y {y} Z {z} of the program"
-        print(f"{path}: lines {part.begin + 1} to {part.end}, {len(part.text):,} bytes, {where}")
+        print(f"{shown(str(path))}: lines {part.begin + 1} to {part.end}, {len(part.text):,} bytes, {where}")

@@ -9,7 +9,8 @@ import time
 from types import FrameType
 
 from ngc_tools.formats.text import shown
-from ngc_tools.operator.face import ASIDES, SAID, WARNING, UnderWay
+from ngc_tools.cli.typed_lines import TypedLines
+from ngc_tools.operator.face import SAID, WARNING, UnderWay, is_aside, is_override
 from ngc_tools.player.progress import Report
 
 _ENDING = (signal.SIGTERM, signal.SIGHUP)
@@ -25,12 +26,11 @@ class Screen:
 
     def __init__(self) -> None:
         """Takes the signals, until `close`."""
-        if hasattr(sys.stdin, "reconfigure"):
-            sys.stdin.reconfigure(errors="surrogateescape")  # bytes that are no text end no session
         self.is_terminal = sys.stdin.isatty() and sys.stdout.isatty()
         self.can_clear = self.is_terminal and os.environ.get("TERM", "dumb") != "dumb"
         self.asked_to_hold = 0
         self.ending = ""
+        self._lines = None if self.is_terminal else TypedLines(sys.stdin.fileno(), sys.stdin.encoding)
         self._prompts = False
         self._live = False
         self._shown = 0.0
@@ -96,7 +96,7 @@ class Screen:
         self._print("".join(line + "\n" for line in lines))
         self._prompts = True
         try:
-            return input(last + " " * (len(text) - len(text.rstrip(" "))))
+            return self._line(last + " " * (len(text) - len(text.rstrip(" "))))
         except OSError as error:
             raise AskedToEnd(f"the terminal is gone: {error.strerror}") from None
         finally:
@@ -104,6 +104,13 @@ class Screen:
             self.asked_to_hold = 0
             self._shown = 0.0  # what comes next is shown at once
             self._said.clear()
+
+    def _line(self, prompt: str) -> str:
+        """The next line, behind a prompt. Raises EOFError, OSError."""
+        if self._lines is None:
+            return input(prompt)
+        self._print(prompt)
+        return self._lines.next()
 
     def ask(self, question: str) -> str:
         """What a person answers; nothing at the end of the input, or for Ctrl-C. Raises AskedToEnd."""
@@ -115,14 +122,21 @@ class Screen:
 
     def interrupted(self) -> bool:
         """Whether Enter or Ctrl-C was pressed since the last prompt, or the session has to end. Another line than an
-        aside is Enter too."""
-        if self.is_terminal and not self.ending and select.select([sys.stdin], [], [], 0)[0]:
+        aside is Enter too. Of lines that come from a pipe or a file those that set the override are taken meanwhile, up
+        to the next command."""
+        if self._lines:
+            self._asides += self._lines.next_that(is_override)
+        elif not self.ending and select.select([sys.stdin], [], [], 0)[0]:
             text = self._typed()
-            if text.split()[:1] and text.split()[0].lower() in ASIDES:
+            if is_aside(text):
                 self._asides.append(text)
             else:
                 self.asked_to_hold += 1
         return self.asked_to_hold > 0 or self.ending != ""
+
+    def is_gone(self) -> bool:
+        """Whether the session has to end: then nobody lets held motors go on."""
+        return self.ending != ""
 
     def asides(self) -> list[str]:
         """The asides that were typed since."""

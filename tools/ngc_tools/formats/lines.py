@@ -53,3 +53,9 @@ def percent_lines(lines: list[bytes]) -> int:
         if words:
             return number if words == b"%" else 0
     return 0
+
+
+def percent_bytes(text: bytes) -> int:
+    """How many bytes those lines have."""
+    lines = program_lines(text)
+    return sum(map(len, lines[:percent_lines(lines)]))

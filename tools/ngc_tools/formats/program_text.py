@@ -42,6 +42,14 @@ class ProgramText:
         """The bytes as `ngc` reads them: ASCII, or UTF-8 without a mark."""
         return "".join(line + end for line, end in zip(self.lines, self.ends, strict=True)).encode()
 
+    def why_unreadable(self, data: bytes) -> str:
+        """Why `ngc` can read no line of the bytes that this was read from as it is meant; nothing if it can."""
+        if self.encoding == "UTF-16":
+            return "it is UTF-16, of which ngc reads no line"
+        if b"\n" not in data and b"\r" in data.rstrip(b"\r"):
+            return "its lines end in carriage returns alone, so ngc takes it for one line"
+        return ""
+
 
 def _decoded(data: bytes) -> tuple[str, str, list[str]]:
     """The text, the encoding, and what is changed by writing it in UTF-8. Raises NotText."""

@@ -10,6 +10,7 @@ from ngc_tools.job.heights import shallowest
 from ngc_tools.job.moves import PLANES
 from ngc_tools.job.printed import Act
 from ngc_tools.job.refused import Lines
+from ngc_tools.ngc.machine_report import Motion
 from ngc_tools.ngc.settings_report import number
 
 _SLOT = re.compile(rb"H0*([0-9]+)(?:\.0*)?(?![0-9.])", re.IGNORECASE)
@@ -60,6 +61,28 @@ def _fastest(act: Act, settings: Settings) -> int | None:
     pulses = max(span // step for span, step in zip(spans, settings.step_nm, strict=True))
     length = isqrt(sum(span * span for span in spans))
     return length * 60_000_000 // (pulses * settings.period_us) if pulses else None
+
+
+def too_fast_to_stop(acts: list[Act], motion: Motion) -> Iterator[Danger]:
+    """The first move at each feed that wants more lines in hand than the player's window has."""
+    said: set[int] = set()
+    for act in acts:
+        feed = act.in_force.feed
+        if not act.is_cut or act.in_force.inverse or feed in said:
+            continue
+        rates = ((axis, motion.reached(axis, feed)) for axis in _moving(act))
+        short = next(((axis, rate) for axis, rate in rates if motion.is_short(axis, rate)), None)
+        if short:
+            said.add(feed)
+            yield Danger(act.line, "window", f"a feed of {motion.stop(*short)}. {motion.beyond}")
+
+
+def _moving(act: Act) -> tuple[int, ...]:
+    """The axes along which a cut goes."""
+    ends = zip(act.at, act.command.point, strict=True)
+    straight = {axis for axis, (begin, end) in enumerate(ends) if begin != end}
+    round_about = PLANES[act.in_force.plane][:2] if act.command.name == "ARC_FEED" else ()
+    return tuple(sorted(straight.union(round_about)))
 
 
 def lengths(lines: Lines, acts: list[Act], tools_nm: Sequence[int]) -> Iterator[Danger]:

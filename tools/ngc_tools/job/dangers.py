@@ -15,6 +15,7 @@ from ngc_tools.job.moves import PLANES, arc_of
 from ngc_tools.job.printed import Act, Printed, Run, acts_of, by_line
 from ngc_tools.job.refused import Lines
 from ngc_tools.ngc.beginning import Beginning
+from ngc_tools.ngc.machine_report import Motion
 from ngc_tools.ngc.settings_report import number
 
 LONG_DWELL_US = 30_000_000
@@ -27,13 +28,15 @@ _HOME = re.compile(rb"G0*(28|30)(?:\.0*)?(?![0-9.])", re.IGNORECASE)
 @dataclass(frozen=True, slots=True)
 class Conditions:
     """What a program is checked under: where it begins, what is in force there, the settings, None for the default
-    ones, whether the device is large, and whether it is known where the work zero is."""
+    ones, whether the device is large, whether it is known where the work zero is, and what the motors allow, if that is
+    known."""
 
     beginning: Beginning
     begun: InForce
     settings: Settings | None = None
     is_large: bool = False
     is_placed: bool = False
+    motion: Motion | None = None
 
     @property
     def tools_nm(self) -> tuple[int, ...]:
@@ -53,6 +56,7 @@ def dangers(lines: Lines, run: Run, under: Conditions) -> list[Danger]:
              *cutting.spindle(acts), *cutting.lengths(lines, acts, under.tools_nm), *cutting.tool_changes(acts),
              *_other_lengths(lines, acts, under),
              *(cutting.capped(acts, under.settings) if under.settings else ()),
+             *(cutting.too_fast_to_stop(acts, under.motion) if under.motion else ()),
              *reliance.modes(lines, printed, run, under.beginning.modes), *reliance.after_stops(lines, printed, run),
              *reliance.dropped_offset(lines, printed, run, under.beginning.g92_nm),
              *reliance.place(lines, acts, run, under.beginning.point_nm, under.beginning.modes[0])]

@@ -15,6 +15,10 @@ Pair = tuple[int, int]
 TRAVERSE, CUT, MOTION = "traverse", "cut", "motion"
 """What a move is. Of OUT nothing says which: there it is `motion`."""
 
+_STANDS = {"PROGRAM_STOP", "PALLET_SHUTTLE", "START_SPINDLE_CLOCKWISE", "START_SPINDLE_COUNTERCLOCKWISE",
+           "STOP_SPINDLE_TURNING", "SET_SPINDLE_SPEED", "MIST_ON", "MIST_OFF", "FLOOD_ON", "FLOOD_OFF", "SELECT_TOOL",
+           "CHANGE_TOOL", "PROGRAM_END"}  # at which everything stands: a line S of OUT, but for the first two
+
 PLANES = {"XY": (0, 1, 2), "XZ": (2, 0, 1), "YZ": (1, 2, 0)}
 """Of each plane its two axes, the first and the second, and the third axis."""
 
@@ -34,7 +38,8 @@ class Arc:
 class Move:
     """One move, or of OUT all between two other lines. `points` begin at its start and end at its end. `feed` is in
     millionths of a millimetre a minute; with `inverse` the move takes 1 / `inverse` minutes, in millionths too. `us` is
-    how long it lasts, if that is known. `tool` is the slot in the spindle."""
+    how long it lasts, if that is known. `tool` is the slot in the spindle. `rests`: everything stands before it, for a
+    switch, a tool or a stop of the program."""
 
     kind: str
     points: tuple[Point, ...]
@@ -43,6 +48,7 @@ class Move:
     feed: int = 0
     inverse: int = 0
     us: int | None = None
+    rests: bool = False
 
     @property
     def length(self) -> int:
@@ -52,10 +58,11 @@ class Move:
 
 @dataclass(frozen=True, slots=True)
 class Wait:
-    """A dwell of `us` microseconds."""
+    """A dwell of `us` microseconds. `rests` is as that of a move."""
 
     us: int
     tool: int = 0
+    rests: bool = False
 
 
 Step = Move | Wait
@@ -81,7 +88,7 @@ def of_canonical(commands: Iterable[Command], before: Iterable[Command] = ()) ->
                 tool = int(command.args[0])
             case name if name in MOTIONS:
                 at = command.point
-    for command in commands:
+    for command, rests in _resting(commands):
         match command.name:
             case "SELECT_PLANE":
                 plane = str(command.args[0])
@@ -92,17 +99,26 @@ def of_canonical(commands: Iterable[Command], before: Iterable[Command] = ()) ->
             case "CHANGE_TOOL":
                 tool = int(command.args[0])
             case "DWELL":
-                yield Wait(int(command.args[0]), tool)
+                yield Wait(int(command.args[0]), tool, rests)
             case "STRAIGHT_TRAVERSE":
-                yield Move(TRAVERSE, (at, command.point), tool)
+                yield Move(TRAVERSE, (at, command.point), tool, rests=rests)
                 at = command.point
             case "STRAIGHT_FEED":
-                yield Move(CUT, (at, command.point), tool, feed=feed, inverse=inverse)
+                yield Move(CUT, (at, command.point), tool, feed=feed, inverse=inverse, rests=rests)
                 at, inverse = command.point, 0
             case "ARC_FEED":
                 arc = arc_of(command, plane)
-                yield Move(CUT, arc_points(at, command.point, arc), tool, arc, feed, inverse)
+                yield Move(CUT, arc_points(at, command.point, arc), tool, arc, feed, inverse, rests=rests)
                 at, inverse = command.point, 0
+
+
+def _resting(commands: Iterable[Command]) -> Iterator[tuple[Command, bool]]:
+    """Each command, and whether everything stands between the last step and it."""
+    rests = False
+    for command in commands:
+        rests = rests or command.name in _STANDS
+        yield command, rests
+        rests = rests and command.name not in ("DWELL", *MOTIONS)
 
 
 def work_zeros(commands: Iterable[Command], before: Iterable[Command] = ()) -> list[Point]:

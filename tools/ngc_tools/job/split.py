@@ -7,11 +7,12 @@ from itertools import accumulate
 
 from ngc_tools.failure import Failure
 from ngc_tools.formats.canonical import MOTIONS, Command
+from ngc_tools.formats.lines import percent_bytes, percent_lines
 from ngc_tools.formats.position import millimetres
 from ngc_tools.job.cam import CamLine
 from ngc_tools.job.in_force import InForce
 from ngc_tools.job.moves import Point
-from ngc_tools.ngc.worlds import LineRefused, World, after_percent
+from ngc_tools.ngc.worlds import LineRefused, World
 
 LONGEST_LINE = 230  # bytes: a mark still fits in
 
@@ -94,7 +95,7 @@ class LongProgram:
     @property
     def is_percent(self) -> bool:
         """Whether a percent sign is its first line."""
-        return after_percent(b"".join(self.lines)) > 0
+        return percent_lines(self.lines) > 0
 
     def places(self, worlds: tuple[World, ...], above: int | None) -> list[Place]:
         """Where it may be parted: at the same program coordinates in each world. Raises LineRefused, CannotRun.
@@ -136,7 +137,7 @@ class LongProgram:
         text = b"".join(lines)
         if not self.left_open:
             return text
-        at = after_percent(text)
+        at = percent_bytes(text)
         return text[:at] + f"{' '.join(self.left_open.values())}\n".encode() + text[at:]
 
     def part(self, begin: Place | None, end: int, named: str) -> Part:

@@ -7,6 +7,7 @@ import termios
 from pathlib import Path
 
 from ngc_tools.failure import Failure
+from ngc_tools.files import naming
 from ngc_tools.formats.device import SIZE
 from ngc_tools.formats.out import LONGEST_LINE, BadLine, read_line
 
@@ -62,11 +63,13 @@ def _device(path: str) -> None:
         raise CannotBegin(f"{path}: the device can't be opened to be read and written: {error.strerror}") from None
     try:
         _free(file, path, "the device")
-        size = os.lseek(file, 0, os.SEEK_END)
-        marks = [os.pread(file, 8, byte) for byte in (0, 512)]
+        with naming(path):
+            size = os.lseek(file, 0, os.SEEK_END)
+            marks = [os.pread(file, 8, byte) for byte in (0, 512)]
         if size < SIZE:
-            raise CannotBegin(f"{path}: not a device: it has {size:,} bytes of {SIZE:,}; remove it, then"
-                          f" `ngc format {path}`")
+            is_file = stat.S_ISREG(os.fstat(file).st_mode)
+            then = f"; remove it, then `ngc format {path}`" if is_file else ""
+            raise CannotBegin(f"{path}: not a device: it has {size:,} bytes of {SIZE:,}{then}")
         if b"RS274NGC" not in marks:
             raise CannotBegin(f"{path}: not a device: it isn't formatted. `ngc format {path}` makes one of it, AND"
                           " OVERWRITES WHAT IT HOLDS")

@@ -4,7 +4,6 @@
 lengths, the machine's point. What is put here is what a program that is loaded now begins with (docs/SESSION.md)."""
 import errno
 import os
-import tempfile
 from collections.abc import Callable, Iterator
 from contextlib import contextmanager
 from dataclasses import dataclass, replace
@@ -19,6 +18,7 @@ from ngc_tools.formats.position import millimetres
 from ngc_tools.formats.settings import DEFAULT, Settings
 from ngc_tools.ngc.device_head import CannotSetUp, HeadLine, Point, head_of, notes_of, system_line
 from ngc_tools.ngc.run import Refusal, dry, refusal
+from ngc_tools.scratch import scratch_file
 
 _READINGS = 100
 _MARK = "the program begins"
@@ -157,11 +157,8 @@ def _with_tools(settings: str | Path | None, tools_nm: tuple[int, ...] | None) -
         yield settings
         return
     found = DEFAULT if settings is None else Settings.read(settings)
-    with tempfile.NamedTemporaryFile("w", prefix="ngc-settings-", suffix=".toml", encoding="utf-8") as file:
-        with naming(file.name):
-            file.write(replace(found, tools_nm=tools_nm).text())
-            file.flush()
-        yield file.name
+    with scratch_file(replace(found, tools_nm=tools_nm).text(), "settings", ".toml") as path:
+        yield path
 
 
 def _image(path: str | Path) -> bytes:

@@ -4,12 +4,11 @@ import re
 import shutil
 import subprocess
 import sys
-import tempfile
 from dataclasses import dataclass
 from pathlib import Path
 
 from ngc_tools.failure import Failure
-from ngc_tools.files import naming
+from ngc_tools.scratch import scratch_file
 
 _REFUSED = re.compile(r"REFUSED line ([0-9]+): ([A-Z][0-9]+) ([A-Za-z0-9]+)")
 _SETTINGS_REFUSED = re.compile(r"refused ([A-Z][0-9]+) ([A-Za-z0-9]+)")
@@ -47,11 +46,8 @@ def dry(ngc: str | Path, program: bytes | str | Path, settings: str | Path | Non
 
     Raises OSError if `ngc` can't be started or the text can't be kept in a file."""
     if isinstance(program, bytes):
-        with tempfile.NamedTemporaryFile(prefix="ngc-dry-", suffix=".ngc") as file:
-            with naming(file.name):
-                file.write(program)
-                file.flush()
-            return dry(ngc, file.name, settings, block_delete)
+        with scratch_file(program, "dry", ".ngc") as path:
+            return dry(ngc, path, settings, block_delete)
     words = [str(ngc), "dry", str(program)]
     words += ["--settings", str(settings)] if settings is not None else []
     words += ["--block-delete"] if block_delete else []

@@ -1,6 +1,5 @@
 """Settings as a person reads them, and which key a fault of their file means. `ngc` decides what is valid: each key is
 tried beside five good ones."""
-import tempfile
 from dataclasses import asdict
 from pathlib import Path
 from typing import Any
@@ -10,6 +9,7 @@ from ngc_tools.formats.settings import (AXES, DEFAULT, KEYS, LIMITS, BadSettings
 from ngc_tools.formats.text import shown
 from ngc_tools.ngc import faults
 from ngc_tools.ngc.run import Refusal, settings_refusal
+from ngc_tools.scratch import scratch_file
 
 GOOD: dict[str, Any] = asdict(DEFAULT)
 
@@ -37,10 +37,9 @@ def fault_lines(ngc: str, path: str | Path, refused: Refusal) -> list[str]:
 
 def _tried(ngc: str, key: str, value: Any) -> Refusal | None:
     """The fault of this value of the key beside five good ones."""
-    with tempfile.NamedTemporaryFile("w", prefix="ngc-settings-", suffix=".toml", encoding="utf-8") as file:
-        file.writelines(f"{toml_line(name, value if name == key else good)}\n" for name, good in GOOD.items())
-        file.flush()
-        return settings_refusal(ngc, file.name)
+    text = "".join(f"{toml_line(name, value if name == key else good)}\n" for name, good in GOOD.items())
+    with scratch_file(text, "settings", ".toml") as path:
+        return settings_refusal(ngc, path)
 
 
 def _place(lines: list[str], key: str) -> str:

@@ -1,12 +1,12 @@
 """Dry runs of one program over other work offsets and tool lengths: what stays the same holds over any of them."""
-import tempfile
 from dataclasses import dataclass, replace
 
 from ngc_tools.failure import Failure
-from ngc_tools.files import naming
 from ngc_tools.formats.canonical import Command, read_commands
+from ngc_tools.formats.lines import percent_bytes
 from ngc_tools.formats.settings import Settings
 from ngc_tools.ngc.run import Refusal, dry, refusal
+from ngc_tools.scratch import scratch_file
 
 _WIDEST_NM = 10**10  # the travel of no machine ends before
 _SYSTEMS = range(1, 10)
@@ -38,12 +38,9 @@ class World:
 
         It begins in the modes of a fresh controller, or in others. Raises LineRefused, CannotRun, OSError."""
         said = self.head + (_OTHER_MODES if in_other_modes else "") + f"({_BEGIN})\n"
-        at = after_percent(text)
-        with tempfile.NamedTemporaryFile("w", prefix="ngc-settings-", suffix=".toml") as file:
-            with naming(file.name):
-                file.write(self.settings.text())
-                file.flush()
-            status, canonical = dry(self.ngc, text[:at] + said.encode() + text[at:], file.name)
+        at = percent_bytes(text)
+        with scratch_file(self.settings.text(), "settings", ".toml") as path:
+            status, canonical = dry(self.ngc, text[:at] + said.encode() + text[at:], path)
         refused = refusal(status, canonical)
         if refused:
             more = said.count("\n") if refused.line > text[:at].count(b"\n") else 0
@@ -61,13 +58,3 @@ def two_worlds(ngc: str, settings: Settings) -> tuple[World, World]:
     head = "".join(f"G10 L2 P{system} X{31 + 7 * system}.25 Y{-17 - 5 * system}.5 Z{-61 - 3 * system}.125\n"
                    for system in _SYSTEMS)
     return World(ngc, wide, ""), World(ngc, replace(wide, tools_nm=lengths), head)
-
-
-def after_percent(text: bytes) -> int:
-    """The byte after the opening percent line, 0 if there is none."""
-    begin = 0
-    for line in text.split(b"\n"):
-        begin += len(line) + 1
-        if line.strip():
-            return begin if line.strip() == b"%" else 0
-    return 0

@@ -1,5 +1,6 @@
 """What a refusal of a command means now: which of its causes holds, by the status, and what to do next."""
 from ngc_tools.formats.device import Device
+from ngc_tools.formats.settings import Settings
 from ngc_tools.ngc.commands import form_of, slot_to_give_first
 from ngc_tools.ngc.console import Status
 from ngc_tools.operator.face import REFUSED
@@ -40,17 +41,31 @@ def _cause(session: Session, code: str, command: str) -> str | None:
         return "no block is half-done: run goes on with the program"
     if code == "K3":
         return f"it isn't known where the machine stands: {_reference(session)}"
-    if code == "U1":
-        return form_of(command)
+    if cause := _by_words(code, command, session.settings):
+        return cause
     device = session.stored()
     if code == "B14" and word == "tool" and isinstance(device, Device):
         return slot_to_give_first(int(rest[0]), len(device.tools_nm))
-    if code == "X2" and word == "reference":
-        return breach_of_point([nanometres_of(number) or 0 for number in rest], session.settings)
     if code == "X2" and word == "mdi" and isinstance(device, Device):
         line = command.removeprefix("mdi ").encode("utf-8", "surrogateescape") + b"\n"
         return breach_of_line(session.console, device, session.settings, line, 1)
     return None
+
+
+def _by_words(code: str, command: str, settings: Settings) -> str | None:
+    """The same, where the command's own words tell it: its form, or which axis of a point leaves the travel."""
+    word, *rest = command.split()
+    if code == "U1":
+        return form_of(command)
+    if code == "X2" and word == "reference":
+        return breach_of_point([nanometres_of(number) or 0 for number in rest], settings)
+    return None
+
+
+def rehearsed(reply: str, command: str, settings: Settings) -> str:
+    """What is said where `ngc` refuses a command over a copy of the device."""
+    cause = _by_words(reply.split()[1], command, settings)
+    return f"{command}: {reply}: {cause}" if cause else f"{command}: {explained(reply)}"
 
 
 def busy(session: Session, status: Status, word: str) -> str:

@@ -3,7 +3,9 @@ from ngc_tools.formats.device import Device
 from ngc_tools.ngc.console import Status
 from ngc_tools.operator.face import WARNING
 from ngc_tools.operator.display import on_words, outputs_on
+from ngc_tools.operator.motors import behind
 from ngc_tools.operator.session import Session
+from ngc_tools.operator.synced import SyncedLink
 from ngc_tools.player.progress import NoAnswer
 
 _LEFT = ("The player switches that off once the session has ended and the seconds of its --off-after are over; Ctrl-C"
@@ -24,9 +26,21 @@ class Ending:
             self.session.face.say(f"{half} stays half-done: it is taken up or given up in the next session", WARNING)
         return status.half != "none"
 
+    def leaves_lines(self) -> bool:
+        """Whether the session's end leaves lines in the hands of a player that is held; says it."""
+        report = self.session.report()
+        if report is None or not report.is_held or not report.behind:
+            return False
+        keeps = self.session.meter is not None and isinstance(self.session.meter.link, SyncedLink)
+        then = "is for recover in the next session" if keeps else "is never carried out"
+        self.session.face.say(f"the motors are held, and {behind(report, self.session.settings)}: once the session has"
+                              f" ended that {then}. release lets the motors go on", WARNING)
+        return True
+
     def say(self) -> None:
         """Says what the end of the input leaves half-done, and on."""
         self.leaves_half(self.session.console.status())
+        self.leaves_lines()
         if left_on := self.left_on():
             self.session.face.say(f"still on: {left_on}. {self.how_off()}", WARNING)
 
@@ -42,8 +56,9 @@ class Ending:
 
     def can_switch(self, status: Status) -> bool:
         """Whether a line of one's own is taken now, as M5 is."""
+        seen = self.session.seen
         return (status.half == "none" and status.known and status.does in ("idle", "stopped", "held")
-                and not self.session.gone)
+                and not self.session.gone and not (seen and seen.is_held))
 
     def how_off(self) -> str:
         """How what is on goes off, where no line of one's own is taken."""

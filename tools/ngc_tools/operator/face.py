@@ -1,4 +1,5 @@
 """Where people see a session and are asked. The operator's core knows no screen: it speaks to a face."""
+import re
 from collections.abc import Iterable
 from dataclasses import dataclass
 from typing import Protocol
@@ -10,9 +11,22 @@ SAID, WHERE, MESSAGE, REFUSED, WARNING = "said", "where", "message", "refused", 
 """The kinds of what is said: an answer; what the machine does, which a face may show all the time anyway; a message of
 the program; a refusal; what is dangerous or failed."""
 
+_KEYS = re.compile(r"[-+]+|0")
 
-ASIDES = ("go", "optional", "delete")
-"""The words of the commands that are taken while something runs, besides the wish to hold."""
+
+def are_keys(text: str) -> bool:
+    """Whether a line is of the keys that set the override: `+` and `-`, as often as they were pressed, or `0`."""
+    return _KEYS.fullmatch(text.strip()) is not None
+
+
+def is_override(text: str) -> bool:
+    """Whether a line sets the override: by keys, or by `percent N`."""
+    return are_keys(text) or text.lower().split()[:1] == ["percent"]
+
+
+def is_aside(text: str) -> bool:
+    """Whether a line is a command that is taken while something runs, besides the wish to hold."""
+    return is_override(text) or text.lower().split()[:1] in (["go"], ["optional"], ["delete"])
 
 
 def axes(at: list[str] | tuple[str, ...]) -> str:
@@ -23,23 +37,25 @@ def axes(at: list[str] | tuple[str, ...]) -> str:
 @dataclass(frozen=True, slots=True)
 class UnderWay:
     """What is shown while something runs: the line that is being done, the status, where the player said last that the
-    motors are, as `1.000000 0.000000 0.000000`, or nothing, and more, what matters most first."""
+    motors are, as `1.000000 0.000000 0.000000`, or nothing, and more, what matters most first. `motion` says how they
+    move: whether they are held, the override, the lines behind."""
 
     line: str
     status: Status
     motors: str = ""
     more: tuple[str, ...] = ()
+    motion: tuple[str, ...] = ()
 
     def fitted(self, width: int) -> str:
         """In one line of at most this many characters: the line and where the motors are, cut if they have to be, and
-        as much more as fits."""
+        as much more as fits; how they move before the last decimals."""
         at = axes(self.motors.split()) if self.motors else ""
-        if at and len(self.line) + 2 + len(at) > width:
+        if at and len("  ".join((self.line, at, *self.motion))) > width:
             at = " ".join(f"{letter}{number[:-3]}" for letter, number in zip("XYZ", self.motors.split(), strict=True))
         room = width - len(at) - 2 if at else width
         line = self.line if len(self.line) <= room else self.line[:max(0, room - 2)].rstrip() + ".."
         text = f"{line}  {at}" if at else line
-        for part in self.more:
+        for part in (*self.motion, *self.more):
             if len(text) + 2 + len(part) <= width:
                 text += f"  {part}"
         return text[:width]
@@ -67,4 +83,7 @@ class Face(Protocol):
         """Whether somebody wants to hold since the last command was given."""
 
     def asides(self) -> Iterable[str]:
-        """The commands of `ASIDES` that somebody gave since while something runs, each once."""
+        """The commands that `is_aside` knows which somebody gave since while something runs, each once."""
+
+    def is_gone(self) -> bool:
+        """Whether nobody is there any more who could let motors go on that are held."""

@@ -91,16 +91,11 @@ class Loading:
 
 def unreadable(name: str, text: bytes) -> str:
     """Why `ngc` can read no line of a text as it is meant, and what to do; nothing if it can."""
-    cure = f"ngc-adapt {name} --output NEW.ngc writes it as ngc reads it"
     try:
-        found = ProgramText.read(text)
+        why = ProgramText.read(text).why_unreadable(text)
     except NotText as error:
         return f"{name}: {error}"
-    if found.encoding == "UTF-16":
-        return f"{name}: it is UTF-16, of which ngc reads no line: {cure}"
-    if b"\n" not in text and b"\r" in text:
-        return f"{name}: its lines end in carriage returns alone, so ngc takes it for one line: {cure}"
-    return ""
+    return f"{name}: {why}: ngc-adapt {name} --output NEW.ngc writes it as ngc reads it" if why else ""
 
 
 def refusal_lines(text: bytes, found: Timeline) -> str:

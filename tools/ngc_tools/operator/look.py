@@ -7,6 +7,7 @@ from ngc_tools.ngc.console import Status
 from ngc_tools.operator.face import WHERE, axes
 from ngc_tools.operator.display import in_force_on, offsets_words, outputs_on, outputs_words, work_words
 from ngc_tools.operator.modes import trimmed
+from ngc_tools.operator.motors import behind, manner
 from ngc_tools.operator.session import Session, place
 from ngc_tools.operator.timeline import Timeline
 from ngc_tools.operator.work import clock
@@ -88,5 +89,5 @@ class Look:
 
     def _motors(self, report: Report | None) -> None:
         if report:
-            text = f"the motors are at {axes(report.at.split())}, {report.behind} lines behind"
-            self.session.face.say(text, WHERE)
+            said = [f"the motors are at {axes(report.at.split())}", behind(report, self.session.settings)]
+            self.session.face.say(", ".join(said + manner(report)), WHERE)

@@ -1,48 +1,72 @@
-"""Ticks by measure: lines are handed out only while the player is at most a given number of them behind."""
+"""Ticks by measure: so many lines are handed out as the player is to have in hand, and no more."""
 import time
 from collections.abc import Callable
 
 from ngc_tools.failure import BadNumber
 from ngc_tools.player.progress import Link, Report
 
-LIMIT = 100  # lines
-LIMITS = range(2, 5001)
+LIMIT = 100  # lines, of a player that doesn't say how many it wants
+LIMITS = range(2, 8001)  # what a player can have in hand
+AT_ONCE = 200  # ticks: so many lines fit into the smallest pipe, so that no tick waits for the player
+_PARTS = 16  # of the lines in hand: more are given once one part is carried out
+_HELD_S = 0.5  # a player that says for so long that it is held isn't about to go on
 
 
 def check_limit(limit: int) -> None:
-    """Raises BadNumber for a bound below 2, or above 5,000, which is what a player can have in hand."""
+    """Raises BadNumber for a bound below 2, or above 8,000, which is what a player can have in hand."""
     if limit not in LIMITS:
         raise BadNumber(f"{limit} lines: the bound is from {LIMITS[0]} to {LIMITS[-1]:,}")
+
+
+def always(_: Report) -> bool:
+    """Goes on whatever a player says."""
+    return True
 
 
 class Meter:
     """Asks the player before each tick command. Each tick hands out one line at most, so with as many ticks as there is
     room for, OUT is never more than `limit` lines ahead of the player."""
 
-    def __init__(self, link: Link, limit: int = LIMIT, look_s: float = 0.0005) -> None:
-        """`limit` is in lines; the player is asked each `look_s` seconds while it is too far behind. Raises ValueError
-        as `check_limit`."""
-        check_limit(limit)
+    def __init__(self, link: Link, most: int | None = None, look_s: float = 0.0005) -> None:
+        """`most` is a bound in lines whatever the player wants; the player is asked each `look_s` seconds while it is
+        too far behind. Raises ValueError as `check_limit`."""
+        if most is not None:
+            check_limit(most)
         self.link = link
-        self.limit = limit
+        self.most = most
         self.look_s = look_s
+        self.parts, self.at_once = _PARTS, AT_ONCE
 
-    def room(self, go_on: Callable[[Report], bool] = lambda report: True) -> int:
-        """Waits until the player is at most half the bound behind, and returns how many ticks may be given; 0 if
-        `go_on`, which sees each report, says no. Raises NoAnswer if the player is gone."""
+    def limit(self, report: Report) -> int:
+        """How many lines OUT may be ahead of the player now: what it wants for its motors to stop in, else 100; at most
+        the bound."""
+        most = self.most or LIMITS[-1]
+        return max(LIMITS[0], min(report.wants or self.most or LIMIT, most))
+
+    def room(self, go_on: Callable[[Report], bool] = always) -> int:
+        """Waits until a sixteenth of the lines is carried out, and returns how many ticks may be given; 0 if `go_on`,
+        which sees each report, says no. Raises NoAnswer if the player is gone."""
         while True:
             report = self.link.ask()
             if not go_on(report):
                 return 0
-            if 2 * report.behind <= self.limit:
-                return self.limit - report.behind
+            limit = self.limit(report)
+            free = limit - report.behind
+            if free >= max(1, limit // self.parts):
+                return min(free, self.at_once)
             time.sleep(self.look_s)
 
-    def drained(self, go_on: Callable[[Report], bool] = lambda report: True) -> bool:
-        """Waits until the player has carried out all that was handed out; False if `go_on` says no before. Raises
-        NoAnswer."""
-        while (report := self.link.ask()).behind:
-            if not go_on(report):
+    def drained(self, go_on: Callable[[Report], bool] = always) -> bool:
+        """Tells the player that nothing more comes for now, and waits until it has carried out all that was handed out.
+        False if `go_on` says no before, or its motors are held. Raises NoAnswer."""
+        report = self.link.ask()
+        if report.behind:
+            self.link.last()
+        worked = time.monotonic()  # when it was last seen not to be held
+        while report.behind:
+            worked = worked if report.is_held else time.monotonic()
+            if not go_on(report) or time.monotonic() > worked + _HELD_S:
                 return False
             time.sleep(10 * self.look_s)
+            report = self.link.ask()
         return True

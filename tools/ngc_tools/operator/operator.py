@@ -4,29 +4,31 @@ One core for whatever shows it, a `Face`."""
 import difflib
 import os
 from collections.abc import Callable
-from pathlib import Path
 
+from ngc_tools.files import read_regular
 from ngc_tools.formats.device import Device
 from ngc_tools.formats.lines import Program
 from ngc_tools.formats.settings import Settings
 from ngc_tools.ngc.console import Console, Status
 from ngc_tools.operator.causes import refused, taken
 from ngc_tools.operator.ending import Ending
-from ngc_tools.operator.face import REFUSED, WARNING, WHERE, Face
+from ngc_tools.operator.face import REFUSED, WARNING, WHERE, Face, are_keys
 from ngc_tools.operator.left import Left, dropped_g92
 from ngc_tools.operator.loading import Loading
 from ngc_tools.operator.look import Look
 from ngc_tools.operator.meter import Meter
+from ngc_tools.operator.motors import Motors
 from ngc_tools.operator.opening import say_opening
 from ngc_tools.operator.places import Places, stops_outputs
+from ngc_tools.operator.recover import Recover
 from ngc_tools.operator.rehearsing import rehearse
-from ngc_tools.operator.sentences import HELP, NOT_MOVED, SWITCHED, TAKEN_UP
+from ngc_tools.operator.sentences import HELP, NOT_MOVED, SWITCHED, SWITCHED_THERE, TAKEN_UP, TAKEN_UP_THERE
 from ngc_tools.operator.session import Nothing, Session, place
 from ngc_tools.operator.typed import ANYWAY, Typed
 from ngc_tools.operator.work import Work
 from ngc_tools.player.progress import NoAnswer, Report
 
-PLAIN = ("hold", "abandon", "tool", "optional", "delete")
+PLAIN = ("abandon", "tool", "optional", "delete")
 
 
 class Operator:
@@ -36,17 +38,20 @@ class Operator:
         """Raises BadSettings or OSError if the settings of the console can't be read."""
         self.console, self.face = console, face
         self.session = Session(console, face, meter, Settings.read(console.settings))
-        self.work = Work(self.session, self.do)
+        self.motors = Motors(self.session)
+        self.work = Work(self.session, self.motors, self.do)
         self.places = Places(self.session, self.work)
         self.left = Left(self.session)
         self.loading = Loading(self.session)
         self.ending = Ending(self.session)
+        self.recover = Recover(self.session)
         self.over = False
         self._doings: dict[str, Callable[[Typed], None]] = {
             "load": self._load, "run": self._run, "start": self._start, "continue": self._continue,
             "where": self._where, "status": self._status, "reference": self._reference, "resume": self._resume,
             "rehearse": self._rehearse, "restore": self._restore, "go": self._go, "help": self._help, "?": self._help,
-            "quit": self._quit, "exit": self._quit, "tick": self._tick,
+            "recover": self._recover, "drop": self._drop, "quit": self._quit, "exit": self._quit, "tick": self._tick,
+            "hold": self._hold_all, "release": self._release, "percent": self._percent,
             "mdi": lambda typed: self._mdi(typed.rest, typed.anyway),
             **dict.fromkeys(PLAIN, self._plain),
         }
@@ -56,13 +61,20 @@ class Operator:
         self.session.program = Program(self.stored().program)
         self.face.say(bound)
         say_opening(self.session, self.places, self.left, found)
-        self.session.told = self.console.status().place
+        status = self.console.status()
+        self.recover.begin(status)
+        self.session.told = status.place
 
     def do(self, line: str) -> None:
         """Does what a person typed. Raises Ended if `ngc` ends."""
         typed = Typed.read(line)
+        is_line = typed.word not in self._doings and not are_keys(typed.line)
+        if typed.word and self.recover.forbids(typed.word, is_line):
+            return
         if typed.word in self._doings:
             self._doings[typed.word](typed)
+        elif are_keys(typed.line):
+            self.motors.override(typed.line, "")
         elif typed.word:
             self._mdi(typed.line, typed.anyway)
 
@@ -102,7 +114,7 @@ class Operator:
             return
         path = os.path.expanduser(typed.rest)
         try:
-            text = Path(path).read_bytes()
+            text = read_regular(path)
         except OSError as error:
             self.face.say(f"{path}: {error.strerror}", REFUSED)
             return
@@ -121,6 +133,8 @@ class Operator:
     def _go_on(self, command: str, typed: Typed) -> None:
         """Starts the program, or goes on with what waits."""
         status = self.console.status()
+        if self.motors.are_held and self._let_go(command, status):
+            return
         if not typed.anyway and not (self.places.agree(status, f"{typed.word} {ANYWAY}") and self.left.agreed(status)):
             return
         timeline = self.loading.timeline(command == "start" and not status.place)
@@ -144,6 +158,8 @@ class Operator:
     def _line_done(self, line: str, anyway: bool) -> str | None:
         """Does a line of one's own. Returns what ended its work, None where it wasn't taken or is held."""
         status = self.console.status()
+        if status.half == "none" and not self.motors.are_free():
+            return None
         compared = status.half == "none" and not anyway and not stops_outputs(line)
         if compared and not self.places.agree(status, f"{ANYWAY} {line}"):
             return None
@@ -184,14 +200,66 @@ class Operator:
         if taken(self.session, reply, f"{typed.word} {typed.rest}".strip()) and typed.word in ("delete", "optional"):
             setattr(self.session, typed.word, typed.rest.lower() == "on")
 
+    def _hold_all(self, typed: Typed) -> None:
+        stand = self.motors.hold()
+        self._plain(typed)
+        if stand:
+            self.motors.say_rest()
+
+    def _release(self, _: Typed) -> None:
+        """Lets the motors carry out what is in hand; `ngc` stays as it is."""
+        report = self.session.report()
+        if not self.motors.are_held and not (report and report.behind):
+            self.face.say("the motors aren't held")
+            return
+        self.motors.release()
+        if self.work.await_motors():
+            Look(self.session).after_work()
+
+    def _percent(self, typed: Typed) -> None:
+        self.motors.override(typed.word, typed.rest)
+
+    def _let_go(self, command: str, status: Status) -> bool:
+        """Lets held motors go on. Whether that is all that is done: where `ngc` isn't held, what it handed out is
+        carried out first, and the program goes on by the next command."""
+        is_held = status.does == "held"
+        if is_held and command == "start" or not is_held and status.half != "none":
+            return False  # `ngc` refuses it
+        report = self.session.report()
+        self.motors.release()
+        if is_held or not report or not report.behind:
+            return False
+        if self.work.await_motors():
+            Look(self.session).after_work()
+        return True
+
     def _reference(self, typed: Typed) -> None:
         if self.console.status().half == "none":
             self.left.keep()
         self.places.reference(typed.rest.lower().split(), typed.anyway)
 
-    def _resume(self, typed: Typed) -> None:
+    def _recover(self, _: Typed) -> None:
+        """Brings the motors to where a half-done segment begins, and takes it up."""
+        status = self.console.status()
+        try:
+            is_there = self.recover.go(status)
+        except (NoAnswer, OSError) as error:
+            self.face.say(str(error), WARNING)
+            return
+        if is_there and status.half != "none":
+            self._resume(Typed.read("resume"), TAKEN_UP_THERE, SWITCHED_THERE)
+
+    def _drop(self, _: Typed) -> None:
+        try:
+            self.recover.drop()
+        except (NoAnswer, OSError) as error:
+            self.face.say(str(error), WARNING)
+
+    def _resume(self, typed: Typed, said: str = TAKEN_UP, question: str = SWITCHED) -> None:
         """Takes a half-done block up: stops after the switch, and asks."""
         status = self.console.status()
+        if status.half != "none" and status.known and self.motors.are_held:
+            self.motors.release()
         if status.half != "none" and not typed.anyway and not self.places.agree(status, f"resume {ANYWAY}"):
             return
         reply = self.console.ask("resume")[0]
@@ -200,10 +268,10 @@ class Operator:
                 self.places.offer()
             return
         self.left.forget()
-        self.face.say(TAKEN_UP.format(half=self.session.half(status), place=place(status)), WARNING)
+        self.face.say(said.format(half=self.session.half(status), place=place(status)), WARNING)
         if not self._switched():
             self._hold()
-        elif self.session.agrees(SWITCHED):
+        elif self.session.agrees(question):
             self._run_on()
         else:
             self._hold()
@@ -233,7 +301,8 @@ class Operator:
         """Ends the session, once a person knows what stays half-done and what stays on."""
         status = self.console.status()
         question = "quit? yes ends the session, anything else doesn't: "
-        if self.ending.leaves_half(status) and not self.session.agrees(question):
+        leaves = [self.ending.leaves_half(status), self.ending.leaves_lines()]
+        if any(leaves) and not self.session.agrees(question):
             return
         if left_on := self.ending.left_on():
             self._offer_off(status, left_on)
@@ -274,12 +343,20 @@ class Operator:
         Look(self.session).after_work()
 
     def _hold(self) -> None:
-        session, reply = self.session, self.console.ask("hold")[0]
-        if reply == "held" and not session.gone:
-            ahead = f"up to {session.meter.limit} lines that are handed out" if session.meter else "the lines in OUT"
-            reply += f"; {ahead} are still carried out"
+        """Holds the motors, if they make ramps, and then `ngc`."""
+        session, stand = self.session, self.motors.hold()
+        reply = self.console.ask("hold")[0]
+        if reply == "held" and not session.gone and not stand:
+            reply += f"; {self._ahead()} are still carried out"
         self.face.say(reply)
+        if stand:
+            self.motors.say_rest()
         Look(session).after_work()
+
+    def _ahead(self) -> str:
+        """What is handed out and may not be carried out yet."""
+        meter, seen = self.session.meter, self.session.seen
+        return f"up to {meter.limit(seen):,} lines that are handed out" if meter and seen else "the lines in OUT"
 
     # what is said
 

@@ -1,6 +1,4 @@
 """Which axis leaves the travel, and where: what X2 doesn't say of a line, or of a point that is told."""
-import tempfile
-
 from ngc_tools.formats.canonical import BadText
 from ngc_tools.formats.device import Device, NoDevice
 from ngc_tools.formats.settings import AXES, BadSettings, Settings
@@ -11,6 +9,7 @@ from ngc_tools.ngc.console import Console
 from ngc_tools.ngc.run import CannotRun
 from ngc_tools.ngc.settings_report import number
 from ngc_tools.operator.display import in_force_on
+from ngc_tools.scratch import scratch_file
 
 
 def breach_of_line(console: Console, device: Device, settings: Settings, text: bytes, line: int) -> str:
@@ -18,10 +17,8 @@ def breach_of_line(console: Console, device: Device, settings: Settings, text: b
     """
     try:
         beginning = Beginning.of(device)
-        with tempfile.NamedTemporaryFile("w", prefix="ngc-settings-", suffix=".toml") as file:
-            file.write(widest(settings).text())
-            file.flush()
-            return breach(Lines(text), line, lambda part: beginning.dry(console.ngc, part, file.name)[1], settings,
+        with scratch_file(widest(settings).text(), "settings", ".toml") as path:
+            return breach(Lines(text), line, lambda part: beginning.dry(console.ngc, part, path)[1], settings,
                           in_force_on(device.state), device.state.point_nm)
     except (CannotSetUp, NoDevice, BadText, CannotRun, BadSettings, OSError):
         return ""

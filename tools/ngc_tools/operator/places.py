@@ -35,7 +35,7 @@ class Places:
             return True
         report = self._settled()
         if report is None:
-            self.session.face.say(f"nothing is done. {PLAYER_SILENT}", WARNING)
+            self._say_unsettled()
             return False
         at = report.at.split()
         if self._same(at, status.at):
@@ -50,9 +50,11 @@ class Places:
             self.offer()
             return
         report = self._settled() if self.session.meter else None
-        if report is None and (self.session.meter or "player" in words):
-            self.session.face.say(f"nothing is done. {PLAYER_SILENT}" if self.session.meter else
-                                  "no player says where the motors are: reference X Y Z", WARNING)
+        if report is None and self.session.meter:
+            self._say_unsettled()
+            return
+        if report is None and "player" in words:
+            self.session.face.say("no player says where the motors are: reference X Y Z", WARNING)
             return
         at = report.at.split() if report else []
         words = ["player"] * 3 if words == ["player"] else words
@@ -85,6 +87,14 @@ class Places:
         if report and report.behind:
             report = self.session.report() if self.work.await_motors() else None
         return report
+
+    def _say_unsettled(self) -> None:
+        """Says why nothing is done, and what to do, where the player doesn't come to that."""
+        session = self.session
+        if session.seen and session.seen.is_held and not session.gone:
+            self.work.motors.say_held(session.seen)
+        else:
+            session.face.say(f"nothing is done. {PLAYER_SILENT}", WARNING)
 
     def _say_apart(self, motors: list[str], other: list[str] | tuple[str, ...], who: str, then: str) -> None:
         a, b = (tuple(nanometres_of(number) or 0 for number in at) for at in (motors, other))

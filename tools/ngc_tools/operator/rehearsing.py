@@ -3,9 +3,10 @@ from ngc_tools.formats.device import Device
 from ngc_tools.formats.settings import BadSettings
 from ngc_tools.ngc.console import Ended
 from ngc_tools.ngc.copies import CommandRefused, Interrupted
+from ngc_tools.operator.causes import rehearsed
+from ngc_tools.ngc.handed_out import Finder
 from ngc_tools.operator.face import REFUSED, WARNING
 from ngc_tools.operator.rehearsal import Rehearsal
-from ngc_tools.operator.sentences import explained
 from ngc_tools.operator.session import Session
 
 
@@ -31,7 +32,7 @@ def rehearse(session: Session, words: list[str]) -> None:
     except Interrupted:
         face.say("the rehearsal was broken off; the machine wasn't touched")
     except CommandRefused as error:
-        face.say(f"{error.asked}: {explained(error.reply)}", REFUSED)
+        face.say(rehearsed(error.reply, error.asked, session.settings), REFUSED)
     except (Ended, OSError, BadSettings) as error:
         face.say(f"it can't be rehearsed: {error}", WARNING)
 
@@ -50,3 +51,18 @@ def count_segments(session: Session) -> tuple[int, str]:
         return 0, error.reply
     except (Interrupted, Ended, OSError, BadSettings):
         return 0, ""
+
+
+def segment_begins(session: Session) -> tuple[str, ...] | None:
+    """Where the half-done segment begins, in machine millimetres; None, which is said, if that can't be told."""
+    device = session.stored()
+    if not isinstance(device, Device):
+        session.face.say("the device can't be read meanwhile", WARNING)
+        return None
+    try:
+        return Finder(session.console.ngc, session.console.settings, device.image).segment(device.image)[0]
+    except CommandRefused as error:
+        session.face.say(f"{error.asked}: {explained(error.reply)}", REFUSED)
+    except (Ended, OSError, BadSettings) as error:
+        session.face.say(f"it can't be rehearsed: {error}", WARNING)
+    return None

@@ -7,12 +7,18 @@ run                start it, or go on with it
 G0 X1 ..           a line of G-code of your own
 restore            put back what lines of your own left in force
 hold               Enter or Ctrl-C while something runs
+release            lets held motors carry out what is in hand
+percent N          go at N % of the rates; - and + are 10 %
+                   less and more, 0 is 100 %
 where              machine and work, the line, the times, the motors
 continue           go on with what was held or stopped
 reference X Y Z    the machine stands there, in mm
 reference player   the machine stands where the player says
 tool N LENGTH      a tool's length, in mm
 rehearse           what resume would do, or start; nothing moves
+recover            after a loss of power, OUT being a file: back, or on,
+                   to where the half-done segment begins; resume
+drop               cut lines off OUT that no motor carried out
 resume, abandon    take a half-done block up, give it up
 anyway             after run, resume and others, before a line: do it
                    whatever the player says
@@ -28,6 +34,12 @@ TAKEN_UP = """\
 {half} is taken up. Its outputs are switched on as they were; then the tool goes
 in one straight line at the traverse rate from {place} to where that segment begins.
 Z isn't lifted first."""
+TAKEN_UP_THERE = """\
+{half} is taken up from its beginning.
+The motors are there: {place}. Its outputs are switched on as they were."""
+SWITCHED_THERE = """\
+The outputs are switched, and nothing has moved. Does the spindle turn, and is the right tool in?
+yes goes on, anything else holds: """
 SWITCHED = """\
 The outputs are switched, and nothing has moved. Does the spindle turn, is the right tool in, is the straight way free?
 yes goes on, anything else holds: """

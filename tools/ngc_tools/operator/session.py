@@ -1,5 +1,6 @@
 """What the parts of a person's session share: `ngc`, its device, the player, the face, and what is under way."""
 import re
+from contextlib import suppress
 from dataclasses import dataclass, field
 
 from ngc_tools.formats.device import Device, NoDevice
@@ -10,6 +11,7 @@ from ngc_tools.operator.face import REFUSED, WARNING, Face, axes
 from ngc_tools.operator.meter import Meter
 from ngc_tools.operator.outside import breach_of_line
 from ngc_tools.operator.sentences import explained
+from ngc_tools.operator.synced import SyncedLink
 from ngc_tools.player.progress import NoAnswer, Report
 
 
@@ -28,8 +30,8 @@ class Nothing:
 @dataclass(slots=True)
 class Session:
     """`own` is a line of the operator's that is under way. The messages of the lines before the place `told` are shown;
-    `delete` and `optional` are the switches as they were set. `motors` is where the player said last that they are;
-    `gone` says that it stopped to answer."""
+    `delete` and `optional` are the switches as they were set. `seen` is what the player said last; `gone` says that it
+    stopped to answer."""
 
     console: Console
     face: Face
@@ -40,7 +42,7 @@ class Session:
     delete: bool = False
     optional: bool = False
     own: str = ""
-    motors: str = ""
+    seen: Report | None = None
     gone: bool = False
 
     def stored(self) -> Device | Nothing:
@@ -61,8 +63,19 @@ class Session:
             self.face.say(str(error), WARNING)
             return None
         self.gone = False
-        self.face.moved(report)
+        self.take(report)
         return report
+
+    def passed(self, status: Status) -> None:
+        """Gives room of OUT that nobody needs any more back to the disk."""
+        if self.meter and isinstance(self.meter.link, SyncedLink):
+            with suppress(NoAnswer):  # the next question says it
+                self.meter.link.passed(status)
+
+    def take(self, report: Report) -> None:
+        """Takes what the player says."""
+        self.seen = report
+        self.face.moved(report)
 
     def agrees(self, question: str) -> bool:
         """Whether a person answers with a typed yes; anything else, nothing too, is a no."""

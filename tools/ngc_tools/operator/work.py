@@ -8,6 +8,8 @@ from ngc_tools.job.in_force import InForce
 from ngc_tools.ngc.console import Status
 from ngc_tools.operator.display import short_words, work_words
 from ngc_tools.operator.face import MESSAGE, WARNING, WHERE, UnderWay
+from ngc_tools.operator.meter import AT_ONCE
+from ngc_tools.operator.motors import Motors, live
 from ngc_tools.operator.session import Session
 from ngc_tools.operator.timeline import Timeline
 from ngc_tools.player.progress import NoAnswer, Report
@@ -26,7 +28,8 @@ def clock(us: int) -> str:
 
 @dataclass
 class Chunk:
-    """How many ticks are given at once if nothing is metered: enough for one command to last about 50 ms."""
+    """How many ticks are given at once at most: so many that one command lasts about 50 ms, as nothing is heeded
+    meanwhile."""
 
     ticks: int = FIRST_TICKS
 
@@ -54,13 +57,15 @@ _NOTHING_SHOWN = _Shown(-1, "", None, ())
 class Work:
     """Gives the ticks of a session."""
 
-    def __init__(self, session: Session, aside: Callable[[str], None]) -> None:
+    def __init__(self, session: Session, motors: Motors, aside: Callable[[str], None]) -> None:
         """`aside` does a command that is given while something runs."""
-        self.session, self.aside = session, aside
-        self.chunk = Chunk()
+        self.session, self.motors, self.aside = session, motors, aside
+        self.chunk = Chunk(AT_ONCE) if session.meter else Chunk()
         self.timeline: Timeline | None = None  # of the program that runs, if it is known
         self._shown = _NOTHING_SHOWN
+        self._status: Status | None = None  # of what is under way
         self._waited: int | None = None  # the tool that the player was waiting for as it was asked last
+        self._is_unwanted = False  # somebody wants to hold
 
     def go(self) -> str | None:
         """Gives ticks until there is nothing to do, or somebody wants to hold.
@@ -71,9 +76,10 @@ class Work:
         self._waited = None
         self._shown = _NOTHING_SHOWN
         ended = self._ticks()
-        self.session.face.live(None)
         if ended in ("idle", "stopped", "held"):
             self.await_motors()
+        self._status = None
+        self.session.face.live(None)
         return ended
 
     def _ticks(self) -> str | None:
@@ -82,11 +88,13 @@ class Work:
             begun = time.monotonic()
             replies = session.console.ask(f"tick {count}")
             self.chunk.lasted(time.monotonic() - begun)
-            status = session.console.status()
+            status = self._status = session.console.status()
+            session.passed(status)
             self._show_messages(status)
             if ended := self._ended(replies, status):
+                self._shown = _Shown(status.place, "all is handed out", None, ())
                 return ended
-            session.face.live(self._under_way(status))
+            self._show()
             if not self._wanted():
                 return None
         return None
@@ -111,7 +119,7 @@ class Work:
         if not session.meter:
             return self.chunk.ticks if self._wanted() else 0
         try:
-            return min(session.meter.room(self._goes_on), MOST_TICKS)
+            return min(session.meter.room(self._goes_on), self.chunk.ticks)
         except NoAnswer as error:
             session.gone = True
             session.face.say(f"{error}; nothing more is handed out. Once it answers again, run goes on; if it is gone,"
@@ -120,7 +128,7 @@ class Work:
 
     def await_motors(self) -> bool:
         """Waits until the player has carried out what was handed out; False if somebody wants to hold before that,
-        or the player is gone."""
+        the motors are held, or the player is gone."""
         session = self.session
         try:
             if not session.meter or session.meter.drained(self._goes_on):
@@ -128,17 +136,25 @@ class Work:
             session.face.say("the player isn't through with its lines yet", WARNING)
         except NoAnswer as error:
             session.face.say(str(error), WARNING)
+        else:
+            self._stay()
         return False
 
+    def _stay(self) -> None:
+        """The motors are to stand where they are: somebody wants to hold, or they are held."""
+        if self.motors.hold() if self._is_unwanted else self.motors.are_held:
+            self.motors.say_rest()
+
     def _goes_on(self, report: Report) -> bool:
-        self.session.motors = report.at
-        self.session.face.moved(report)
+        self.session.take(report)
+        self._show()
         waited, self._waited = self._waited, report.tool if report.waits else None
         if report.waits and waited != report.tool:
             what = f"tool {report.tool} to be put in" if report.tool else "the tool to be taken out"
             self.session.face.say(f"the player waits for {what}: once that is done, type go here, or press Enter there",
                                   WHERE)
-        return self._wanted()
+        self._is_unwanted = not self._wanted()
+        return not self._is_unwanted
 
     def _show_messages(self, status: Status) -> None:
         """Shows the messages of the lines that the place has passed."""
@@ -148,18 +164,25 @@ class Work:
             session.face.say(f"message, line {number}: {message}", MESSAGE)
         session.told = status.place
 
+    def _show(self) -> None:
+        """Shows what is under way, if something is."""
+        if self._status:
+            self.session.face.live(self._under_way(self._status))
+
     def _under_way(self, status: Status) -> UnderWay:
         """What is being done."""
-        session = self.session
+        session, seen = self.session, self.session.seen
+        at = seen.at if seen else ""
+        motion = tuple(live(seen, session.settings)) if seen else ()
         if session.own:
-            return UnderWay(f"your line: {session.own}", status, session.motors)
+            return UnderWay(f"your line: {session.own}", status, at, motion=motion)
         if self._shown.place != status.place:
             self._shown = self._shown_at(status)
         shown, work = self._shown, ""
-        if session.motors and shown.view and (any(shown.view.origin) or shown.view.length):
-            x, y, z = map(nanometres, session.motors.split())
+        if at and shown.view and (any(shown.view.origin) or shown.view.length):
+            x, y, z = map(nanometres, at.split())
             work = f"work {work_words(shown.view, (x, y, z))}"
-        return UnderWay(shown.line, status, session.motors, (work, *shown.more) if work else shown.more)
+        return UnderWay(shown.line, status, at, (work, *shown.more) if work else shown.more, motion)
 
     def _shown_at(self, status: Status) -> _Shown:
         """What is shown of the program's line at the place."""

@@ -7,7 +7,7 @@ from contextlib import suppress
 from typing import Protocol
 
 from ngc_tools.formats.record import machine_nm
-from ngc_tools.player.progress import PERCENT, QUESTION, Listener, Report
+from ngc_tools.player.progress import KEPT, PERCENT, QUESTION, SYNCED, Listener, Report
 
 
 class Asked(Protocol):
@@ -26,7 +26,19 @@ class Asked(Protocol):
         """Comes to rest, or goes on."""
 
     def override(self, percent: int) -> None:
-        """Goes at so many percent of OUT's rates."""
+        """Goes at so many percent of OUT's rates, if that isn't too much."""
+
+    def last(self) -> None:
+        """What stands in OUT now is all that comes for now."""
+
+    def synced(self, size: int) -> None:
+        """So many bytes of OUT are on the disk."""
+
+    def kept(self) -> tuple[int, int]:
+        """The lines and bytes of the record that is on the disk."""
+
+    def go_where(self, text: bytes) -> None:
+        """Goes along OUT or by legs, as the text says."""
 
 
 class Answers:
@@ -86,7 +98,16 @@ class Answers:
             self._player.hold(text == b"hold")
         elif match := PERCENT.fullmatch(text):
             self._player.override(int(match[1]))
+        elif match := SYNCED.fullmatch(text):
+            self._player.synced(int(match[1]))
+        elif KEPT.fullmatch(text):
+            self._listener.answer(text + b" lines %d bytes %d" % self._player.kept(), sender)
+        elif text.startswith((b"along ", b"legs ")):
+            self._player.go_where(text)
+        elif text == b"last":
+            self._player.last()
         elif text == b"end":
+            self._player.last()
             self.ended = True
         elif text.startswith(b"at ") and (place := _place(text[3:])):
             self._player.stand_at(place)

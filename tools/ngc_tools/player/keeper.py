@@ -99,7 +99,7 @@ class Keeper:
         self._standing = standing
         self._every = every_ms / 1000
         self._end = threading.Event()
-        self._kept: Record | None = None
+        self.kept: Record | None = None  # what stands on the disk
         self._keep()
         self._thread = threading.Thread(target=self._work, daemon=True)
         self._thread.start()
@@ -128,8 +128,8 @@ class Keeper:
     def _keep(self) -> bool:
         """Writes what stands, if that is something else than what was written last; whether it was."""
         record = self._standing()
-        if record == self._kept:
+        if record == self.kept:
             return False
         self._file.write(record)
-        self._kept = record
+        self.kept = record
         return True

@@ -1,4 +1,5 @@
 """How a player plays, what it counts, and how it stops."""
+from collections.abc import Callable
 from dataclasses import dataclass
 
 from ngc_tools.formats.out import Line, Pulse, Switch
@@ -21,6 +22,7 @@ class Counts:
     pulses: int = 0
     waits: int = 0
     switches: int = 0
+    dry: int = 0  # times that motors came to rest in the midst of a path, as OUT had no more lines for them
 
     def add(self, line: Line) -> None:
         """Counts a line."""
@@ -43,3 +45,5 @@ class Manner:
     off_after_us: int = 10_000_000  # how long spindle and coolant stay on once nobody asks for more
     person: Person | None = None
     times: Times | None = None  # takes each line with the time at which it is due
+    traverse_nm_per_min: int = 60_000_000_000  # the rate of legs
+    said: Callable[[str], None] = print  # tells whoever stands at the player

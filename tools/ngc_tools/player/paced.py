@@ -2,15 +2,16 @@
 import time
 from collections import deque
 
-from ngc_tools.formats.out import BadLine, Line, quoted, read_line
+from ngc_tools.formats.out import BadLine, Line, Pulse, quoted, read_line
 from ngc_tools.formats.position import Position
 from ngc_tools.formats.record import Record
+from ngc_tools.player.machine import Machine
 from ngc_tools.player.manner import Manner
 from ngc_tools.player.pace import ROOM, Pace
-from ngc_tools.player.pace_path import Limits
 from ngc_tools.player.pins import Pins
 from ngc_tools.player.player import Player
 from ngc_tools.player.source import Source
+from ngc_tools.player.window import Window
 
 _FEW = 8  # lines are read after each one while it moves: more would make the next one late
 _STARVES_NS = 30_000_000  # after so long at rest with nothing new, what is known is carried out to its end
@@ -20,14 +21,38 @@ class PacedPlayer(Player):
     """Carries out OUT by ramps. A hold, an override and the first signal to stop count from the next line on."""
 
     def __init__(self, source: Source, position: Position, begun: Record, pins: Pins, manner: Manner,
-                 limits: Limits) -> None:
+                 machine: Machine) -> None:
         super().__init__(source, position, begun, pins, manner)
         self.schedule.makes_up = False
-        self._pace = Pace(limits)
+        self._limits = machine.limits
+        self._most_percent = machine.most_percent
+        self._last = -1  # after so many lines no more come for now, as was said
+        self._pace = Pace(machine.limits)
+        self._window = Window(machine.limits, machine.window_lines)
+        self._wants = self._window.lines()
         self._ahead: deque[tuple[bytes, Line]] = deque()  # what the pacer knows
         self._is_all = False  # no more lines come: a file's end, or a line that isn't one ..
         self._bad: BadLine | None = None  # .. which it is
         self._newest_ns = 0  # when the last line was read
+        self._ended = 0  # before this line all comes to rest, as it was said or had to be that no more come for now
+        self._is_on_path = False  # behind the last line that was carried out the motors were to go on ..
+        self._is_dry = False  # .. and came to rest, as there were no more lines
+
+    # what the thread that answers calls
+
+    def override(self, percent: int) -> None:
+        """Goes at so many percent of OUT's rates, if that isn't too much."""
+        if percent <= self._most_percent:
+            self.percent = percent
+
+    def last(self) -> None:
+        """What stands in OUT now is all that comes for now. Where it has no room in hand, that isn't known."""
+        with self._lock:
+            self._take_all()
+            if not self.source.is_more():
+                self._last = self.source.received
+
+    # the play
 
     def _play(self) -> None:
         is_over = False
@@ -49,10 +74,14 @@ class PacedPlayer(Player):
         while most > 0 and is_there and not self._is_all and not self._pace.is_full():
             is_there = self._read_one()
             most -= 1
-        is_end = not is_there and self.source.is_file and not self.source.follow
+        is_end = not is_there and self.source.is_file and not self.source.follow and self.errand is None
         if not self._is_all and (is_end or self._bad):
             self._is_all = True
-            self._pace.end()
+            self._end_here()
+        if self.lines + len(self._ahead) == self._last:
+            self._end_here()
+            self._is_dry = False
+        self._wants = self._window.lines()
 
     def _read_one(self) -> bool:
         """Takes a line that stands in OUT; whether one does."""
@@ -62,6 +91,9 @@ class PacedPlayer(Player):
         if text is None:
             return False
         self._newest_ns, self._left_ns = time.monotonic_ns(), 0
+        self.counts.dry += self._is_dry
+        self._is_on_path &= not self._is_dry  # counted once
+        self._is_dry = False
         try:
             line = read_line(text, self.lines + len(self._ahead) + 1, self.manner.least_period_us)
         except BadLine as error:
@@ -69,7 +101,13 @@ class PacedPlayer(Player):
             return False
         self._ahead.append((text, line))
         self._pace.push(line)
+        self._window.take(line)
         return True
+
+    def _end_here(self) -> None:
+        """What is known is carried out to its end."""
+        self._pace.end()
+        self._ended = self._pace.known
 
     def _wanted(self) -> int:
         """The square that is wanted: 0 where somebody asks for a rest."""
@@ -85,14 +123,17 @@ class PacedPlayer(Player):
             return False
         self._is_moving = self._pace.square > 0
         text, line = self._ahead.popleft()
+        self._is_on_path = isinstance(line, Pulse) and self._pace.first != self._ended
         self._carry_out_now(text, line, ns)
+        self._window.leave(self._pace.first)
         return True
 
     def _await_lines(self) -> bool:
         """At rest with nothing to give out: waits for more lines; whether OUT has ended."""
         is_held = self._stands_held = self._wanted() == 0
+        self._is_dry |= self._is_on_path and not is_held
         if self._ahead and not is_held and time.monotonic_ns() - self._newest_ns >= _STARVES_NS:
-            self._pace.end()
+            self._end_here()
             return False
         if self._ahead and is_held:
             self._heed_console(f"it is held after line {self.lines}")

@@ -14,13 +14,14 @@ from ngc_tools.player.manner import Counts, Manner, Stopped
 from ngc_tools.player.person import Person
 from ngc_tools.player.pins import Pins
 from ngc_tools.player.progress import Report
+from ngc_tools.player.retrace import Goes, read_errand
 from ngc_tools.player.schedule import Schedule
 from ngc_tools.player.source import Source
 
 SLICE_NS = 20_000_000  # how long it sleeps at most before it looks whether it is to stop
 
 
-class Player:
+class Player(Goes):
     """Carries out OUT. `lines` counts its lines that are carried out, from its first on."""
 
     def __init__(self, source: Source, position: Position, begun: Record, pins: Pins, manner: Manner) -> None:
@@ -38,11 +39,11 @@ class Player:
         self.stopped_by = ""  # what has stopped it, in a word
         self.answers: Answers | None = None
         self.stops = 0  # how often it is asked to stop
-        self.is_held = False  # somebody asks for a rest
         self.percent = 100  # of OUT's rates
         self._lock = threading.Lock()  # of `source`, `position` and `lines`
         self._is_moving = False  # it can't stop at once
         self._stands_held = False  # it has come to rest for a hold
+        self._wants = 0  # how many lines are wanted in hand; 0 doesn't say
         self._tool: int | None = None  # the slot that a person is asked for
         self._left_ns = 0  # since when nobody writes OUT any more
         self._wake = os.eventfd(0, os.EFD_NONBLOCK | os.EFD_CLOEXEC)
@@ -93,15 +94,38 @@ class Player:
         with self._lock:
             tool = self._tool
             self._take_all()
-            return Report(self.lines, self.source.received, tool is not None, str(self.position), self.out,
-                          self.outputs, tool or 0, self._stands_held and tool is None)
+            received = self.bound_for() if self.errand else self.source.received
+            return Report(self.lines, received, tool is not None, str(self.position), self.out,
+                          self.outputs, tool or 0, self._stands_held and tool is None, self.percent, self._wants)
 
     def stand_at(self, at_nm: tuple[int, int, int]) -> None:
         """Takes where the machine stands, as after its axes were moved by hand, if nothing is behind."""
         with self._lock:
             self._take_all()
-            if self.source.received == self.lines:
+            if self.source.received == self.lines and not self.errand:
                 self.position = Position(self.position.step_nm, at_nm)
+
+    def synced(self, size: int) -> None:
+        """The first bytes of OUT, so many, are on the disk: of a file that is followed no more is carried out."""
+        with self._lock:
+            if self.source.follow and not self.errand:
+                self.source.limit = size
+                self._take_all()
+
+    def kept(self) -> tuple[int, int]:
+        """How many lines and bytes are carried out by the record that is on the disk."""
+        record = self.keeper.kept if self.keeper else None
+        return (record.lines, record.size) if record else (0, 0)
+
+    def go_where(self, text: bytes) -> None:
+        """Goes on, back, or by legs, if it stands still with nothing in hand."""
+        if (wanted := read_errand(text)) is None:
+            return
+        with self._lock:
+            self._take_all()
+            if why := self.take_errand(*wanted):
+                self.manner.said(f"{self.source.path}: it doesn't go: {why}")
+        os.eventfd_write(self._wake, 1)
 
     def _take_all(self) -> None:
         """Takes into hand what stands in OUT, and wakes the thread that carries it out."""
@@ -113,12 +137,14 @@ class Player:
         self._tool = None
 
     def hold(self, is_held: bool) -> None:
-        """Comes to rest, or goes on."""
+        """Comes to rest, or goes on: with ramps, as are the two below, and without them on an errand alone."""
         self.is_held = is_held
 
     def override(self, percent: int) -> None:
-        """Goes at so many percent of OUT's rates, 1 to 100."""
-        self.percent = percent
+        """Goes at so many percent of OUT's rates, if that isn't too much."""
+
+    def last(self) -> None:
+        """What stands in OUT now is all that comes for now."""
 
     # the play
 
@@ -148,6 +174,8 @@ class Player:
         if self._wake in ready:
             os.eventfd_read(self._wake)
         self._heed()
+        if self._does_errand():
+            return False
         if not self._is_left(ready.get(self.source.file, 0)):
             self._left_ns = 0
             return False

@@ -1,10 +1,12 @@
 """How a player tells how far it is, and what it is told: datagrams to a Unix socket.
 
 `progress N`
-    is answered by `progress N carried C received R works reference X Y Z outputs S .. out PATH`. C of the R lines that
-    stand in OUT then are carried out. The motors are at X Y Z, in machine millimetres, and the outputs are as the line
-    `S ..` says. While a person has to put a tool in, `waits tool 3` stands in the place of `works`; `waits tool 0` asks
-    to take the tool out. N is the asker's own number, so that a late answer is known as one.
+    is answered by `progress N carried C received R works reference X Y Z outputs S .. percent P wants W out PATH`. C of
+    the R lines that stand in OUT then are carried out. The motors are at X Y Z, in machine millimetres, and the outputs
+    are as the line `S ..` says. While a person has to put a tool in, `waits tool 3` stands in the place of `works`;
+    `waits tool 0` asks to take the tool out. They go at P percent of OUT's rates, and W lines are wanted in hand, read
+    and not carried out: 1 to 8,000, by the fastest of those that are; 0 doesn't say. N is the asker's own number, so
+    that a late answer is known as one.
 `go`
     The tool is in.
 `hold`, `release`
@@ -12,8 +14,23 @@
     rest `held` stands in the place of `works`. A player without `--machine` has no ramps, and doesn't heed them.
 `percent N`
     From the next pulse on at most so many percent, 1 to 100, of OUT's rates; heeded as `hold` is. It begins with 100.
+`last`
+    What stands in OUT now is all that comes for now: it is carried out to its end, and comes to rest there, with no
+    wait for more. More may follow later. Heeded as `hold` is.
 `at X Y Z`
     The machine stands there, in machine millimetres. It is taken while nothing is behind; the next report shows it.
+`synced BYTES`
+    The first BYTES bytes of OUT are on the disk. Of a file that is followed nothing beyond them is carried out from
+    then on, so what the motors were given is on the disk.
+`kept N`
+    is answered by `kept N lines L bytes B`: so many lines and bytes are carried out by the record on the disk.
+`along BYTES`, `along BYTES S ..`
+    The motors go to where the first BYTES bytes of OUT, a file, lead: on along its lines, or back. It is taken while
+    the player stands still and nothing is in hand. What stands behind, as outputs, is switched on first. Until they are
+    there R of `progress` isn't C: it is the number of the line to which they go, if that is another one. They don't go
+    where no line ends at BYTES.
+`legs LIFT X Y Z BYTES`, with outputs behind as well
+    The same by legs: up to the machine coordinate LIFT, over, and down to X Y Z, which is where BYTES of OUT lead.
 `end`
     The session is over; whoever asks sends it last, before it closes OUT. Lines in hand are carried out. With spindle
     and coolant off the player then ends with status 0. With one of them on it ends with status 0 too, but leaves them
@@ -34,10 +51,13 @@ from ngc_tools.files import naming
 from ngc_tools.formats.out import OFF, BadLine, Switch, read_line
 
 QUESTION = re.compile(rb"progress [0-9]{1,20}")
-PERCENT = re.compile(rb"percent ([1-9][0-9]?|100)")
-_LONGEST = 128  # bytes of a datagram to a player
+SYNCED = re.compile(rb"synced ([0-9]{1,18})")
+KEPT = re.compile(rb"kept [0-9]{1,20}")
+PERCENT = re.compile(rb"percent ([1-9][0-9]{0,2})")
+_OTHER = "it is of another version: take a player and a console of one version"
+_LONGEST = 192  # bytes of a datagram to a player
 _REPORT = re.compile(r"carried (\d+) received (\d+) (works|held|waits tool (\d{1,3})) reference (\S+ \S+ \S+)"
-                     r" outputs (S \d \S+ \d \d \d+ \d+) out (.*)", re.DOTALL)
+                     r" outputs (S \d \S+ \d \d \d+ \d+) percent (\d+) wants (\d+) out (.*)", re.DOTALL)
 
 
 class NoAnswer(Failure):
@@ -48,7 +68,8 @@ class NoAnswer(Failure):
 class Report:
     """A player has carried out `carried` of the `received` lines that stood in `out` when it was asked. `waits`: a
     person has to put `tool` in, or to take the tool out where that is 0. `at` are machine millimetres, as
-    `7.210000 0.000000 0.000000`; `outputs` are those of the motors, not those that `ngc` handed out last."""
+    `7.210000 0.000000 0.000000`; `outputs` are those of the motors, not those that `ngc` handed out last. They go at
+    `percent` of OUT's rates. So many lines are wanted in hand, `wants`; 0 where it doesn't say."""
 
     carried: int
     received: int
@@ -58,17 +79,19 @@ class Report:
     outputs: Switch = OFF
     tool: int = 0
     is_held: bool = False  # it stands, since it is to
+    percent: int = 100
+    wants: int = 0
 
     @property
     def behind(self) -> int:
-        """Lines that were handed out and aren't carried out."""
-        return self.received - self.carried
+        """Lines that were handed out and aren't carried out; on a way back those that are still to be taken back."""
+        return abs(self.received - self.carried)
 
     def text(self) -> bytes:
         """What is answered."""
         state = f"waits tool {self.tool}" if self.waits else "held" if self.is_held else "works"
         said = (f"carried {self.carried} received {self.received} {state} reference {self.at}"
-                f" outputs {self.outputs} out {self.out}")
+                f" outputs {self.outputs} percent {self.percent} wants {self.wants} out {self.out}")
         return said.encode("utf-8", "surrogateescape")
 
     @staticmethod
@@ -78,8 +101,8 @@ class Report:
         outputs = _switch(match[6]) if match else None
         if match is None or outputs is None:
             raise ValueError(f"not a report of a player: {answer[:80]!r}")
-        return Report(int(match[1]), int(match[2]), match[4] is not None, match[5], match[7], outputs,
-                      int(match[4] or 0), match[3] == "held")
+        return Report(int(match[1]), int(match[2]), match[4] is not None, match[5], match[9], outputs,
+                      int(match[4] or 0), match[3] == "held", int(match[7]), int(match[8]))
 
 
 def _switch(text: str) -> Switch | None:
@@ -179,7 +202,10 @@ class Link:
     def ask(self) -> Report:
         """How far the player is now. Raises NoAnswer."""
         self.count += 1
-        question = b"progress %d" % self.count
+        return self._understood(self._answer(b"progress %d" % self.count))
+
+    def _answer(self, question: bytes) -> bytes:
+        """What is answered to a question, behind it. Raises NoAnswer."""
         self._send(question)
         until = time.monotonic() + self.patience_s
         while time.monotonic() < until:
@@ -189,7 +215,7 @@ class Link:
                 self._look()
                 continue
             if answer.startswith(question + b" "):
-                return self._understood(answer[len(question) + 1:])
+                return answer[len(question) + 1:]
         raise NoAnswer(f"{self.path}: the player doesn't answer")
 
     def _understood(self, answer: bytes) -> Report:
@@ -197,8 +223,7 @@ class Link:
         try:
             return Report.read(answer)
         except ValueError as error:
-            raise NoAnswer(f"{self.path}: {error}; it is of another version: take a player and a console of one"
-                           " version") from None
+            raise NoAnswer(f"{self.path}: {error}; {_OTHER}") from None
 
     def _send(self, text: bytes) -> None:
         """Sends a datagram, and waits for room for it. Raises NoAnswer."""
@@ -221,6 +246,26 @@ class Link:
             except OSError as error:
                 raise NoAnswer(f"{self.path}: the player is gone: {error.strerror}") from None
 
+    def kept(self) -> tuple[int, int]:
+        """How many lines and bytes of OUT are carried out by the record on the player's disk. Raises NoAnswer."""
+        self.count += 1
+        words = self._answer(b"kept %d" % self.count).split()
+        if len(words) != 4 or not words[1].isdigit() or not words[3].isdigit():
+            raise NoAnswer(f"{self.path}: {_OTHER}")
+        return int(words[1]), int(words[3])
+
+    def synced(self, size: int) -> None:
+        """Tells a player that so many bytes of OUT are on the disk. Raises NoAnswer."""
+        self._send(b"synced %d" % size)
+
+    def along(self, size: int, on: Switch | None = None) -> None:
+        """Sends the motors along OUT to where so many bytes of it lead. Raises NoAnswer."""
+        self._send(f"along {size}{f' {on}' if on else ''}".encode())
+
+    def legs(self, lift: str, at: str, size: int, on: Switch | None = None) -> None:
+        """Sends the motors there by legs; heights and points are machine millimetres. Raises NoAnswer."""
+        self._send(f"legs {lift} {at} {size}{f' {on}' if on else ''}".encode())
+
     def go(self) -> None:
         """Tells a player that waits at a tool change that the tool is in. Raises NoAnswer."""
         self._send(b"go")
@@ -241,6 +286,10 @@ class Link:
     def override(self, percent: int) -> None:
         """Tells a player to go at so many percent of OUT's rates, 1 to 100. Raises NoAnswer."""
         self._send(b"percent %d" % percent)
+
+    def last(self) -> None:
+        """Tells a player that what stands in OUT now is all that comes for now. Raises NoAnswer."""
+        self._send(b"last")
 
     def end(self) -> None:
         """Tells a player that the session is over, before OUT is closed. Raises NoAnswer."""

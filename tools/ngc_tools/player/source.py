@@ -45,6 +45,7 @@ class Source:
         self.follow = follow and not self.is_pipe
         self.pipe_bytes = _resize(self.file, pipe_bytes) if self.is_pipe else 0
         self.received = 0
+        self.limit: int | None = None  # of a file that is followed: it isn't read beyond so many bytes
         self._lines: deque[bytes] = deque()
         self._part = b""
         self._held = 0  # bytes of `_lines`
@@ -58,6 +59,16 @@ class Source:
         if self.is_file:
             os.lseek(self.file, begun.size, os.SEEK_SET)
         self.received = begun.lines
+
+    def go_to(self, lines: int, size: int) -> None:
+        """Goes on, or back, to behind so many lines and bytes of a file; what is in hand is let go."""
+        self._lines.clear()
+        self._part, self._held, self.received = b"", 0, lines
+        os.lseek(self.file, size, os.SEEK_SET)
+
+    def size(self) -> int:
+        """How many bytes a file has."""
+        return os.fstat(self.file).st_size
 
     def mark(self, size: int) -> FileMark | None:
         """What tells a file apart by its first `size` bytes; None for a pipe."""
@@ -90,7 +101,7 @@ class Source:
     def read(self, most: int = HAND_BYTES) -> bool:
         """Reads up to this number of bytes, without waiting; whether there were any."""
         try:
-            got = os.read(self.file, most)
+            got = os.read(self.file, self._allowed(most))
         except BlockingIOError:
             return False
         *whole, self._part = (self._part + got).split(b"\n")
@@ -111,10 +122,20 @@ class Source:
             took = True
         return took
 
+    def _allowed(self, most: int) -> int:
+        """So many bytes, or as many as there are before the limit."""
+        if self.limit is None:
+            return most
+        return max(0, min(most, self.limit - os.lseek(self.file, 0, os.SEEK_CUR)))
+
+    def is_more(self) -> bool:
+        """Whether something stands in OUT that isn't in hand."""
+        return self._waiting() > 0
+
     def _waiting(self) -> int:
-        """How many bytes stand in OUT and aren't in hand."""
+        """How many bytes stand in OUT, before the limit, and aren't in hand."""
         if self.is_file:
-            return os.fstat(self.file).st_size - os.lseek(self.file, 0, os.SEEK_CUR)
+            return self._allowed(max(0, self.size() - os.lseek(self.file, 0, os.SEEK_CUR)))
         there = array.array("i", [0])
         fcntl.ioctl(self.file, termios.FIONREAD, there)
         return there[0]

@@ -1,0 +1,299 @@
+"""Where in OUT, a file, the segment begins that `resume` takes up, and what OUT has lost of what was handed out before.
+
+The device's log tells it. `ngc run` does again, over a copy, what the session did since its last command, and hands out
+the same lines: those before the open segment, and then the segment's own. OUT ends with a beginning of them, and how
+long that is says where in OUT the segment begins, or how much of OUT was lost. Where the log tells nothing any more, as
+after a second power on, the segment's own lines and the point at which it begins tell it."""
+import mmap
+import os
+from collections.abc import Iterator
+from dataclasses import dataclass
+from pathlib import Path
+
+from ngc_tools.formats.device import Device, State
+from ngc_tools.formats.out import LONGEST_LINE, Pulse, Switch, read_line
+from ngc_tools.formats.position import nanometres, rounded
+from ngc_tools.formats.settings import Settings
+from ngc_tools.ngc.carried import CannotTell, Run, is_within, runs
+from ngc_tools.ngc.console import Status
+from ngc_tools.ngc.copies import Copy, CommandRefused, first
+
+Steps = tuple[int, int, int]
+_PIECE = 4096  # lines that are looked at, at once
+_HEAD = 1024  # bytes by which a place in OUT is known
+
+
+@dataclass(frozen=True, slots=True)
+class Kept:
+    """A player's record of a file: the motors are at `steps`, where the first `size` bytes of OUT lead."""
+
+    size: int
+    steps: Steps
+
+
+@dataclass(frozen=True, slots=True)
+class Beginning:
+    """The first `size` bytes of OUT, with the lines `missing` behind what it has, lead to where the open segment
+    begins, or to the end of what was handed out if no block is half-done. That is at `steps`. `is_off`: by the record
+    the motors aren't on the path of OUT. `is_new`: OUT has none of the lines that were handed out, so it may be another
+    OUT than the session's."""
+
+    size: int
+    steps: Steps
+    missing: bytes = b""
+    is_off: bool = False
+    is_new: bool = False
+
+
+@dataclass(frozen=True, slots=True)
+class _Lines:
+    """Lines that were handed out from a point on: those `before` the open segment, and its `own`."""
+
+    start: Steps
+    before: bytes
+    own: bytes = b""
+
+
+class _Text(Copy):
+    """A copy that keeps all that is handed out."""
+
+    def __init__(self, ngc: str, settings: str | Path, image: bytes, commands: list[str]) -> None:
+        self.text = bytearray()
+        super().__init__(ngc, settings, image, commands)
+
+    def _read(self) -> None:
+        text = self._out.read_bytes()
+        self.lines += text.count(b"\n")
+        self.text += text
+        with open(self._out, "r+b") as file:
+            file.truncate()
+
+
+class Finder:
+    """Finds it, with `ngc` and the settings of the session."""
+
+    def __init__(self, ngc: str, settings: str | Path, image: bytes) -> None:
+        """`image` is the device as the session left it, or as it stood since. Raises NoDevice, BadSettings, OSError."""
+        self.ngc, self.settings, self.image = ngc, settings, image
+        self.step_nm = Settings.read(settings).step_nm
+        self.device = Device(image)
+
+    def find(self, out: str | Path, kept: Kept) -> Beginning:
+        """Where the open segment begins. Raises CannotTell, which names what doesn't belong together, CommandRefused,
+        Ended, OSError."""
+        with open(out, "rb") as file:
+            size = os.fstat(file.fileno()).st_size
+            text = mmap.mmap(file.fileno(), 0, access=mmap.ACCESS_READ) if size else b""
+            size = text.rfind(b"\n") + 1
+            if kept.size > size:
+                raise CannotTell(f"{out} has {size:,} bytes of whole lines, and the record counts {kept.size:,}: they"
+                                 " don't belong together")
+            ends = _moved(kept.steps, text[kept.size:size])
+            return self._found(text, size, ends, str(out))
+
+    def _found(self, text: "bytes | mmap.mmap", size: int, ends: Steps, out: str) -> Beginning:
+        """OUT leads to `ends`, by the record."""
+        lines = self._by_log()
+        if lines is not None:
+            whole = lines.before + lines.own
+            at = _longest(text, size, whole, lines.start, ends)
+            is_off = at is None
+            if at is None:
+                at = _only(text, size, whole)
+            if at is not None:
+                return self._beginning(size, lines, at, is_off)
+        if not self.device.state.half:
+            self._check_end(out, ends)
+            return Beginning(size, ends)
+        own = self._own()
+        at = _shortest(text, size, own.own, own.start, ends)
+        if at is None:
+            raise CannotTell(f"{out} doesn't end with lines of the half-done block: it isn't the OUT of this device, or"
+                             " the record isn't that of this OUT")
+        return self._beginning(size, own, at, False)
+
+    def _check_end(self, out: str, ends: Steps) -> None:
+        """Raises CannotTell if OUT doesn't lead to the point that the device knows."""
+        state = self.device.state
+        point = tuple(map(rounded, state.point_nm, self.step_nm))
+        if state.point_known and point != ends:
+            raise CannotTell(f"{out} doesn't lead to where the device has the machine: it isn't the OUT of this device,"
+                             " or the record isn't that of this OUT")
+
+    @staticmethod
+    def _beginning(size: int, lines: _Lines, at: int, is_off: bool) -> Beginning:
+        """OUT ends with the first `at` bytes of the lines."""
+        before = len(lines.before)
+        return Beginning(size - at + before, _moved(lines.start, lines.before), lines.before[at:], is_off,
+                         at == 0 and before > 0)
+
+    def _by_log(self) -> _Lines | None:
+        """What the log says; None if it says nothing of what is half-done now."""
+        for device in self._devices():
+            try:
+                if parts := list(runs(device, within=True)):
+                    return self._again(device, self._begun(device, parts[-1]))
+            except (CannotTell, CommandRefused):
+                continue
+        return None
+
+    def _devices(self) -> Iterator[Device]:
+        """The device, and as it stood before it was written anew, if that was the same."""
+        device = self.device
+        if device.records:
+            yield device
+        older = device.without_header()
+        if not device.records and older is not None:
+            before = Device(older)
+            if before.program == device.program and _same(before.state, device.state):
+                yield before
+
+    def _begun(self, device: Device, run: Run) -> Run:
+        """A run that can be done again, also if it began before the log, within a block: then with two entries more, of
+        the point and of the approach."""
+        if run.record != 0 or not is_within(device):
+            return run
+        at, _ = self.segment(run.image)
+        ends = None if run.ends is None else run.ends + 2
+        return Run(run.image, (f"reference {' '.join(at)}", "resume"), 0, ends)
+
+    def _again(self, device: Device, run: Run) -> _Lines:
+        """The lines of a run again. Raises CannotTell if it does other moves."""
+        last, more = device.state, 2 if run.commands[0].startswith("reference") else 0
+        key = (last.entries + more, last.segment + 1) if run.ends is None else (run.ends, 0)
+
+        def make(_: bool) -> Copy:
+            return _Text(self.ngc, self.settings, run.image, list(run.commands))
+
+        with first(make, lambda status: _key(status) >= key) as copy:
+            before, status, start = bytes(copy.text), copy.console.status(), copy.start.at
+        is_right = _key(status) == key if run.ends is None else status.entries == run.ends
+        if not is_right or status.place != last.place:
+            raise CannotTell("ngc run does other moves than the session did: were the settings others?")
+        own = b""
+        if run.ends is None:
+            with first(make, lambda status: _key(status) > key) as copy:
+                own = bytes(copy.text[len(before):])
+        if more:
+            before = before.partition(b"\n")[2]  # the switch of the approach
+        return _Lines(self._steps(start), before, own)
+
+    def _own(self) -> _Lines:
+        """The open segment's own lines, from the point at which it begins."""
+        state = self.device.state
+        at, _ = self.segment(self.image)
+        commands = [f"reference {' '.join(at)}", "resume"]
+        key = (state.entries + 2, state.segment + 1)
+        with first(lambda _: _Text(self.ngc, self.settings, self.image, commands),
+                   lambda status: _key(status) > key) as copy:
+            return _Lines(self._steps(at), b"", bytes(copy.text.partition(b"\n")[2]))
+
+    def segment(self, image: bytes) -> tuple[tuple[str, ...], Switch]:
+        """Where the half-done segment of an image begins, and what `resume` switches on."""
+        state = Device(image).state
+        with Copy(self.ngc, self.settings, image, []) as copy:
+            at = copy.start.at
+        commands = [f"reference {' '.join(at)}", "resume"]
+        with first(lambda _: _Text(self.ngc, self.settings, image, commands),
+                   lambda status: status.entries > state.entries + 1) as copy:
+            switch = read_line(bytes(copy.text.partition(b"\n")[0]), 1)
+            assert isinstance(switch, Switch)
+            return copy.console.status().at, switch
+
+    def _steps(self, at: tuple[str, ...] | list[str]) -> Steps:
+        x, y, z = (rounded(nanometres(number), step) for number, step in zip(at, self.step_nm, strict=True))
+        return x, y, z
+
+
+def _same(one: State, other: State) -> bool:
+    """Whether both have the same block half-done, or the same place without one."""
+    return (one.entries, one.place, one.half, one.half_text, one.segment) == (
+        other.entries, other.place, other.half, other.half_text, other.segment)
+
+
+def _key(status: Status) -> tuple[int, int]:
+    """What grows from segment to segment."""
+    return status.entries, 0 if status.half == "none" else status.segment + 1
+
+
+_STEPS: dict[bytes, Steps] = {b"P %d %d %d " % (x, y, z): (x, y, z)
+                              for x in (-1, 0, 1) for y in (-1, 0, 1) for z in (-1, 0, 1)}
+
+
+def _moved(start: Steps, text: bytes) -> Steps:
+    """Where lines lead from a point."""
+    at = list(start)
+    for begin, step in _STEPS.items():
+        count = text.count(b"\n" + begin) + text.startswith(begin)
+        for axis in range(3):
+            at[axis] += count * step[axis]
+    return at[0], at[1], at[2]
+
+
+def _places(whole: bytes, start: Steps, ends: Steps) -> Iterator[int]:
+    """The bytes of lines up to each place at which they are at `ends`, from the first on."""
+    at, begin = start, 0
+    while begin <= len(whole):
+        end = whole.find(b"\n", min(len(whole), begin + _PIECE * 11)) + 1 or len(whole)
+        if all(abs(a - b) <= _PIECE * 11 // 9 + LONGEST_LINE for a, b in zip(at, ends)):
+            yield from _within(whole, begin, end, at, ends)
+        if begin == end:
+            return
+        at, begin = _moved(at, whole[begin:end]), end
+
+
+def _within(whole: bytes, begin: int, end: int, at: Steps, ends: Steps) -> Iterator[int]:
+    x, y, z = at
+    if at == ends and begin == 0:
+        yield 0
+    for line in whole[begin:end].splitlines(True):
+        begin += len(line)
+        if line[:1] == b"P":
+            dx, dy, dz = _STEPS[line[:line.rindex(b" ") + 1]]
+            x, y, z = x + dx, y + dy, z + dz
+        if (x, y, z) == ends:
+            yield begin
+
+
+def _is_end(text: "bytes | mmap.mmap", size: int, whole: bytes, count: int) -> bool:
+    """Whether the first `size` bytes of OUT end with the first `count` bytes of the lines, as far as OUT can be read:
+    room that was given back reads as zeros."""
+    done = 0
+    while done < count:
+        piece = min(1 << 16, count - done)
+        begin = size - done - piece
+        if begin < 0:
+            return False
+        there, wanted = text[begin:begin + piece], whole[count - done - piece:count - done]
+        if there != wanted:
+            zeros = there.rfind(b"\0") + 1
+            return zeros > 0 and not there[:zeros].strip(b"\0") and there[zeros:] == wanted[zeros:]
+        done += piece
+    return count == size or text[size - count - 1:size - count] in (b"\n", b"\0")
+
+
+def _longest(text: "bytes | mmap.mmap", size: int, whole: bytes, start: Steps, ends: Steps) -> int | None:
+    """The longest beginning of the lines with which OUT ends, in bytes, that leads to `ends`."""
+    found = [count for count in _places(whole, start, ends) if _is_end(text, size, whole, count)]
+    return max(found, default=None)
+
+
+def _shortest(text: "bytes | mmap.mmap", size: int, whole: bytes, start: Steps, ends: Steps) -> int | None:
+    """The shortest one: the later the place, the less is left out."""
+    return next((count for count in _places(whole, start, ends) if _is_end(text, size, whole, count)), None)
+
+
+def _only(text: "bytes | mmap.mmap", size: int, whole: bytes) -> int | None:
+    """The beginning of the lines with which OUT ends, wherever the motors are, if there is but one: by where they begin
+    in OUT, or where that room was given back, by how OUT ends."""
+    counts = {at + 1 for at in range(min(len(whole), 2 * _HEAD)) if whole[at] == 10}
+    begin = size
+    while len(counts) < 2 * _HEAD and (begin := text.rfind(whole[:_HEAD], 0, begin + _HEAD - 1)) >= 0:
+        counts.add(size - begin)
+    tail = text[max(0, size - _HEAD):size].partition(b"\n")[2]
+    at = whole.find(tail) if tail and text[:1] == b"\0" else -1
+    while at >= 0 and len(counts) < 3 * _HEAD:
+        counts.add(at + len(tail))
+        at = whole.find(tail, at + 1)
+    found = [count for count in counts if count <= len(whole) and _is_end(text, size, whole, count)]
+    return found[0] if len(found) == 1 else None

@@ -1,0 +1,195 @@
+"""What a loss of power left of OUT, a file: looked at, and mended, before `ngc run` is started over the device.
+
+Mended is what moves nothing: a part of a line at the end is cut off, and lines that were handed out before the open
+segment and are lost with the power are put behind it again."""
+from dataclasses import dataclass
+
+from ngc_tools.failure import Failure
+from ngc_tools.formats.device import Device
+from ngc_tools.formats.out import OFF, BadLine, Switch
+from ngc_tools.formats.position import Position, nanometres
+from ngc_tools.formats.settings import Settings
+from ngc_tools.job.figures import duration
+from ngc_tools.job.figures import millimetres as rounded
+from ngc_tools.ngc.console import Ended
+from ngc_tools.ngc.carried import CannotTell
+from ngc_tools.ngc.copies import CommandRefused
+from ngc_tools.ngc.handed_out import Beginning, Finder, Kept
+from ngc_tools.operator.display import outputs_on
+from ngc_tools.operator.synced import SyncedLink
+from ngc_tools.player.progress import Report
+from ngc_tools.player.way import Way, count_lines, is_switch_between, look, moves, switched_at
+
+Point = tuple[int, int, int]
+_NO_WAY = Way(0, 0, 0, 0, 0, 0, (0, 0, 0))
+
+
+@dataclass(frozen=True, slots=True)
+class Recovery:
+    """The motors are where the first `lines` lines of OUT lead, its first `size` bytes, by the record, at `stands_nm`;
+    `outputs` are those of that place. They have to be where those of `beginning` lead, of which `line` is the number;
+    it is at `at_nm`. `way` leads there along OUT; None where the motors aren't on it: then legs end at `legs_nm`, and
+    lead on along OUT, if they ended before. `problem` says why none of it is known."""
+
+    lines: int = 0
+    size: int = 0
+    stands_nm: Point = (0, 0, 0)
+    outputs: Switch = OFF
+    line: int = 0
+    beginning: Beginning | None = None
+    at_nm: Point = (0, 0, 0)
+    legs_nm: Point = (0, 0, 0)
+    way: Way | None = None
+    problem: str = ""
+
+    def is_there(self) -> bool:
+        """Whether nothing has to move."""
+        return self.way is not None and self.line == self.lines
+
+    def _by_legs(self) -> str:
+        on = self.line - self.lines
+        then = f", and then on along {on} line{'s' if on > 1 else ''} of OUT" if on > 0 else ""
+        return f"by the record the motors aren't on the path of OUT: legs lead to it{then}"
+
+    def words(self) -> str:
+        """The way, for people."""
+        if self.beginning is None:
+            return self.problem
+        if missing := self.beginning.missing.count(b"\n"):
+            return (f"on along {self.line - self.lines} lines of OUT, to its line {self.line}; {missing} of them were"
+                    " lost with the power, and are put back first")
+        if self.way is None:
+            return self._by_legs()
+        if self.is_there():
+            return f"the motors are there already, behind line {self.lines} of OUT"
+        count = abs(self.line - self.lines)
+        where = "back through what was cut" if self.line < self.lines else "on along what was never carried out"
+        switches = f"; {self.way.switches} switches of the outputs on the way" if self.way.switches else ""
+        return (f"{where}, {count} line{'s' if count > 1 else ''} of OUT, to its line {self.line}:"
+                f" {rounded(self.way.length_nm)} mm in {duration(self.way.us)}, lowest Z {rounded(self.way.low_nm)}"
+                f"{switches}")
+
+
+class Looking:
+    """Looks at OUT, with `ngc`, the settings and the device as the session left it."""
+
+    def __init__(self, ngc: str, settings: str, image: bytes) -> None:
+        """Raises NoDevice, BadSettings, OSError."""
+        self.settings = Settings.read(settings)
+        self.finder = Finder(ngc, settings, image)
+        self.device = Device(image)
+
+    def look(self, out: str, file: int, lines: int, size: int, at_nm: Point, kept: Switch) -> Recovery:
+        """How it stands: a player has carried out so much of OUT, which is open, with such outputs at its end by the
+        record. Raises OSError."""
+        position = Position(self.settings.step_nm, at_nm)
+        x, y, z = position.steps
+        try:
+            found = self.finder.find(out, Kept(size, (x, y, z)))
+            outputs = self._outputs(file, size, found.size - len(found.missing), kept)
+            return self._way(file, Recovery(lines, size, at_nm, outputs, lines, found), position)
+        except (CannotTell, CommandRefused, Ended, BadLine) as error:
+            return Recovery(lines, size, at_nm, kept, lines, problem=Failure.said(error))
+
+    def _outputs(self, file: int, size: int, to: int, kept: Switch) -> Switch:
+        """The outputs where the motors are. Where the switch that set them can't be read any more, they are those with
+        which the segment begins, or those handed out last, unless a switch stands between."""
+        found = switched_at(file, size, kept)
+        if found is not None:
+            return found
+        if is_switch_between(file, size, to):
+            return kept
+        return self.finder.segment(self.device.image)[1] if self.device.state.half else outputs_on(self.device.state)
+
+    def is_through(self, is_all: bool, at_nm: Point) -> bool:
+        """Whether nothing can be left, since no block is half-done, all of OUT is carried out, and the motors are where
+        the device has the machine."""
+        state = self.device.state
+        return is_all and not state.half and bool(state.point_known) and state.point_nm == at_nm
+
+    def _way(self, file: int, recovery: Recovery, position: Position) -> Recovery:
+        found, lines, size = recovery.beginning, recovery.lines, recovery.size
+        low, high = min(size, found.size), max(size, found.size)
+        missing = found.missing.count(b"\n")
+        there = count_lines(file, low, high - len(found.missing))
+        line = lines - there if found.size < size else lines + there + missing
+        at_nm = Position(self.settings.step_nm)
+        at_nm.steps = list(found.steps)
+        at, legs, way, least = at_nm.nm, at_nm.nm, None, self.settings.period_us
+        if not found.is_off and not missing:
+            way = look(moves(file, lines, size, found.size, least), position)
+        elif not missing and found.size > size:  # where the motors left the path
+            legs = look(moves(file, line, found.size, size, least), at_nm).end_nm
+        return Recovery(lines, size, recovery.stands_nm, recovery.outputs, line, found, at, legs, way)
+
+
+@dataclass(slots=True)
+class Found:
+    """What a session finds of OUT, a file. `looking` looks again with the device as it stood before `ngc` was started;
+    None where that can't be read."""
+
+    link: SyncedLink
+    looking: Looking | None
+    recovery: Recovery
+    said: list[str]
+    is_sent: bool = False  # the motors are on a way, and what stands behind its end isn't cut off yet
+    _at_nm: Point = (0, 0, 0)
+
+    @staticmethod
+    def of(ngc: str, settings: str, link: SyncedLink, device: Device | None) -> "Found":
+        """Looks, and mends. The player goes on at once where no line is left. Raises NoAnswer, BadSettings, OSError."""
+        looking = Looking(ngc, settings, device.image) if device else None
+        found = Found(link, looking, Recovery(), [])
+        found.look()
+        lost = found.recovery.beginning.missing if found.recovery.beginning else b""
+        if lost and not found.recovery.beginning.is_new:
+            found.put_back()
+            found.said.append(f"{link.out}: {lost.count(10)} lines that were handed out were lost with the power, and"
+                              " are put back: ngc run hands out the same ones again")
+        if not found.is_left():
+            link.follow()
+        return found
+
+    def look(self) -> None:
+        """Looks how it stands now, with the motors at rest. Raises NoAnswer, OSError."""
+        report, size = self.link.standing()
+        lines = report.carried
+        x, y, z = map(nanometres, report.at.split())
+        self._at_nm = (x, y, z)
+        if self.looking and self.looking.is_through(size == self.link.size(), (x, y, z)):
+            end = Beginning(size, (0, 0, 0))
+            self.recovery = Recovery(lines, size, (x, y, z), report.outputs, lines, end, (x, y, z), (x, y, z), _NO_WAY)
+        elif self.looking is None:
+            self.recovery = Recovery(lines, size, (x, y, z), report.outputs, lines, problem="the device can't be read")
+        else:
+            self.recovery = self.looking.look(self.link.out, self.link.file, lines, size, (x, y, z), report.outputs)
+
+    def look_again(self, report: Report) -> None:
+        """Looks again if the motors aren't where they were. Raises NoAnswer, OSError."""
+        at_nm = tuple(map(nanometres, report.at.split()))
+        if (report.carried, at_nm) != (self.recovery.lines, self._at_nm):
+            self.look()
+
+    def put_back(self) -> None:
+        """Puts the lines that OUT lost behind it; they aren't carried out yet. Raises NoAnswer, OSError."""
+        if self.recovery.beginning:
+            self.link.is_following = False
+            self.link.append(self.recovery.beginning.missing)
+            self.look()
+
+    def is_left(self) -> bool:
+        """Whether lines stand in OUT that no motor carried out, or are taken back. Raises OSError."""
+        return self.is_sent or not self.link.is_following and self.link.size() > self.recovery.size
+
+    def sends(self) -> None:
+        """The motors are sent now: until they are there, nothing more of OUT is carried out."""
+        self.is_sent = True
+        self.link.is_following = False
+
+    def cut(self, size: int) -> None:
+        """Cuts off what stands behind so many bytes, where the motors are, and goes on from there. Raises NoAnswer,
+        OSError."""
+        if self.link.size() > size:
+            self.link.cut(size)
+        self.is_sent = False
+        self.link.follow()

@@ -1,0 +1,147 @@
+"""OUT as a file: what a player is given is on the disk before, and room that nobody needs any more is given back."""
+import ctypes
+import fcntl
+import os
+import re
+import time
+from pathlib import Path
+
+from ngc_tools.formats.out import LONGEST_LINE, BadLine, read_line
+from ngc_tools.ngc.console import Status
+from ngc_tools.player.progress import Link, NoAnswer, Report
+
+SYNCED_PARTS, SYNCED_AT_ONCE = 4, 1000  # of a Meter: few pieces, since each is synced
+_CHUNK = 1 << 22  # bytes of room that are given back at once
+_TAIL = 4096  # bytes before the player's place: its record knows OUT by them
+_KEEP_SIZE, _PUNCH_HOLE = 1, 2
+_PART = re.compile(rb"[PDS](?: [-0-9. ]{0,198})?")  # of a line of OUT
+
+
+class SyncedLink(Link):
+    """Asks a player that follows a file. Once OUT and the player belong together (`follow`), each question is preceded
+    by a sync of what OUT got since the last one, and by the word how many bytes are on the disk: beyond these the
+    player carries nothing out. So what the motors were given is there after a loss of power."""
+
+    def __init__(self, path: str | Path, out: str | Path, patience_s: float = 5.0) -> None:
+        """Raises NoAnswer, or OSError if OUT can't be opened."""
+        super().__init__(path, patience_s)
+        self.out = str(out)
+        self.file = os.open(out, os.O_RDWR | os.O_CLOEXEC)
+        self.is_following = False
+        self.told = -1  # bytes, of which the player knows that they are on the disk
+        self._passed = -1  # the bytes of OUT as the status was looked at last ..
+        self._open = (-1, -1)  # .. with this segment open ..
+        self._before = 0  # .. which begins behind so many bytes
+        self._freed = 0
+
+    def standing(self) -> tuple[Report, int]:
+        """How far the player is, and the bytes that its record counts: once both count the same lines, as they do
+        where the motors stand, or after some time. Raises NoAnswer."""
+        until = time.monotonic() + self.patience_s
+        report, (lines, size) = self.ask(), self.kept()
+        while report.carried != lines and time.monotonic() < until:
+            time.sleep(0.005)
+            report, (lines, size) = self.ask(), self.kept()
+        return report, size
+
+    def follow(self) -> None:
+        """From now on the player may carry out what is synced. Raises NoAnswer."""
+        self.is_following = True
+        self._tell()
+
+    def size(self) -> int:
+        """The bytes of OUT."""
+        return os.fstat(self.file).st_size
+
+    def ask(self) -> Report:
+        """Syncs OUT, tells it, and asks how far the player is. Raises NoAnswer, also where OUT can't be synced."""
+        if self.is_following:
+            self._tell()
+        return super().ask()
+
+    def end(self) -> None:
+        """Syncs OUT, and tells the player that the session is over. Raises NoAnswer."""
+        if self.is_following:
+            self._tell()
+        super().end()
+
+    def close(self) -> None:
+        """Asks nothing more."""
+        super().close()
+        os.close(self.file)
+
+    def _tell(self) -> None:
+        size = self.size()
+        if size == self.told:
+            return
+        try:
+            self.sync()
+        except OSError as error:
+            raise NoAnswer(f"{self.out}: it can't be synced: {error.strerror}") from None
+        self.synced(size)
+        self.told = size
+
+    def sync(self) -> None:
+        """Puts what stands in OUT on the disk. Raises OSError."""
+        os.fdatasync(self.file)
+
+    def cut_part(self) -> int:
+        """Cuts a part of a line off the end, if no session has OUT, and it is one; returns how many bytes that had.
+        Raises OSError."""
+        try:
+            fcntl.flock(self.file, fcntl.LOCK_EX | fcntl.LOCK_NB)
+            fcntl.flock(self.file, fcntl.LOCK_UN)
+        except BlockingIOError:
+            return 0
+        size = self.size()
+        begin = max(0, size - 2 * LONGEST_LINE)
+        *lines, part = os.pread(self.file, size - begin, begin).split(b"\n")
+        if not _PART.fullmatch(part) or lines and not _is_line(lines[-1]):
+            return 0
+        self.cut(size - len(part))
+        return len(part)
+
+    def cut(self, size: int) -> None:
+        """Cuts off what stands behind so many bytes, and syncs that. Raises OSError."""
+        os.ftruncate(self.file, size)
+        os.fsync(self.file)
+
+    def append(self, text: bytes) -> None:
+        """Puts lines at the end, and syncs them. Raises OSError."""
+        end = self.size()
+        while text:
+            done = os.pwrite(self.file, text, end)
+            end, text = end + done, text[done:]
+        os.fsync(self.file)
+
+    def passed(self, status: Status) -> None:
+        """Looks how far the work is, after each piece of it. Room before the open segment is given back to the disk
+        once it is carried out, by the record that is on the player's disk, where the file system can. Raises
+        NoAnswer."""
+        now = status.entries, -1 if status.half == "none" else status.segment
+        if now != self._open:
+            self._open, self._before = now, max(0, self._passed)
+        self._passed = self.size()
+        if self._before - self._freed >= _CHUNK:
+            _, carried_out = self.kept()
+            self._free(min(self._before, carried_out - _TAIL) // _TAIL * _TAIL)
+
+    def _free(self, size: int) -> None:
+        if size - self._freed < _CHUNK:
+            return
+        how = ctypes.c_int(_KEEP_SIZE | _PUNCH_HOLE)
+        try:
+            ctypes.CDLL(None).fallocate(self.file, how, ctypes.c_int64(self._freed),
+                                        ctypes.c_int64(size - self._freed))
+        except AttributeError:
+            pass  # not on Linux
+        self._freed = size
+
+
+def _is_line(text: bytes) -> bool:
+    """Whether it is a line of OUT."""
+    try:
+        read_line(text, 1)
+    except BadLine:
+        return False
+    return True

@@ -1,0 +1,110 @@
+"""`--go-to-line`: what a player says before it goes to a line of OUT, and what keeps it from that."""
+import argparse
+import sys
+
+from ngc_tools.failure import Failure
+from ngc_tools.formats.out import BadLine, Switch
+from ngc_tools.formats.position import Position, millimetres
+from ngc_tools.formats.record import Record, machine_nm
+from ngc_tools.formats.settings import AXES, Settings
+from ngc_tools.job.figures import duration
+from ngc_tools.job.figures import millimetres as rounded
+from ngc_tools.player.person import Voice
+from ngc_tools.player.player import Player
+from ngc_tools.player.retrace import Point, leg_pulses, legs_to
+from ngc_tools.player.way import Move, NoWay, Way, end_of_line, look, moves, outputs_at
+
+_TURNS = ("", "spindle clockwise", "spindle counter-clockwise")
+
+
+class WontGo(Failure):
+    """Why a player doesn't go to a line; the text names the file that is to blame."""
+
+
+def on_words(outputs: Switch) -> str:
+    """What of spindle and coolant outputs turn on, for people; nothing where both are off."""
+    spindle = f"{_TURNS[outputs.spindle]} at {outputs.speed / 10**6:g}" if outputs.spindle else ""
+    return ", ".join(filter(None, (spindle, "mist" if outputs.mist else "", "flood" if outputs.flood else "")))
+
+
+def way_words(way: Way, kind: str) -> str:
+    """A way for people, as `back 120 lines: 0.310 mm in 0.006 s, lowest Z -1.000`."""
+    switches = f"; {way.switches} switches of the outputs on the way" if way.switches else ""
+    return f"{kind}: {rounded(way.length_nm)} mm in {duration(way.us)}, lowest Z {rounded(way.low_nm)}{switches}"
+
+
+class Going:
+    """Looks at the way to a line of OUT, tells it, asks, and sends the player."""
+
+    def __init__(self, player: Player, settings: Settings, args: argparse.Namespace, voice: Voice) -> None:
+        self.player, self.settings, self.args, self.voice = player, settings, args, voice
+
+    def prepare(self, found: Record | None, begun: Record) -> None:
+        """Sends the player to the line. `found` is the record as it was. Raises WontGo, or BadLine of OUT."""
+        player, source, out = self.player, self.player.source, self.args.out
+        if not source.is_file:
+            raise WontGo(f"{out}: a pipe keeps no lines: --go-to-line is for a file")
+        if found is None or begun.size == 0 and found.size != 0:
+            whose = "there is no such record" if found is None else f"it speaks of {found.out}, not of {out}"
+            raise WontGo(f"{self.args.position}: {whose}: where the motors are on the way isn't known")
+        stands, left = player.position.nm, Position(self.settings.step_nm, begun.at_nm).nm
+        if stands != left and self.args.lift is None:
+            raise WontGo(f"--at {player.position}: the motors left the way at {_point(left)}: --lift Z leads back to it"
+                         " by legs")
+        try:
+            size = end_of_line(source.file, player.lines, player.size, self.args.go_to_line)
+            self._send(size, left, outputs_at(source.file, player.size, found.outputs))
+        except (NoWay, BadLine) as error:
+            raise WontGo(f"{out}: {error}") from None
+
+    def _send(self, size: int, left: Point, outputs: Switch) -> None:
+        """Says what it would do, asks, and sends the player. Raises NoWay, BadLine, WontGo."""
+        player, position = self.player, Position(self.settings.step_nm, left)
+        player.source.limit = player.size
+        at_nm = lift_nm = None
+        if self.args.lift is not None:
+            if size < player.size:
+                self._look(size, position)
+            at_nm, lift_nm = position.nm, machine_nm(self.args.lift)
+            self._say_legs(at_nm, lift_nm)
+        if at_nm is None or size > player.size:
+            what = f"{'back' if size < player.size else 'on'} to line {self.args.go_to_line} of {self.args.out}"
+            self.voice.say(way_words(self._look(size, position), what))
+        if why := player.take_errand(size, self._agreed(outputs), lift_nm, at_nm):
+            raise WontGo(f"{self.args.out}: {why}")
+
+    def _look(self, size: int, position: Position) -> Way:
+        player = self.player
+        return look(moves(player.source.file, player.lines, player.size, size, self.settings.period_us), position)
+
+    def _say_legs(self, end: Point, lift_nm: int) -> None:
+        """Raises NoWay, and WontGo where the height lies outside the travel."""
+        if not self.settings.low_nm[2] <= lift_nm <= self.settings.high_nm[2]:
+            raise WontGo(f"--lift {self.args.lift}: it lies outside the travel of Z")
+        start = self.player.position.nm
+        legs = legs_to(start, end, lift_nm)
+        pulses = leg_pulses(Position(self.settings.step_nm, start), legs, self.player.manner)
+        way = look((Move(pulse, 0, 0) for pulse in pulses), Position(self.settings.step_nm, start))
+        self.voice.say(way_words(way, f"by legs over Z {millimetres(lift_nm)} to {_point(end)}"))
+
+    def _agreed(self, outputs: Switch) -> Switch | None:
+        """Asks, unless it is told not to; what is switched on first. Raises WontGo where the answer isn't yes."""
+        on = on_words(outputs)
+        if self.args.yes:
+            return outputs if on else None
+        if on and self._answer(f"on was, before line {self.player.lines + 1}: {on}. yes switches it on first, no leaves"
+                               " it off", ("yes", "no")) == "no":
+            on = ""
+        self._answer("yes goes there, anything else ends", ("yes",))
+        return outputs if on else None
+
+    def _answer(self, question: str, answers: tuple[str, ...]) -> str:
+        self.voice.say(question)
+        given = sys.stdin.readline().strip().lower() if sys.stdin else ""
+        if given not in answers:
+            raise WontGo("nothing moved; --yes goes without a question")
+        return given
+
+
+def _point(at: Point) -> str:
+    return " ".join(f"{axis}{millimetres(nm)}" for axis, nm in zip(AXES, at, strict=True))

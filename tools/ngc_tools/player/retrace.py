@@ -1,0 +1,250 @@
+"""What a player does besides OUT's next lines: it goes on to a line of OUT, back to one, or by legs to a point.
+
+What the record says meanwhile. At each moment the motors are where its `reference` is, and but for legs that is where
+the first `lines` lines of OUT lead, its first `bytes` bytes:
+
+- On along the lines both counts grow with each line, as always.
+- Back along them the counts fall: once the pulse of line K is taken back, `lines` is K - 1. So whatever ends the way
+  back, a loss of power too, the record names the line up to which OUT leads to where the motors are, and the way to any
+  line of OUT begins there. What was carried out behind it stays in OUT.
+- By legs `reference` moves alone. The counts stay until the last pulse, and with it they become those of the line at
+  whose end the legs end, if they end at one. A way that is broken off leaves a `reference` that isn't on the path, and
+  from there only legs lead on.
+
+Back nothing is switched and nothing waited for: spindle and coolant stay as they are."""
+import re
+import threading
+import time
+from collections import deque
+from collections.abc import Iterator
+from dataclasses import dataclass, replace
+
+from ngc_tools.formats.out import Pulse, Switch, read_line
+from ngc_tools.formats.position import Position, millimetres, rounded
+from ngc_tools.formats.record import machine_nm
+from ngc_tools.job.moves import distance
+from ngc_tools.player.keeper import Keeper
+from ngc_tools.player.manner import Manner
+from ngc_tools.player.pace import Pace
+from ngc_tools.player.pace_path import Limits
+from ngc_tools.player.pins import Pins
+from ngc_tools.player.schedule import Schedule
+from ngc_tools.player.source import Source
+from ngc_tools.player.way import Move, NoWay, count_lines, moves
+
+Point = tuple[int, int, int]
+_DOZE_S = 0.005
+_ERRAND = re.compile(r"(?:along|legs (\S+ \S+ \S+ \S+)) (\d{1,18})(?: (S .*))?")
+
+
+@dataclass(frozen=True, slots=True)
+class Errand:
+    """The motors are to be where the first `lines` lines of OUT lead, its first `size` bytes. `on` is switched on
+    before. By `legs` to the points that follow each other, in nm, if there are any: to where `legs_lines` and
+    `legs_size` lead, and from there on along the lines."""
+
+    lines: int
+    size: int
+    on: Switch | None = None
+    legs: tuple[Point, ...] = ()
+    legs_lines: int = 0
+    legs_size: int = 0
+
+
+def legs_to(start: Point, end: Point, lift_nm: int) -> tuple[Point, ...]:
+    """Up to a height, over, and down. Raises NoWay if that height isn't above both points."""
+    if lift_nm < max(start[2], end[2]):
+        raise NoWay(f"Z {millimetres(lift_nm)} lies below Z {millimetres(max(start[2], end[2]))}: legs go up first, and"
+                    " down last")
+    return (start[0], start[1], lift_nm), (end[0], end[1], lift_nm), end
+
+
+def leg_pulses(position: Position, legs: tuple[Point, ...], manner: Manner) -> Iterator[Pulse]:
+    """The pulses of straight lines from a point on, all axes together, at the traverse rate."""
+    for end in legs:
+        begun = list(position.steps)
+        steps = [rounded(nm, step) - at for nm, step, at in zip(end, position.step_nm, begun, strict=True)]
+        count = max(map(abs, steps))
+        lengths = [each * nm for each, nm in zip(steps, position.step_nm)]
+        us = -(-distance((0, 0, 0), tuple(lengths)) * 60_000_000 // (manner.traverse_nm_per_min * max(count, 1)))
+        for number in range(1, count + 1):
+            there = [at + (2 * number * each + count) // (2 * count) for at, each in zip(begun, steps)]
+            x, y, z = (then - now for then, now in zip(there, position.steps))
+            yield Pulse(x, y, z, max(us, manner.least_period_us))
+            position.steps = there
+
+
+def read_errand(text: bytes) -> tuple[int, Switch | None, int | None, Point | None] | None:
+    """A datagram that sends on an errand, as `Goes.take_errand` takes it; None for other text."""
+    match = _ERRAND.fullmatch(text.decode("latin-1"))
+    if match is None:
+        return None
+    try:
+        lift, *at = (machine_nm(number) for number in match[1].split()) if match[1] else (None,)
+        on = read_line(match[3], 1) if match[3] else None
+    except ValueError:
+        return None
+    return int(match[2]), on, lift, tuple(at) or None
+
+
+class Goes:
+    """The part of a player that does errands. What it uses of the player is declared here."""
+
+    source: Source
+    position: Position
+    pins: Pins
+    manner: Manner
+    outputs: Switch
+    schedule: Schedule
+    keeper: Keeper | None
+    lines: int
+    size: int
+    percent: int
+    _lock: threading.Lock
+    _is_moving: bool
+    _stands_held: bool
+    is_held = False  # somebody asks for a rest
+    _limits: Limits | None = None
+    errand: Errand | None = None
+
+    def take_errand(self, size: int, on: Switch | None, lift_nm: int | None = None, at_nm: Point | None = None) -> str:
+        """Takes an errand: along OUT to where its first `size` bytes lead. If `at_nm` is named, it is where they lead,
+        or what is carried out if that is less, and legs over `lift_nm` go there first. What keeps it from that; nothing
+        if it is taken. The lock is held."""
+        source = self.source
+        if self.errand or source.received != self.lines:
+            return "it works: lines are in hand"
+        is_line = source.is_file and size <= source.size() and source.holds(size)
+        if not is_line and (source.is_file or at_nm is None):
+            return f"no line of OUT ends at byte {size}" if source.is_file else "OUT is a pipe, and keeps no lines"
+        legs: tuple[Point, ...] = ()
+        if at_nm is not None:
+            try:
+                legs = legs_to(self.position.nm, at_nm, lift_nm or 0)
+            except NoWay as error:
+                return str(error)
+        if not source.is_file:
+            self.errand = Errand(self.lines, self.size, on, legs, self.lines, self.size)
+            return ""
+        low, high = min(size, self.size), max(size, self.size)
+        count = count_lines(source.file, low, high)
+        lines = self.lines + (count if size > self.size else -count)
+        self.errand = Errand(lines, size, on, legs, min(lines, self.lines), low)
+        return ""
+
+    def bound_for(self) -> int:
+        """The line of OUT to which an errand leads; another number than that of the lines until it is done."""
+        errand = self.errand
+        return errand.lines if errand and errand.lines != self.lines else self.lines + 1
+
+    def _does_errand(self) -> bool:
+        """Does an errand, if there is one; whether there was. Raises Stopped, BadLine, or OSError of the pins."""
+        errand = self.errand
+        if errand is None:
+            return False
+        self.schedule.pause()
+        if errand.on:
+            self._switch_on(errand.on)
+        if errand.legs:
+            self._go(self._by_legs(errand))
+        elif errand.size < self.size:
+            self._go(moves(self.source.file, self.lines, self.size, errand.size, self.manner.least_period_us))
+        with self._lock:
+            if self.source.is_file:
+                self._arrive(errand)
+            self.errand = None
+        return True
+
+    def _arrive(self, errand: Errand) -> None:
+        """Reads on from where the motors are, up to the line of the errand. The lock is held."""
+        if errand.legs:
+            self.lines, self.size = errand.legs_lines, errand.legs_size
+        self.source.go_to(self.lines, self.size)
+        self.source.limit = errand.size
+
+    def _switch_on(self, outputs: Switch) -> None:
+        """Sets outputs, but for the tool, which stays in the spindle, and waits for the spindle."""
+        outputs = replace(outputs, slot=self.outputs.slot)
+        self.pins.set(str(outputs).encode())
+        turns = outputs.spindle != self.outputs.spindle
+        with self._lock:
+            self.outputs = outputs
+        if turns:
+            self._wait_until(time.monotonic_ns() + self.manner.spindle_us * 1000)
+        self.schedule.pause()
+
+    def _by_legs(self, errand: Errand) -> Iterator[Move]:
+        """With the last pulse the counts are those of the errand."""
+        start = Position(self.position.step_nm, self.position.nm)
+        later: Pulse | None = None
+        for pulse in leg_pulses(start, errand.legs, self.manner):
+            if later:
+                yield Move(later, self.lines, self.size)
+            later = pulse
+        if later:
+            yield Move(later, errand.legs_lines, errand.legs_size)
+
+    def _go(self, found: Iterator[Move]) -> None:
+        """Makes moves, each in its time, or by ramps."""
+        if self._limits:
+            self._go_paced(found, Pace(self._limits))
+            return
+        for move in found:
+            self._await_due()
+            while self.is_held:
+                self._doze()
+            self._make(move, move.line.lasts_us * 1000 if move.line else 0)
+        self._stands_held = False
+        self._await_due()
+
+    def _go_paced(self, found: Iterator[Move], pace: Pace) -> None:
+        ahead: deque[Move] = deque()
+        is_all = False
+        while not is_all or ahead:
+            self._await_due()
+            while not is_all and not pace.is_full():
+                is_all = self._take(found, ahead, pace)
+            if not self._is_moving:
+                self.schedule.pause()  # as long as it took to read
+            wanted = 0 if self.is_held or self._is_rest_asked() else pace.wanted(self.percent)
+            ns = pace.next(wanted) if ahead and ahead[0].line else 0
+            if ns is None:
+                self._is_moving = False
+                self._doze()
+                continue
+            self._is_moving, self._stands_held = pace.square > 0, False
+            self._make(ahead.popleft(), ns)
+        self._is_moving = False
+        self._await_due()
+
+    @staticmethod
+    def _take(found: Iterator[Move], ahead: deque[Move], pace: Pace) -> bool:
+        """Takes a move into the window; whether there is none any more."""
+        move = next(found, None)
+        if move is None:
+            pace.end()
+            return True
+        ahead.append(move)
+        if move.line:
+            pace.push(move.line)
+        return False
+
+    def _doze(self) -> None:
+        """At rest, since it is to."""
+        self._stands_held = self.is_held
+        self._heed()
+        self._heed_console(f"it is held after line {self.lines}")
+        time.sleep(_DOZE_S)
+        self.schedule.pause()
+
+    def _make(self, move: Move, lasts_ns: int) -> None:
+        """Makes a pulse now, which is counted."""
+        line = move.line
+        if line is not None:
+            self.schedule.begun(lasts_ns)
+            self.pins.set(b"P %d %d %d %d" % (line.x, line.y, line.z, line.period_us))
+            self.counts.add(line)
+        with self._lock:
+            if line is not None:
+                self.position.take(line)
+            self.lines, self.size = move.lines, move.size

@@ -1,0 +1,665 @@
+"""After a loss of power: ways along OUT, in both players; what ngc-operate and ngc-rehearse find; and `recover`."""
+import os
+import random
+import shutil
+import subprocess
+import sys
+import time
+import unittest
+from pathlib import Path
+
+sys.path.insert(0, str(Path(__file__).resolve().parent))
+
+from player_support import NO_RAMPS, InC, InProcess, PlayerTest, built, record  # noqa: E402
+from pulled_file import Options, Yes, program, pull  # noqa: E402
+from pulled_plug import program as stairs  # noqa: E402
+from pulled_plug import run_uncut  # noqa: E402
+from session_support import FIRST, InFolder, ngc, told  # noqa: E402
+
+from ngc_tools.cli.rehearse import main as rehearse  # noqa: E402
+from ngc_tools.formats.device import Device  # noqa: E402
+from ngc_tools.formats.out import OFF  # noqa: E402
+from ngc_tools.formats.record import Record  # noqa: E402
+from ngc_tools.ngc.carried import CannotTell  # noqa: E402
+from ngc_tools.ngc.console import Console, Status  # noqa: E402
+from ngc_tools.ngc.handed_out import Finder, Kept  # noqa: E402
+from ngc_tools.operator.meter import Meter  # noqa: E402
+from ngc_tools.operator.operator import Operator  # noqa: E402
+from ngc_tools.operator.recovery import Found  # noqa: E402
+from ngc_tools.operator.synced import SyncedLink  # noqa: E402
+from ngc_tools.player.source import Source  # noqa: E402
+
+# A path by hand: spindle on, +X +X at 50 us, a wait, +Y at 200 us, +X -Z at 70 us. It leads to 3 1 -1.
+PATH = b"S 1 900.000000 0 0 0 0\nP 1 0 0 50\nP 1 0 0 50\nD 9\nP 0 1 0 200\nP 1 0 -1 70\n"
+WHOLE_RECORD = "reference 0.003000 0.001000 -0.001000\n"
+
+
+class Going:
+    """--go-to-line, in both players."""
+
+    def setUp(self) -> None:
+        """An OUT that is carried out to its end."""
+        super().setUp()
+        Path("out").write_bytes(PATH)
+        self.assertEqual(self.play("--untimed").returncode, 0)
+        Path("pins").unlink()
+
+    def go(self, *words: str, text: str = "") -> tuple[int, str]:
+        """Goes, and returns the status and what is said."""
+        done = self.run_player("--untimed", "--no-ask-tool", "--pins", "pins", *words, "out", "first.toml", "position",
+                               input=text)
+        return done.returncode, done.stderr
+
+    def pins(self) -> list[str]:
+        """What the pins got."""
+        return Path("pins").read_text().splitlines() if Path("pins").exists() else []
+
+    def test_back(self) -> None:
+        """Back to line 2: the pulses of lines 6, 5 and 3 with turned signs, the wait left out. Between two of them lies
+        the time that lay between them on the way on: 200 us from line 5 to 6, and that of line 3, if it came last."""
+        status, said = self.go("--go-to-line", "2", "--yes")
+        self.assertEqual((status, said), (0, "back to line 2 of out: 0.003 mm in 0.000 s, lowest Z -0.001\n"
+                                          "out: ended with spindle or coolant on; spindle and coolant off\n"))
+        self.assertEqual(self.pins(), ["S 1 900.000000 0 0 0 0", "P -1 0 1 200", "P 0 -1 0 200", "P -1 0 0 50", "off"])
+        self.assertEqual(record(), "lines 2\nbytes 34\noutputs S 0 900.000000 0 0 0 0\n"
+                         "reference 0.001000 0.000000 0.000000\n")
+
+    def test_on(self) -> None:
+        """On from there, with the outputs of that line first; a switch on the way is said."""
+        self.go("--go-to-line", "0", "--yes")
+        Path("pins").unlink()
+        status, said = self.go("--go-to-line", "3", "--yes")
+        self.assertEqual(said.splitlines()[0], "on to line 3 of out: 0.002 mm in 0.000 s, lowest Z 0.000;"
+                         " 1 switches of the outputs on the way")
+        self.assertEqual((status, self.pins()), (0, ["S 1 900.000000 0 0 0 0", "P 1 0 0 50", "P 1 0 0 50", "off"]))
+        Path("pins").unlink()
+        self.assertEqual(self.go("--go-to-line", "6", "--yes")[0], 0)
+        self.assertEqual(self.pins(), ["S 1 900.000000 0 0 0 0", *PATH.decode().splitlines()[3:], "off"])
+        self.assertTrue(record().endswith(WHOLE_RECORD))
+
+    def test_asked(self) -> None:
+        """Without a yes nothing moves, and the record stays; `no` leaves the spindle off."""
+        before = record()
+        for text in ("", "no\n", "yes\nno\n", "YES\n", "go\n", "no\n\n"):
+            status, said = self.go("--go-to-line", "2", text=text)
+            self.assertEqual((status, said.splitlines()[-1].partition(": ")[2], self.pins(), record()),
+                             (2, "nothing moved; --yes goes without a question", [], before), text)
+        status, said = self.go("--go-to-line", "5", text="no\nyes\n")
+        self.assertEqual((status, self.pins()), (0, ["P -1 0 1 70"]))
+        self.assertEqual(said.splitlines()[1:], ["on was, before line 7: spindle clockwise at 900. yes switches it on"
+                                                 " first, no leaves it off", "yes goes there, anything else ends"])
+
+    def test_tool_stays(self) -> None:
+        """Back past a tool change no tool is changed, so what is switched on later names the one that is in."""
+        for name in ("out", "position"):
+            Path(name).unlink()
+        Path("out").write_text("S 1 9.000000 0 0 1 1\nP 1 0 0 50\nS 1 9.000000 0 0 2 2\nP 1 0 0 50\n")
+        self.assertEqual(self.play("--untimed", "--no-ask-tool").returncode, 0)
+        self.go("--go-to-line", "1", "--yes")
+        Path("pins").unlink()
+        self.assertEqual(self.go("--go-to-line", "2", "--yes")[0], 0)
+        self.assertEqual(self.pins(), ["S 1 9.000000 0 0 1 2", "P 1 0 0 50", "off"])
+        self.assertIn("outputs S 0 9.000000 0 0 1 2\n", record())
+
+    def test_legs(self) -> None:
+        """Up, over, and down, at the traverse rate, to where line 2 leads: from 3 1 -1 up to 1, to 1 0, down to 0."""
+        status, said = self.go("--go-to-line", "2", "--lift", "0.001", "--yes")
+        self.assertEqual((status, said.splitlines()[0]), (0, "by legs over Z 0.001000 to X0.001000 Y0.000000 Z0.000000:"
+                                                          " 0.005 mm in 0.000 s, lowest Z -0.001"))
+        # over: 2 by 1 steps are 2.236 um, which the rate of 100 mm/s takes 22.36 us for: 11.18 a pulse, 50 at least
+        self.assertEqual(self.pins(), ["S 1 900.000000 0 0 0 0", "P 0 0 1 50", "P 0 0 1 50", "P -1 0 0 50",
+                                       "P -1 -1 0 50", "P 0 0 -1 50", "off"])
+        self.assertEqual(record().splitlines()[0::3], ["lines 2", "reference 0.001000 0.000000 0.000000"])
+
+    def test_off_the_path(self) -> None:
+        """From beside the path only legs lead on: to where it was left, and then along it."""
+        self.go("--go-to-line", "2", "--yes")
+        Path("pins").unlink()
+        status, said = self.go("--go-to-line", "6", "--at", "0.001", "0.001", "0.002", "--yes")
+        self.assertEqual((status, self.pins()), (2, []))
+        self.assertIn("--at 0.001000 0.001000 0.002000: the motors left the way at X0.001000 Y0.000000 Z0.000000:"
+                      " --lift Z leads back to it by legs", said)
+        words = ("--go-to-line", "6", "--at", "0.001", "0.001", "0.002", "--yes", "--lift")
+        self.assertIn("out: Z 0.001999 lies below Z 0.002000: legs go up first, and down last",
+                      self.go(*words, "0.001999")[1])
+        self.assertEqual(self.go(*words, "0.002")[0], 0)
+        self.assertEqual(self.pins(), ["S 1 900.000000 0 0 0 0", "P 0 -1 0 50", "P 0 0 -1 50", "P 0 0 -1 50",
+                                       *PATH.decode().splitlines()[2:], "off"])
+        self.assertTrue(record().endswith(WHOLE_RECORD))
+
+    def test_refused(self) -> None:
+        """What doesn't belong together is named, and nothing moves."""
+        shutil.copy("out", "copy")
+        Path("short").write_bytes(PATH[:40])
+        os.mkfifo("axis")
+        words = ("first.toml", "position")
+        for given, why in (
+                (("--go-to-line", "7", "--yes", "out", *words), "out: OUT has 6 lines, and no line 7"),
+                (("--go-to-line", "2", "--yes", "copy", *words), f"position: it speaks of {self.folder}/out, not of"
+                 " copy: where the motors are on the way isn't known"),
+                (("--go-to-line", "2", "--yes", "out", "first.toml", "none"), "none: there is no such record: where the"
+                 " motors are on the way isn't known"),
+                (("--go-to-line", "2", "--yes", "axis", *words),
+                 "axis: a pipe keeps no lines: --go-to-line is for a file"),
+                (("--go-to-line", "2", "--yes", "--lift", "1001", "out", *words),
+                 "--lift 1001: it lies outside the travel of Z")):
+            self.assertEqual(self.refused(*given), why)
+        shutil.copy("copy", "new")
+        os.rename("new", "out")
+        self.assertIn("out: another file than the one whose first 6 lines are carried out",
+                      self.refused("--go-to-line", "2", "--yes", "out", *words))
+        self.assertFalse(Path("none").exists())
+
+    def test_given_back(self) -> None:
+        """Room that was given back, and what isn't a line, is met before anything moves."""
+        for text in (bytes(len(PATH) - 22) + PATH[-22:], PATH.replace(b"D 9", b"D x")):
+            with open("out", "r+b") as file:
+                file.write(text)
+            status, said = self.go("--restored", "--go-to-line", "1", "--yes")
+            self.assertEqual((status, self.pins()), (2, []))
+            self.assertRegex(said, r"out: (line \d+: |.*not the file whose)")
+
+    def test_ramps(self) -> None:
+        """With --machine back by ramps: 100 mm at 3,000 mm/min and 500 mm/s2 take 2.1 s on, and so back."""
+        Path("out").write_text("P 1 0 0 50\n" * 4000)
+        Path("m.toml").write_text("[motion]\naccel_mm_s2 = [400, 400, 400]\n")
+        Path("position").unlink()
+        words = ("--no-ask-tool", "--machine", "m.toml", "--pins", "pins", "out", "first.toml", "position")
+        self.assertEqual(self.run_player("--untimed", *words).returncode, 0)
+        begun = time.monotonic()
+        self.assertEqual(self.run_player("--go-to-line", "0", "--yes", *words).returncode, 0)
+        # 4 mm at 20 mm/s and 400 mm/s2: 4 / 20 + 20 / 400 = 0.25 s
+        self.assertGreater(time.monotonic() - begun, 0.25)
+        self.assertEqual(self.pins()[4000:], ["P -1 0 0 50"] * 4000)
+        self.assertIn("lines 0\n", record())
+        words = ("--untimed", "--lift", "0.002", "--at", "0", "0.003", "0", "--yes", *words)
+        self.assertEqual(self.run_player("--go-to-line", "7", *words).returncode, 0)
+        self.assertEqual(self.pins()[8000:], ["P 0 0 1 50"] * 2 + ["P 0 -1 0 50"] * 3 + ["P 0 0 -1 50"] * 2
+                         + ["P 1 0 0 50"] * 7)
+        self.assertIn("lines 7\n", record())
+
+
+class GoingInPython(Going, InProcess, PlayerTest):
+    """ngc-player."""
+
+    def run_player(self, *words: str, **how: object) -> subprocess.CompletedProcess[str]:
+        """In this process where nothing is typed."""
+        if how.get("input") == "":
+            how.pop("input")
+            how["stdin"] = subprocess.DEVNULL if "--yes" not in words else None
+            if how["stdin"] is None:
+                how.pop("stdin")
+        return super().run_player(*words, **how)
+
+
+class GoingInC(Going, InC, PlayerTest):
+    """tools/player."""
+
+
+class Followed:
+    """A file that is followed, in both players."""
+
+    def test_synced(self) -> None:
+        """Nothing is carried out beyond what is on the disk, and nothing before somebody said how much that is: also
+        where there is no record yet, or all of OUT is carried out by it. The record's count of bytes is told."""
+        Path("out").write_bytes(b"P 1 0 0 50\n")
+        child = self.begin("--follow", "--untimed", "--progress", "progress", "out", "first.toml", "position")
+        link = self.linked()
+        time.sleep(0.05)
+        self.assertEqual((link.ask().received, link.ask().carried), (0, 0))
+        child.terminate()
+        child.communicate()
+        self.assertEqual(self.play("--untimed").returncode, 0)
+        os.truncate("out", 0)
+        self.begin("--anew", "--follow", "--untimed", "--progress", "progress", "out", "first.toml", "position")
+        link = self.linked()
+        with open("out", "ab") as file:
+            file.write(b"P 1 0 0 50\nP 1 0 0 50\nP 1 0 0 50\n")
+        time.sleep(0.05)
+        self.assertEqual((link.ask().received, link.ask().carried), (0, 0))
+        link.synced(22)
+        self.wait_for("two lines are carried out", lambda: link.ask().carried == 2)
+        time.sleep(0.05)
+        self.assertEqual(link.ask().received, 2)
+        self.wait_for("the record is kept", lambda: link.kept() == (2, 22))
+        link.synced(33)
+        self.wait_for("the third is", lambda: link.ask().carried == 3)
+
+    def test_left(self) -> None:
+        """Lines that the last session left wait for a console; ways lead on and back, and refuse what isn't a line's
+        end."""
+        Path("out").write_bytes(PATH)
+        self.assertEqual(self.play("--untimed").returncode, 0)
+        with open("out", "ab") as file:
+            file.write(b"P 0 1 0 50\nP 0 1 0 60\n")
+        child = self.begin("--follow", "--untimed", "--no-ask-tool", "--pins", "pins2", "--progress", "progress", "out",
+                           "first.toml", "position")
+        link = self.linked()
+        time.sleep(0.1)
+        self.assertEqual((link.ask().carried, link.ask().received), (6, 6))
+        link.along(5)
+        self.assertEqual((link.ask().carried, link.ask().received), (6, 6))
+        link.along(len(PATH) + 11)
+        self.wait_for("it went on", lambda: link.ask().carried == 7)
+        link.along(34)
+        self.wait_for("it went back", lambda: (link.ask().carried, link.ask().received) == (2, 2))
+        link.legs("0.001", "0.001 0.001 0", 34)
+        self.wait_for("it went over", lambda: link.ask().at == "0.001000 0.001000 0.000000")
+        self.assertEqual(link.ask().carried, 2)
+        link.end()
+        _, said = child.communicate()
+        self.assertEqual(said, "out: lines that no motor carried out stand behind line 6: nothing moves before a"
+                         " console says so; recover in ngc-operate goes on or back\nout: it doesn't go: no line of OUT"
+                         " ends at byte 5\n")
+        self.assertEqual(Path("pins2").read_text().splitlines(), [
+            "P 0 1 0 50", "P 0 -1 0 70", "P -1 0 1 200", "P 0 -1 0 200", "P -1 0 0 50", "P 0 0 1 50", "P 0 1 0 50",
+            "P 0 0 -1 50"])
+
+    def test_held(self) -> None:
+        """A way is held between two pulses, without ramps too, and goes on once it is let go."""
+        Path("out").write_text("P 1 0 0 400000\n" * 6)
+        self.assertEqual(self.play("--untimed").returncode, 0)
+        self.begin("--follow", "--pins", "pins2", "--progress", "progress", "out", "first.toml", "position")
+        link = self.linked()
+        link.along(60)
+        self.wait_for("one pulse is taken back", lambda: link.ask().carried == 5)
+        link.hold()
+        time.sleep(0.6)
+        self.assertEqual((link.ask().carried, link.ask().received, link.ask().is_held), (5, 4, True))
+        link.release()
+        self.wait_for("the other is", lambda: link.ask().received == link.ask().carried)
+        self.assertEqual((link.ask().carried, Path("pins2").read_text()), (4, "P -1 0 0 400000\n" * 2))
+        link.legs("2", "0.004 0 0", 60)
+        link.at("9 9 9")  # not while they move
+        self.wait_for("the legs are done", lambda: not link.ask().behind)
+        self.assertEqual(link.ask().at, "0.004000 0.000000 0.000000")
+
+
+class FollowedInPython(Followed, PlayerTest):
+    """ngc-player."""
+
+
+class FollowedInC(Followed, InC, PlayerTest):
+    """tools/player."""
+
+
+class Finding(InFolder):
+    """Where in OUT the open segment begins."""
+
+    def test_by_chance(self) -> None:
+        """At moments by chance, with up to 100 lines of OUT's end lost, and the power switched on before: what is found
+        is what a tick and a status at a time say of the uncut run. 600 blocks fill the log."""
+        Path("settings.toml").write_text(FIRST)
+        chance = random.Random(5)
+        for text, times in ((program(20), 6), (stairs(600), 2)):
+            Path("uncut.out").unlink(missing_ok=True)
+            uncut = run_uncut(ngc(), self.folder, text)
+            for _ in range(times):
+                self.try_one(uncut, chance)
+
+    def try_one(self, uncut: object, chance: random.Random) -> None:
+        """Breaks a session off, and looks."""
+        for name in ("c.dev", "c.out", "x.out"):
+            Path(name).unlink(missing_ok=True)
+        subprocess.run([ngc(), "format", "c.dev"], check=True)
+        commands = b"load %d\n" % len(uncut.text) + uncut.text + b"start\ntick %d\n"
+        count = chance.randint(len(uncut.lines) // 10, len(uncut.lines) * 11 // 10)
+        subprocess.run([ngc(), "run", "c.dev", "settings.toml", "c.out"], input=commands % count, capture_output=True)
+        shutil.copy("c.dev", "x.dev")
+        done = subprocess.run([ngc(), "run", "x.dev", "settings.toml", "x.out"], input=b"status\n", capture_output=True)
+        status = Status.read(done.stdout.decode().strip())
+        wanted = (uncut.segments[status.place, status.segment] if status.half == "program" else
+                  uncut.places[status.place] if status.place else len(uncut.lines))
+        lines = Path("c.out").read_bytes().splitlines(True)
+        there = len(lines) - chance.choice((0, chance.randint(1, min(100, len(lines) - 1))))
+        carried = chance.randint(max(0, there - 150), there)
+        Path("c.out").write_bytes(b"".join(lines[:there]) + b"P 1 0"[:chance.randint(0, 5)])
+        kept = Kept(sum(map(len, lines[:carried])), uncut.at(carried))
+        image = Path(chance.choice(("c.dev", "x.dev"))).read_bytes()
+        found = Finder(ngc(), "settings.toml", image).find("c.out", kept)
+        whole = b"".join(lines[:there]) + found.missing
+        self.assertEqual((whole[:found.size].count(b"\n"), found.steps, found.is_off),
+                         (wanted, uncut.at(wanted), False))
+        self.assertEqual(whole.splitlines(), uncut.lines[:whole.count(b"\n")])
+        self.assertGreaterEqual(len(whole), found.size)
+
+    def test_what_doesnt_belong(self) -> None:
+        """Another OUT than the device's, and a record that counts more than OUT has."""
+        self.device()
+        self.run_ngc("mdi G0 X0.02 Y0.01\ntick 9\nquit\n")
+        image = Path("mill.dev").read_bytes()
+        Path("other").write_text("P 0 0 1 50\n" * 4)
+        with self.assertRaisesRegex(CannotTell, "other doesn't end with lines of the half-done block"):
+            Finder(ngc(), "first.toml", image).find("other", Kept(11, (0, 0, 1)))
+        with self.assertRaisesRegex(CannotTell, "other has 44 bytes of whole lines, and the record counts 45"):
+            Finder(ngc(), "first.toml", image).find("other", Kept(45, (0, 0, 1)))
+        found = Finder(ngc(), "first.toml", image).find("out", Kept(22, (2, 1, 0)))
+        self.assertEqual((found.size, found.steps), (0, (0, 0, 0)))
+
+    def test_no_block(self) -> None:
+        """Where no block is half-done OUT has to lead to where the device has the machine: a fresh one at 0."""
+        self.device()
+        Path("other").write_text("P 0 0 1 50\n" * 4)
+        finder = Finder(ngc(), "first.toml", Path("mill.dev").read_bytes())
+        with self.assertRaisesRegex(CannotTell, "other doesn't lead to where the device has the machine"):
+            finder.find("other", Kept(11, (0, 0, 1)))
+        self.assertEqual(finder.find("other", Kept(11, (0, 0, -3))).size, 44)
+
+    def test_rehearsal(self) -> None:
+        """Of a move of 20 steps that was cut after 6 lines, of which 5 are carried out, behind one of 3 steps."""
+        self.device()
+        self.run_ngc("load 23\nG0 X0.003\nG0 Z0.020\nM2\nstart\ntick 14\nquit\n")
+        self.assertEqual(Path("out").read_text(), "P 1 0 0 50\n" * 3 + "P 0 0 1 50\n" * 6)
+        source = Source("out")
+        mark = source.mark(88)
+        source.close()
+        Path("position").write_bytes(Record(f"{self.folder}/out", 8, 88, OFF, (3000, 0, 5000), mark).text())
+        words = ("mill.dev", "first.toml", "--out", "out", "--position", "position", "--ngc", ngc())
+        status, said, _ = told(rehearse, *words)
+        self.assertEqual((status, said.splitlines()[:8]), (0, [
+            "8 lines of out are carried out; the motors are at X 0.003000 Y 0.000000 Z 0.005000",
+            "the open segment begins behind line 3 of out",
+            "recover: back through what was cut, 5 lines of OUT, to its line 3: 0.005 mm in 0.000 s, lowest Z 0.000",
+            "",
+            "half-done: line 2 of 3: G0 Z0.020",
+            "segment 0 of 1, counted from 0: begins at X 0.003000 Y 0.000000 Z 0.000000",
+            "first comes on: spindle stands; no coolant; no tool in the spindle",
+            "the approach: the machine stands there already; nothing moves"]))
+        shutil.copy("out", "copy")
+        status, _, wrong = told(rehearse, *("copy" if word == "out" else word for word in words))
+        self.assertEqual((status, wrong), (2, f"ngc-rehearse: position speaks of {self.folder}/out, not of copy\n"))
+        status, _, wrong = told(rehearse, "mill.dev", "first.toml", "--out", "out")
+        self.assertEqual((status, wrong.splitlines()[-1]),
+                         (2, "ngc-rehearse: error: --out OUT and --position POSITION go together"))
+
+
+class Typing(Yes):
+    """A person who answers with what is typed before, and then with nothing."""
+
+    def __init__(self, *answers: str) -> None:
+        super().__init__()
+        self.answers = list(answers)
+        self.holds = 0
+
+    def ask(self, question: str) -> str:
+        """The next answer."""
+        self.said.append(question)
+        return self.answers.pop(0) if self.answers else ""
+
+    def interrupted(self) -> bool:
+        """Holds so often."""
+        self.holds -= 1
+        return self.holds >= 0
+
+
+class Recovering(PlayerTest):
+    """`recover` and `drop`, beyond what a pulled plug shows."""
+
+    def half_done(self, out: str = "out") -> None:
+        """A device of which G0 Z0.020 is open, with an OUT of its 3 lines before and 6 of its own."""
+        self.device()
+        self.run_ngc("load 23\nG0 X0.003\nG0 Z0.020\nM2\nstart\ntick 14\nquit\n", out)
+
+    def record_of(self, lines: int, at_nm: tuple[int, int, int], each: int = 11) -> None:
+        """A record of so many lines, each of so many bytes."""
+        source = Source("out")
+        mark = source.mark(each * lines)
+        source.close()
+        Path("position").write_bytes(Record(f"{self.folder}/out", lines, each * lines, OFF, at_nm, mark).text())
+
+    def operate(self, *answers: str, out: str = "out", words: tuple[str, ...] = ("--untimed",)
+                ) -> tuple[Operator, Typing]:
+        """An operator over a player that follows."""
+        self.begin("--follow", *words, "--no-ask-tool", "--pins", "pins", "--progress", "progress", out,
+                   "first.toml", "position")
+        self.linked()
+        link = SyncedLink("progress", out) if out == "out" else self.linked()
+        self.addCleanup(link.close)
+        image = Device.read("mill.dev")
+        found = Found.of(ngc(), "first.toml", link, image) if out == "out" else None
+        console = Console(ngc(), "mill.dev", "first.toml", out)
+        self.addCleanup(console.kill)
+        face = Typing(*answers)
+        operator = Operator(console, face, Meter(link, 100))
+        operator.recover.found = found
+        operator.begin("", image)
+        return operator, face
+
+    def pins(self) -> list[str]:
+        """What the pins got."""
+        return Path("pins").read_text().splitlines()
+
+    def test_no(self) -> None:
+        """Lines that are left forbid all that hands out more; a no to any question moves nothing."""
+        self.half_done()
+        self.record_of(5, (3000, 0, 2000))
+        operator, face = self.operate("no", "yes", "no")
+        for line in ("resume", "run", "G0 X1"):
+            face.said.clear()
+            operator.do(line)
+            self.assertEqual(face.said[0].splitlines()[0], "nothing is done: lines stand in OUT that no motor carried"
+                             " out, behind line 5: recover goes on along them, or back; drop cuts them")
+        operator.do("recover")
+        operator.do("recover")
+        self.assertEqual((self.pins(), operator.look()[0].known), ([], False))
+        self.assertIn("back through what was cut, 2 lines of OUT, to its line 3: 0.002 mm in 0.000 s, lowest Z 0.000",
+                      face.said)
+
+    def test_back_and_resume(self) -> None:
+        """Back two lines, and from there the block: nothing of the approach moves."""
+        self.half_done()
+        self.record_of(5, (3000, 0, 2000))
+        operator, face = self.operate("yes", "yes", "yes")
+        operator.do("recover")
+        self.assertEqual(self.pins(), ["P 0 0 -1 50"] * 2 + ["S 0 0.000000 0 0 0 0"] + ["P 0 0 1 50"] * 20
+                         + ["S 0 0.000000 0 0 0 0"])
+        self.assertEqual(Path("out").read_text().splitlines(), ["P 1 0 0 50"] * 3 + self.pins()[2:])
+        self.assertIn("segment 0 of line 2: G0 Z0.020 is taken up from its beginning.\nThe motors are there: X 0.003000"
+                      " Y 0.000000 Z 0.000000. Its outputs are switched on as they were.", face.said)
+        face.said.clear()
+        operator.do("recover")
+        self.assertEqual(face.said, ["recover is for what the last session left, before anything else is done"])
+
+    def test_drop(self) -> None:
+        """Lines that are left are cut off OUT, and then commands are taken."""
+        self.half_done()
+        self.record_of(2, (2000, 0, 0))
+        operator, face = self.operate("no", "yes")
+        before = Path("out").read_text()
+        operator.do("drop")
+        self.assertEqual((Path("out").read_text(), face.said[-1]), (before, (
+            "7 lines are cut off OUT, behind its line 2, and nothing makes them any more. yes cuts them off: ")))
+        operator.do("drop")
+        self.assertEqual((Path("out").read_text(), face.said[-1]), ("P 1 0 0 50\n" * 2, "OUT ends behind line 2"))
+        operator.do("reference player")
+        self.assertEqual(face.said[-1], "done 3")
+
+    def test_on_its_way(self) -> None:
+        """A way back that somebody holds: until its end nothing is handed out behind the lines that it takes back,
+        also once the motors are there; `drop` cuts these off, and not before the motors stand."""
+        Path("first.toml").write_text(FIRST.replace("6000000000", "600000"))
+        self.half_done()  # 0.6 mm a minute are 100,000 us a step
+        self.record_of(9, (3000, 0, 6000), 15)
+        operator, face = self.operate("yes", "yes", "no", "no", "yes", words=())
+        self.assertFalse(operator.recover.found.is_left())
+        face.holds = 1
+        operator.do("recover")
+        self.assertEqual(face.said[-1], "held. yes goes on; anything else stays, and recover goes on later: ")
+        for line in ("resume", "G0 X1", "run"):
+            operator.do(line)
+            self.assertIn("nothing is done: the way of recover isn't at its end: recover goes on", face.said[-1])
+        operator.do("drop")
+        self.assertIn("nothing is cut off: the motors are on their way", face.said[-1])
+        self.wait_for("they are held", lambda: operator.look()[1].is_held)
+        operator.do("quit")
+        self.assertRegex(face.said[-2], "once the session has ended that is for recover in the next session.")
+        operator.do("release")
+        self.wait_for("they are there", lambda: not operator.look()[1].behind)
+        operator.do("resume")
+        self.assertIn("nothing is done", face.said[-1])
+        self.assertEqual(Path("out").read_text().count("\n"), 9)
+        operator.do("drop")
+        self.assertEqual((face.said[-1], Path("out").read_text()),
+                         ("OUT ends behind line 3", "P 1 0 0 100000\n" * 3))
+        before = self.pins()
+        operator.do("reference player")
+        operator.do("abandon")
+        operator.do("reference player")
+        operator.do("G0 Z0.001")
+        self.assertEqual(self.pins()[len(before):], ["P 0 0 1 100000"])
+
+    def test_put_back(self) -> None:
+        """Lines that OUT lost are put back, and no motor moves by that, though all that it has is carried out."""
+        self.half_done()
+        Path("out").write_text("P 1 0 0 50\n" * 2)
+        self.record_of(2, (2000, 0, 0))
+        operator, face = self.operate("no")
+        time.sleep(0.1)
+        self.assertEqual((Path("out").read_text(), self.pins()), ("P 1 0 0 50\n" * 3, []))
+        operator.do("resume")
+        self.assertIn("nothing is done: lines stand in OUT that no motor carried out", face.said[-1])
+
+    def test_put_back_whole(self) -> None:
+        """The same of an OUT that lost all of them, which is asked."""
+        self.half_done()
+        Path("out").write_text("")
+        self.record_of(0, (0, 0, 0))
+        operator, face = self.operate("yes", "no")
+        operator.do("recover")
+        time.sleep(0.1)
+        self.assertEqual((Path("out").read_text(), self.pins()), ("P 1 0 0 50\n" * 3, []))
+
+    def test_off_the_path(self) -> None:
+        """Where the motors were moved by hand, legs lead back over the height that is typed; a wrong one is refused."""
+        self.half_done()
+        self.record_of(5, (0, 0, 9000))
+        operator, face = self.operate("yes", "", "yes", "one", "yes", "0.010", "yes", "yes")
+        operator.do("recover")
+        operator.do("recover")
+        self.assertEqual((self.pins(), face.said[-1]),
+                         ([], "not a number of millimetres with at most six decimals: one"))
+        operator.do("recover")
+        self.assertEqual(self.pins()[:14], ["P 0 0 1 50"] + ["P 1 0 0 50"] * 3 + ["P 0 0 -1 50"] * 10)
+        self.assertEqual(self.pins()[14:35], ["S 0 0.000000 0 0 0 0"] + ["P 0 0 1 50"] * 20)
+
+    def test_outputs_given_back(self) -> None:
+        """Where the room of the switch that turned the spindle on was given back, the device says that it was on."""
+        self.device()
+        self.run_ngc("load 22\nM3 S900\nG0 X1 Z.02\nM2\nstart\ntick 700\nquit\n")
+        text = Path("out").read_bytes()
+        pulses = text.partition(b"P")
+        size = len(text) - 11 * 9  # 9 lines weren't carried out
+        at = 1000 * text[:size].count(b"P"), 0, 1000 * text[:size].count(b"P 1 0 1")
+        Path("out").write_bytes(bytes(len(pulses[0])) + text[len(pulses[0]):])
+        source = Source("out")
+        mark = source.mark(size)
+        source.close()
+        lines = text[:size].count(b"\n")
+        Path("position").write_bytes(Record(f"{self.folder}/out", lines, size, OFF, at, mark).text())
+        operator, face = self.operate("yes", "yes", "no")
+        operator.do("recover")
+        self.assertIn("on was, there: the spindle, clockwise at 900. yes switches it on first, anything else leaves it"
+                      " off: ", face.said)
+
+    def test_off_the_path_before(self) -> None:
+        """The same where the path was left before the segment: legs lead to where that was, X2, and the line left there
+        is carried out."""
+        self.half_done()
+        self.record_of(2, (2000, 1000, 0))
+        operator, face = self.operate("yes", "0.001", "yes", "yes")
+        operator.do("recover")
+        self.assertIn("by the record the motors aren't on the path of OUT: legs lead to it, and then on along 1 line of"
+                      " OUT", face.said)
+        self.assertEqual(self.pins()[:25], ["P 0 0 1 50", "P 0 -1 0 50", "P 0 0 -1 50", "P 1 0 0 50",
+                                            "S 0 0.000000 0 0 0 0"] + ["P 0 0 1 50"] * 20)
+
+    def test_lost_out(self) -> None:
+        """With an OUT that isn't the session's it says so, and goes by legs where that is wanted."""
+        self.half_done()
+        Path("out").write_text("P 0 1 0 50\n" * 3)
+        self.record_of(2, (0, 0, 0))
+        operator, face = self.operate("no", "yes", "0.001", "yes", "yes")
+        operator.do("recover")
+        self.assertIn("out doesn't end with lines of the half-done block: it isn't the OUT of this device, or the"
+                      " record isn't that of this OUT", face.said)
+        self.assertEqual(self.pins(), [])
+        operator.do("recover")
+        self.assertEqual(self.pins()[:5], ["P 0 0 1 50"] + ["P 1 0 0 50"] * 3 + ["P 0 0 -1 50"])
+        self.assertEqual(self.pins()[5:26], ["S 0 0.000000 0 0 0 0"] + ["P 0 0 1 50"] * 20)
+
+    def test_pipe(self) -> None:
+        """A pipe keeps no lines: by legs, over a height that is typed, and never without one."""
+        self.half_done()
+        os.mkfifo("axis")
+        Path("position").write_bytes(Record(f"{self.folder}/axis", at_nm=(5000, 0, 4000)).text())
+        operator, face = self.operate("yes", "", "yes", "0.003", "yes", "0.006", "no", "yes", "0.006", "yes", "yes",
+                                      out="axis")
+        for said in (None, "Z 0.003000 lies below Z 0.004000: legs go up first, and down last",
+                     "up 0.002 mm, over 0.002 mm, and down 0.006 mm, at the traverse rate"):
+            face.said.clear()
+            operator.do("recover")
+            self.assertEqual((self.pins(), operator.look()[0].known), ([], False))
+            self.assertTrue(said is None or said in face.said)
+        operator.do("recover")
+        self.assertEqual(self.pins()[:10], ["P 0 0 1 50"] * 2 + ["P -1 0 0 50"] * 2 + ["P 0 0 -1 50"] * 6)
+        self.assertEqual(self.pins()[10:31], ["S 0 0.000000 0 0 0 0"] + ["P 0 0 1 50"] * 20)
+
+    def test_part(self) -> None:
+        """A part of a line is cut off an OUT, and nothing off a file that is none."""
+        Path("out").touch()
+        self.begin("--follow", "--progress", "progress", "out", "first.toml", "position")
+        self.linked()
+        for text, left in (("P 1 0 0 50\nP 1 0 0 5", "P 1 0 0 50\n"), ("S 1 9", ""), ("P", ""), ("D 9\nD", "D 9\n"),
+                           ("G1 X1\nM2", "G1 X1\nM2"), ("S1000 M3", "S1000 M3"), ("G1 X1\nS", "G1 X1\nS"),
+                           ("P 1 0 0 50\n", "P 1 0 0 50\n"), ("", ""), ("D 9\nM2", "D 9\nM2")):
+            Path("out").write_text(text)
+            link = SyncedLink("progress", "out")
+            self.assertEqual((link.cut_part(), Path("out").read_text()), (len(text) - len(left), left))
+            link.close()
+
+    def test_room(self) -> None:
+        """Room before the open segment is given back once it is carried out; what the way back needs stays."""
+        size = 12 << 20
+        with open("out", "wb") as file:
+            file.write(b"P 1 0 0 50\n" * (size // 11))
+        link = SyncedLink.__new__(SyncedLink)
+        link.__dict__.update(file=os.open("out", os.O_RDWR), _freed=0, _open=(-1, -1), _before=0, _passed=-1,
+                             kept=lambda: (0, 10 << 20))
+        self.addCleanup(os.close, link.file)
+        before = os.stat("out").st_blocks
+        link.passed(Status(1, 0, ("0", "0", "0"), True, "program", 0, "running"))
+        link.passed(Status(1, 0, ("0", "0", "0"), True, "program", 0, "running"))
+        self.assertEqual(os.stat("out").st_blocks, before)
+        link.passed(Status(2, 0, ("0", "0", "0"), True, "none", 0, "running"))
+        there = os.stat("out")
+        self.assertEqual(there.st_size, size // 11 * 11)
+        free = (10 << 20) - 4096
+        with open("out", "rb") as file:
+            self.assertEqual(file.read(free).strip(b"\0"), b"")
+            self.assertNotIn(b"\0", file.read())
+        self.assertLessEqual(there.st_blocks, before - free // 512 + 64)
+
+
+class PulledPlug(unittest.TestCase):
+    """`pull` raises where a pulse of the uncut run is never made, where one is made elsewhere, out of order or with
+    other outputs, and where a record isn't true. NGC_MOMENTS says how many moments each of the two tries; without
+    it as many as come in some seconds."""
+
+    def tried(self, options: Options, seed: int) -> None:
+        """Tries the moments."""
+        moments = int(os.environ.get("NGC_MOMENTS", "0"))
+        result = pull(options, moments or 1000, seed, blocks=20, seconds=None if moments else 5)
+        self.assertGreaterEqual(result.finished, 1)
+        self.assertGreaterEqual(result.on + result.back, 1)
+
+    def test_python(self) -> None:
+        """ngc-player, and what of OUT wasn't synced is lost."""
+        self.tried(Options(ngc(), True), 1)
+
+    def test_c(self) -> None:
+        """tools/player, and OUT as it stands."""
+        self.tried(Options(ngc(), False, built("-O2")), 2)
+
+
+if __name__ == "__main__":
+    unittest.main()
