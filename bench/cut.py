@@ -76,8 +76,8 @@ MIGRATION = "in power on over format 1"
 Pace = collections.namedtuple("Pace", "power_on call")
 # The calls that are counted in a session that is cut at a call: writes to the device, syncs, or lines of OUT; and how
 # many of them power on makes over each format.
-CALLS = ("write", "fsync", "line")
-OF_POWER_ON = {1: (176, 5, 0), 2: (89, 3, 0)}
+CALLS = ("write", "fdatasync", "line")
+OF_POWER_ON = {1: (179, 6, 0), 2: (92, 4, 0)}
 
 
 class Wrong(Exception):

@@ -6,8 +6,8 @@
 #   bench/run.sh [--ngc PATH] [--beside PATH] [--rounds N] [--entries N] [--lines N] [FOLDER..]
 #
 #   --ngc PATH    the program; crates/ngc/out/ngc, which rt builds if that is needed, if none is named
-#   --beside PATH another executable of ngc, say one that plans no line ahead: it does the short lines too, in turns
-#                 with the first
+#   --beside PATH another executable of ngc, say one that plans no line ahead: it does the entries and the short lines
+#                 too, in turns with the first
 #   --rounds N    how often pulses, short lines and power on are measured (3): the best and the median are shown
 #   --entries N   how many entries are made for the rate of entries (2048)
 #   --lines N     how many short lines are done in a round (100000)
@@ -17,13 +17,13 @@
 #
 # An entry is an operator's line that moves nothing (`mdi F100`, `tick 1`). Beside it, by the module sqlite3 of python3,
 # in WAL mode with synchronous=FULL: a row of 512 bytes, inserted in a transaction of its own; and a write of 512 bytes
-# over a file that has its length, with an fsync, which is what the disk can do. These take turns, 64 at a time, so that
-# all meet the same disk with the same other work on it. Writes, bytes and syncs are those of the system calls (strace)
-# on the device, or on the database and its WAL. They are the difference of 2,140 and 100 entries, so a full log and
-# sqlite3's own checkpoints are among them. A pulse is one of `G0 X500` at steps of 1 um, a line that is written to OUT:
-# `tick 400000` in the midst of the move. A short line is `X1` or `X0` by turns, one pulse at steps of 1 mm, in programs
-# of 25,000 lines; it takes two syncs. Power on is from the start of the process to the answer to `status`, over a log
-# without a record and over one of 1,020, with the file in the system's memory. Times are by the clock.
+# over a file that has its length, with an fdatasync, which is what the disk can do. These take turns, 64 at a time, so
+# that all meet the same disk with the same other work on it. Writes, bytes and syncs are those of the system calls
+# (strace) on the device, or on the database and its WAL. They are the difference of 2,140 and 100 entries, so a full
+# log and sqlite3's own checkpoints are among them. A pulse is one of `G0 X500` at steps of 1 um, a line that is written
+# to OUT: `tick 400000` in the midst of the move. A short line is `X1` or `X0` by turns, one pulse at steps of 1 mm, in
+# programs of 25,000 lines; it takes two syncs. Power on is from the start of the process to the answer to `status`,
+# over a log without a record and over one of 1,020, with the file in the system's memory. Times are by the clock.
 set -eu
 ngc= beside= rounds=3 entries=2048 lines=100000
 while [ $# -gt 0 ]; do
@@ -89,7 +89,7 @@ class Mill:
         self.start(before, program, settings)
 
     def start(self, before=(), program=ngc, settings="mill"):
-        words = [*before, program, "run", self.device, f"{folder}/{settings}.toml", f"{folder}/out"]
+        words = [*before, program, "run", self.device, f"{folder}/{settings}.toml", f"{self.device}.out"]
         self.entries, self.child = 0, subprocess.Popen(words, stdin=subprocess.PIPE, stdout=subprocess.PIPE)
 
     def ask(self, text, answer):
@@ -142,7 +142,7 @@ class Bare:
         row, began = os.urandom(512), time.monotonic()
         for _ in range(count):
             os.pwrite(self.file, row, 512 * (686 + self.at % LOG))
-            os.fsync(self.file)
+            os.fdatasync(self.file)
             self.at += 1
         return time.monotonic() - began
 
@@ -209,7 +209,8 @@ def rates():
     rivals = {
         "ngc": Mill("rates"),
         f"sqlite3 {sqlite3.sqlite_version}": Database(),
-        "a write and an fsync alone": Bare(),
+        "a write and an fdatasync alone": Bare(),
+        **({"beside it": Mill("beside", (), beside)} if beside else {}),
     }
     seconds = {name: [] for name in rivals}
     for rival in rivals.values():
@@ -217,14 +218,16 @@ def rates():
     for _ in range(max(1, entries // TURN)):
         for name, rival in rivals.items():
             seconds[name].append(rival.enter(TURN))
-    rivals["ngc"].end()
+    for rival in rivals.values():
+        if isinstance(rival, Mill):
+            rival.end()
     made = {name: TURN * len(turns) / sum(turns) for name, turns in seconds.items()}
     for name, turns in seconds.items():
         print(
             f"  {name}: {made[name]:,.0f} entries a second over {TURN * len(turns)}, "
             f"median of turns {TURN / statistics.median(turns):,.0f}"
         )
-    first, second, _ = made.values()
+    first, second, *_ = made.values()
     turn = statistics.median(row / entry for entry, row in zip(*list(seconds.values())[:2]))
     print(
         f"  ngc makes {first / second:.2f} times as many entries a second as sqlite3; "
@@ -243,7 +246,7 @@ def pulses():
         mill.ask(b"mdi G0 X500\ntick 1\n", b"ticks 1")
         found.append(TICKS / mill.ask(b"tick %d\n" % TICKS, b"ticks %d" % TICKS))
         mill.end()
-        os.remove(f"{folder}/out")
+        os.remove(f"{mill.device}.out")
     told("pulses a second", "{:,.0f}", found, max)
 
 
@@ -260,7 +263,7 @@ def short_lines():
                 mill.ask(b"load %d\n" % len(text) + text + b"start\n", b"going")
                 seconds += mill.ask(b"tick 1000000\n", b"ticks ")
             mill.end()
-            os.remove(f"{folder}/out")
+            os.remove(f"{mill.device}.out")
             found[name].append(loads * PROGRAM / seconds)
     for name, rates in found.items():
         told(name, "{:,.0f}", rates, max)

@@ -1,0 +1,256 @@
+#!/usr/bin/env python3
+"""Ramps: how fast the pacer of tools/player and `ngc pace` go, how long jobs take with ramps, and how many lines have
+to be in hand for it.
+
+usage, at the top of the repository: bench/ramps.py [--ngc PATH] [--rounds N]
+
+The machine has 400 steps a millimetre, 500 mm/s2 and at most 3,000 mm a minute, with a slack of 2 steps. The jobs are
+the examples and four streams: full circles of 0.2 to 50 mm, 1,500 short lines in space, 2,400 of 0.05 mm with a noise
+of 2 um, and 120 corners of 90 degrees with a helix; all at F3000. `ngc run` hands them out into a file.
+
+- Throughput is lines by seconds of processor, the best of N rounds (3): of bench/ramps.c, which reads the text of OUT
+  and paces it by tools/player's pacer, and of `ngc pace --total`.
+- Times are those of OUT, those with ramps, and a bound below which none can be: OUT's, and at each rest, at the ends
+  and at waits and switches, what a ramp at that acceleration takes beyond it, v / 2a. It counts no corner.
+- Lines in hand are those that a loss of power costs at a moment by chance: with 2,000, and with as many as tools/player
+  wants, where a sixteenth that is free is filled at once.
+- A line of 100 mm and full circles are compared with the ideal of their shape: the trapezoid, and the greatest rate at
+  each place of the smooth circle, in the pulses of a stepper, whose axes have that acceleration.
+- The same line is paced with other numbers of lines in hand.
+
+It builds ngc by rt if that is needed and no PATH is given."""
+import argparse
+import itertools
+import math
+import os
+import random
+import resource
+import subprocess
+import sys
+import tempfile
+from pathlib import Path
+
+HERE = Path(__file__).resolve().parent.parent
+SETTINGS = """step_nm = [2500, 2500, 2500]
+low_nm = [-1000000000, -1000000000, -1000000000]
+high_nm = [1000000000, 1000000000, 1000000000]
+traverse_nm_per_min = 3000000000
+period_us = 50
+tools_nm = [50000000, 62500000, 0]
+"""
+MACHINE = "[motion]\naccel_mm_s2 = [500, 500, 500]\n"
+ACCEL = 200_000  # steps a second, each second
+FASTEST = 20_000  # steps a second
+FIXED = 2000  # lines
+RADII_MM = (0.2, 0.5, 1, 2, 5, 10, 50)
+HEAD = "G17 G21 G90 G94\nF3000\nG0 X0 Y0\n"
+
+
+def circles():
+    """Full turns in both directions, with a line between two."""
+    return "".join(f"G0 X{r + 1} Y0\nG1 X{r}\nG2 X{r} Y0 I{-r} J0\nG3 X{r} Y0 I{-r} J0\n" for r in RADII_MM)
+
+
+def short():
+    """A rose of lines of 0.05 to 0.4 mm, in space."""
+    turns = (2 * math.pi * k / 1500 for k in range(1, 1501))
+    sizes = ((t, 20 + 10 * math.cos(5 * t)) for t in turns)
+    return "".join(f"G1 X{r * math.cos(t):.4f} Y{r * math.sin(t):.4f} Z{-1 - math.sin(7 * t):.4f}\n" for t, r in sizes)
+
+
+def tiny():
+    """Two rows of lines of 0.05 mm over a wave, as a scan gives them."""
+    chance, lines = random.Random(1), []
+    for row, k in itertools.product(range(2), range(1, 1200)):
+        x = k * 0.05 if row == 0 else 60 - k * 0.05
+        lines.append(f"G1 X{x:.4f} Y{row * 0.5} Z{-2 + 1.5 * math.sin(x / 3) + chance.uniform(-.002, .002):.4f}\n")
+    return "".join(lines)
+
+
+def zigzag():
+    """Corners 0.1 to 1.9 mm apart, and a helix."""
+    places = list(itertools.accumulate(0.1 + 0.03 * k for k in range(60)))
+    end = places[-1]
+    corners = "".join(f"G1 X{at:.4f}\nG1 Y{at:.4f}\n" for at in places)
+    return f"{corners}G1 X{end + 1:.4f}\nG2 X{end + 1:.4f} Y{end:.4f} Z-10 I-8 J0\nG1 X0 Y0\n"
+
+
+def jobs():
+    """The name and the text of each."""
+    for path in sorted((HERE / "examples").glob("*.ngc")):
+        yield path.stem, path.read_text()
+    for make in (circles, short, tiny, zigzag):
+        yield make.__name__, f"{HEAD}{make()}M2\n"
+
+
+class Bench:
+    """What is run in a folder."""
+
+    def __init__(self, ngc, folder):
+        self.ngc, self.folder = ngc, Path(folder)
+        (self.folder / "mill.toml").write_text(SETTINGS)
+        (self.folder / "machine.toml").write_text(MACHINE)
+        player = HERE / "tools" / "player"
+        sources = [*player.glob("pace_*.c"), *(player / f"{name}.c" for name in
+                   ("pace", "window", "line", "scan", "cause", "utf8"))]
+        subprocess.run(["cc", "-std=c11", "-O2", HERE / "bench" / "ramps.c", *sources, "-I", player, "-o",
+                        self.folder / "ramps"], check=True)
+
+    def hand_out(self, program):
+        """Makes a new OUT of a program; returns its path."""
+        device, out = self.folder / "mill.dev", self.folder / "out"
+        out.unlink(missing_ok=True)
+        device.unlink(missing_ok=True)
+        subprocess.run([self.ngc, "format", device], check=True)
+        ticks = ("tick 1000000\n" * 3 + "continue\n") * 3
+        commands = f"tool 1 50\ntool 2 62.5\ntool 3 0\nload {len(program.encode())}\n{program}start\n{ticks}"
+        words = [self.ngc, "run", device, self.folder / "mill.toml", out]
+        said = subprocess.run(words, input=commands, capture_output=True, text=True).stdout
+        if not said.endswith("idle\n") and "\nidle\n" not in said:
+            sys.exit(f"ngc run doesn't come to the end: {said[-300:]}")
+        return out
+
+    def paced(self, out, hand):
+        """What bench/ramps.c prints."""
+        words = [self.folder / "ramps", out, str(ACCEL), str(hand)]
+        return list(map(int, subprocess.run(words, capture_output=True, text=True, check=True).stdout.split()))
+
+    def seconds_of_ngc(self, out):
+        """What `ngc pace --total` takes of the processor, in seconds."""
+        before = resource.getrusage(resource.RUSAGE_CHILDREN)
+        with open(out) as lines:
+            words = [self.ngc, "pace", self.folder / "mill.toml", self.folder / "machine.toml", "--total"]
+            subprocess.run(words, stdin=lines, stdout=subprocess.DEVNULL, check=True)
+        after = resource.getrusage(resource.RUSAGE_CHILDREN)
+        return after.ru_utime + after.ru_stime - before.ru_utime - before.ru_stime
+
+
+def bound_ns(out):
+    """OUT's time, and at each rest what a ramp from or to the rate of the next pulse takes beyond it, at least."""
+    total, before_us = 0.0, 0  # the period of the pulse before; 0 at rest
+    with open(out) as lines:
+        for line in lines:
+            us = 0 if line[0] == "S" else int(line.split()[-1])
+            total += us * 1000
+            moves_us = us if line[0] == "P" else 0
+            if bool(before_us) != bool(moves_us):
+                total += 1e9 * min(1e6 / (before_us or moves_us), FASTEST) / (2 * ACCEL)
+            before_us = moves_us
+    return total + (1e9 * 1e6 / before_us / (2 * ACCEL) if before_us else 0)
+
+
+def steepest(first, second, square):
+    """The least change of the square of the rate, by pulses, that keeps both axes within their acceleration, and the
+    greatest; None where none does. `first` and `second` are an axis's first and second derivatives by pulses."""
+    least, most = -math.inf, math.inf
+    for slope, bend in zip(first, second):
+        turns = bend * square
+        if abs(slope) < 1e-9:
+            if abs(turns) > ACCEL:
+                return None
+            continue
+        ends = sorted(((-ACCEL - turns) / (slope / 2), (ACCEL - turns) / (slope / 2)))
+        least, most = max(least, ends[0]), min(most, ends[1])
+    return (least, most) if least <= most else None
+
+
+def reachable(first, second, after, step):
+    """The greatest square at a place from which that at the next is reached."""
+    def is_right(square):
+        change = steepest(first, second, square)
+        return change is not None and square + change[0] * step <= after
+
+    least, most = 0.0, float(FASTEST**2)
+    if is_right(most):
+        return most
+    for _ in range(50):
+        middle = (least + most) / 2
+        least, most = (middle, most) if is_right(middle) else (least, middle)
+    return least
+
+
+def bent(angle, radius):
+    """The derivatives of a circle by pulses, of which each steps one axis."""
+    s, c = math.sin(angle), math.cos(angle)
+    size = abs(s) + abs(c)
+    bend = math.copysign(1, s) * c - math.copysign(1, c) * s
+    return ((-s / size, c / size), ((-c * size + s * bend) / (size**3 * radius), (-s * size - c * bend)
+                                    / (size**3 * radius)))
+
+
+def ideal_circle_s(radius, parts=4000):
+    """The least seconds of a full turn of so many steps of radius, from rest to rest."""
+    step, angle, places = 8 * radius / parts, 0.0, []
+    for _ in range(parts + 1):
+        places.append(bent(angle, radius))
+        middle = angle + step / radius / 2
+        angle += step / (radius * (abs(math.sin(middle)) + abs(math.cos(middle))))
+    plan = [0.0] * (parts + 1)
+    for k in range(parts - 1, -1, -1):
+        plan[k] = reachable(*places[k], plan[k + 1], step)
+    squares = [0.0]
+    for k in range(parts):
+        change = steepest(*places[k], squares[k])
+        squares.append(max(0.0, min(plan[k + 1], squares[k] + (change[1] if change else 0) * step)))
+    rates = list(map(math.sqrt, squares))
+    return sum(2 * step / (one + other) for one, other in zip(rates, rates[1:]) if one + other)
+
+
+def show_shapes(bench):
+    """A line and circles beside their ideals."""
+    print("\nshape               ramps s   ideal s   factor")
+    straight = bench.paced(bench.hand_out(f"{HEAD}G1 X100\nM2\n"), "-")[2] / 1e9
+    rows = [("line of 100 mm", straight, 100 * 400 / FASTEST + FASTEST / ACCEL)]
+    for radius in RADII_MM:
+        out = bench.hand_out(f"G17 G21 G90 G94\nF3000\nG3 X0 Y0 I{-radius} J0\nM2\n")
+        rows.append((f"circle, R {radius} mm", bench.paced(out, "-")[2] / 1e9, ideal_circle_s(int(400 * radius))))
+    for name, took, ideal in rows:
+        print(f"{name:18} {took:8.3f} {ideal:9.3f} {took / ideal:8.3f}")
+
+
+def show_windows(bench):
+    """A line with few lines in hand and with many."""
+    print("\nlines in hand  line of 100 mm, seconds")
+    out = bench.hand_out(f"{HEAD}G1 X100\nM2\n")
+    for hand in (50, 100, 200, 400, 800, 1200, 1600, FIXED):
+        print(f"{hand:13,} {bench.paced(out, hand)[2] / 1e9:10.3f}")
+
+
+def show(bench, name, out, rounds):
+    """A job's row."""
+    lines, out_ns, paced_ns = bench.paced(out, "-")[:3]
+    best = min(bench.paced(out, "-")[3] for _ in range(rounds)) / 1e9
+    best_ngc = min(bench.seconds_of_ngc(out) for _ in range(rounds))
+    fixed, wanted = bench.paced(out, FIXED), bench.paced(out, 0)
+    print(f"{name:11} {lines:9,} {lines / best / 1e6:6.1f} {lines / best_ngc / 1e6:6.1f}  {out_ns / 1e9:8.3f}"
+          f" {bound_ns(out) / 1e9:8.3f} {paced_ns / 1e9:8.3f} {paced_ns / out_ns:6.3f}"
+          f"  {fixed[2] / 1e9:8.3f} {fixed[4]:5} {fixed[5]:5} {fixed[6]:5}"
+          f"  {wanted[2] / 1e9:8.3f} {wanted[4]:5} {wanted[5]:5} {wanted[6]:5}", flush=True)
+
+
+def main():
+    """Runs it by words."""
+    parser = argparse.ArgumentParser(description=__doc__, formatter_class=argparse.RawDescriptionHelpFormatter)
+    parser.add_argument("--ngc", help="the program, if it isn't crates/ngc/out/ngc, built by rt")
+    parser.add_argument("--rounds", type=int, default=3)
+    given = parser.parse_args()
+    ngc = given.ngc or str(HERE / "crates/ngc/out/ngc")
+    if not given.ngc:
+        dry = ["rt", "run", "--", "dry", HERE / "examples/first.ngc"]
+        subprocess.run(dry, cwd=HERE / "crates/ngc", stdout=subprocess.DEVNULL, stderr=subprocess.DEVNULL)
+    print(f"load {os.getloadavg()[0]:.1f}")
+    print("            lines   M lines a second   seconds                      factor"
+          f"  {FIXED} lines: s, median, 99 %, most  as wanted: the same")
+    print("job                      C    ngc       OUT    bound    ramps")
+    with tempfile.TemporaryDirectory(prefix="ngc-ramps-") as folder:
+        bench = Bench(ngc, folder)
+        for name, program in jobs():
+            show(bench, name, bench.hand_out(program), given.rounds)
+        show_shapes(bench)
+        show_windows(bench)
+    print(f"load {os.getloadavg()[0]:.1f}")
+    return 0
+
+
+if __name__ == "__main__":
+    sys.exit(main())
