@@ -104,13 +104,11 @@ static void stand_at(struct player *player, const int64_t nm[3]) {
     }
 }
 
-/* What stands in OUT now is all that comes for now. Where it has no room in hand, that isn't known. */
+/* What stands in OUT now is all that comes for now. */
 static void note_last(struct player *player) {
     player_lock(player);
     bool took = source_take_all(&player->source);
-    if (!source_is_more(&player->source)) {
-        atomic_store(&player->last, player->source.received);
-    }
+    atomic_store(&player->last, source_end(&player->source));
     player_unlock(player);
     if (took) {
         eventfd_write(player->wake, 1);

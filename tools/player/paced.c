@@ -74,7 +74,7 @@ static void read_ahead(struct play *play, int most) {
         is_all = true;
         end_here();
     }
-    if (play->player->lines + (pace.known - pace.first) == atomic_load(&play->player->last)) {
+    if (play->player->source.taken == atomic_load(&play->player->last)) {
         end_here();
         is_dry = false;
     }

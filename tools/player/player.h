@@ -48,7 +48,7 @@ struct player {
     atomic_bool stands_held;  /* it has come to rest for that */
     atomic_int percent;       /* of OUT's rates */
     atomic_uint wants;        /* how many lines are wanted in hand; 0 doesn't say */
-    _Atomic uint64_t last;    /* after so many lines no more come for now, as was said */
+    _Atomic uint64_t last;    /* after so many bytes of OUT no more come for now, as was said */
     atomic_bool over;         /* the other threads are to end */
     atomic_bool has_ended;    /* whoever asks said that the session is over */
     _Atomic int64_t asked_at; /* when the last question came; 0 */

@@ -65,6 +65,7 @@ bool source_ends(const struct source *source) {
 void source_go_to(struct source *source, uint64_t lines, uint64_t bytes) {
     source->first = source->end = 0;
     source->received = lines;
+    source->taken = bytes;
     lseek(source->file, (off_t)bytes, SEEK_SET);
 }
 
@@ -89,6 +90,7 @@ static uint64_t allowed(const struct source *source, uint64_t most) {
 
 bool source_skip(struct source *source, const struct record *begun) {
     source->received = begun->lines;
+    source->taken = begun->bytes;
     return source->is_pipe || lseek(source->file, (off_t)begun->bytes, SEEK_SET) >= 0;
 }
 
@@ -134,6 +136,7 @@ bool source_next(struct source *source, char line[LONGEST_LINE + 2], size_t *siz
     }
     *size = stop != NULL ? (size_t)(stop - begin) + 1 : there;
     source->first += *size;
+    source->taken += *size;
     if (*size > LONGEST_LINE + 1) { /* no line is as long: it will be refused */
         *size = LONGEST_LINE + 1;
     }
@@ -143,12 +146,12 @@ bool source_next(struct source *source, char line[LONGEST_LINE + 2], size_t *siz
 }
 
 bool source_read(struct source *source, size_t most) {
-    if (source->end + most > HAND_ROOM) {
+    if (source->end + most > sizeof source->hand) {
         source->end -= source->first;
         memmove(source->hand, source->hand + source->first, source->end);
         source->first = 0;
     }
-    size_t room = (size_t)allowed(source, HAND_ROOM - source->end);
+    size_t room = (size_t)allowed(source, HAND_ROOM - (source->end - source->first));
     ssize_t got = -1;
     do {
         got = read(source->file, source->hand + source->end, most < room ? most : room);
@@ -171,8 +174,12 @@ static uint64_t waiting(const struct source *source) {
     return fstat(source->file, &what) == 0 && what.st_size > at ? allowed(source, (uint64_t)(what.st_size - at)) : 0;
 }
 
-bool source_is_more(const struct source *source) {
-    return waiting(source) > 0;
+uint64_t source_end(const struct source *source) {
+    size_t in_hand = source->end - source->first;
+    uint64_t rest = waiting(source);
+    const char *stop = memrchr(source->hand + source->first, '\n', in_hand);
+    size_t whole = stop != NULL ? (size_t)(stop - (source->hand + source->first)) + 1 : 0;
+    return source->taken + (rest > 0 ? in_hand + rest : whole);
 }
 
 bool source_take_all(struct source *source) {

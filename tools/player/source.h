@@ -12,7 +12,7 @@
 
 enum {
     HAND_BYTES = 64,    /* read at once: what is in hand is lost with the power */
-    HAND_ROOM = 1 << 17 /* 5,000 lines of any length */
+    HAND_ROOM = 1 << 18 /* 8,192 lines of 32 bytes, and no line has more */
 };
 
 struct source {
@@ -22,9 +22,10 @@ struct source {
     bool follows;      /* a file's end isn't the end of OUT */
     uint64_t limit;    /* a file isn't read beyond so many bytes; the greatest number for none */
     uint64_t received; /* whole lines that were read, from OUT's first on */
+    uint64_t taken;    /* bytes of OUT, with those of the lines that were taken */
     size_t first;      /* what is in hand begins here .. */
     size_t end;        /* .. and ends here */
-    char hand[HAND_ROOM];
+    char hand[2 * HAND_ROOM]; /* so that what is in hand is seldom moved to its beginning */
 };
 
 /* Opens a file, which may be followed, or a named pipe, which gets so many bytes. Returns false, with the cause. */
@@ -57,8 +58,8 @@ bool source_next(struct source *source, char line[LONGEST_LINE + 2], size_t *siz
 /* Reads up to so many bytes, without waiting; whether there were any. */
 bool source_read(struct source *source, size_t most);
 
-/* Whether something stands in OUT that isn't in hand. */
-bool source_is_more(const struct source *source);
+/* How many bytes OUT has now, but for a part of a line in hand with which it ends. */
+uint64_t source_end(const struct source *source);
 
 /* Takes into hand what stands in OUT now, as far as there is room; whether there was anything. */
 bool source_take_all(struct source *source);

@@ -70,6 +70,14 @@ class Sessions:
         os.close(pipe)
         self.assertEqual(self.ended(child), (0, ""))
 
+    def test_room_in_hand(self) -> None:
+        """8,000 lines, which is the most that a console lets it have, are all in hand, however long they are."""
+        _, link, pipe = self.session("--pipe", "1048576")
+        self.addCleanup(os.close, pipe)
+        os.write(pipe, b"S 0 0.000000 0 0 2 2\n" + b"P -1 -1 -1 18446744073709551615\n" * 8000)
+        self.wait_for("it waits", lambda: link.ask().waits)
+        self.assertEqual(link.ask().received, 8001)
+
     def test_enter_before_it_is_asked_for(self) -> None:
         """An Enter that was pressed before the tool change isn't its answer."""
         child, link, pipe = self.session()

@@ -213,6 +213,22 @@ class Ramps(PlayerTest):
             self.assertLess(min(after - at for at, after in zip(times[rest - 4:], times[rest - 3:rest])), 1_250_000)
         self.assertGreater(times[400] - times[399], 1_200_000)
 
+    def test_last_beyond_what_is_in_hand(self) -> None:
+        """Held, it knows 8,192 lines and has room for 262,144 bytes in hand: the rest stays in the pipe. Told that no more
+        come for now, it doesn't run dry at their end."""
+        child, pipe = self.piped("--machine", "motion.toml", "--untimed")
+        self.link.hold()
+        os.write(pipe, b"S 0 9999999.000000 0 0 128 128\n" * 20_000 + b"P 1 0 0 500\n" * 400)
+        self.link.last()
+        self.assertLess(self.link.ask().received, 20_000)
+        self.link.release()
+        self.wait_for("all are carried out", lambda: self.link.ask().carried == 20_400)
+        os.write(pipe, b"P 1 0 0 500\n" * 400)
+        self.wait_for("more are carried out", lambda: self.link.ask().carried == 20_800)
+        self.link.end()
+        os.close(pipe)
+        self.assertNotIn("ran dry", child.communicate(timeout=60)[0])
+
     def test_dry(self) -> None:
         """Where OUT has no more lines for a while it comes to rest at the last, goes on as they come, and tells how
         often that was. A wait before the first line, or at rest for those behind it, is none."""

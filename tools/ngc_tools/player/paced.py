@@ -26,7 +26,7 @@ class PacedPlayer(Player):
         self.schedule.makes_up = False
         self._limits = machine.limits
         self._most_percent = machine.most_percent
-        self._last = -1  # after so many lines no more come for now, as was said
+        self._last = -1  # after so many bytes of OUT no more come for now, as was said
         self._pace = Pace(machine.limits)
         self._window = Window(machine.limits, machine.window_lines)
         self._wants = self._window.lines()
@@ -46,11 +46,10 @@ class PacedPlayer(Player):
             self.percent = percent
 
     def last(self) -> None:
-        """What stands in OUT now is all that comes for now. Where it has no room in hand, that isn't known."""
+        """What stands in OUT now is all that comes for now."""
         with self._lock:
             self._take_all()
-            if not self.source.is_more():
-                self._last = self.source.received
+            self._last = self.source.end()
 
     # the play
 
@@ -78,7 +77,7 @@ class PacedPlayer(Player):
         if not self._is_all and (is_end or self._bad):
             self._is_all = True
             self._end_here()
-        if self.lines + len(self._ahead) == self._last:
+        if self.source.taken == self._last:
             self._end_here()
             self._is_dry = False
         self._wants = self._window.lines()

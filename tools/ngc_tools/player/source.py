@@ -18,7 +18,7 @@ from ngc_tools.formats.record import FileMark, Record
 
 PIPE_BYTES = 4096
 HAND_BYTES = 64  # read at once
-MOST_BYTES = 1 << 17  # in hand: 5,000 lines of any length
+MOST_BYTES = 1 << 18  # in hand: 8,192 lines of 32 bytes, and no line has more
 TAIL_BYTES = 4096  # of which a digest is kept
 
 
@@ -45,6 +45,7 @@ class Source:
         self.follow = follow and not self.is_pipe
         self.pipe_bytes = _resize(self.file, pipe_bytes) if self.is_pipe else 0
         self.received = 0
+        self.taken = 0  # bytes of OUT, with those of the lines that `next` gave
         self.limit: int | None = None  # of a file that is followed: it isn't read beyond so many bytes
         self._lines: deque[bytes] = deque()
         self._part = b""
@@ -58,12 +59,12 @@ class Source:
         """Goes to the first line of a file that isn't carried out."""
         if self.is_file:
             os.lseek(self.file, begun.size, os.SEEK_SET)
-        self.received = begun.lines
+        self.received, self.taken = begun.lines, begun.size
 
     def go_to(self, lines: int, size: int) -> None:
         """Goes on, or back, to behind so many lines and bytes of a file; what is in hand is let go."""
         self._lines.clear()
-        self._part, self._held, self.received = b"", 0, lines
+        self._part, self._held, self.received, self.taken = b"", 0, lines, size
         os.lseek(self.file, size, os.SEEK_SET)
 
     def size(self) -> int:
@@ -88,6 +89,7 @@ class Source:
             return None
         line = self._lines.popleft()
         self._held -= len(line) + 1
+        self.taken += len(line) + 1
         return line
 
     def has_line(self) -> bool:
@@ -128,9 +130,10 @@ class Source:
             return most
         return max(0, min(most, self.limit - os.lseek(self.file, 0, os.SEEK_CUR)))
 
-    def is_more(self) -> bool:
-        """Whether something stands in OUT that isn't in hand."""
-        return self._waiting() > 0
+    def end(self) -> int:
+        """How many bytes OUT has now, but for a part of a line in hand with which it ends."""
+        waiting = self._waiting()
+        return self.taken + self._held + (len(self._part) + waiting if waiting else 0)
 
     def _waiting(self) -> int:
         """How many bytes stand in OUT, before the limit, and aren't in hand."""
