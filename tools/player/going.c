@@ -127,6 +127,28 @@ static bool of_out(const struct play *play, const struct cause *what, struct cau
     return because(why, "%s: %.*s", play->options->out, CAUSE_ROOM - 300, what->text);
 }
 
+/* Whether no tool is changed between where the motors are, with such outputs, and the first `to` bytes of OUT. */
+static bool keeps_tool(const struct play *play, uint64_t to, const struct outputs *outputs, struct cause *why) {
+    const struct player *player = play->player;
+    struct outputs before = {0};
+    struct tool_change change;
+    char what[32] = "take the tool out";
+    bool is_back = to < player->bytes;
+    if (is_back) {
+        way_outputs(&player->source, to, &before);
+    }
+    if (!way_changes_tool(&player->source, is_back ? play->options->goes_to : player->lines,
+                          is_back ? to : player->bytes, is_back ? player->bytes : to,
+                          is_back ? before.slot : outputs->slot, &change)) {
+        return true;
+    }
+    if (change.slot != 0) {
+        snprintf(what, sizeof what, "put in tool %u", change.slot);
+    }
+    return because(why, "line %" PRIu64 " asks to %s, and lies on the way: --across-tools goes all the same",
+                   change.line, what);
+}
+
 /* Says what it would do, asks, and sends the player. */
 static bool send_it(struct play *play, const struct settings *settings, struct way_sum *sum, struct cause *why) {
     struct player *player = play->player;
@@ -136,6 +158,9 @@ static bool send_it(struct play *play, const struct settings *settings, struct w
         return of_out(play, &what, why);
     }
     way_outputs(&player->source, player->bytes, &wish.on);
+    if (!play->options->crosses_tools && !keeps_tool(play, wish.bytes, &wish.on, &what)) {
+        return of_out(play, &what, why);
+    }
     player->source.limit = player->bytes;
     bool is_by_legs = play->options->lift != NULL;
     if (is_by_legs && wish.bytes < player->bytes && !say_way(play, wish.bytes, sum, false, &what)) {

@@ -16,6 +16,7 @@ struct options {
     bool goes;          /* to a line of OUT first .. */
     uint64_t goes_to;   /* .. which is this .. */
     bool is_agreed;     /* .. without a question .. */
+    bool crosses_tools; /* .. past tool changes too .. */
     const char *lift;   /* .. by legs over this height; NULL for none */
     bool has_place;
     int64_t place_nm[3];

@@ -219,6 +219,26 @@ bool way_find_line(const struct source *source, uint64_t lines, uint64_t bytes, 
         || because(why, "OUT has %" PRIu64 " lines, and no line %" PRIu64, way.lines, wanted);
 }
 
+bool way_changes_tool(const struct source *source, uint64_t lines, uint64_t begin, uint64_t end, unsigned slot,
+                      struct tool_change *change) {
+    static struct way way;
+    struct line line;
+    struct cause why;
+    size_t size = 0;
+    way_begin(&way, source, lines, begin, end, 0);
+    const char *text = begin < end ? text_on(&way, &size) : NULL;
+    while (text != NULL) {
+        way.lines++;
+        way.bytes += size;
+        if (text[0] == 'S' && line_read(text, size - 1, 0, &line, &why) && line.outputs.slot != slot) {
+            *change = (struct tool_change){way.lines, line.outputs.slot};
+            return true;
+        }
+        text = way.bytes < end ? text_on(&way, &size) : NULL;
+    }
+    return false;
+}
+
 uint64_t way_count_lines(const struct source *source, uint64_t begin, uint64_t end) {
     char piece[4096];
     uint64_t count = 0;

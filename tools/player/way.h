@@ -42,6 +42,12 @@ struct way_sum {
     int64_t steps[3]; /* first the point at which it begins, then that of its end */
 };
 
+/* A line of OUT at which a slot is to be in the spindle that wasn't before. */
+struct tool_change {
+    uint64_t line;
+    unsigned slot;
+};
+
 enum step { MOVE, NO_MORE, NO_LINE };
 
 void way_begin(struct way *way, const struct source *source, uint64_t lines, uint64_t bytes, uint64_t to,
@@ -62,6 +68,11 @@ void way_say(const struct way_sum *sum, const char *what);
 /* The bytes of the first `wanted` lines, by those of the first `lines`. Returns false, with the cause. */
 bool way_find_line(const struct source *source, uint64_t lines, uint64_t bytes, uint64_t wanted, uint64_t *found,
                    struct cause *why);
+
+/* Whether a line between two bytes of OUT asks for another slot in the spindle: the number of the first one, and that
+ * slot. `lines` lines end at `begin`, and `slot` is in the spindle there. */
+bool way_changes_tool(const struct source *source, uint64_t lines, uint64_t begin, uint64_t end, unsigned slot,
+                      struct tool_change *change);
 
 /* How many lines end between two bytes of OUT. */
 uint64_t way_count_lines(const struct source *source, uint64_t begin, uint64_t end);

@@ -214,8 +214,8 @@ class Ramps(PlayerTest):
         self.assertGreater(times[400] - times[399], 1_200_000)
 
     def test_last_beyond_what_is_in_hand(self) -> None:
-        """Held, it knows 8,192 lines and has room for 262,144 bytes in hand: the rest stays in the pipe. Told that no more
-        come for now, it doesn't run dry at their end."""
+        """Held, it knows 8,192 lines and has room for 262,144 bytes in hand: the rest stays in the pipe. Told that no
+        more come for now, it doesn't run dry at their end."""
         child, pipe = self.piped("--machine", "motion.toml", "--untimed")
         self.link.hold()
         os.write(pipe, b"S 0 9999999.000000 0 0 128 128\n" * 20_000 + b"P 1 0 0 500\n" * 400)

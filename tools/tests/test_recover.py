@@ -90,16 +90,42 @@ class Going:
                                                  " first, no leaves it off", "yes goes there, anything else ends"])
 
     def test_tool_stays(self) -> None:
-        """Back past a tool change no tool is changed, so what is switched on later names the one that is in."""
+        """Past a tool change it goes by a word alone. Back no tool is changed, so what is switched on later names the one
+        that is in."""
         for name in ("out", "position"):
             Path(name).unlink()
         Path("out").write_text("S 1 9.000000 0 0 1 1\nP 1 0 0 50\nS 1 9.000000 0 0 2 2\nP 1 0 0 50\n")
         self.assertEqual(self.play("--untimed", "--no-ask-tool").returncode, 0)
-        self.go("--go-to-line", "1", "--yes")
+        Path("pins").unlink()
+        back = ("--go-to-line", "1", "--yes")
+        refused = "out: line 3 asks to put in tool 2, and lies on the way: --across-tools goes all the same\n"
+        for words in (back, (*back, "--lift", "1")):
+            status, said = self.go(*words)
+            self.assertEqual((status, said.partition(": ")[2], self.pins()), (2, refused, []))
+        self.assertEqual(self.go("--go-to-line", "3", "--yes")[0], 0)
+        self.go(*back, "--across-tools")
         Path("pins").unlink()
         self.assertEqual(self.go("--go-to-line", "2", "--yes")[0], 0)
         self.assertEqual(self.pins(), ["S 1 9.000000 0 0 1 2", "P 1 0 0 50", "off"])
         self.assertIn("outputs S 0 9.000000 0 0 1 2\n", record())
+
+    def test_tool_on_the_way_on(self) -> None:
+        """On past a tool change it goes after the word too, and asks for the tool there; before the first switch of OUT
+        no tool is known to be in."""
+        for name in ("out", "position"):
+            Path(name).unlink()
+        Path("out").write_text("P 1 0 0 50\nP 1 0 0 50\n")
+        self.assertEqual(self.play("--untimed").returncode, 0)
+        with open("out", "a") as file:
+            file.write("S 0 9.000000 0 0 3 0\nS 0 9.000000 0 0 3 3\nP 1 0 0 50\nS 0 9.000000 0 0 3 0\n")
+        Path("pins").unlink()
+        self.assertEqual(self.go("--go-to-line", "3", "--yes")[0], 0)
+        refused = ("out: line 4 asks to put in tool 3", "out: line 6 asks to take the tool out")
+        for line, words, said in ((5, (), refused[0]), (5, ("--across-tools",), ""), (6, (), refused[1]),
+                                  (3, (), refused[0]), (6, ("--across-tools",), ""), (0, (), refused[0])):
+            Path("pins").unlink(missing_ok=True)
+            status, told = self.go("--go-to-line", str(line), "--yes", *words)
+            self.assertEqual((status, said in told, bool(self.pins())), (2, True, False) if said else (0, True, True))
 
     def test_legs(self) -> None:
         """Up, over, and down, at the traverse rate, to where line 2 leads: from 3 1 -1 up to 1, to 1 0, down to 0."""

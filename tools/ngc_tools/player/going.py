@@ -12,7 +12,7 @@ from ngc_tools.job.figures import millimetres as rounded
 from ngc_tools.player.person import Voice
 from ngc_tools.player.player import Player
 from ngc_tools.player.retrace import Point, leg_pulses, legs_to
-from ngc_tools.player.way import Move, NoWay, Way, end_of_line, look, moves, outputs_at
+from ngc_tools.player.way import Move, NoWay, Way, end_of_line, look, moves, outputs_at, tool_change
 
 _TURNS = ("", "spindle clockwise", "spindle counter-clockwise")
 
@@ -53,9 +53,23 @@ class Going:
                          " by legs")
         try:
             size = end_of_line(source.file, player.lines, player.size, self.args.go_to_line)
-            self._send(size, left, outputs_at(source.file, player.size, found.outputs))
+            outputs = outputs_at(source.file, player.size, found.outputs)
+            if not self.args.across_tools:
+                self._refuse_tools(size, outputs)
+            self._send(size, left, outputs)
         except (NoWay, BadLine) as error:
             raise WontGo(f"{out}: {error}") from None
+
+    def _refuse_tools(self, size: int, outputs: Switch) -> None:
+        """Raises NoWay where the tool is changed between where the motors are and there."""
+        player, file = self.player, self.player.source.file
+        lines, begin, end = player.lines, player.size, size
+        if size < player.size:
+            lines, begin, end, outputs = self.args.go_to_line, size, player.size, outputs_at(file, size)
+        if change := tool_change(file, lines, begin, end, outputs.slot):
+            line, slot = change
+            what = f"put in tool {slot}" if slot else "take the tool out"
+            raise NoWay(f"line {line} asks to {what}, and lies on the way: --across-tools goes all the same")
 
     def _send(self, size: int, left: Point, outputs: Switch) -> None:
         """Says what it would do, asks, and sends the player. Raises NoWay, BadLine, WontGo."""

@@ -152,6 +152,17 @@ def is_switch_between(file: int, begin: int, end: int) -> bool:
     return any(text.startswith(b"S ") for text in _texts_on(file, begin, end))
 
 
+def tool_change(file: int, lines: int, begin: int, end: int, slot: int) -> tuple[int, int] | None:
+    """The number of the first line between two bytes of OUT that asks for another slot in the spindle, and that slot;
+    None if there is none. `lines` lines end at `begin`, and `slot` is in the spindle there. Raises BadLine."""
+    for text in _texts_on(file, begin, end):
+        lines += 1
+        line = read_line(text, lines) if text.startswith(b"S ") else None
+        if isinstance(line, Switch) and line.slot != slot:
+            return lines, line.slot
+    return None
+
+
 def _texts_on(file: int, begin: int, end: int) -> Iterator[bytes]:
     """The whole lines between two bytes, without their newlines."""
     part = b""
