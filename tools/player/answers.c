@@ -177,8 +177,8 @@ static bool read_synced(const char *text, size_t size, uint64_t *bytes) {
 /* What the record on the disk counts. */
 static int kept(struct player *player, char *text, size_t room, const char *question) {
     player_lock(player);
-    int size = snprintf(text, room, "%s lines %" PRIu64 " bytes %" PRIu64, question, player->kept_lines,
-                        player->kept_bytes);
+    int size = snprintf(text, room, "%s lines %" PRIu64 " bytes %" PRIu64 " age %u", question, player->kept.lines,
+                        player->kept.bytes, player->kept.age_ms);
     player_unlock(player);
     return size;
 }

@@ -8,6 +8,7 @@
 #include <string.h>
 
 #include "pins.h"
+#include "schedule.h"
 #include "times.h"
 
 /* Whether the lines of the record are taken as carried out, by what it says of OUT; false, with the cause, where that
@@ -117,6 +118,7 @@ bool player_begin(struct player *player, const struct options *options, struct s
 
 bool player_keep_first(struct player *player, struct cause *why) {
     static struct record first;
+    player->kept_at = schedule_now();
     player_record(player, &first);
     player_kept(player, &first, 0);
     return keeper_begin(&player->keeper, &first, why);

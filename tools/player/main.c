@@ -102,8 +102,9 @@ static bool tell(const struct play *play) {
            counts->switches);
     if (!play->options->is_untimed) {
         const struct schedule *schedule = &play->schedule;
-        printf("late at most %" PRId64 " us, slower by %" PRId64 ".%" PRId64 " ms in all\n", schedule->latest / 1000,
-               schedule->slower / NS_PER_MS, schedule->slower % NS_PER_MS / 100000);
+        printf("late at most %" PRId64 " us, slower by %" PRId64 ".%" PRId64 " ms in all; the record was behind by at"
+               " most %u ms\n", schedule->latest / 1000, schedule->slower / NS_PER_MS,
+               schedule->slower % NS_PER_MS / 100000, atomic_load(&player.worst_ms));
     }
     if (counts->dry > 0) {
         printf("OUT ran dry %" PRIu64 " time%s; the motors came to rest, and went on once more came\n", counts->dry,

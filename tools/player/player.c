@@ -5,7 +5,9 @@
 #include <string.h>
 #include <time.h>
 
-enum { KEEPS_NS = 20000000 };
+#include "schedule.h"
+
+enum { KEEPS_NS = 20000000, NS_PER_MS = 1000000 };
 
 void player_lock(struct player *player) {
     pthread_mutex_lock(&player->lock);
@@ -30,6 +32,8 @@ void player_record(struct player *player, struct record *record) {
     record->outputs = player->outputs;
     player_place(player, record->nm);
     snprintf(record->stopped, sizeof record->stopped, "%s", player->stopped);
+    unsigned worst_ms = atomic_load(&player->worst_ms);
+    record->age_ms = worst_ms != 0 ? worst_ms : player->left.age_ms;
     player_unlock(player);
     record->mark = source_mark(&player->source, record->bytes);
 }
@@ -43,21 +47,37 @@ int64_t in_steps(int64_t nm, int64_t step_nm) {
 void player_kept(struct player *player, const struct record *record, int error) {
     player_lock(player);
     if (error == 0) {
-        player->kept_lines = record->lines;
-        player->kept_bytes = record->bytes;
+        player->kept = *record;
     }
     player_unlock(player);
+}
+
+/* Whether lines were carried out, or motors moved, since the record on the disk. */
+static bool is_newer(const struct record *record, const struct record *kept) {
+    return record->bytes != kept->bytes || memcmp(record->nm, kept->nm, sizeof record->nm) != 0;
+}
+
+/* Writes what stands. */
+static void keep(struct player *player) {
+    struct record record;
+    int64_t now = schedule_now();
+    player_record(player, &record);
+    bool was_older = is_newer(&record, &player->kept);
+    int error = keeper_write(&player->keeper, &record);
+    player_kept(player, &record, error);
+    atomic_store(&player->record_error, error);
+    int64_t age_ms = (schedule_now() - player->kept_at + NS_PER_MS - 1) / NS_PER_MS;
+    player->kept_at = now;
+    if (was_older && age_ms > atomic_load(&player->worst_ms)) {
+        atomic_store(&player->worst_ms, age_ms < OLDEST_MS ? (unsigned)age_ms : OLDEST_MS);
+    }
 }
 
 void *record_keep(void *shared) {
     struct player *player = shared;
     const struct timespec pause = {0, KEEPS_NS};
-    struct record record;
     while (!atomic_load(&player->over) && atomic_load(&player->record_error) == 0) {
-        player_record(player, &record);
-        int error = keeper_write(&player->keeper, &record);
-        player_kept(player, &record, error);
-        atomic_store(&player->record_error, error);
+        keep(player);
         nanosleep(&pause, NULL);
     }
     return NULL;

@@ -39,9 +39,10 @@ struct player {
     struct errand errand;
     struct record left; /* the record as it was, if it speaks of this OUT */
     bool has_left;
-    uint64_t kept_lines; /* by the record on the disk */
-    uint64_t kept_bytes;
+    struct record kept;  /* the record on the disk .. */
+    int64_t kept_at;     /* .. as it stood then */
 
+    atomic_uint worst_ms;     /* how old the record on the disk was at most while something newer was there */
     atomic_int tool;          /* the slot that a person is asked for, or NO_TOOL */
     atomic_int record_error;  /* why the record can't be kept any more; 0 */
     atomic_bool is_held;      /* somebody asks for a rest */

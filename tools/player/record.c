@@ -35,6 +35,7 @@ void record_print(const struct record *record, char text[RECORD_SIZE]) {
     char outputs[OUTPUTS_ROOM];
     char place[PLACE_ROOM];
     char mark[80] = "";
+    char age[32] = "";
     char stopped[32] = "";
     outputs_print(outputs, sizeof outputs, &record->outputs);
     place_print(place, sizeof place, record->nm);
@@ -42,12 +43,15 @@ void record_print(const struct record *record, char text[RECORD_SIZE]) {
         snprintf(mark, sizeof mark, "file %" PRIu64 " %" PRIu64 " %08" PRIx32 "\n", record->mark.inode,
                  record->mark.born_ns, record->mark.digest);
     }
+    if (record->age_ms != 0) {
+        snprintf(age, sizeof age, "age %u\n", record->age_ms);
+    }
     if (record->stopped[0] != '\0') {
         snprintf(stopped, sizeof stopped, "stopped %s\n", record->stopped);
     }
     char whole[RECORD_SIZE];
     int size = snprintf(whole, sizeof whole, "out %s\nlines %" PRIu64 "\nbytes %" PRIu64 "\noutputs %s\nreference %s\n"
-                        "%s%s", record->out, record->lines, record->bytes, outputs, place, mark, stopped);
+                        "%s%s%s", record->out, record->lines, record->bytes, outputs, place, mark, age, stopped);
     memset(text, ' ', RECORD_SIZE);
     memcpy(text, whole, size < RECORD_SIZE ? (size_t)size : RECORD_SIZE - 1);
     text[RECORD_SIZE - 1] = '\n';
@@ -174,6 +178,15 @@ static bool read_mark(struct scan line, struct file_mark *mark) {
     return true;
 }
 
+static bool read_age(struct scan line, unsigned *age_ms) {
+    uint64_t found = 0;
+    if (!scan_word(&line, "age ") || !scan_whole(&line, 4, &found, NULL) || !scan_is_over(&line) || found == 0) {
+        return false;
+    }
+    *age_ms = (unsigned)found;
+    return true;
+}
+
 static bool read_stopped(struct scan line, struct record *record) {
     if (!scan_word(&line, "stopped ") || scan_is_over(&line)) {
         return false;
@@ -193,6 +206,10 @@ static int read_rest(struct scan text, struct record *record) {
     int number = 6;
     bool is_line = next_line(&text, &line);
     if (is_line && read_mark(line, &record->mark)) {
+        is_line = next_line(&text, &line);
+        number++;
+    }
+    if (is_line && read_age(line, &record->age_ms)) {
         is_line = next_line(&text, &line);
         number++;
     }

@@ -12,6 +12,7 @@
 enum {
     RECORD_SIZE = 512,  /* a disk writes them whole or not at all */
     LONGEST_PATH = 255, /* with it the greatest numbers have room */
+    OLDEST_MS = 9999,   /* as an age is written */
     PLACE_ROOM = 96
 };
 
@@ -30,6 +31,7 @@ struct record {
     struct outputs outputs;
     int64_t nm[3]; /* where the machine stands */
     struct file_mark mark;
+    unsigned age_ms;  /* how old a record on the disk ever was as the next one came; 0 where that isn't known */
     char stopped[16]; /* what ended the player before OUT's end, in a word */
 };
 

@@ -42,9 +42,9 @@ def sector(*lines: str) -> bytes:
 
 
 def record(path: str = "position") -> str:
-    """A record's text after its first line, without the mark of its file and the blanks at its end."""
+    """A record's text after its first line, without the mark of its file, its age, and the blanks at its end."""
     text = Path(path).read_text().split("\n", 1)[1]
-    return re.sub("^file .*\n", "", text, flags=re.MULTILINE).rstrip(" \n") + "\n"
+    return re.sub("^(file|age) .*\n", "", text, flags=re.MULTILINE).rstrip(" \n") + "\n"
 
 
 def preloaded(name: str, text: str) -> dict[str, str]:

@@ -159,7 +159,8 @@ class Tools(Documents):
         self.assertEqual(shown.decode().replace("\r\n", "\n"), session)
         record = chapters("TOOLS.md")[CHAPTERS["TOOLS.md"][0]]
         wanted = next(block for block in blocks(record) if block.startswith("out ")).split("\n", 1)[1]
-        self.assertEqual(Path("position").read_text().split("\n", 1)[1].rstrip(" \n") + "\n", wanted)
+        found = re.sub("(?m)^age .*\n", "", Path("position").read_text().split("\n", 1)[1])
+        self.assertEqual(found.rstrip(" \n") + "\n", wanted)
 
     def test_after_a_loss_of_power(self) -> None:
         """A move that was cut off behind the motors is taken up where these stand."""
@@ -297,7 +298,7 @@ class Others(Documents):
         source, size = Source("out"), sum(map(len, lines[:3202]))
         outputs = Switch(1, 1000_000_000, False, False, 0, 0)
         at_nm = (3_200_000, 1_000_000, -1_000_000)
-        kept = Record(f"{self.folder}/out", 3202, size, outputs, at_nm, source.mark(size))
+        kept = Record(f"{self.folder}/out", 3202, size, outputs, at_nm, source.mark(size), age_ms=23)
         source.close()
         Path("position").write_bytes(kept.text())
         rehearse = re.search(r"`(ngc-rehearse [^`]*)`", text)[1]

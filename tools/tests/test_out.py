@@ -9,7 +9,7 @@ from session_support import InFolder  # noqa: E402
 
 from ngc_tools.formats.out import BadLine, Dwell, Pulse, Switch, read_line  # noqa: E402
 from ngc_tools.formats.position import Position, millimetres, nanometres  # noqa: E402
-from ngc_tools.formats.record import BadRecord, Record  # noqa: E402
+from ngc_tools.formats.record import BadRecord, FileMark, Record  # noqa: E402
 
 
 class Lines(unittest.TestCase):
@@ -84,6 +84,15 @@ class Records(InFolder):
         self.assertEqual(record.text().decode().rstrip(" \n") + "\n", wanted)
         Path("position").write_bytes(record.text())
         self.assertEqual(Record.read("position"), record)
+
+    def test_all_lines(self) -> None:
+        """A file's mark, an age and a stop have lines of their own; with the longest path all has room."""
+        stopped = Record("/" + "x" * 254, 10**18 - 1, 10**18 - 1, Switch(2, 9_999_999_999_999, True, True, 128, 128),
+                         (-(10**18 - 1),) * 3, FileMark(10**19 - 1, 10**19 - 1, 2**32 - 1), "console", 9999)
+        self.assertIn(b"\nfile 9999999999999999999 9999999999999999999 ffffffff\nage 9999\nstopped console\n",
+                      stopped.text())
+        self.assertEqual(len(stopped.text()), 512)
+        self.assertEqual(Record.of_text(stopped.text(), "position"), stopped)
 
     def test_other_files(self) -> None:
         """Another file is refused, and so is a path that is too long."""

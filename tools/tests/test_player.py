@@ -9,6 +9,7 @@ import subprocess
 import sys
 import time
 import unittest
+from dataclasses import replace
 from pathlib import Path
 
 sys.path.insert(0, str(Path(__file__).resolve().parent))
@@ -263,6 +264,15 @@ class Playing:
         self.assertEqual(record(), "lines 2\nbytes 24\noutputs S 0 0.000000 0 0 0 0\n"
                          "reference 0.000000 0.001000 0.000000\n")
 
+    def test_age(self) -> None:
+        """The record says how old it ever was, 20 ms at least; a player that carries nothing out leaves that."""
+        Path("out").write_text("P 1 0 0 500\n" * 600)
+        self.play()
+        found = Record.read("position").age_ms
+        self.assertGreaterEqual(found, 20)
+        self.play("--untimed")
+        self.assertEqual(Record.read("position").age_ms, found)
+
     def test_stopped_and_continued(self) -> None:
         """A player that is stopped by the shell and goes on carries out each line once."""
         os.mkfifo("out")
@@ -463,21 +473,22 @@ int pins_off(void) {
             self.assertLess(len(path.read_text().splitlines()), 300, path.name)
 
     def test_alike(self) -> None:
-        """Over the lines of a program with an arc, a cycle, a wait and switches both leave the same pins and record."""
+        """Over the lines of a program with an arc, a cycle, a wait and switches both leave the same pins, and the same
+        record but for its age."""
         self.device()
         text = ("G21 G90 G17\nM3 S1500\nG0 X1 Y1 Z1\nG2 X1.5 Y1.5 I0.5 F300\nG4 P0.01\nT1 M6\nM4\n"
                 "G83 X2 Y2 Z-0.5 R0.2 Q0.2\nG80 M8\nG0 X0 Y-0.5\nM2\n")
         commands = f"tool 1 0.5\nload {len(text)}\n{text}start\ntick 1000000\n"
         self.assertEqual(self.run_ngc(commands)[-2], "idle")
         self.play("--untimed")
-        ours = Path("pins").read_text(), Path("position").read_bytes()
+        ours = Path("pins").read_text(), replace(Record.read("position"), age_ms=0)
         self.assertEqual(ours[0], Path("out").read_text())
         for name in ("pins", "position"):
             Path(name).unlink()
         words = ["--untimed", "--no-ask-tool", "--pins", "pins", "out", "first.toml", "position"]
         self.assertEqual(self.tool("ngc-player", *words).returncode, 0)
-        self.assertEqual((Path("pins").read_text(), Path("position").read_bytes()), ours)
-        self.assertEqual(Record.read("position").at_nm, (0, -500_000, 1_000_000))
+        self.assertEqual((Path("pins").read_text(), replace(Record.read("position"), age_ms=0)), ours)
+        self.assertEqual(ours[1].at_nm, (0, -500_000, 1_000_000))
         self.assertGreater(len(re.findall("^P", ours[0], re.M)), 5000)
 
 

@@ -93,6 +93,8 @@ RECORDS = (
     (with_line(6, "file -1 0 3a392a21"), "line 6 is no line of a record"),
     (with_line(6, "more"), "line 6 is no line of a record"),
     (with_line(6, "stopped Line"), "line 6 is no line of a record"),
+    (with_line(6, "age 0"), "line 6 is no line of a record"),
+    (with_line(6, "age 10000"), "line 6 is no line of a record"),
     (sector(*RIGHT, "stopped"), "line 7 is no line of a record"),
     (sector(*RIGHT, RIGHT[5]), "line 7 is no line of a record"),
     (sector(*RIGHT, "stopped line", "more"), "line 8 is no line of a record"),

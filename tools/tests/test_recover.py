@@ -20,11 +20,13 @@ from ngc_tools.cli.rehearse import main as rehearse  # noqa: E402
 from ngc_tools.formats.device import Device  # noqa: E402
 from ngc_tools.formats.out import OFF  # noqa: E402
 from ngc_tools.formats.record import Record  # noqa: E402
+from ngc_tools.formats.settings import Settings  # noqa: E402
 from ngc_tools.ngc.carried import CannotTell  # noqa: E402
 from ngc_tools.ngc.console import Console, Status  # noqa: E402
 from ngc_tools.ngc.handed_out import Finder, Kept  # noqa: E402
 from ngc_tools.operator.meter import Meter  # noqa: E402
 from ngc_tools.operator.operator import Operator  # noqa: E402
+from ngc_tools.operator.past import along_out, by_rate  # noqa: E402
 from ngc_tools.operator.recovery import Found  # noqa: E402
 from ngc_tools.operator.synced import SyncedLink  # noqa: E402
 from ngc_tools.player.source import Source  # noqa: E402
@@ -90,8 +92,8 @@ class Going:
                                                  " first, no leaves it off", "yes goes there, anything else ends"])
 
     def test_tool_stays(self) -> None:
-        """Past a tool change it goes by a word alone. Back no tool is changed, so what is switched on later names the one
-        that is in."""
+        """Past a tool change it goes by a word alone. Back no tool is changed, so what is switched on later names the
+        one that is in."""
         for name in ("out", "position"):
             Path(name).unlink()
         Path("out").write_text("S 1 9.000000 0 0 1 1\nP 1 0 0 50\nS 1 9.000000 0 0 2 2\nP 1 0 0 50\n")
@@ -397,6 +399,40 @@ class Finding(InFolder):
         status, _, wrong = told(rehearse, "mill.dev", "first.toml", "--out", "out")
         self.assertEqual((status, wrong.splitlines()[-1]),
                          (2, "ngc-rehearse: error: --out OUT and --position POSITION go together"))
+
+
+class BeyondTheRecord(InFolder):
+    """How far the motors may be past it: by hand, with steps of 1 um and a period of 50 us."""
+
+    def past(self, text: bytes, lines: int, size: int, age_ms: int) -> tuple[int, int, bool]:
+        """The lines and nanometres, and whether OUT has them, for a record that counts so many lines and bytes."""
+        Path("out").write_bytes(text)
+        file = os.open("out", os.O_RDONLY)
+        self.addCleanup(os.close, file)
+        found = along_out(file, lines, size, Settings.read("first.toml"), age_ms)
+        return found.lines, found.nm, found.of_out
+
+    def test_along_out(self) -> None:
+        """Those that begin within the age of the record, on or back, whichever are more; at 500 us 21 in 10 ms, and as
+        many as there are. A wait counts too, and nothing is counted behind what isn't a line."""
+        slow = b"P 1 0 0 500\n"
+        self.assertEqual(self.past(slow * 99, 40, 480, 10), (21, 21_000, True))
+        self.assertEqual(self.past(slow * 50, 40, 480, 10), (21, 21_000, True))
+        self.assertEqual(self.past(slow * 9, 4, 48, 10), (5, 5_000, True))
+        self.assertEqual(self.past(slow * 9, 2, 24, 10), (7, 7_000, True))
+        self.assertEqual(self.past(slow + b"D 9000\n" + slow * 9, 0, 0, 10), (4, 3_000, True))
+        self.assertEqual(self.past(slow + b"D 90000\n" + slow * 9, 0, 0, 10), (2, 1_000, True))
+        self.assertEqual(self.past(slow * 3 + bytes(4000), 0, 0, 10), (3, 3_000, True))
+        self.assertEqual(self.past(b"P 1 1 0 500\n" * 2, 0, 0, 10), (2, 2 * 1414, True))
+
+    def test_by_rate(self) -> None:
+        """At 50 us 201 lines in 10 ms, and a line moves the root of 3 um at most: where none stands behind the record,
+        as after `drop`, or in a pipe. Without an age it says what is done in 20 ms."""
+        self.assertEqual(self.past(b"P 1 0 0 500\n" * 2, 2, 24, 10), (201, 348_143, False))
+        self.assertEqual(by_rate(Settings.read("first.toml"), 10).words(), "It was up to 10 ms old while they moved:"
+                         " they make at most 201 lines, 0.349 mm, in that time")
+        self.assertEqual(by_rate(Settings.read("first.toml"), 0).words(), "It may be 20 ms and a sync old: they make at"
+                         " most 401 lines, 0.695 mm, in 20 ms")
 
 
 class Typing(Yes):

@@ -158,7 +158,7 @@ def prepared(args: argparse.Namespace, voice: Voice, stack: ExitStack) -> Player
         listener = Listener(args.progress)
         stack.callback(listener.close)
         player.answers = Answers(listener, player)
-    player.keeper = Keeper(file, player.standing)
+    player.keeper = Keeper(file, player.standing, found.age_ms if found else 0)
     return player
 
 

@@ -8,6 +8,7 @@ from ngc_tools.formats.position import millimetres
 
 SIZE = 512  # bytes: a disk writes them whole or not at all
 LONGEST_PATH = 255  # bytes: with it the greatest numbers have room
+OLDEST_MS = 9999  # as an age is written
 
 _COUNT = r"0|[1-9][0-9]{0,17}"
 _NUMBER = r"0|[1-9][0-9]{0,18}"
@@ -21,6 +22,7 @@ _LINES = (
     ("reference X Y Z", re.compile(r"reference ([^ ]+ [^ ]+ [^ ]+)")),
 )
 _FILE = re.compile(rf"file ({_NUMBER}) ({_NUMBER}) ([0-9a-f]{{8}})")
+_AGE = re.compile(r"age ([1-9][0-9]{0,3})")
 _STOPPED = re.compile(r"stopped ([a-z]+)")
 
 
@@ -45,7 +47,8 @@ class FileMark:
 class Record:
     """The first `lines` lines of `out`, its first `size` bytes, are carried out. `outputs` are as the last switch left
     them, and the machine stands at `at_nm`. `mark` is that of a file, as a pipe has none. `stopped` is what ended the
-    player before OUT's end, in a word."""
+    player before OUT's end, in a word. `age_ms` is how old a record on the disk ever was as the next one came, in whole
+    milliseconds; 0 where that isn't known, and OLDEST_MS for more."""
 
     out: str
     lines: int = 0
@@ -54,6 +57,7 @@ class Record:
     at_nm: tuple[int, int, int] = (0, 0, 0)
     mark: FileMark | None = None
     stopped: str = ""
+    age_ms: int = 0
 
     def text(self) -> bytes:
         """What stands in the file, 512 bytes. Raises BadRecord if the path of OUT can't stand in it."""
@@ -67,6 +71,8 @@ class Record:
         ]
         if self.mark:
             lines.append(f"file {self.mark}")
+        if self.age_ms:
+            lines.append(f"age {self.age_ms}")
         if self.stopped:
             lines.append(f"stopped {self.stopped}")
         return ("\n".join(lines) + "\n").encode("utf-8", "surrogateescape").ljust(SIZE - 1) + b"\n"
@@ -107,25 +113,28 @@ def _read(text: bytes) -> Record:
         if match is None:
             raise ValueError(f"line {number + 1} isn't '{form}'")
         found.append(match[1])
-    mark, stopped_by, rest = _optional(lines[len(_LINES):])
+    mark, age_ms, stopped_by, rest = _optional(lines[len(_LINES):])
     if len(rest) != 2 or rest[0].strip(" ") or rest[1]:
         raise ValueError(f"line {len(lines) - len(rest) + 1} is no line of a record")
     x, y, z = map(machine_nm, found[4].split(" "))
     outputs = read_line(found[3], 4)
     assert isinstance(outputs, Switch)
-    return Record(found[0], int(found[1]), int(found[2]), outputs, (x, y, z), mark, stopped_by)
+    return Record(found[0], int(found[1]), int(found[2]), outputs, (x, y, z), mark, stopped_by, age_ms)
 
 
-def _optional(lines: list[str]) -> tuple[FileMark | None, str, list[str]]:
+def _optional(lines: list[str]) -> tuple[FileMark | None, int, str, list[str]]:
     """The lines that a record may have after its five, and what is left."""
-    mark, stopped_by = None, ""
+    mark, age_ms, stopped_by = None, 0, ""
     if lines and (match := _FILE.fullmatch(lines[0])):
         mark = FileMark(int(match[1]), int(match[2]), int(match[3], 16))
+        lines = lines[1:]
+    if lines and (match := _AGE.fullmatch(lines[0])):
+        age_ms = int(match[1])
         lines = lines[1:]
     if lines and (match := _STOPPED.fullmatch(lines[0])):
         stopped_by = match[1]
         lines = lines[1:]
-    return mark, stopped_by, lines
+    return mark, age_ms, stopped_by, lines
 
 
 def machine_nm(text: str) -> int:

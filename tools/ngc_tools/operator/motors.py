@@ -17,10 +17,15 @@ _REST_S = 10.0  # how long motors may take to come to rest
 _STILL_S = 0.5  # without a line for so long they stand, or nearly: in a dwell nothing else says it
 
 
-def way_nm(report: Report, settings: Settings) -> int:
-    """How far the lines behind move the tool at most, in nm: a pulse moves each axis by a step at most."""
-    square = report.behind ** 2 * sum(step * step for step in settings.step_nm)
+def diagonal_nm(lines: int, settings: Settings) -> int:
+    """How far so many lines move the tool at most, in nm: a pulse moves each axis by a step at most."""
+    square = lines ** 2 * sum(step * step for step in settings.step_nm)
     return isqrt(square - 1) + 1 if square else 0
+
+
+def way_nm(report: Report, settings: Settings) -> int:
+    """The same of the lines behind."""
+    return diagonal_nm(report.behind, settings)
 
 
 def way(report: Report, settings: Settings) -> str:

@@ -16,6 +16,7 @@ from ngc_tools.ngc.console import Status
 from ngc_tools.operator.causes import taken
 from ngc_tools.operator.display import on_words
 from ngc_tools.operator.face import REFUSED, WARNING, axes
+from ngc_tools.operator.past import Past, along_out, by_rate
 from ngc_tools.operator.recovery import Found, Recovery
 from ngc_tools.operator.rehearsing import segment_begins
 from ngc_tools.operator.session import Session
@@ -37,8 +38,9 @@ stand with nothing in hand"""
 HALF = "recover goes back along OUT to where the half-done segment begins, and takes it up"
 STANDS = """\
 By the record the motors stand at {at}, behind line {line} of OUT.
-It may be older than the loss of power by 20 ms and a sync, and a motor that turned went on for a while. Where
-steps may be lost, answer no: home the machine, and start the player anew with --at X Y Z.
+{past};
+and a motor that turned went on for a while. Where steps may be lost, answer no: home the machine, and start
+the player anew with --at X Y Z.
 Do they stand there? yes goes on, anything else ends: """
 GOES = "yes goes there, Enter holds; anything else ends: "
 NO_LINES = """\
@@ -196,9 +198,23 @@ class Recover:
         return self._waits(recovery.line)
 
     def _stands(self) -> bool:
-        """Whether a person says that the motors are where the record has them."""
+        """Whether a person says that the motors are where the record has them, once it is said how far they may be past
+        it."""
         report = self.session.report()
-        return report is not None and self.session.agrees(STANDS.format(at=axes(report.at.split()), line=report.carried))
+        if report is None:
+            return False
+        at, line = axes(report.at.split()), report.carried
+        return self.session.agrees(STANDS.format(at=at, line=line, past=self._past().words()))
+
+    def _past(self) -> Past:
+        """How far the motors may be past the record. Raises NoAnswer."""
+        settings, age_ms = self.session.settings, self.session.meter.link.age_ms()
+        if self.found is None:
+            return by_rate(settings, age_ms)
+        recovery = self.found.recovery
+        if recovery.way is None:  # beside OUT's path, as within legs
+            return by_rate(settings, age_ms)
+        return along_out(self.found.link.file, recovery.lines, recovery.size, settings, age_ms)
 
     def _height(self, start: str, end: str) -> str | None:
         """The height of legs from a point to another, as a person types it, whose lengths are said; None for none."""
@@ -206,13 +222,15 @@ class Recover:
         try:
             if not typed:
                 return None
-            (x, y, z), point, lift_nm = (*(tuple(map(nanometres, at.split())) for at in (start, end)), machine_nm(typed))
+            (x, y, z), point = (tuple(map(nanometres, at.split())) for at in (start, end))
+            lift_nm = machine_nm(typed)
             _, over, _ = legs_to((x, y, z), point, lift_nm)
             settings = self.session.settings
             if not settings.low_nm[2] <= lift_nm <= settings.high_nm[2]:
                 raise NoWay(f"Z {typed} lies outside the travel")
-            self.session.face.say(f"up {rounded(lift_nm - z)} mm, over {rounded(distance((x, y, lift_nm), over))} mm, and"
-                                  f" down {rounded(lift_nm - point[2])} mm, at the traverse rate")
+            across = rounded(distance((x, y, lift_nm), over))
+            self.session.face.say(f"up {rounded(lift_nm - z)} mm, over {across} mm, and down"
+                                  f" {rounded(lift_nm - point[2])} mm, at the traverse rate")
             return millimetres(lift_nm)
         except (BadNumber, NoWay) as error:
             self.session.face.say(str(error), REFUSED)

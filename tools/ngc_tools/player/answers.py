@@ -34,8 +34,8 @@ class Asked(Protocol):
     def synced(self, size: int) -> None:
         """So many bytes of OUT are on the disk."""
 
-    def kept(self) -> tuple[int, int]:
-        """The lines and bytes of the record that is on the disk."""
+    def kept(self) -> tuple[int, int, int]:
+        """The lines and bytes of the record that is on the disk, and the age in it."""
 
     def go_where(self, text: bytes) -> None:
         """Goes along OUT or by legs, as the text says."""
@@ -101,7 +101,7 @@ class Answers:
         elif match := SYNCED.fullmatch(text):
             self._player.synced(int(match[1]))
         elif KEPT.fullmatch(text):
-            self._listener.answer(text + b" lines %d bytes %d" % self._player.kept(), sender)
+            self._listener.answer(text + b" lines %d bytes %d age %d" % self._player.kept(), sender)
         elif text.startswith((b"along ", b"legs ")):
             self._player.go_where(text)
         elif text == b"last":

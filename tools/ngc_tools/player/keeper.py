@@ -5,10 +5,15 @@ import os
 import threading
 import time
 from collections.abc import Callable
+from dataclasses import replace
+from math import ceil
 from pathlib import Path
 
 from ngc_tools.files import naming
-from ngc_tools.formats.record import SIZE, Record
+from ngc_tools.formats.record import OLDEST_MS, SIZE, Record
+
+
+KEEPS_MS = 20  # from the end of one sync to the next record
 
 
 class RecordFile:
@@ -91,15 +96,17 @@ class Keeper:
 
     `worst_ms` is how old the record on the disk was at most while something newer was there."""
 
-    def __init__(self, file: RecordFile, standing: Callable[[], Record], every_ms: int = 20) -> None:
-        """Writes the first record. Raises OSError or BadRecord."""
+    def __init__(self, file: RecordFile, standing: Callable[[], Record], found_ms: int = 0) -> None:
+        """Writes the first record. `found_ms` is the age that the record has from before; it stays until something is
+        carried out. Raises OSError or BadRecord."""
         self.worst_ms = 0.0
+        self._found_ms = found_ms
         self.failed: OSError | None = None
         self._file = file
         self._standing = standing
-        self._every = every_ms / 1000
         self._end = threading.Event()
         self.kept: Record | None = None  # what stands on the disk
+        self._kept_s = time.monotonic()  # as it stood then
         self._keep()
         self._thread = threading.Thread(target=self._work, daemon=True)
         self._thread.start()
@@ -113,8 +120,7 @@ class Keeper:
         self._keep()
 
     def _work(self) -> None:
-        before = time.monotonic()
-        while not self._end.wait(self._every):
+        while not self._end.wait(KEEPS_MS / 1000):
             taken = time.monotonic()
             try:
                 was_newer = self._keep()
@@ -122,14 +128,16 @@ class Keeper:
                 self.failed = error
                 return
             if was_newer:
-                self.worst_ms = max(self.worst_ms, (time.monotonic() - before) * 1000)
-            before = taken
+                self.worst_ms = max(self.worst_ms, (time.monotonic() - self._kept_s) * 1000)
+            self._kept_s = taken
 
     def _keep(self) -> bool:
-        """Writes what stands, if that is something else than what was written last; whether it was."""
-        record = self._standing()
-        if record == self.kept:
+        """Writes what stands, if that is something else than what was written last; whether lines were carried out, or
+        motors moved, since then."""
+        age_ms = min(ceil(self.worst_ms) or self._found_ms, OLDEST_MS)
+        record, kept = replace(self._standing(), age_ms=age_ms), self.kept
+        if record == kept:
             return False
         self._file.write(record)
         self.kept = record
-        return True
+        return kept is not None and (record.size, record.at_nm) != (kept.size, kept.at_nm)

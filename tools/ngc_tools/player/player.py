@@ -112,10 +112,10 @@ class Player(Goes):
                 self.source.limit = size
                 self._take_all()
 
-    def kept(self) -> tuple[int, int]:
-        """How many lines and bytes are carried out by the record that is on the disk."""
+    def kept(self) -> tuple[int, int, int]:
+        """How many lines and bytes are carried out by the record that is on the disk, and the age in it."""
         record = self.keeper.kept if self.keeper else None
-        return (record.lines, record.size) if record else (0, 0)
+        return (record.lines, record.size, record.age_ms) if record else (0, 0, 0)
 
     def go_where(self, text: bytes) -> None:
         """Goes on, back, or by legs, if it stands still with nothing in hand."""

@@ -23,7 +23,8 @@
     The first BYTES bytes of OUT are on the disk. Of a file that is followed nothing beyond them is carried out from
     then on, so what the motors were given is on the disk.
 `kept N`
-    is answered by `kept N lines L bytes B`: so many lines and bytes are carried out by the record on the disk.
+    is answered by `kept N lines L bytes B age MS`: so many lines and bytes are carried out by the record on the disk,
+    and it was so old at most, in milliseconds, as the next one came; 0 where that isn't known.
 `along BYTES`, `along BYTES S ..`
     The motors go to where the first BYTES bytes of OUT, a file, lead: on along its lines, or back. It is taken while
     the player stands still and nothing is in hand. What stands behind, as outputs, is switched on first. Until they are
@@ -56,6 +57,7 @@ KEPT = re.compile(rb"kept [0-9]{1,20}")
 PERCENT = re.compile(rb"percent ([1-9][0-9]{0,2})")
 _OTHER = "it is of another version: take a player and a console of one version"
 _LONGEST = 192  # bytes of a datagram to a player
+_KEPT = re.compile(r"lines (\d+) bytes (\d+) age (\d+)")
 _REPORT = re.compile(r"carried (\d+) received (\d+) (works|held|waits tool (\d{1,3})) reference (\S+ \S+ \S+)"
                      r" outputs (S \d \S+ \d \d \d+ \d+) percent (\d+) wants (\d+) out (.*)", re.DOTALL)
 
@@ -248,11 +250,19 @@ class Link:
 
     def kept(self) -> tuple[int, int]:
         """How many lines and bytes of OUT are carried out by the record on the player's disk. Raises NoAnswer."""
+        match = self._kept()
+        return int(match[1]), int(match[2])
+
+    def age_ms(self) -> int:
+        """How old that record ever was as the next one came; 0 where that isn't known. Raises NoAnswer."""
+        return int(self._kept()[3])
+
+    def _kept(self) -> re.Match[str]:
         self.count += 1
-        words = self._answer(b"kept %d" % self.count).split()
-        if len(words) != 4 or not words[1].isdigit() or not words[3].isdigit():
+        match = _KEPT.fullmatch(self._answer(b"kept %d" % self.count).decode("latin-1"))
+        if match is None:
             raise NoAnswer(f"{self.path}: {_OTHER}")
-        return int(words[1]), int(words[3])
+        return match
 
     def synced(self, size: int) -> None:
         """Tells a player that so many bytes of OUT are on the disk. Raises NoAnswer."""

@@ -1,0 +1,63 @@
+"""How far the motors may be past the player's record: by what they can carry out between two syncs of it.
+
+A loss of power, or `kill -9`, leaves the record as it was synced last. What the motors did since then isn't in it, but
+it lasted no longer than the record ever got old."""
+import os
+from collections.abc import Iterable, Iterator
+from dataclasses import dataclass
+
+from ngc_tools.formats.out import BadLine
+from ngc_tools.formats.position import Position
+from ngc_tools.formats.settings import Settings
+from ngc_tools.job.figures import millimetres as rounded
+from ngc_tools.operator.motors import diagonal_nm
+from ngc_tools.player.keeper import KEEPS_MS
+from ngc_tools.player.way import Move, look, moves
+
+
+@dataclass(frozen=True, slots=True)
+class Past:
+    """The motors may have carried out so many lines, `nm` along their path, that the record doesn't have: `of_out`, if
+    OUT has them. `age_ms` is how old the record was at most; 0 if that isn't known."""
+
+    lines: int
+    nm: int
+    of_out: bool
+    age_ms: int
+
+    def words(self) -> str:
+        """All of it, for people."""
+        lines = f"{self.lines:,} line{'s' if self.lines > 1 else ''}{' of OUT' if self.of_out else ''}"
+        made = f"{lines}, {rounded(self.nm + 499)} mm"
+        if self.age_ms:
+            return f"It was up to {self.age_ms:,} ms old while they moved: they make at most {made}, in that time"
+        return f"It may be {KEEPS_MS} ms and a sync old: they make at most {made}, in {KEEPS_MS} ms"
+
+
+def by_rate(settings: Settings, age_ms: int) -> Past:
+    """By the machine's greatest rate, at which each line moves each axis by a step."""
+    lines = (age_ms or KEEPS_MS) * 1000 // settings.period_us + 1
+    return Past(lines, diagonal_nm(lines, settings), False, age_ms)
+
+
+def along_out(file: int, lines: int, size: int, settings: Settings, age_ms: int) -> Past:
+    """The same along OUT, which is open, from behind so many lines and bytes of it, on or back; by the machine's rate
+    if no line stands behind them, as some may be cut off."""
+    us = (age_ms or KEEPS_MS) * 1000
+    end, least = os.fstat(file).st_size, settings.period_us
+    ways = [look(_within(moves(file, lines, size, to, least), us), Position(settings.step_nm)) for to in (end, 0)]
+    if not ways[0].lines:
+        return by_rate(settings, age_ms)
+    return Past(max(way.lines for way in ways), max(way.length_nm for way in ways), True, age_ms)
+
+
+def _within(found: Iterable[Move], us: int) -> Iterator[Move]:
+    """The moves that begin before so much time has passed; none behind a line that can't be read."""
+    try:
+        for move in found:
+            if us < 0:
+                return
+            yield move
+            us -= move.line.lasts_us if move.line else 0
+    except BadLine:
+        return
