@@ -10,6 +10,7 @@ import sys
 import threading
 import tty
 import unittest
+from collections.abc import Iterator
 from pathlib import Path
 from unittest.mock import patch
 
@@ -766,6 +767,81 @@ class Ramps(InFolder):
         self.assertEqual((terminal.status(), player.wait(60)), (0, 0))
         self.assertEqual(Path("pins").read_text().splitlines(), ["S 0 500.000000 0 0 0 0", "S 1 500.000000 0 0 0 0"]
                          + ["P 1 0 0 2000"] * 600 + ["S 0 500.000000 0 0 0 0"] * 2)
+
+
+class TimesWithRamps(InFolder):
+    """With a machine's file."""
+
+    def setUp(self) -> None:
+        """A machine that takes a second to its rate, and a second to stop."""
+        super().setUp()
+        self.device()
+        Path("motion.toml").write_text("[motion]\naccel_mm_s2 = [20, 20, 20]\n")
+
+    def begun(self, program: str) -> Terminal:
+        """A console that has loaded a program."""
+        Path("part.ngc").write_text(program)
+        terminal = Terminal(str(TOOLS / "ngc-operate"), *operate("mill.dev", "first.toml", "out", "--machine",
+                                                                 "motion.toml"))
+        terminal.read_to(PROMPT)
+        terminal.send(b"load part.ngc\n")
+        self.assertIn(b"done 1", terminal.read_to(PROMPT))
+        return terminal
+
+    def test_where(self) -> None:
+        """A child works them out; `where` has them from then on."""
+        terminal = self.begun("G21 G90\nG1 X20 F1200\nM2\n")
+
+        def shown() -> bytes:
+            terminal.send(b"where\n")
+            return terminal.read_to(PROMPT)
+
+        self.wait_for("they are worked out", lambda: b"\r\nwith ramps 0:02 in all\r\n" in shown())
+        terminal.send(b"quit\n")
+        terminal.read_to(b"never")
+        self.assertEqual(terminal.status(), 0)
+
+    def test_killed(self) -> None:
+        """A child that is at work ends where the console is killed, with its `ngc` and its folder."""
+        terminal = self.begun("G21 G90\n" + "G1 X500 F1200\nX0\n" * 500 + "M2\n")
+        child, = (pid for pid, words in processes(terminal.pid) if "line_times.py" in words[1])
+        self.wait_for("it runs", lambda: any("run" in words for _, words in processes(child)))
+        run, words = next((pid, words) for pid, words in processes(child) if "run" in words)
+        device = Path(words[2])
+        self.assertTrue(device.exists())
+        os.kill(terminal.pid, signal.SIGKILL)
+        self.assertEqual(terminal.status(), -signal.SIGKILL)
+        self.wait_for("all has ended", lambda: not (is_alive(child) or is_alive(run) or device.parent.exists()))
+
+    def test_refused(self) -> None:
+        """A machine that `ngc pace` refuses, and a file that isn't there; one without [motion] is for other things."""
+        Path("wrong.toml").write_text("[motion]\naccel_mm_s2 = [0, 20, 20]\n")
+        Path("other.toml").write_text("[other]\nheight = 1\n")
+        for name, status, said in (("wrong.toml", 2, "ngc-operate: wrong.toml: accel_mm_s2: not three whole numbers"),
+                                   ("none.toml", 2, "ngc-operate: none.toml: No such file or directory\n"),
+                                   ("other.toml", 0, "")):
+            done = self.tool("ngc-operate", *operate("mill.dev", "first.toml", "out", "--machine", name), text="quit\n")
+            self.assertEqual((done.returncode, said in done.stderr), (status, True), done.stderr)
+
+
+def stat_of(process: int) -> list[str]:
+    """The state of a process and its parent, and more; a state X once there is no such process."""
+    try:
+        return Path(f"/proc/{process}/stat").read_text().rpartition(") ")[2].split()
+    except (FileNotFoundError, ProcessLookupError):
+        return ["X", "0"]
+
+
+def is_alive(process: int) -> bool:
+    """Whether it hasn't ended."""
+    return stat_of(process)[0] not in "XZ"
+
+
+def processes(parent: int) -> Iterator[tuple[int, list[str]]]:
+    """The children of a process, and their words, with empty ones behind them."""
+    for path in Path("/proc").glob("[0-9]*"):
+        if int(stat_of(int(path.name))[1]) == parent:
+            yield int(path.name), (path / "cmdline").read_bytes().decode(errors="replace").split("\0") + [""] * 3
 
 
 class Lines(unittest.TestCase):

@@ -8,6 +8,7 @@ sys.path.insert(0, str(Path(__file__).resolve().parent))
 
 from session_support import FIRST, TOOLS, InFolder, ngc  # noqa: E402
 
+from ngc_tools.cli.line_times import command  # noqa: E402
 from ngc_tools.formats.device import Device  # noqa: E402
 from ngc_tools.formats.out import OFF, Switch, read_line  # noqa: E402
 from ngc_tools.formats.position import Position, nanometres  # noqa: E402
@@ -15,6 +16,7 @@ from ngc_tools.ngc.console import Console, Status  # noqa: E402
 from ngc_tools.operator.face import MESSAGE, REFUSED, SAID, WARNING, WHERE, UnderWay  # noqa: E402
 from ngc_tools.operator.meter import Meter  # noqa: E402
 from ngc_tools.operator.operator import Operator  # noqa: E402
+from ngc_tools.operator.ramp_times import RampTimes  # noqa: E402
 from ngc_tools.player.progress import NoAnswer, Report  # noqa: E402
 
 MODAL = ("feed_nm_per_min", "speed", "g92_nm", "origin_nm", "tool_length_nm", "motion", "plane", "distance",
@@ -716,6 +718,41 @@ class Shown(Core):
         self.assertEqual(view.more[1:], ("F60 S1000 T1", "about 0:05 left", "0:00 done"))
         self.assertRegex(view.more[0], r"^work X-?[0-2]\.\d{3} Y0\.000 Z0\.00\d$")
         self.assertEqual(self.do("G0 Z1")[-2], "work X3.000 Y0.000 Z1.000; G55 at X10 Y0 Z-5, tool length 2.5")
+
+    def test_times_with_ramps(self) -> None:
+        """20 mm at 20 mm/s take 1 s, and 20 / 20 s more to start and to stop; on the way back, and after a stop, again.
+        They are those of a line once the child has worked them out."""
+        Path("motion.toml").write_text("[motion]\naccel_mm_s2 = [20, 20, 20]\n")
+        self.begin()
+        self.operator.loading.times_command = command(ngc(), "first.toml", "motion.toml")
+        self.addCleanup(self.operator.loading.close)
+        self.load("G21 G90\nG1 X20 F1200\nX0\nM0\nX20\nM2\n")
+        timeline = self.operator.loading.timeline(False)
+        self.wait_for("the times are worked out", lambda: timeline.times(1).kind == "with ramps")
+        self.assertEqual(self.do("where")[-1], "with ramps 0:06 in all")
+        for line, done_s in ((1, 0), (2, 0), (3, 2), (5, 4), (6, 6), (99, 6)):
+            times = timeline.times(line)
+            self.assertAlmostEqual(times.done_us / 1e6, done_s, delta=0.3)  # 400 lines from rest take 0.2 s
+            self.assertAlmostEqual((times.done_us + times.left_us) / 1e6, 6, delta=0.1)
+        self.assertIs(self.operator.loading.timeline(True), timeline)
+        self.do("run")
+        self.assertEqual(self.do("where")[-1], "with ramps 0:04 done, 0:02 left")
+        view = next(view for view in self.face.views if view and view.line.startswith("line 3"))
+        self.assertRegex(" ".join(view.more), "with ramps 0:0[34] left 0:02 done$")
+
+    def test_times_of_a_refused_line(self) -> None:
+        """Of what can't be run to its end no child is asked; of what `ngc run` refuses, the times are about."""
+        Path("motion.toml").write_text("[motion]\naccel_mm_s2 = [20, 20, 20]\n")
+        self.begin()
+        self.operator.loading.times_command = command(ngc(), "first.toml", "motion.toml")
+        self.face.answers = ["yes"]
+        self.load("G21 G90\nG1 X20\nM2\n")
+        self.assertIsNone(self.operator.loading.timeline(False).ramps)
+        words = command(ngc(), "first.toml", "motion.toml")
+        ramps = RampTimes(words, b"G1 X1\nM2\n", Path("mill.dev").read_bytes(), False)
+        self.addCleanup(ramps.close)
+        ramps._child.wait(60)
+        self.assertIsNone(ramps.times_us(1))
 
     def test_asides(self) -> None:
         """Optional stop may be set while a program runs."""

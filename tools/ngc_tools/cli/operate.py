@@ -4,17 +4,19 @@ import fcntl
 import os
 import stat
 import sys
-from contextlib import closing
+from contextlib import ExitStack, closing
 
 try:
     import readline  # noqa: F401  history and editing for input()
 except ImportError:
     pass
 
+from ngc_tools.cli import line_times
 from ngc_tools.cli.run import new_parser, run
 from ngc_tools.failure import Failure
 from ngc_tools.ngc.before_start import CannotBegin, look
 from ngc_tools.ngc.console import Console, Ended
+from ngc_tools.ngc.machine_report import Motion
 from ngc_tools.operator.meter import LIMIT, LIMITS, Meter, check_limit
 from ngc_tools.operator.operator import Operator
 from ngc_tools.operator.recovery import Found
@@ -25,7 +27,7 @@ from ngc_tools.ngc.run import find_ngc
 from ngc_tools.ngc.usable_settings import look_at_settings
 from ngc_tools.cli.terminal import AskedToEnd, Screen
 from ngc_tools.formats.device import Device, NoDevice
-from ngc_tools.formats.settings import Settings
+from ngc_tools.formats.settings import Settings, read_table
 from ngc_tools.formats.text import shown
 
 ABOUT = """A console for people over `ngc run`: programs by name, G-code as typed, Enter or Ctrl-C holds.
@@ -58,6 +60,8 @@ def make_parser() -> argparse.ArgumentParser:
     parser.add_argument("--ahead", type=int, metavar="N",
                         help="how many lines OUT may be ahead of the player at most (without it as many as the player"
                         f" wants, {LIMIT} of one that doesn't say it)")
+    parser.add_argument("--machine", metavar="FILE",
+                        help="the machine's file: with its table [motion] times are those with ramps")
     parser.add_argument("--ngc", metavar="PATH", help="the program ngc (else beside this tool, else on PATH)")
     return parser
 
@@ -68,15 +72,26 @@ def main(arguments: list[str] | None = None) -> int:
 
 
 def work(args: argparse.Namespace) -> int:
-    """Looks at what is given, and does the session. Raises CannotBegin, NoAnswer, BadSettings, ValueError, OSError."""
+    """Looks at what is given, and does the session. Raises CannotBegin, NoAnswer, BadSettings, BadMachine, ValueError,
+    OSError."""
     ngc = find_ngc(args.ngc)
     meter = metered(args)
     pipe = look(args.device, args.settings, args.out)
     look_at_settings(ngc, args.settings)
+    args.machine = with_motion(ngc, args)
     try:
         return session(ngc, args, meter, pipe)
     except Ended as ended:
         raise Failure(told(ended)) from None
+
+
+def with_motion(ngc: str, args: argparse.Namespace) -> str | None:
+    """The machine's file, if one is named that says what the motors allow. Raises BadMachine if it is refused,
+    BadSettings if it isn't TOML, OSError."""
+    if args.machine is None or "motion" not in read_table(args.machine):
+        return None
+    Motion.read(ngc, args.machine, args.settings)
+    return args.machine
 
 
 def metered(args: argparse.Namespace) -> Meter | None:
@@ -127,12 +142,15 @@ def session(ngc: str, args: argparse.Namespace, meter: Meter | None, pipe: int |
     found = as_found(args.device)
     link = meter.link if meter else None
     out = Found.of(ngc, args.settings, link, found) if isinstance(link, SyncedLink) else None
-    with closing(Screen()) as screen:
+    with closing(Screen()) as screen, ExitStack() as stack:
         console = Console(ngc, args.device, args.settings, args.out, Patience(screen))
         try:
             console.status()
             operator = Operator(console, screen, meter)
             operator.recover.found = out
+            if args.machine:
+                operator.loading.times_command = line_times.command(ngc, args.settings, args.machine)
+            stack.callback(operator.loading.close)
             said = bound(args, meter, pipe)
             if pipe is not None:
                 os.close(pipe)

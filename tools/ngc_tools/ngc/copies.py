@@ -100,7 +100,8 @@ class _Console(Console):
 class Copy:
     """A session of `ngc run` over a copy of a device. `ticks` are made, and `lines` of OUT handed out; `stops` are the
     places after the lines at which the program waited for `continue`, which is given; `idle` says that nothing is left
-    to do. `tally` counts the lines if `counted` is set."""
+    to do. `tally` counts the lines if `counted` is set, and `taken` is given them as they are taken away; `rests` is
+    called as the program waits."""
 
     def __init__(self, ngc: str, settings: str | Path, image: bytes, commands: list[str], counted: bool = False,
                  interrupted: Callable[[], bool] = never) -> None:
@@ -112,6 +113,8 @@ class Copy:
         self.stops: list[int] = []
         self.idle = False
         self.tally: Tally | None = None
+        self.taken: Callable[[bytes], None] | None = None
+        self.rests: Callable[[], None] | None = None
         with ExitStack() as stack:
             folder = Path(stack.enter_context(Scratch("ngc-rehearse-")))
             self._device, self._out = folder / "device", folder / "out"
@@ -194,6 +197,8 @@ class Copy:
         self.idle = "idle" in replies
         if "stopped" in replies:
             self.stops.append(self.console.status().place)
+            if self.rests:
+                self.rests()
             self.console.ask("continue")
 
     def go_to_entry(self) -> None:
@@ -223,6 +228,8 @@ class Copy:
         self.lines += text.count(b"\n")
         if self.tally:
             self.tally.take(text, self._settings.period_us)
+        if self.taken:
+            self.taken(text)
         with open(self._out, "r+b") as file:
             file.truncate()
 

@@ -1,5 +1,6 @@
 """How long lines of OUT take with ramps: `ngc pace` times them, as they are given to it piece by piece."""
 import subprocess
+import threading
 from collections import Counter
 from pathlib import Path
 from types import TracebackType
@@ -48,3 +49,73 @@ class Pacing:
         if self._child.returncode or not said.isdecimal():
             raise NotTimed(f"ngc pace: {said or f'status {self._child.returncode}'}")
         self.with_ramps_us = (int(said) + 500) // 1000
+
+
+class DueTimes:
+    """A running `ngc pace`, which is asked when some of the lines are due that are given to it."""
+
+    def __init__(self, ngc: str, settings: str | Path, machine: str | Path) -> None:
+        """Raises OSError if it can't be started."""
+        words = [ngc, "pace", str(settings), str(machine)]
+        self._child = subprocess.Popen(words, stdin=subprocess.PIPE, stdout=subprocess.PIPE, bufsize=0)
+        self._lines = 0
+        self._marks: list[int] = []  # lines before those that are asked for
+        self._due_ns: list[int] = []
+        self._reader = threading.Thread(target=self._read, daemon=True)
+        self._reader.start()
+
+    def __enter__(self) -> "DueTimes":
+        """Begins with the block."""
+        return self
+
+    def __exit__(self, kind: type[BaseException] | None, error: BaseException | None,
+                 where: TracebackType | None) -> None:
+        """Ends with the block, in whatever way."""
+        self._child.kill()
+        self._reader.join()
+        self._child.stdin.close()
+        self._child.stdout.close()
+        self._child.wait()
+
+    def mark(self) -> None:
+        """Asks when the line is due that is given next."""
+        self._marks.append(self._lines)
+
+    def take(self, text: bytes) -> None:
+        """Gives it whole lines. Raises NotTimed if it has ended."""
+        self._lines += text.count(b"\n")
+        left = memoryview(text)
+        try:
+            while left:
+                left = left[self._child.stdin.write(left):]
+        except BrokenPipeError:
+            raise NotTimed(f"ngc pace: status {self._child.wait()}") from None
+
+    def rest(self) -> None:
+        """Everything stands once what was given is over: a wait of no time is due then. Raises NotTimed."""
+        self.take(b"D 0\n")
+
+    def end(self) -> list[int]:
+        """No more lines come: when those that were asked for are due, in nanoseconds. Raises NotTimed."""
+        self._child.stdin.close()
+        self._reader.join()
+        if self._child.wait() or len(self._due_ns) != len(self._marks):
+            raise NotTimed(f"ngc pace: status {self._child.returncode}")
+        return self._due_ns
+
+    def _read(self) -> None:
+        before, part = 0, b""
+        while block := self._child.stdout.read(1 << 20):
+            whole, _, part = (part + block).rpartition(b"\n")
+            count = whole.count(b"\n") + 1 if whole else 0
+            self._find(whole, before, count)
+            before += count
+
+    def _find(self, whole: bytes, before: int, count: int) -> None:
+        """Looks for lines that are asked for among so many, which stand behind those `before`."""
+        lines: list[bytes] = []
+        for mark in self._marks[len(self._due_ns):]:
+            if mark >= before + count:
+                return
+            lines = lines or whole.split(b"\n")
+            self._due_ns.append(int(lines[mark - before].partition(b" ")[0]))

@@ -1,5 +1,5 @@
 """What is said of a program before it is stored: which text it is, and what a dry run from the device says of it."""
-from dataclasses import dataclass
+from dataclasses import dataclass, replace
 
 from ngc_tools.formats.canonical import BadText
 from ngc_tools.formats.device import MOST_LARGE_PROGRAM, MOST_PROGRAM, Device, NoDevice
@@ -11,6 +11,7 @@ from ngc_tools.job.figures import millimetres as rounded
 from ngc_tools.ngc.beginning import Beginning, CannotSetUp
 from ngc_tools.ngc.run import CannotRun
 from ngc_tools.operator.face import REFUSED, WARNING
+from ngc_tools.operator.ramp_times import RampTimes
 from ngc_tools.operator.sentences import explained
 from ngc_tools.operator.session import Session
 from ngc_tools.operator.timeline import Timeline, timeline
@@ -27,11 +28,18 @@ class _Tried:
 
 
 class Loading:
-    """Tries programs by a dry run from the device."""
+    """Tries programs by a dry run from the device. `times_command` is a program that works out their times with ramps,
+    as RampTimes takes it; without one times are those of a dry run."""
 
     def __init__(self, session: Session) -> None:
         self.session = session
+        self.times_command: list[str] = []
         self._tried: _Tried | None = None
+
+    def close(self) -> None:
+        """Ends what is still worked out."""
+        if self._tried and isinstance(self._tried.found, Timeline) and self._tried.found.ramps:
+            self._tried.found.ramps.close()
 
     def agreed(self, name: str, text: bytes) -> bool:
         """Whether a program is to be stored: says what a dry run says of it, and asks where a line would be refused."""
@@ -83,10 +91,18 @@ class Loading:
         if last is None or (last.text, last.beginning, last.delete) != (text, beginning, session.delete):
             try:
                 found: Timeline | str = timeline(session.console, device, text, session.settings, session.delete)
+                found = self._with_ramps(found, text, device)
             except (CannotSetUp, NoDevice, BadText, CannotRun, BadSettings, OSError) as error:
                 found = str(error)
+            self.close()
             last = self._tried = _Tried(text, beginning, session.delete, found)
         return last.found
+
+    def _with_ramps(self, found: Timeline, text: bytes, device: Device) -> Timeline:
+        """The same, with its times with ramps to come, where they are wanted and it runs to its end. Raises OSError."""
+        if not self.times_command or found.refused:
+            return found
+        return replace(found, ramps=RampTimes(self.times_command, text, device.image, self.session.delete))
 
 
 def unreadable(name: str, text: bytes) -> str:

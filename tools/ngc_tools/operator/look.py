@@ -82,10 +82,10 @@ class Look:
                f" F{trimmed(state.feed_nm_per_min)} mm/min; {outputs_words(outputs_on(state))}")
 
     def _times(self, status: Status, timeline: Timeline) -> str:
-        done, left = timeline.times_us(self.session.program.number(status.place))
+        times = timeline.times(self.session.program.number(status.place))
         if status.does == "idle" and not status.place:
-            return f"about {clock(left)} in all"
-        return f"about {clock(done)} done, {clock(left)} left"
+            return f"{times.kind} {clock(times.left_us)} in all"
+        return f"{times.kind} {clock(times.done_us)} done, {clock(times.left_us)} left"
 
     def _motors(self, report: Report | None) -> None:
         if report:

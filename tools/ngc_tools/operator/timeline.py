@@ -1,6 +1,6 @@
 """What a program does line by line, by a dry run from a device: what is in force, and about how long it takes."""
 from collections.abc import Iterable
-from dataclasses import dataclass
+from dataclasses import dataclass, field
 
 from ngc_tools.formats.device import Device
 from ngc_tools.formats.settings import Settings
@@ -14,13 +14,15 @@ from ngc_tools.ngc.console import Console
 from ngc_tools.ngc.run import Refusal, refusal
 from ngc_tools.operator.display import in_force_on
 from ngc_tools.operator.outside import breach_of_line
+from ngc_tools.operator.ramp_times import RampTimes
 
 
 @dataclass(frozen=True, slots=True)
 class Timeline:
     """`views` has what is in force on each line that prints something, and `ends_us` when it ends, by its number from
     1. `extents` are those of all moves; `refused` is the line at which `ngc` would stop, `breach` where it leaves the
-    travel, if that is why; `notes` are what the dry run couldn't begin with."""
+    travel, if that is why; `notes` are what the dry run couldn't begin with. `ramps` has the times with ramps, where
+    these are wanted."""
 
     views: dict[int, InForce]
     ends_us: dict[int, int]
@@ -29,15 +31,27 @@ class Timeline:
     refused: Refusal | None
     breach: str
     notes: tuple[str, ...]
+    ramps: RampTimes | None = field(default=None, compare=False)
 
     def view(self, number: int) -> InForce | None:
         """What is in force on a line."""
         return self.views.get(number) or self.views.get(_last(self.views, number), None)
 
-    def times_us(self, number: int) -> tuple[int, int]:
-        """About how long the lines before a line take, and about how long it and those after it."""
+    def times(self, number: int) -> "Times":
+        """How long the lines before a line take, and how long it and those after it: with ramps if that is known."""
+        if self.ramps and (found := self.ramps.times_us(number)):
+            return Times("with ramps", *found)
         done = self.ends_us.get(_last(self.ends_us, number - 1), 0)
-        return done, self.total_us - done
+        return Times("about", done, self.total_us - done)
+
+
+@dataclass(frozen=True, slots=True)
+class Times:
+    """How long a program takes up to a line, and from there on: `about`, or `with ramps`."""
+
+    kind: str
+    done_us: int
+    left_us: int
 
 
 def _last(numbers: dict[int, object] | dict[int, int], most: int) -> int:

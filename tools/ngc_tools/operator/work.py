@@ -190,6 +190,7 @@ class Work:
         view = self.timeline.view(number) if self.timeline else None
         more: tuple[str, ...] = ()
         if self.timeline and view:
-            done, left = (clock(us) for us in self.timeline.times_us(number))
-            more = (" ".join(short_words(view)), f"about {left} left", f"{done} done")
+            times = self.timeline.times(number)
+            more = (" ".join(short_words(view)), f"{times.kind} {clock(times.left_us)} left",
+                    f"{clock(times.done_us)} done")
         return _Shown(status.place, self.session.line(status), view, more)
