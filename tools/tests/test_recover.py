@@ -6,6 +6,8 @@ import subprocess
 import sys
 import time
 import unittest
+from collections.abc import Callable
+from functools import partial
 from pathlib import Path
 
 sys.path.insert(0, str(Path(__file__).resolve().parent))
@@ -27,7 +29,7 @@ from ngc_tools.ngc.handed_out import Finder, Kept  # noqa: E402
 from ngc_tools.operator.meter import Meter  # noqa: E402
 from ngc_tools.operator.operator import Operator  # noqa: E402
 from ngc_tools.operator.past import along_out, by_rate  # noqa: E402
-from ngc_tools.operator.recovery import Found  # noqa: E402
+from ngc_tools.operator.recovery import Found, Recovery  # noqa: E402
 from ngc_tools.operator.synced import SyncedLink  # noqa: E402
 from ngc_tools.player.source import Source  # noqa: E402
 
@@ -477,6 +479,8 @@ class Recovering(PlayerTest):
         self.linked()
         link = SyncedLink("progress", out) if out == "out" else self.linked()
         self.addCleanup(link.close)
+        if out == "out":
+            link.cut = partial(self.cut, link.cut)
         image = Device.read("mill.dev")
         found = Found.of(ngc(), "first.toml", link, image) if out == "out" else None
         console = Console(ngc(), "mill.dev", "first.toml", out)
@@ -486,6 +490,11 @@ class Recovering(PlayerTest):
         operator.recover.found = found
         operator.begin("", image)
         return operator, face
+
+    def cut(self, real: Callable[[int], None], size: int) -> None:
+        """Cuts OUT: no record on the disk counts what it won't have."""
+        self.assertLessEqual(Record.read("position").size, size)
+        real(size)
 
     def pins(self) -> list[str]:
         """What the pins got."""
@@ -678,6 +687,17 @@ class Recovering(PlayerTest):
             link = SyncedLink("progress", "out")
             self.assertEqual((link.cut_part(), Path("out").read_text()), (len(text) - len(left), left))
             link.close()
+
+    def test_cut_awaits_the_record(self) -> None:
+        """OUT is cut once the record on the disk counts no more than stays: else no player would take it up."""
+        Path("out").write_text("P 1 0 0 50\n" * 9)
+        counts = [99, 99, 23, 22]
+        link = SyncedLink.__new__(SyncedLink)
+        link.__dict__.update(file=os.open("out", os.O_RDWR), patience_s=60, follow=lambda: None,
+                             kept=lambda: (0, counts.pop(0)))
+        self.addCleanup(os.close, link.file)
+        Found(link, None, Recovery(), []).cut(22)
+        self.assertEqual((counts, Path("out").stat().st_size), ([], 22))
 
     def test_room(self) -> None:
         """Room before the open segment is given back once it is carried out; what the way back needs stays."""

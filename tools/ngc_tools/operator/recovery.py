@@ -187,9 +187,10 @@ class Found:
         self.link.is_following = False
 
     def cut(self, size: int) -> None:
-        """Cuts off what stands behind so many bytes, where the motors are, and goes on from there. Raises NoAnswer,
-        OSError."""
+        """Cuts off what stands behind so many bytes, where the motors are, and goes on from there. No record on a disk
+        ever counts what OUT doesn't have. Raises NoAnswer, OSError."""
         if self.link.size() > size:
+            self.link.await_kept(size)
             self.link.cut(size)
         self.is_sent = False
         self.link.follow()

@@ -44,6 +44,15 @@ class SyncedLink(Link):
             report, (lines, size) = self.ask(), self.kept()
         return report, size
 
+    def await_kept(self, most: int) -> None:
+        """Waits until the record on the player's disk counts so many bytes, or less. Raises NoAnswer, also where it
+        doesn't come to that."""
+        until = time.monotonic() + self.patience_s
+        while self.kept()[1] > most:
+            if time.monotonic() > until:
+                raise NoAnswer(f"{self.path}: the player's record counts more of {self.out} than {most} bytes")
+            time.sleep(0.005)
+
     def follow(self) -> None:
         """From now on the player may carry out what is synced. Raises NoAnswer."""
         self.is_following = True
