@@ -24,6 +24,7 @@ from ngc_tools.operator.recover import Recover
 from ngc_tools.operator.rehearsing import rehearse
 from ngc_tools.operator.sentences import HELP, NOT_MOVED, SWITCHED, SWITCHED_THERE, TAKEN_UP, TAKEN_UP_THERE
 from ngc_tools.operator.session import Nothing, Session, place
+from ngc_tools.operator.touch import Touch
 from ngc_tools.operator.typed import ANYWAY, Typed
 from ngc_tools.operator.work import Work
 from ngc_tools.player.progress import NoAnswer, Report
@@ -45,6 +46,7 @@ class Operator:
         self.loading = Loading(self.session)
         self.ending = Ending(self.session)
         self.recover = Recover(self.session)
+        self.touch = Touch(self.session, self.places, self._line_done)
         self.over = False
         self._doings: dict[str, Callable[[Typed], None]] = {
             "load": self._load, "run": self._run, "start": self._start, "continue": self._continue,
@@ -52,6 +54,9 @@ class Operator:
             "rehearse": self._rehearse, "restore": self._restore, "go": self._go, "help": self._help, "?": self._help,
             "recover": self._recover, "drop": self._drop, "quit": self._quit, "exit": self._quit, "tick": self._tick,
             "hold": self._hold_all, "release": self._release, "percent": self._percent,
+            "zero": lambda typed: self.touch.zero(typed.rest, typed.anyway),
+            "touch": lambda typed: self.touch.tool(typed.rest, typed.anyway),
+            "undo": lambda _: self.touch.undo(),
             "mdi": lambda typed: self._mdi(typed.rest, typed.anyway),
             **dict.fromkeys(PLAIN, self._plain),
         }

@@ -23,7 +23,7 @@ from ngc_tools.player.progress import Report
 from ngc_tools.player.retrace import legs_to
 from ngc_tools.player.way import NoWay, count_lines
 
-_MOVING = ("run", "start", "continue", "resume", "mdi", "restore")
+_MOVING = ("run", "start", "continue", "resume", "mdi", "restore", "zero", "undo")
 LEFT = """\
 lines stand in OUT that no motor carried out, behind line {line}: recover goes on along them, or back; drop cuts them
 off, and then nothing makes them any more"""
