@@ -132,8 +132,9 @@ class Zero(Core):
         self.end()
         self.run_ngc("mdi G0 X0.005\ntick 3\nquit\n", "before")
         self.begin()
-        self.assertEqual(self.do("zero x"), ["segment 0 of a line of yours is half-done. rehearse says what resume would"
-                                             " do; reference X Y Z, then resume or abandon, and zero after that"])
+        self.assertEqual(self.do("zero x"), [
+            "segment 0 of a line of yours is half-done. rehearse says what resume would do; reference X Y Z, then resume"
+            " or abandon, and zero after that"])
         self.do("abandon")
         self.assertEqual(self.do("zero x"), ["it isn't known where the machine stands: reference X Y Z"])
         self.assertEqual(self.out(), [])
@@ -187,8 +188,8 @@ class Tool(Core):
         self.assertIn("refused E3 OutOfRange", self.do("touch tool 1 5")[2])
         self.assertEqual(self.lengths(), [])
         self.do("touch tool 1 -5", "tool 1 6")
-        self.assertEqual(self.do("undo"), ["tool 1 isn't any more what was set: nothing is done. tool 1 0 puts back what"
-                                           " was before"])
+        self.assertEqual(self.do("undo"), [
+            "tool 1 isn't any more what was set: nothing is done. tool 1 0 puts back what was before"])
 
     def test_other_tool(self) -> None:
         """Where another tool is in the spindle, by `ngc`, a person is asked; none is no question."""
