@@ -178,7 +178,7 @@ class Tool(Core):
         """A slot and a length that `ngc` refuses, a height that nobody knows, and a slot that was set since."""
         self.begin()
         self.assertEqual(self.do("touch tool 1"), [
-            "at which machine Z does the bare spindle reach the setter's top? touch tool 1 HEIGHT, or height_nm of"
+            "at which machine Z does the bare spindle reach the setter's top? touch tool 1 HEIGHT, or height_um of"
             " [setter] in the file of --machine"])
         which = "touch tool N: which slot's tool stands on the setter? touch tool 3, or touch tool 3 HEIGHT"
         for typed in ("touch", "touch 1", "touch tool", "touch tool x -1", "touch tool 1 2 3"):
@@ -220,17 +220,17 @@ class Setter(InFolder):
         """Its height; none without the table; other tables are others'."""
         Path("motion.toml").write_text("[motion]\naccel_mm_s2 = 5\n")
         self.assertIsNone(read_setter("motion.toml"))
-        Path("motion.toml").write_text("[motion]\n[setter]\nheight_nm = -81_250_000  # by a ring gauge\n")
+        Path("motion.toml").write_text("[motion]\n[setter]\nheight_um = -81_250  # by a ring gauge\n")
         self.assertEqual(read_setter("motion.toml"), -81_250_000)
 
     def test_wrong(self) -> None:
         """What can't be used is named, before anything is started."""
         self.device()
-        takes = "setter: height_nm takes a whole number of nanometres from -10000000000 to 10000000000"
-        for text, wanted in (("setter = 5\n", "setter isn't a table: [setter], and height_nm below it"),
-                             ("[setter]\n", takes), ("[setter]\nheight_nm = 1.5\n", takes),
-                             ("[setter]\nheight_nm = true\n", takes), ("[setter]\nheight_nm = 10000000001\n", takes),
-                             ("[setter]\nheight_mm = 1\n", "setter has a key that isn't height_nm: height_mm")):
+        takes = "setter: height_um takes a whole number of micrometres from -10000000 to 10000000"
+        for text, wanted in (("setter = 5\n", "setter isn't a table: [setter], and height_um below it"),
+                             ("[setter]\n", takes), ("[setter]\nheight_um = 1.5\n", takes),
+                             ("[setter]\nheight_um = true\n", takes), ("[setter]\nheight_um = 10000001\n", takes),
+                             ("[setter]\nheight_mm = 1\n", "setter has a key that isn't height_um: height_mm")):
             Path("m.toml").write_text(text)
             words = operate("mill.dev", "first.toml", "out", "--machine", "m.toml")
             self.assertEqual(told(main, *words), (2, "", f"ngc-operate: m.toml: {wanted}\n"), text)
@@ -239,7 +239,7 @@ class Setter(InFolder):
     def test_session(self) -> None:
         """The height of the file is that of `touch`."""
         self.device()
-        Path("m.toml").write_text("[setter]\nheight_nm = -7_000_000\n")
+        Path("m.toml").write_text("[setter]\nheight_um = -7_000\n")
         done = self.tool("ngc-operate", *operate("mill.dev", "first.toml", "out", "--machine", "m.toml"),
                          text="touch tool 1\nquit\n")
         self.assertIn("machine Z is 0, and the setter's top is at -7\ntool 1 7\ndone 1\n", done.stdout)

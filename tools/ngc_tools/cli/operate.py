@@ -60,7 +60,7 @@ def make_parser() -> argparse.ArgumentParser:
                         help="how many lines OUT may be ahead of the player at most (without it as many as the player"
                         f" wants, {LIMIT} of one that doesn't say it)")
     parser.add_argument("--machine", metavar="FILE",
-                        help="the machine's file: `touch` takes height_nm of its table [setter]")
+                        help="the machine's file: `touch` takes height_um of its table [setter]")
     parser.add_argument("--ngc", metavar="PATH", help="the program ngc (else beside this tool, else on PATH)")
     return parser
 
@@ -139,6 +139,7 @@ def session(ngc: str, args: argparse.Namespace, meter: Meter | None, pipe: int |
             operator = Operator(console, screen, meter)
             operator.recover.found = out
             operator.touch.setter_nm = setter_nm
+            operator.keys = screen.keys if screen.is_terminal else None
             said = bound(args, meter, pipe)
             if pipe is not None:
                 os.close(pipe)

@@ -76,6 +76,10 @@ class Recover:
         elif status.half != "none":
             self.session.face.say(HALF, WARNING)
 
+    def still(self) -> None:
+        """What was done since the session began left what the last one left as it was."""
+        self._entries = self.session.console.status().entries
+
     def drop(self) -> None:
         """Cuts off what no motor carried out. Raises NoAnswer, OSError."""
         if self.found is None or not self.found.is_left():

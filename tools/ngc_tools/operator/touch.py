@@ -13,6 +13,7 @@ from ngc_tools.operator.display import in_force_on
 from ngc_tools.operator.face import REFUSED, WARNING, WHERE
 from ngc_tools.operator.look import Look
 from ngc_tools.operator.modes import SYSTEMS, point_words, trimmed
+from ngc_tools.operator.moves import Moves
 from ngc_tools.operator.numbers import length_of, nanometres_of
 from ngc_tools.operator.places import Places
 from ngc_tools.operator.session import Session
@@ -20,12 +21,13 @@ from ngc_tools.operator.typed import ANYWAY
 
 Point = tuple[int, int, int]
 
-_AXES = "XYZ"
+_AXES, _PROBE = "XYZ", "probe"
 _AXIS = re.compile(r"([xyz])\s*([-+.\d]*(?:mm|in)?)\s*", re.IGNORECASE)
 _ZERO = "zero X Y Z: which axes are 0 here? zero Z 10 for another coordinate than 0"
 _TOUCH = "touch tool N: which slot's tool stands on the setter? touch tool 3, or touch tool 3 HEIGHT"
-_HEIGHT = ("at which machine Z does the bare spindle reach the setter's top? touch tool {slot} HEIGHT, or height_nm of"
+_HEIGHT = ("at which machine Z does the bare spindle reach the setter's top? touch tool {slot} HEIGHT, or height_um of"
            " [setter] in the file of --machine")
+_NOT_TOUCHED = "the probe wasn't touched since home: seek Z- RATE within MM"
 _INCHES = "inches are in force (G20): write {text}in, or {text}mm"
 
 
@@ -83,9 +85,10 @@ class Touch:
     """What `zero`, `touch` and `undo` do. `setter_nm` is the machine Z at which a tool of length 0 would touch the
     setter, None if nobody said it."""
 
-    def __init__(self, session: Session, places: Places, line_done: Callable[[str, bool], str | None]) -> None:
+    def __init__(self, session: Session, places: Places, moves: Moves,
+                 line_done: Callable[[str, bool], str | None]) -> None:
         """`line_done` does a line of G-code; it returns None where that wasn't taken."""
-        self.session, self.places, self.line_done = session, places, line_done
+        self.session, self.places, self.moves, self.line_done = session, places, moves, line_done
         self.setter_nm: int | None = None
         self._back: Back | None = None
 
@@ -95,7 +98,7 @@ class Touch:
 
     def tool(self, rest: str, anyway: bool) -> None:
         """Gives a slot the length of the tool that stands on the setter."""
-        self._said_why(lambda: self._tool(rest.lower().split(), anyway))
+        self._said_why(lambda: self._tool(rest, anyway))
 
     def undo(self) -> None:
         """Puts back what the last `zero` or `touch` set, once."""
@@ -110,8 +113,9 @@ class Touch:
     def _zero(self, rest: str, anyway: bool) -> None:
         """Raises CannotTouch."""
         status, device = self._found()
-        wanted = axes_of(rest, device.state.unit)
-        at = self._at("zero", status, device)
+        named, by_probe = _parted(rest)
+        wanted = axes_of(named, device.state.unit)
+        at = self._at("zero", status, device, by_probe)
         if not anyway and not self.places.agree(status, f"zero {rest} {ANYWAY}"):
             return
         if 2 in wanted:
@@ -129,17 +133,19 @@ class Touch:
         Look(self.session).after_work()
         self._say_back(point_words(now.state.origin_nm), point_words(device.state.origin_nm))
 
-    def _tool(self, words: list[str], anyway: bool) -> None:
+    def _tool(self, rest: str, anyway: bool) -> None:
         """Raises CannotTouch."""
+        named, by_probe = _parted(rest)
+        words = named.lower().split()
         if len(words) not in (2, 3) or words[0] != "tool" or not _is_slot(words[1]):
             raise CannotTouch(_TOUCH)
         slot, height = int(words[1]), self._height(words)
         status, device = self._found()
-        _, _, z = self._at("touch", status, device)
-        if not anyway and not (self.places.agree(status, f"touch {' '.join(words)} {ANYWAY}")
-                               and self._is_in(slot, device)):
+        _, _, z = self._at("touch", status, device, by_probe)
+        if not anyway and not (self.places.agree(status, f"touch {rest} {ANYWAY}") and self._is_in(slot, device)):
             return
-        self.session.face.say(f"machine Z is {trimmed(z)}, and the setter's top is at {trimmed(height)}", WHERE)
+        what = "the probe was touched at machine Z" if by_probe else "machine Z is"
+        self.session.face.say(f"{what} {trimmed(z)}, and the setter's top is at {trimmed(height)}", WHERE)
         command, before = f"tool {slot} {trimmed(z - height)}", length_in(device, slot)
         self.session.face.say(command)
         if not taken(self.session, self.session.console.ask(command)[0], command):
@@ -188,13 +194,18 @@ class Touch:
             raise CannotTouch("the device can't be read: nothing is known of the offsets")
         return device
 
-    def _at(self, word: str, status: Status, device: Device) -> Point:
-        """The machine point in nm, for a command. Raises CannotTouch where it isn't known, or within a block."""
+    def _at(self, word: str, status: Status, device: Device, by_probe: bool) -> Point:
+        """The machine point in nm, for a command, or that at which the probe was touched. Raises CannotTouch where it
+        isn't known, or within a block."""
         if status.half != "none":
             raise CannotTouch(busy(self.session, status, word))
         if not status.known:
             raise CannotTouch(f"it isn't known where the machine stands: {reference_words(self.session)}")
-        return device.state.point_nm
+        if not by_probe:
+            return device.state.point_nm
+        if self.moves.touched_nm is None:
+            raise CannotTouch(_NOT_TOUCHED)
+        return self.moves.touched_nm
 
     def _height(self, words: list[str]) -> int:
         """The setter's height in nm. Raises CannotTouch."""
@@ -211,6 +222,12 @@ class Touch:
         """Whether no other tool is in the spindle, as far as `ngc` knows, or a person says that it is right."""
         return device.slot in (0, slot) or self.session.agrees(
             f"tool {device.slot} is in the spindle, by its last M6. yes gives slot {slot} the length: ")
+
+
+def _parted(rest: str) -> tuple[str, bool]:
+    """What stands before the word `probe`, and whether that stands at the end."""
+    *named, last = rest.split() or [""]
+    return (" ".join(named), True) if last.lower() == _PROBE else (rest, False)
 
 
 def _is_slot(text: str) -> bool:
