@@ -20,7 +20,7 @@ HOMED = "-298.000000 -198.000000 -2.000000"
 MOTORS = "the motors are at X {} Y {} Z {}, 0 lines behind"
 FORMS = {
     "home": "home, or home X Z: these axes alone",
-    "jog": "jog X+ RATE for MM: at a rate in mm a minute, as jog X+ 600 for 10; jog alone goes by keys at a terminal",
+    "jog": "jog X+ RATE for MM: at a rate in mm a minute, as jog X+ 600 for 10; jog alone: by keys, at a terminal",
     "seek": "seek Z- RATE within MM: until the probe is on, as seek Z- 60 within 10",
 }
 
@@ -181,6 +181,24 @@ class Alarms(Core):
         self.axes.refuses = "the emergency stop is on"
         self.assertEqual(self.do("home"), ["home: the emergency stop is on"])
         self.assertEqual(self.do("G0 X1"), [self.NOTHING.replace("EMERGENCY STOP", "LIMIT OF LIMIT X LOW")])
+
+    def test_outputs(self) -> None:
+        """An alarm turns spindle and coolant off, and so does a player that begins: a program that goes on with them is
+        asked about, with a line that switches them on."""
+        self.begin(self.link)
+        self.load("G21 G90\nM3 S1000\nM8\nM0\nG0 X1\nM2\n")
+        self.do("run")
+        self.axes.alarm("emergency_stop")
+        self.axes.home_at = [0, 0, 0]
+        self.do("where", "home")
+        self.assertEqual(self.do("run", answers=("no",)), [
+            "the program goes on with the spindle, clockwise at 1000 and flood, and the player has all of it off: M3"
+            " S1000 first switches it on"])
+        self.assertEqual(self.face.asked, ["go on all the same? yes goes on: "])
+        self.do("M3 S1000", "run")
+        self.assertEqual(len(self.face.asked), 0)
+        self.assertIn("S 1 1000.000000 0 1 0 0", self.out()[3:])
+        self.assertEqual(self.status().at, ("1.000000", "0.000000", "0.000000"))
 
     def test_in_a_move(self) -> None:
         """It ends a jog; `ngc` isn't told a place."""

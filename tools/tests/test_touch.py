@@ -133,8 +133,8 @@ class Zero(Core):
         self.run_ngc("mdi G0 X0.005\ntick 3\nquit\n", "before")
         self.begin()
         self.assertEqual(self.do("zero x"), [
-            "segment 0 of a line of yours is half-done. rehearse says what resume would do; reference X Y Z, then resume"
-            " or abandon, and zero after that"])
+            "segment 0 of a line of yours is half-done. rehearse says what resume would do; reference X Y Z, then"
+            " resume or abandon, and zero after that"])
         self.do("abandon")
         self.assertEqual(self.do("zero x"), ["it isn't known where the machine stands: reference X Y Z"])
         self.assertEqual(self.out(), [])

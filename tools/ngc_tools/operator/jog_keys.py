@@ -25,7 +25,7 @@ _GONE_S = 0.2  # without a repeat for so long a held key was let go
 _KEEP_S = 0.1  # between two words that a jog goes on
 _USUAL = (DONE, "stopped", "the key isn't held any more")
 _HELP = """\
-arrows: X and Y; page up, page down: Z. A tap goes {step} mm, a held key goes on at {rate} mm a minute until it is let go
+arrows: X and Y; page up, page down: Z. A tap goes {step} mm; a held key goes on, at {rate} mm a minute
 1, 2, 3: taps of 0.01, 0.1, 1 mm; + and -: the rate; Enter ends"""
 
 

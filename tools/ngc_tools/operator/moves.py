@@ -25,12 +25,12 @@ _SEEK = re.compile(_WAY + r"\s+within\s+(\S+)\s*", re.IGNORECASE)
 _HOME = re.compile(r"[xyz\s]*", re.IGNORECASE)
 _FORMS = {
     "home": "home, or home X Z: these axes alone",
-    "jog": "jog X+ RATE for MM: at a rate in mm a minute, as jog X+ 600 for 10; jog alone goes by keys at a terminal",
+    "jog": "jog X+ RATE for MM: at a rate in mm a minute, as jog X+ 600 for 10; jog alone: by keys, at a terminal",
     "seek": "seek Z- RATE within MM: until the probe is on, as seek Z- 60 within 10",
 }
 _NOT_KNOWN = "home, jog and seek are of tools/player with -m"
-_LATER = ("ngc isn't told where the machine is, since {half} is under way: quit, start the player and this again, and go"
-          " on as after a loss of power")
+_LATER = ("ngc isn't told where the machine is, since {half} is under way: quit, start the player and this again, and"
+          " go on as after a loss of power")
 
 Asked = tuple[int, str]
 """The number of a move, and why it is refused; nothing where it is taken."""

@@ -23,6 +23,7 @@ from ngc_tools.operator.meter import Meter
 from ngc_tools.operator.motors import Motors
 from ngc_tools.operator.moves import Moves
 from ngc_tools.operator.opening import say_opening
+from ngc_tools.operator.outputs import outputs_agree
 from ngc_tools.operator.places import Places, stops_outputs
 from ngc_tools.operator.recover import Recover
 from ngc_tools.operator.rehearsing import rehearse
@@ -150,7 +151,8 @@ class Operator:
         status = self.console.status()
         if self.motors.are_held and self._let_go(command, status):
             return
-        if not typed.anyway and not (self.places.agree(status, f"{typed.word} {ANYWAY}") and self.left.agreed(status)):
+        if not typed.anyway and not (self.places.agree(status, f"{typed.word} {ANYWAY}")
+                                     and outputs_agree(self.session, status) and self.left.agreed(status)):
             return
         timeline = self.loading.timeline(command == "start" and not status.place)
         if refused(self.session, self.console.ask(command)[0], command):
