@@ -57,6 +57,15 @@ class Moves(Core):
             "reference 12.500000 -25.400000 -5.020000", "done 3"])
         self.assertEqual(self.axes.words[-1], "seek 3 Z- 60 within 10")
 
+    def test_jog_while(self) -> None:
+        """A jog goes on while it is held."""
+        self.begin(self.link)
+        held = [True] * 4 + [False]
+        self.face.said.clear()
+        self.operator.moves.jog_while("X-", "60", lambda: held.pop(0))
+        self.assertEqual(self.axes.words, ["jog 1 X- 60"] * 5 + ["stop"])
+        self.assertEqual([text for _, text in self.face.said][:2], ["reference -4.000000 0.000000 0.000000", "done 1"])
+
     def test_refused(self) -> None:
         """What isn't understood, and what the player refuses: nothing moves, and `ngc` is told nothing."""
         self.begin(self.link)

@@ -102,9 +102,11 @@ class Zero(Core):
         nothing = "nothing to undo: it takes back the last zero or touch, once"
         self.assertEqual(self.do("undo"), [nothing])
         self.do("G0 X1", "zero X", "G0 X0.5", "zero X")
+        self.assertEqual(self.operator.touch.undoes, "G10 L2 P1 X1 Y0 Z0")
         self.assertEqual(self.origin()[0], 1_500_000)
         self.assertEqual(self.do("undo")[0], "G10 L2 P1 X1 Y0 Z0")
-        self.assertEqual((self.origin()[0], self.do("undo")), (1_000_000, [nothing]))
+        self.assertEqual((self.origin()[0], self.operator.touch.undoes), (1_000_000, ""))
+        self.assertEqual(self.do("undo"), [nothing])
         self.do("zero Y", "G10 L2 P1 Y5")
         self.assertEqual(self.do("undo"), ["G54 isn't any more what was set: nothing is done. G10 L2 P1 X1 Y0 Z0 puts"
                                            " back what was before"])

@@ -18,6 +18,8 @@ from ngc_tools.player.progress import Link, Machine, NoAnswer
 ASKED_S = 0.05
 """Between two questions: without one for a second the player brings a move to rest."""
 DONE = "done"
+USUAL = (DONE, "stopped", "the key isn't held any more")
+"""How a move ends that goes for as long as it is wanted."""
 
 _WAY = r"\s*([xyz])\s*([-+])\s+(\S+)"
 _JOG = re.compile(_WAY + r"\s+for\s+(\S+)\s*", re.IGNORECASE)
@@ -58,6 +60,14 @@ class Moves:
         if words and self.begins("jog"):
             self._go(f"jog {words[0]}", lambda link: link.jog(*words))
 
+    def jog_while(self, way: str, rate: str, is_held: Callable[[], bool]) -> None:
+        """Goes along an axis, as `X+`, for as long as somebody holds on; `is_held` is asked each 50 ms."""
+        words = self._read("jog", _JOG, f"{way} {rate} for 1")
+        if words and self.begins("jog"):
+            link = self.session.meter.link
+            self._go(f"jog {words[0]}", lambda link: link.jog(*words[:2]),
+                     lambda number: link.keep_on(number, *words[:2]) if is_held() else link.stop())
+
     def seek(self, rest: str) -> None:
         """Goes along an axis until the probe is on."""
         words = self._read("seek", _SEEK, re.sub(r"\s+until\s+probe\b", "", rest, flags=re.IGNORECASE))
@@ -89,20 +99,21 @@ class Moves:
     def _refuse(self, text: str) -> None:
         self.session.face.say(text, REFUSED)
 
-    def _go(self, name: str, begin: Callable[[Link], Asked]) -> None:
-        """Makes a move, and says how it ended."""
+    def _go(self, name: str, begin: Callable[[Link], Asked], keep: Callable[[int], None] | None = None) -> None:
+        """Makes a move, and says how it ended. `keep` is called with its number as long as it goes."""
         try:
             number, why = begin(self.session.meter.link)
             if why:
                 self._refuse(f"{name}: {why}")
                 return
-            machine = self.ended(number, name)
+            machine = self._ended(number, name, keep)
         except NoAnswer as error:
             self.say_silent(error)
             return
         finally:
             self.session.face.live(None)
-        self._say(name, machine)
+        if keep is None or machine.how not in USUAL:
+            self._say(name, machine)
         self.tell()
 
     def say_silent(self, error: NoAnswer) -> None:
@@ -110,12 +121,14 @@ class Moves:
         is_there = str(error).endswith("doesn't answer")
         self.session.face.say(f"{error}; {_NOT_KNOWN}" if is_there else str(error), WARNING)
 
-    def ended(self, number: int, name: str) -> Machine:
+    def _ended(self, number: int, name: str, keep: Callable[[int], None] | None) -> Machine:
         """Waits until a move is over. Whoever wants to hold ends it. Raises NoAnswer."""
         session, is_told = self.session, False
         status = session.console.status()
         while (machine := session.meter.link.machine()).ended != number or machine.does != "stands":
             self.show(name, status)
+            if keep:
+                keep(number)
             if not is_told and session.face.interrupted():
                 session.meter.link.stop()
                 is_told = True
