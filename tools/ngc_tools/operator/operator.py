@@ -260,6 +260,8 @@ class Operator:
         if self.console.status().half == "none":
             self.left.keep()
         self.places.reference(typed.rest.lower().split(), typed.anyway)
+        if typed.rest.lower() != "player":
+            self.moves.touched_nm = None
 
     def _recover(self, _: Typed) -> None:
         """Brings the motors to where a half-done segment begins, and takes it up."""
