@@ -31,6 +31,10 @@ void player_record(struct player *player, struct record *record) {
     record->bytes = player->bytes;
     record->outputs = player->outputs;
     player_place(player, record->nm);
+    for (int axis = 0; axis < 3; axis++) {
+        record->homed[strlen(record->homed)] = player->homed >> axis & 1 ? "XYZ"[axis] : '\0';
+    }
+    record->is_off = player->is_off;
     snprintf(record->stopped, sizeof record->stopped, "%s", player->stopped);
     unsigned worst_ms = atomic_load(&player->worst_ms);
     record->age_ms = worst_ms != 0 ? worst_ms : player->left.age_ms;

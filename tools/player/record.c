@@ -36,6 +36,7 @@ void record_print(const struct record *record, char text[RECORD_SIZE]) {
     char place[PLACE_ROOM];
     char mark[80] = "";
     char age[32] = "";
+    char homed[16] = "";
     char stopped[32] = "";
     outputs_print(outputs, sizeof outputs, &record->outputs);
     place_print(place, sizeof place, record->nm);
@@ -46,12 +47,16 @@ void record_print(const struct record *record, char text[RECORD_SIZE]) {
     if (record->age_ms != 0) {
         snprintf(age, sizeof age, "age %u\n", record->age_ms);
     }
+    if (record->homed[0] != '\0') {
+        snprintf(homed, sizeof homed, "homed %s\n", record->homed);
+    }
     if (record->stopped[0] != '\0') {
         snprintf(stopped, sizeof stopped, "stopped %s\n", record->stopped);
     }
     char whole[RECORD_SIZE];
     int size = snprintf(whole, sizeof whole, "out %s\nlines %" PRIu64 "\nbytes %" PRIu64 "\noutputs %s\nreference %s\n"
-                        "%s%s%s", record->out, record->lines, record->bytes, outputs, place, mark, age, stopped);
+                        "%s%s%s%s%s", record->out, record->lines, record->bytes, outputs, place, mark, age, homed,
+                        record->is_off ? "off\n" : "", stopped);
     memset(text, ' ', RECORD_SIZE);
     memcpy(text, whole, size < RECORD_SIZE ? (size_t)size : RECORD_SIZE - 1);
     text[RECORD_SIZE - 1] = '\n';
@@ -187,6 +192,25 @@ static bool read_age(struct scan line, unsigned *age_ms) {
     return true;
 }
 
+static bool read_homed(struct scan line, struct record *record) {
+    size_t count = 0;
+    bool is_right = scan_word(&line, "homed ");
+    for (const char *axis = "XYZ"; is_right && *axis != '\0'; axis++) {
+        if (!scan_is_over(&line) && *line.at == *axis) {
+            record->homed[count] = *axis;
+            count++;
+            line.at++;
+        }
+    }
+    record->homed[count] = '\0';
+    return is_right && count > 0 && scan_is_over(&line);
+}
+
+static bool read_off(struct scan line, struct record *record) {
+    record->is_off = scan_word(&line, "off") && scan_is_over(&line);
+    return record->is_off;
+}
+
 static bool read_stopped(struct scan line, struct record *record) {
     if (!scan_word(&line, "stopped ") || scan_is_over(&line)) {
         return false;
@@ -210,6 +234,14 @@ static int read_rest(struct scan text, struct record *record) {
         number++;
     }
     if (is_line && read_age(line, &record->age_ms)) {
+        is_line = next_line(&text, &line);
+        number++;
+    }
+    if (is_line && read_homed(line, record)) {
+        is_line = next_line(&text, &line);
+        number++;
+    }
+    if (is_line && read_off(line, record)) {
         is_line = next_line(&text, &line);
         number++;
     }

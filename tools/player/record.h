@@ -32,7 +32,9 @@ struct record {
     int64_t nm[3]; /* where the machine stands */
     struct file_mark mark;
     unsigned age_ms;  /* how old a record on the disk ever was as the next one came; 0 where that isn't known */
-    char stopped[16]; /* what ended the player before OUT's end, in a word */
+    char homed[4];    /* the axes that were homed since the player began, as "XYZ" */
+    bool is_off;      /* the motors left the path of OUT by a move without lines */
+    char stopped[16]; /* what ended the player before OUT's end, in a word; `emergency` and `limit` until it is homed */
 };
 
 /* Whether a path of OUT can stand in a record. */

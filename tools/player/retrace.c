@@ -9,6 +9,7 @@
 #include "pace.h"
 #include "pins.h"
 #include "play_parts.h"
+#include "spindle.h"
 #include "waits.h"
 
 static struct moves moves;
@@ -28,8 +29,7 @@ void legs_look(struct play *play, struct way_sum *sum) {
     }
 }
 
-/* Makes a move now, which lasts so many nanoseconds, and counts it. */
-static enum end make(struct play *play, const struct move *move, uint64_t lasts_ns) {
+enum end make_move(struct play *play, const struct move *move, uint64_t lasts_ns) {
     struct player *player = play->player;
     char text[LONGEST_LINE];
     const int *step = move->line.step;
@@ -80,7 +80,7 @@ static enum end go_unpaced(struct play *play) {
             }
         }
         atomic_store(&play->player->stands_held, false);
-        if (make(play, &move, move.line.us * 1000) == FAILED) {
+        if (make_move(play, &move, move.line.us * 1000) == FAILED) {
             return FAILED;
         }
     }
@@ -136,7 +136,7 @@ static enum end go_paced(struct play *play) {
             play->is_moving = pace.square != 0;
             atomic_store(&play->player->stands_held, false);
             first_ahead++;
-            if (make(play, move, ns) == FAILED) {
+            if (make_move(play, move, ns) == FAILED) {
                 return FAILED;
             }
         }
@@ -152,7 +152,7 @@ static enum end switch_on(struct play *play, const struct outputs *outputs) {
     line.outputs.slot = play->player->outputs.slot;
     size_t size = outputs_print(text, sizeof text - 1, &line.outputs);
     text[size] = '\n';
-    bool turns = outputs->spindle != play->player->outputs.spindle;
+    const struct outputs before = play->player->outputs;
     int error = pins_set(&line, text, size + 1);
     if (error != 0) {
         note_stop(play, "pins");
@@ -162,7 +162,7 @@ static enum end switch_on(struct play *play, const struct outputs *outputs) {
     player_lock(play->player);
     play->player->outputs = line.outputs;
     player_unlock(play->player);
-    bool is_on = wait_for(play, turns ? play->machine.spindle_ns : 0);
+    bool is_on = spindle_wait(play, &before, outputs);
     schedule_pause(&play->schedule);
     return is_on ? AT_OUTS_END : STOPPED;
 }
@@ -173,6 +173,7 @@ static void arrive(struct player *player) {
     if (errand->wish.is_by_legs) {
         player->lines = errand->legs_lines;
         player->bytes = errand->legs_bytes;
+        player->is_off = false;
     }
     if (!player->source.is_pipe) {
         source_go_to(&player->source, player->lines, player->bytes);

@@ -25,7 +25,9 @@ void stop_at_rest(void) {
 
 void note_stop(struct play *play, const char *word) {
     player_lock(play->player);
-    play->player->stopped = word;
+    if (play->player->alarm == NO_ALARM) {
+        play->player->stopped = word;
+    }
     player_unlock(play->player);
 }
 
@@ -35,6 +37,9 @@ bool is_rest_asked(const struct play *play) {
 
 bool has_to_stop(struct play *play) {
     int asked = atomic_load(&stops);
+    if (alarm_look(play)) {
+        return true;
+    }
     if (play->is_moving && asked < 2) {
         return false;
     }

@@ -215,6 +215,12 @@ class Faces(Core):
         for path in (TOOLS / "ngc_tools" / "operator").glob("*.py"):
             self.assertNotRegex(path.read_text(), r"ngc_tools\.cli|\bprint\(|\binput\(|sys\.std", path)
 
+    def test_help(self) -> None:
+        """Each command stands in the help but those that people don't type, and other names."""
+        said = self.begin() and self.do("help")[0]
+        for word in self.operator._doings.keys() - {"mdi", "tick", "?", "exit"}:
+            self.assertRegex(said, rf"(?m)^(\w+, )?{word}\b", word)
+
     def test_kinds(self) -> None:
         """Each thing is said with its kind; a program comes as bytes; how all stands can be asked."""
         operator = self.begin()
@@ -317,11 +323,11 @@ class Places(Core):
         """While the player doesn't say where the motors are, nothing is begun."""
         link = FileLink()
         self.begin(link)
-        link.silent = 1
+        link.silent = 2  # it is looked for an alarm first
         silent = ("nothing is done. Once the player answers, again; if it is gone, quit, and start a player and this"
                   " again")
         self.assertEqual(self.do("G0 X1"), ["progress: the player doesn't answer", silent])
-        link.silent = 1
+        link.silent = 2  # it is looked for an alarm first
         self.assertEqual(self.do("reference player"), ["progress: the player doesn't answer", silent])
         self.assertEqual(self.out(), [])
 

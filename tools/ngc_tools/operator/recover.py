@@ -19,12 +19,12 @@ from ngc_tools.operator.face import REFUSED, WARNING, axes
 from ngc_tools.operator.past import Past, along_out, by_rate
 from ngc_tools.operator.recovery import Found, Recovery
 from ngc_tools.operator.rehearsing import segment_begins
-from ngc_tools.operator.session import Session
+from ngc_tools.operator.session import ALARM, BROKEN, Session
 from ngc_tools.player.progress import Report
 from ngc_tools.player.retrace import legs_to
 from ngc_tools.player.way import NoWay, count_lines
 
-_MOVING = ("run", "start", "continue", "resume", "mdi", "restore")
+_MOVING = ("run", "start", "continue", "resume", "mdi", "restore", "zero", "undo")
 LEFT = """\
 lines stand in OUT that no motor carried out, behind line {line}: recover goes on along them, or back; drop cuts them
 off, and then nothing makes them any more"""
@@ -77,6 +77,10 @@ class Recover:
             self.session.face.say(LEFT.format(line=self.found.recovery.lines), WARNING)
         elif status.half != "none":
             self.session.face.say(HALF, WARNING)
+
+    def still(self) -> None:
+        """What was done since the session began left what the last one left as it was."""
+        self._entries = self.session.console.status().entries
 
     def drop(self) -> None:
         """Cuts off what no motor carried out. Raises NoAnswer, OSError."""
@@ -250,7 +254,9 @@ class Recover:
         link, face = self.session.meter.link, self.session.face
         link.release()
         while (report := link.ask()).behind:
-            face.moved(report)
+            self.session.take(report)
+            if self.session.is_in(ALARM, BROKEN):
+                return False
             if report.waits and not self._has_tool(report.tool):
                 return False
             if face.interrupted():
