@@ -72,13 +72,12 @@ class Aside:
 
     def begin(self, function: Callable, *given: Any) -> Child:
         """Begins it. Raises NotDone, OSError."""
-        child = Child(function, *given)
         with self._lock:
+            if self._is_closed:
+                raise NotDone("the session is over")
+            child = Child(function, *given)
             self._children.add(child)
-            if not self._is_closed:
-                return child
-        child.give_up()
-        raise NotDone("the session is over")
+        return child
 
     def finish(self, child: Child) -> Any:
         """Waits for the result. Raises NotDone."""

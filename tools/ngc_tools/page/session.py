@@ -73,7 +73,7 @@ class Session:
         self._opens, self.face, self.machine = opens, face, machine
         self.aside = Aside()
         self.over = threading.Event()
-        self.name, self.program_id = "", 1
+        self.name, self.program_id, self.ended = "", 1, "it isn't begun yet"
         self.drawing: Drawing | None = None
         self.job_id, self.job_failed = 0, ""
         self.started = 0.0  # when the program was started in this session, in seconds since 1970
@@ -88,15 +88,18 @@ class Session:
     def _begin(self) -> None:
         """Begins a session of `ngc run`, and its thread."""
         self.opened = self._opens(self.face)
-        self.operator, self.ended = self.opened.operator, ""
-        self.ident = secrets.token_hex(8)  # a page that was shown another session begins anew
-        console = self.operator.console
+        operator = self.opened.operator
+        console = operator.console
         self.settings = Settings.read(console.settings)
-        self.operator.begin(self.opened.bound, self.opened.found)
+        self.face.begin(self.face.holds)
+        operator.begin(self.opened.bound, self.opened.found)
+        self.operator, self.ident = operator, secrets.token_hex(8)  # a page that saw another one begins anew
         self.stand, self.kept = Stand(console.status()), Kept(console.device)
         begun = as_begun(self.opened.found) if self.opened.found and self.stand.status.place else None
         self._source = self._source_of(begun or self.kept.device)
+        self.face.look = self._look
         self._look()
+        self.ended = ""
         self.draw(False)
         self._thread = threading.Thread(target=self._work, name="session")
         self._thread.start()
@@ -215,7 +218,8 @@ class Session:
             try:
                 if self.under:
                     self._do(self.under)
-                self._look()
+                if not self.ended:
+                    self._look()
             except Ended as ended:
                 self._tell_end(ended)
             finally:
@@ -264,8 +268,6 @@ class Session:
 
     def _look(self) -> None:
         """Looks how all stands."""
-        if self.ended:
-            return
         operator, before = self.operator, self.stand
         gone = ""
         try:
