@@ -19,6 +19,7 @@ from ngc_tools.ngc.console import Console  # noqa: E402
 from ngc_tools.page import server as server_module  # noqa: E402
 from ngc_tools.page.aside import Aside, NotDone  # noqa: E402
 from ngc_tools.page.drawing import SWITCH, Source, draw, draw_exactly, job_of  # noqa: E402
+from ngc_tools.page.rehearse import Asked, rehearsed  # noqa: E402
 
 EXAMPLES = TOOLS.parent / "examples"
 COARSE = """step_nm = [100000, 100000, 100000]
@@ -341,6 +342,22 @@ class Jobs(InFolder):
                          [([0, 0, 0, 3000, 0, 0], 150_000), ([3000, 0, 0, 3000, 0, -1000], 50_000)])
         self.assertEqual((job["segments"], job["exact"]), ({"2": [0], "3": [SWITCH] * 2, "4": [1], "5": [SWITCH]}, True))
         self.assertFalse(json.loads(draw(source).text)["exact"])
+
+
+    def test_differs(self) -> None:
+        """What a line of one's own makes of the rest of a program is told, with the time that it takes."""
+        self.device()
+        program = b"G21 G90\nG1 X0.1 F6\nM0\nX0\nM2\n"
+        self.run_ngc(f"load {len(program)}\n{program.decode()}")
+        begun = Path("mill.dev").read_bytes()
+        drawing = draw_exactly(Source(ngc(), "first.toml", "", begun, True, False))
+        for line, differs in (("", []), ("mdi G0 X0.1\ntick 9\n", [
+                "Line 4 goes by a traverse to X 0.000 Y 0.000 Z 0.000. As it was drawn, it cuts to X 0.000 Y 0.000"
+                " Z 0.000.", "From line 4 to the end it takes 0.005 s. As it was drawn, that takes 1.000 s."])):
+            Path("mill.dev").write_bytes(begun)
+            self.run_ngc(f"start\ntick 9999\n{line}")
+            asked = Asked(ngc(), "first.toml", Path("mill.dev").read_bytes(), None, drawing, None)
+            self.assertEqual(rehearsed(asked)["differs"], differs)
 
 
 class Asides(InFolder):

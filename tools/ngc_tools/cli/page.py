@@ -8,6 +8,7 @@ from dataclasses import dataclass
 from ngc_tools.cli.operate import as_found, bound, metered
 from ngc_tools.cli.run import add_ngc, new_parser, run
 from ngc_tools.failure import BadNumber, Failure
+from ngc_tools.formats.device import Device
 from ngc_tools.ngc.before_start import CannotBegin, look
 from ngc_tools.ngc.console import Console
 from ngc_tools.ngc.machine_report import Motion
@@ -104,26 +105,26 @@ class Opener:
         meter = metered(args)
         pipe = look(args.device, args.settings, args.out)
         look_at_settings(self.ngc, args.settings)
-        found = as_found(args.device)
+        found, left_at = as_found(args.device), os.stat(args.device).st_mtime
         link = meter.link if meter else None
         out = Found.of(self.ngc, args.settings, link, found) if isinstance(link, SyncedLink) else None
         console = Console(self.ngc, args.device, args.settings, args.out, Patience(face))
         try:
-            return self._opened(console, face, meter, found, out, pipe)
+            return self._opened(console, face, meter, (found, left_at), out, pipe)
         except BaseException:
             if console.child.poll() is None:
                 console.kill()
             raise
 
-    def _opened(self, console: Console, face: PageFace, meter: Meter | None, found: object, out: Found | None,
-                pipe: int | None) -> Opened:
+    def _opened(self, console: Console, face: PageFace, meter: Meter | None, before: tuple[Device | None, float],
+                out: Found | None, pipe: int | None) -> Opened:
         console.status()
         operator = Operator(console, face, meter)
         operator.recover.found = out
         said = bound(self.args, meter, pipe)
         if pipe is not None:
             os.close(pipe)
-        return Opened(operator, said, found, Link(self.args.player) if self.args.player else None)
+        return Opened(operator, said, *before, Link(self.args.player) if self.args.player else None)
 
 
 class Patience:

@@ -27,8 +27,7 @@ from ngc_tools.player.progress import Link, NoAnswer
 MOVES = {"run", "mdi", "resume", "recover", "restore", "release"}
 """The commands that move the machine."""
 _LOOK_S = 0.15  # how often it looks while nothing runs
-_ASIDES = {"percent", "go", "optional", "delete"}
-_SWITCHES = {"optional", "delete"}
+_ASIDES = {"percent", "go", "optional", "delete", "single"}
 
 
 class Busy(Failure):
@@ -38,11 +37,13 @@ class Busy(Failure):
 @dataclass(frozen=True, slots=True)
 class Opened:
     """A session of `ngc run` as it begins: the operator's core over it, what is said of OUT and the motors, the device
-    as it stood before, and a link by which its motors are held at once, if it has a player."""
+    as it stood before and when it was written last, in seconds since 1970, and a link by which its motors are held at
+    once, if it has a player."""
 
     operator: Operator
     bound: str
     found: Device | None
+    left_at: float
     motors: Link | None
 
 
@@ -141,7 +142,7 @@ class Session:
             self.face.give_aside(line)
         else:
             self.ask(word, lambda: self.operator.do(line))
-        if word in _SWITCHES:
+        if word == "delete":
             self.draw(False)
 
     def hold(self) -> None:
@@ -276,9 +277,16 @@ class Session:
             status, report, gone = operator.console.status(), before.report, str(error)
         self.face.report = report
         self.kept.at(status)
-        self.stand = Stand(status, report, gone, recovery_of(operator.recover.found))
+        self.stand = Stand(status, report, gone, recovery_of(operator.recover.found), *self._typed())
         if self.stand != before:
             self.face.publish()
+
+    def _typed(self) -> tuple[bool, tuple[str, ...]]:
+        """Whether something was done between two lines of the program, and what puts back what that left in force."""
+        left = self.operator.left
+        if left.device is None:
+            return False, ()
+        return True, left.restoring().lines
 
     # what is drawn
 
