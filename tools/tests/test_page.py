@@ -383,15 +383,22 @@ class Words(InFolder):
     """The words of the command line."""
 
     def test_wrong(self) -> None:
-        """What is wrong is said in a line, with status 2."""
+        """What is wrong is said, with status 2."""
         self.device()
+        taken = socket.create_server(("127.0.0.1", 0))
+        self.addCleanup(taken.close)
+        port = taken.getsockname()[1]
         for words, why in ((("mill.dev", "first.toml", "out", "--listen", "8585"), "8585: --listen takes HOST:PORT"),
+                           (("mill.dev", "first.toml", "out", "--listen", "0.0.0.0:1"), "0.0.0.0:1: name the address"),
+                           (("mill.dev", "first.toml", "out", "--address", "mill"), "mill: --address takes https://"),
                            (("mill.dev", "first.toml", "out", "--listen", "a:99999"), "a:99999: --listen takes"),
                            (("none.dev", "first.toml", "out"), "none.dev: there is no such device"),
-                           (("mill.dev", "first.toml", "out", "--player", "none"), "none: no player listens there")):
+                           (("mill.dev", "first.toml", "out", "--player", "none"), "none: no player listens there"),
+                           (("mill.dev", "first.toml", "out", "--listen", f"127.0.0.1:{port}"), f"127.0.0.1:{port}:"
+                            " pages can't come from there: Address already in use")):
             status, out, error = told(main, *words, "--ngc", ngc())
-            self.assertEqual((status, out, error.count("\n")), (2, "", 1), words)
-            self.assertIn(f"ngc-page: {why}", error)
+            self.assertEqual((status, out), (2, ""), words)
+            self.assertIn(why, error.splitlines()[-1])
 
 
 def told_of_device() -> str:
