@@ -2,9 +2,11 @@
 
 Whoever asks from another thread sets wishes, which are heeded within a piece of work, or gives one command where none
 is under way."""
+import os
 import secrets
 import threading
 import time
+import traceback
 from collections.abc import Callable
 from contextlib import suppress
 from dataclasses import dataclass, field
@@ -28,6 +30,7 @@ from ngc_tools.player.progress import Link, NoAnswer
 WITHOUT_LINES = {"home", "jog", "seek"}
 MOVES = {"run", "mdi", "resume", "recover", "restore", "release", *WITHOUT_LINES}
 """The commands that move the machine, and those of them that the player makes without lines of OUT."""
+_LEAVE_S = 10.0
 _LOOK_S = 0.15  # how often it looks while nothing runs
 _ASIDES = {"percent", "go", "optional", "delete", "single"}
 
@@ -227,14 +230,16 @@ class Session:
             return
         self.give("quit", lambda: self.operator.do("quit"))
 
-    def leave(self) -> None:
-        """Nobody is there any more: holds what is under way, and waits for the end of it, for ten seconds at most."""
+    def leave(self) -> bool:
+        """Nobody is there any more: holds what is under way, and waits for the end of it, for ten seconds at most;
+        whether it ended."""
         self.over.set()
         self.face.leave()
         with self._wake:
             self._wake.notify_all()
-        self._thread.join(10)
+        self._thread.join(_LEAVE_S)
         self.aside.close()
+        return not self._thread.is_alive() and not self.face.is_stuck
 
     # its thread
 
@@ -269,10 +274,19 @@ class Session:
         except (Failure, OSError) as error:
             command.failed = error
             self.face.say(error.said() if isinstance(error, Failure) else str(error), WARNING)
+        except Exception as error:  # one command fails by it, and the session goes on
+            self._tell_bug(command, error)
         if self.operator.over:
             self._quit()
         elif command.word in MOVES | {"load"}:
             self._see_end(command, before)
+
+    def _tell_bug(self, command: Command, error: Exception) -> None:
+        """An error of this program itself."""
+        if os.environ.get("NGC_DEBUG"):
+            traceback.print_exception(error)
+        command.failed = Failure(f"internal error: {type(error).__name__}: {error}")
+        self.face.say(str(command.failed), REFUSED)
 
     def _see_end(self, command: Command, before: Status) -> None:
         """Sees whether the program ran to its end."""

@@ -55,7 +55,7 @@ class Pictured:
                 "entries": status.entries, "line": self.number, "place": status.place, "at": status.at,
                 "own": session.own, "optional": session.optional, "delete": session.delete, "single": session.single,
                 "question": question, "message": face.message, "half_opened": state.opened,
-                "half_text": shown_line(state.half_text) if state.half else "", "busy": self.command is not None, "moving": self._moves(),
+                "half_text": shown_line(state.half_text) if state.half else "", "busy": self.session.is_busy, "moving": self._moves(),
                 "command": self.command and {"word": self.command.word, "since": self.command.since}}
 
     def _motors(self) -> dict:
