@@ -183,7 +183,9 @@ class MachineLink:
 
 
 class SocketMachine:
-    """The same over a socket, in a thread. It carries out no lines."""
+    """The same over a socket, in a thread. It carries out no lines, and wants `wants` in hand."""
+
+    wants = 0
 
     def __init__(self, out: str) -> None:
         self.axes = Axes()
@@ -203,7 +205,7 @@ class SocketMachine:
         words = question.decode().split()
         if words[0] == "progress":
             at = str(Position(STEP_NM, self.axes.at_nm))
-            answer = Report(0, 0, False, at, self.out, word=self.axes.word).text()
+            answer = Report(0, 0, False, at, self.out, wants=self.wants, word=self.axes.word).text()
         elif words[0] == "machine":
             answer = _said(self.axes.ask())
         elif words[0] in ("home", "jog", "seek", "stop"):

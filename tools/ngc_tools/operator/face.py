@@ -26,7 +26,7 @@ def is_override(text: str) -> bool:
 
 def is_aside(text: str) -> bool:
     """Whether a line is a command that is taken while something runs, besides the wish to hold."""
-    return is_override(text) or text.lower().split()[:1] in (["go"], ["optional"], ["delete"])
+    return is_override(text) or text.lower().split()[:1] in (["go"], ["optional"], ["delete"], ["single"])
 
 
 def axes(at: list[str] | tuple[str, ...]) -> str:
@@ -77,7 +77,10 @@ class Face(Protocol):
         """Is told each report of the player."""
 
     def ask(self, question: str) -> str:
-        """What a person answers; nothing if nobody does."""
+        """What a person types as an answer; nothing if nobody does."""
+
+    def agrees(self, question: str) -> bool:
+        """Whether a person answers with a yes; anything else, nothing too, is a no."""
 
     def interrupted(self) -> bool:
         """Whether somebody wants to hold since the last command was given."""

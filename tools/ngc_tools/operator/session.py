@@ -36,8 +36,8 @@ class Nothing:
 @dataclass(slots=True)
 class Session:
     """`own` is a line of the operator's that is under way. The messages of the lines before the place `told` are shown;
-    `delete` and `optional` are the switches as they were set. `seen` is what the player said last; `gone` says that it
-    stopped to answer. `on_alarm` is called as an alarm comes."""
+    `delete`, `optional` and `single` are the switches as they were set. `seen` is what the player said last; `gone`
+    says that it stopped to answer. `on_alarm` is called as an alarm comes."""
 
     console: Console
     face: Face
@@ -47,6 +47,7 @@ class Session:
     told: int = 0
     delete: bool = False
     optional: bool = False
+    single: bool = False  # it holds after each line that hands something out
     own: str = ""
     seen: Report | None = None
     gone: bool = False
@@ -92,8 +93,8 @@ class Session:
         return self.seen is not None and self.seen.word in words
 
     def agrees(self, question: str) -> bool:
-        """Whether a person answers with a typed yes; anything else, nothing too, is a no."""
-        return self.face.ask(question).strip().lower() == "yes"
+        """Whether a person answers with a yes; anything else, nothing too, is a no."""
+        return self.face.agrees(question)
 
     def line(self, status: Status) -> str:
         """The program's line at the place."""

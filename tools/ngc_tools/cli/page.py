@@ -1,0 +1,204 @@
+"""The words of `ngc-page`, and its session from start to end."""
+import argparse
+import os
+import re
+import secrets
+import socket
+import sys
+from dataclasses import dataclass
+
+from ngc_tools.cli.operate import as_found, bound, metered
+from ngc_tools.cli.run import add_ngc, new_parser, run
+from ngc_tools.failure import Failure, WrongWords
+from ngc_tools.formats.device import Device
+from ngc_tools.ngc.before_start import CannotBegin, look
+from ngc_tools.ngc.console import Console
+from ngc_tools.ngc.machine_report import Motion
+from ngc_tools.ngc.run import find_ngc
+from ngc_tools.ngc.usable_settings import look_at_settings
+from ngc_tools.operator.meter import LIMIT, Meter
+from ngc_tools.operator.operator import Operator
+from ngc_tools.operator.recovery import Found
+from ngc_tools.operator.setter import read_setter
+from ngc_tools.operator.synced import SyncedLink
+from ngc_tools.page.face import PageFace
+from ngc_tools.page.server import Server
+from ngc_tools.page.session import Opened, Session
+from ngc_tools.player.progress import Link, NoAnswer
+
+ABOUT = """A page in the browser over `ngc run`: the machine's state, the program, its path, and what an operator does.
+
+It holds the session as ngc-operate does; with --player it is metered. It listens at this computer alone, and whoever
+opens the page has to know the key in the address that it prints."""
+
+EXAMPLE = """example:
+  ngc format mill.dev                                   (once; it OVERWRITES mill.dev)
+  mkfifo axis
+  ngc-player axis mill.toml position --progress progress    (in another terminal)
+  ngc-page mill.dev mill.toml axis --player progress
+
+exit status:
+  0  the session was ended by quit
+  2  the words are wrong, `ngc run` can't be started or failed, a signal came: it says why"""
+
+_ADDRESS = re.compile(r"https?://[A-Za-z0-9.-]+(?::[0-9]{1,5})?")
+_ALL = ("0.0.0.0", "[::]", "::")
+_ANSWERS_S = 1.0  # a player that doesn't answer for so long doesn't know the question
+_SWITCH_S = 0.0005  # after so long threads take turns, so that a tick doesn't wait for a page
+
+
+def make_parser() -> argparse.ArgumentParser:
+    """The words that it takes."""
+    parser = new_parser("ngc-page", ABOUT, EXAMPLE)
+    parser.add_argument("device", metavar="DEVICE", help="the device, as `ngc format` made it")
+    parser.add_argument("settings", metavar="SETTINGS", help="the machine's settings, in TOML")
+    parser.add_argument("out", metavar="OUT", help="where pulses go: a named pipe with a player, a file, a serial line")
+    parser.add_argument("--player", metavar="SOCKET", help="the socket of ngc-player's --progress")
+    parser.add_argument("--machine", metavar="FILE", help="what the motors allow, as the player takes it: times with"
+                        " ramps")
+    parser.add_argument("--ahead", type=int, metavar="N",
+                        help="how many lines OUT may be ahead of the player at most (without it as many as the player"
+                        f" wants, {LIMIT} of one that doesn't say it)")
+    parser.add_argument("--listen", default="127.0.0.1:8585", metavar="HOST:PORT", help="where pages come from"
+                        " (without it 127.0.0.1:8585); another HOST lets in whoever hears the network, which the key"
+                        " crosses in clear: docs/PAGE.md has a safer way for a tablet")
+    parser.add_argument("--address", action="append", default=[], metavar="URL", help="another address by which pages"
+                        " come, as https://mill.example through a proxy that has TLS; it may be given again")
+    add_ngc(parser)
+    return parser
+
+
+def main(arguments: list[str] | None = None) -> int:
+    """Runs it, and returns the exit status."""
+    return run(make_parser(), work, arguments)
+
+
+def work(args: argparse.Namespace) -> int:
+    """Looks at what is given, and does the session. Raises CannotBegin, NoAnswer, BadSettings, BadMachine, ValueError,
+    OSError."""
+    host, port = address(args.listen)
+    if wrong := next((url for url in args.address if not _ADDRESS.fullmatch(url)), None):
+        raise WrongWords(f"{wrong}: --address takes https://NAME, or http://NAME:PORT")
+    ngc = find_ngc(args.ngc)
+    if args.machine:
+        look_at_settings(ngc, args.settings)
+        Motion.read(ngc, args.machine, args.settings)
+    sys.setswitchinterval(_SWITCH_S)
+    with listening(host, port) as file:
+        session = Session(Opener(ngc, args), PageFace(), args.machine or "")
+        try:
+            serve(session, host, file, args.address)
+        finally:
+            status = ended(session)
+    if status:
+        raise Failure(f"ngc ended with status {status}: the device or OUT failed in this session")
+    return 0
+
+
+def address(text: str) -> tuple[str, int]:
+    """The host and the port of --listen. Raises WrongWords."""
+    host, _, port = text.rpartition(":")
+    if not host or not port.isdecimal() or int(port) > 65_535:
+        raise WrongWords(f"{text}: --listen takes HOST:PORT")
+    if host in _ALL:
+        raise WrongWords(f"{text}: name the address of one network, since pages have to come by its name")
+    return host, int(port)
+
+
+def listening(host: str, port: int) -> socket.socket:
+    """A socket that listens there. Raises CannotBegin."""
+    family = socket.AF_INET6 if host.startswith("[") else socket.AF_INET
+    try:
+        return socket.create_server((host.strip("[]"), port), family=family, backlog=128)
+    except OSError as error:
+        raise CannotBegin(f"{host}:{port}: pages can't come from there: {error.strerror or error}") from None
+
+
+@dataclass(frozen=True, slots=True)
+class Opener:
+    """Begins sessions of `ngc run` with these words."""
+
+    ngc: str
+    args: argparse.Namespace
+
+    def __call__(self, face: PageFace) -> Opened:
+        """Begins one. Raises CannotBegin, NoAnswer, BadSettings, ValueError, Ended, OSError."""
+        args = self.args
+        meter = metered(args)
+        pipe = look(args.device, args.settings, args.out)
+        look_at_settings(self.ngc, args.settings)
+        found, left_at = as_found(args.device), os.stat(args.device).st_mtime
+        link = meter.link if meter else None
+        out = Found.of(self.ngc, args.settings, link, found) if isinstance(link, SyncedLink) else None
+        console = Console(self.ngc, args.device, args.settings, args.out, Patience(face))
+        try:
+            return self._opened(console, face, meter, (found, left_at), out, pipe)
+        except BaseException:
+            if console.child.poll() is None:
+                console.kill()
+            raise
+
+    def _opened(self, console: Console, face: PageFace, meter: Meter | None, before: tuple[Device | None, float],
+                out: Found | None, pipe: int | None) -> Opened:
+        console.status()
+        operator = Operator(console, face, meter)
+        operator.recover.found = out
+        operator.touch.setter_nm = read_setter(self.args.machine) if self.args.machine else None
+        said = bound(self.args, meter, pipe)
+        if pipe is not None:
+            os.close(pipe)
+        if meter is None:
+            return Opened(operator, said, *before, None)
+        return Opened(operator, said, *before, Link(self.args.player, 0.0), self._has_moves(meter))
+
+    def _has_moves(self, meter: Meter) -> bool:
+        """Whether the player makes moves without lines: one with ramps that answers such a question."""
+        if not meter.link.ask().wants:
+            return False
+        link = Link(self.args.player, _ANSWERS_S)
+        try:
+            link.machine()
+        except NoAnswer:
+            return False
+        finally:
+            link.close()
+        return True
+
+
+class Patience:
+    """Says it once if `ngc` doesn't answer, since nobody reads OUT."""
+
+    def __init__(self, face: PageFace) -> None:
+        self.face = face
+
+    def __call__(self, seconds: float) -> None:
+        """Is called while a reply doesn't come."""
+        if seconds > 2:
+            self.face.once("ngc waits until the reader of OUT takes lines; a hold is heeded after that")
+            if self.face.is_left:
+                self.face.is_stuck = True
+                raise CannotBegin("ended; a block that was under way is half-done")
+
+
+def serve(session: Session, host: str, file: socket.socket, addresses: list[str]) -> None:
+    """Serves pages until the session is over. Raises OSError."""
+    server = Server(os.environ.get("NGC_PAGE_KEY") or secrets.token_urlsafe(16), session, addresses)
+    server.listen(host, file)
+    for origin in (f"http://{host}:{server.port}", *addresses):
+        print(f"{origin}/{server.key}/", flush=True)
+    try:
+        session.over.wait()
+    finally:
+        session.leave()
+        server.close()
+
+
+def ended(session: Session) -> int:
+    """Ends what is left of `ngc`, as a loss of power would where it doesn't answer, and returns its exit status."""
+    operator = session.operator
+    if not session.leave():
+        operator.console.kill()
+    if operator.console.child.poll() is not None:
+        return operator.console.child.returncode
+    operator.ending.tell_player()
+    return operator.console.quit()

@@ -1,0 +1,398 @@
+"""A session of `ngc run` for pages: one thread gives all commands, by the operator's core.
+
+Whoever asks from another thread sets wishes, which are heeded within a piece of work, or gives one command where none
+is under way."""
+import os
+import secrets
+import threading
+import time
+import traceback
+from collections.abc import Callable
+from contextlib import suppress
+from dataclasses import dataclass, field
+from typing import Any
+
+from ngc_tools.failure import Failure
+from ngc_tools.formats.device import Device
+from ngc_tools.formats.settings import Settings
+from ngc_tools.ngc.console import Ended, Status
+from ngc_tools.operator.face import REFUSED, SAID, WARNING
+from ngc_tools.operator.operator import Operator
+from ngc_tools.operator.sentences import explained
+from ngc_tools.page.aside import Aside, Child, NotDone
+from ngc_tools.page.drawing import Drawing, Source, as_begun, draw, draw_exactly, setup_of
+from ngc_tools.page.face import PageFace
+from ngc_tools.page.findings import Check, find
+from ngc_tools.page.jog import HeldJog
+from ngc_tools.page.stand import Kept, Stand, recovery_of
+from ngc_tools.player.progress import Link, NoAnswer
+
+WITHOUT_LINES = {"home", "jog", "seek"}
+MOVES = {"run", "mdi", "resume", "recover", "restore", "release", *WITHOUT_LINES}
+"""The commands that move the machine, and those of them that the player makes without lines of OUT."""
+_LEAVE_S = 10.0
+_LOOK_S = 0.15  # how often it looks while nothing runs
+_ASIDES = {"percent", "go", "optional", "delete", "single"}
+
+
+class Busy(Failure):
+    """Something runs, or the session is over: what was asked isn't done."""
+
+
+@dataclass(frozen=True, slots=True)
+class Opened:
+    """A session of `ngc run` as it begins: the operator's core over it, what is said of OUT and the motors, the device
+    as it stood before and when it was written last, in seconds since 1970, a link by which its motors are held at once,
+    if it has a player, and whether that makes moves without lines."""
+
+    operator: Operator
+    bound: str
+    found: Device | None
+    left_at: float
+    motors: Link | None
+    has_moves: bool = False
+
+    def close(self) -> None:
+        """Asks and tells the player nothing more."""
+        for link in (self.motors, self.operator.session.meter and self.operator.session.meter.link):
+            if link:
+                link.close()
+
+
+Opens = Callable[[PageFace], Opened]
+"""Begins a session of `ngc run`; raises Failure or OSError where that can't be."""
+
+
+@dataclass(slots=True)
+class Command:
+    """Something that the session's thread does: its word, the wishes to hold and the entries of the log before it, and
+    once it is done its result, or why it failed."""
+
+    word: str
+    does: Callable[[], Any]
+    holds: int
+    since: int
+    done: threading.Event = field(default_factory=threading.Event)
+    result: Any = None
+    failed: Failure | OSError | None = None
+
+
+class Session:
+    """All that pages may do. `name` is that of the program that was loaded last, `program_id` and `job_id` grow with
+    each program and each drawing. `ended` says why `ngc` has ended, if it has; `over` is set once nothing follows."""
+
+    def __init__(self, opens: Opens, face: PageFace, machine: str = "") -> None:
+        """Begins it. `machine` is the machine's file, nothing for none. Raises what `opens` raises."""
+        self._opens, self.face, self.machine = opens, face, machine
+        self.aside, self.jogs = Aside(), HeldJog()
+        self.over = threading.Event()
+        self.name, self.program_id, self.ended = "", 1, "it isn't begun yet"
+        self.drawing: Drawing | None = None
+        self.job_id, self.job_failed = 0, ""
+        self.started = 0.0  # when the program was started in this session, in seconds since 1970
+        self.is_finished = False  # it ran to its end, and nothing was begun since
+        self._next: Command | None = None
+        self.under: Command | None = None
+        self._wake = threading.Condition()
+        self._restarts = threading.Lock()
+        self._drawn: Child | None = None
+        self._draws = threading.Lock()
+        self._begin()
+
+    def _begin(self) -> None:
+        """Begins a session of `ngc run`, and its thread."""
+        self.opened = self._opens(self.face)
+        operator = self.opened.operator
+        console = operator.console
+        self.settings = Settings.read(console.settings)
+        self.face.begin(self.face.holds)
+        operator.begin(self.opened.bound, self.opened.found)
+        self.operator, self.ident = operator, secrets.token_hex(8)  # a page that saw another one begins anew
+        self.stand, self.kept = Stand(console.status()), Kept(console.device)
+        begun = as_begun(self.opened.found) if self.opened.found and self.stand.status.place else None
+        self._source = self._source_of(begun or self.kept.device)
+        self._setup, self._drawn_from = setup_of(self.kept.device), self.kept.device.state.entries
+        self.face.look = self._look
+        self._look()
+        self.ended = ""
+        self.draw(False)
+        self._thread = threading.Thread(target=self._work, name="session")
+        self._thread.start()
+
+    # what pages ask for
+
+    @property
+    def is_busy(self) -> bool:
+        """Whether a command is under way."""
+        return self.under is not None or self._next is not None
+
+    def give(self, word: str, does: Callable[[], Any]) -> Command:
+        """Gives the session's thread something to do. Raises Busy."""
+        with self._wake:
+            if self.ended or self.over.is_set():
+                raise Busy(self.ended or "the session is over")
+            if self.is_busy:
+                raise Busy("something runs: hold first")
+            command = self._next = Command(word, does, self.face.holds, self.face.last_id())
+            self._wake.notify_all()
+        return command
+
+    def ask(self, word: str, does: Callable[[], Any], patience_s: float = 10.0) -> Any:
+        """Gives it something to do, and waits for the result. Raises Busy, and what it failed by."""
+        command = self.give(word, does)
+        command.done.wait(patience_s)
+        if command.failed:
+            raise command.failed
+        return command.result
+
+    def type(self, line: str) -> None:
+        """Does a command of the operator's core, as a person types it. Raises Busy."""
+        self.give(line.split()[0], lambda: self.operator.do(line))
+
+    def tell(self, line: str) -> None:
+        """Does a short command, and waits for it; one that may come while something runs is given then. Raises Busy."""
+        word = line.split()[0]
+        if word in _ASIDES and self.is_busy:
+            self.face.give_aside(line)
+        else:
+            self.ask(word, lambda: self.operator.do(line))
+        if word == "delete":
+            self.draw(False)
+
+    def hold(self) -> None:
+        """Holds at once, whatever is under way: the motors, and then `ngc`. It waits for nothing."""
+        self.face.hold()
+        if self.opened.motors and self.stand.has_ramps:
+            with suppress(NoAnswer):  # the session's thread says it
+                self.opened.motors.stop() if self._moves_without_lines() else self.opened.motors.hold()
+        with suppress(Busy):
+            self.give("hold", lambda: self.operator.do("hold"))
+
+    def _moves_without_lines(self) -> bool:
+        command = self.under
+        return command is not None and command.word in WITHOUT_LINES
+
+    def jog(self, way: str, rate: str, press: int) -> None:
+        """Jogs along a way, as `X+`, for as long as this is called again and again. Raises Busy."""
+        if not self.jogs.wish(way, rate, press):
+            return
+        command = self.under or self._next
+        if command is None or command.word != "jog":
+            self.give("jog", lambda: self.jogs.go(self.operator.moves))
+
+    def run(self, line: str) -> None:
+        """Starts the program, or goes on with it, by `run` or `run anyway`. Raises Busy."""
+        def does() -> None:
+            self.face.message = ""
+            if not self.stand.status.place and self.stand.status.does == "idle":
+                self.started = time.time()
+                if self.kept.device.state.entries != self._drawn_from:
+                    self.draw(True)
+            self.operator.do(line)
+        self.give("run", does)
+
+    def load(self, name: str, text: bytes) -> bool:
+        """Stores a program that people call `name`; whether it was taken. Raises Busy."""
+        def does() -> bool:
+            if not self.operator.load(name, text):
+                return False
+            self.name, self.program_id, self.started = name, self.program_id + 1, 0.0
+            self.face.message = ""
+            self.draw(True)
+            return True
+        return bool(self.ask("load", does, 600))
+
+    def check(self, text: bytes) -> dict:
+        """What `ngc-check` finds of a text, which begins as the device stands. Raises NotDone, OSError."""
+        console = self.operator.console
+        check = Check(console.ngc, console.settings, self.kept.device.image, self.operator.session.delete)
+        return self.aside.call(find, check, text)
+
+    def restart(self) -> None:
+        """Begins a session of `ngc run` anew, after it has ended, its device failed, or its player is gone. Raises
+        Busy, and what `Opens` raises."""
+        if not self.ended and (self.stand.gone or self.stand.status.does == "broken"):
+            self.ask("restart", self._give_up)
+        if not self.ended or self.over.is_set():
+            raise Busy("nothing failed: quit ends the session")
+        self._thread.join()
+        with self._restarts:
+            if self.ended:
+                self.opened.close()
+                self._begin()
+        self.face.publish()
+
+    def quit(self) -> None:
+        """Ends the session, once a person agrees to what that leaves. Raises Busy."""
+        if self.ended:
+            self.over.set()
+            self.face.publish()
+            return
+        self.give("quit", lambda: self.operator.do("quit"))
+
+    def leave(self) -> bool:
+        """Nobody is there any more: holds what is under way, and waits for the end of it, for ten seconds at most;
+        whether it ended."""
+        self.over.set()
+        self.face.leave()
+        with self._wake:
+            self._wake.notify_all()
+        self._thread.join(_LEAVE_S)
+        self.aside.close()
+        return not self._thread.is_alive() and not self.face.is_stuck
+
+    # its thread
+
+    def _work(self) -> None:
+        while not self.over.is_set() and not self.ended:
+            with self._wake:
+                if self._next is None:
+                    self._wake.wait(_LOOK_S)
+                self.under, self._next = self._next, None
+            try:
+                if self.under:
+                    self._do(self.under)
+                if not self.ended:
+                    self._look()
+            except Ended as ended:
+                self._tell_end(ended)
+            finally:
+                command, self.under = self.under, None
+                if command:
+                    command.done.set()
+                    self.face.publish()
+
+    def _do(self, command: Command) -> None:
+        """Does a command, and sees how it ended."""
+        self.face.begin(command.holds)
+        self.face.publish()
+        before = self.stand.status
+        try:
+            command.result = command.does()
+        except Ended:
+            raise
+        except (Failure, OSError) as error:
+            command.failed = error
+            self.face.say(error.said() if isinstance(error, Failure) else str(error), WARNING)
+        except Exception as error:  # one command fails by it, and the session goes on
+            self._tell_bug(command, error)
+        if self.operator.over:
+            self._quit()
+        elif command.word in MOVES | {"load"}:
+            self._see_end(command, before)
+
+    def _tell_bug(self, command: Command, error: Exception) -> None:
+        """An error of this program itself."""
+        if os.environ.get("NGC_DEBUG"):
+            traceback.print_exception(error)
+        command.failed = Failure(f"internal error: {type(error).__name__}: {error}")
+        self.face.say(str(command.failed), REFUSED)
+
+    def _see_end(self, command: Command, before: Status) -> None:
+        """Sees whether the program ran to its end."""
+        status = self.operator.console.status()
+        ran = command.word in ("run", "resume", "recover") and (before.place or before.half == "program"
+                                                                or before.entries != status.entries)
+        at_start = status.does == "idle" and status.half == "none" and not status.place
+        self.is_finished = bool(ran and at_start and not self.face.refusal)
+
+    def _quit(self) -> None:
+        """The end that a person wanted."""
+        self.operator.ending.tell_player()
+        status = self.operator.console.quit()
+        self.ended = "the session was ended" if not status else f"ngc ended with status {status}"
+        self.over.set()
+
+    def _give_up(self) -> None:
+        """Ends `ngc` where nothing more can be done with it."""
+        self.operator.ending.tell_player()
+        self.ended = f"ngc ended with status {self.operator.console.quit()}"
+
+    def _tell_end(self, ended: Ended) -> None:
+        """The end that nobody wanted."""
+        refusals = [explained(reply) for reply in ended.replies if reply.startswith("refused")]
+        self.ended = f"ngc ended with status {ended.status}" + (f": {refusals[-1]}" if refusals else "")
+        self.face.say(f"{self.ended}. What is stored stays", REFUSED)
+
+    def _look(self) -> None:
+        """Looks how all stands."""
+        operator, before = self.operator, self.stand
+        gone, machine = "", None
+        try:
+            status, report = operator.look()
+            machine = operator.session.meter.link.machine() if self.opened.has_moves else None
+        except NoAnswer as error:
+            status, report, gone = operator.console.status(), before.report, str(error)
+        self.face.report = report
+        self.kept.at(status)
+        self.stand = Stand(status, report, gone, recovery_of(operator.recover.found), *self._typed(), machine)
+        if status.half == "none" and not status.place and setup_of(self.kept.device) != self._setup:
+            self.draw(True)
+        if self.stand != before:
+            self.face.publish()
+
+    def _typed(self) -> tuple[bool, tuple[str, ...]]:
+        """Whether something was done between two lines of the program, and what puts back what that left in force."""
+        left = self.operator.left
+        if left.device is None:
+            return False, ()
+        return True, left.restoring().lines
+
+    # what is drawn
+
+    def draw(self, is_begun: bool) -> None:
+        """Draws the stored program aside; `is_begun` says that it begins as the device stands now."""
+        with self._draws:
+            if is_begun:
+                self._source = self._source_of(self.kept.read())
+                self._setup, self._drawn_from = setup_of(self.kept.device), self.kept.device.state.entries
+            self._source = self._source_with(self.operator.session.delete)
+            before, self._drawn = self._drawn, None
+            if before:
+                before.give_up()
+            source = self._source
+        threading.Thread(target=self._drawn_aside, args=[source], daemon=True).start()
+
+    def _source_of(self, device: Device) -> Source:
+        """What is drawn where a program is to begin, or began, as a device stands."""
+        console, delete = self.operator.console, self.operator.session.delete
+        return Source(console.ngc, console.settings, self.machine, device.image, not device.state.place, delete)
+
+    def _source_with(self, delete: bool) -> Source:
+        last = self._source
+        return Source(last.ngc, last.settings, last.machine, last.image, last.is_begun_there, delete)
+
+    def _drawn_aside(self, source: Source) -> None:
+        """Draws with times by length, then with exact ones, until something else is to be drawn."""
+        try:
+            if not self.operator.session.program.text:
+                self._take(source, None)
+                return
+            drawing = self._call(source, draw, source)
+            self._take(source, drawing)
+            if drawing is not None:
+                self._take(source, self._call(source, draw_exactly, source))
+        except (NotDone, OSError) as error:
+            self._take(source, None, str(error))
+
+    def _call(self, source: Source, function: Callable, *given: Any) -> Any:
+        with self._draws:
+            if source is not self._source:
+                return None
+            child = self._drawn = self.aside.begin(function, *given)
+        return self.aside.finish(child)
+
+    def _take(self, source: Source, drawing: Drawing | None, failed: str = "") -> None:
+        """Takes what was drawn, if nothing newer is wanted."""
+        with self._draws:
+            if source is not self._source:
+                return
+            if drawing is not None or not failed or self.drawing is None or not self.drawing.is_exact:
+                self.drawing = drawing if drawing is not None or not failed else self.drawing
+            self.job_failed = failed
+            self.job_id += 1
+        self.face.publish()
+
+    def say(self, text: str, kind: str = SAID) -> None:
+        """Says something of the pages themselves."""
+        self.face.say(text, kind)
