@@ -1,0 +1,48 @@
+// A program is looked at before it is loaded: what ngc refuses, with carets, and what is dangerous.
+import { counted, el, grouped } from './dom.js';
+import { check } from './link.js';
+import * as sheet from './sheet.js';
+
+export async function load(file, asks) {
+  const parts = sheet.open(`Load ${file.name}`, [el('p', { class: 'soft' }, 'ngc looks at each line\u2026')],
+    [sheet.gap(), el('button', { onclick: sheet.close }, 'Back')]);
+  try {
+    const found = await check(file);
+    parts.words.replaceChildren(el('p', { class: 'soft' }, `${grouped(found.bytes)} bytes, ${counted(found.count, 'line')}`),
+      verdict(found), ...found.refusals.map(refusal), ...found.warnings.map(warning));
+    parts.foot.append(loading(found, asks));
+  } catch (error) {
+    parts.words.replaceChildren(sheet.warning(error.message, 'bad'));
+  }
+}
+
+function verdict({ refusals, warnings, more }) {
+  if (refusals.length) {
+    return sheet.warning(`${counted(refusals.length, 'line')} refused${more ? ', and more' : ''}. A refused line stops the `
+      + 'program there. Mend these, and load it again.', 'bad');
+  }
+  if (!warnings.length) return sheet.warning('No line is refused, and there are no warnings.', 'fine');
+  return sheet.warning(`No line is refused. ${counted(warnings.length, 'warning')}: what is valid may be meant otherwise.`);
+}
+
+function refusal(one) {
+  return el('div', { class: 'finding' }, el('h3', {}, `Line ${one.line}  `, el('span', {}, `${one.code} ${one.name}`)),
+    one.text.trim() ? el('pre', {}, one.text, '\n', el('b', {}, one.carets)) : null,
+    el('p', {}, one.cause), one.cure ? el('p', {}, `Mend: ${one.cure}.`) : null);
+}
+
+function warning(one) {
+  return el('div', { class: 'finding mild' }, el('h3', {}, one.line ? `Line ${one.line}  ` : '', el('span', {}, 'Warning')),
+    one.text.trim() ? el('pre', {}, one.text) : null, el('p', {}, one.what));
+}
+
+function loading(found, asks) {
+  const isRefused = found.refusals.length > 0;
+  const button = el('button', { class: isRefused ? '' : 'go' }, isRefused ? 'Load it all the same' : 'Load');
+  button.onclick = async () => {
+    button.disabled = true;
+    await asks('load', { id: found.id });
+    sheet.close();
+  };
+  return button;
+}
