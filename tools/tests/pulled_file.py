@@ -116,6 +116,10 @@ class Yes:
         self.said.append(question)
         return "yes"
 
+    def agrees(self, question: str) -> bool:
+        """Whether that is a yes."""
+        return self.ask(question).strip().lower() == "yes"
+
     def interrupted(self) -> bool:
         """Doesn't hold."""
         return False

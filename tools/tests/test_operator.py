@@ -55,6 +55,10 @@ class ListFace:
         self.asked.append(question)
         return self.answers.pop(0) if self.answers else ""
 
+    def agrees(self, question: str) -> bool:
+        """Whether that is a yes."""
+        return self.ask(question).strip().lower() == "yes"
+
     def asides(self) -> list[str]:
         """Those that a test gave."""
         found, self.given = self.given, []

@@ -386,6 +386,10 @@ class Typing(Yes):
         self.said.append(question)
         return self.answers.pop(0) if self.answers else ""
 
+    def agrees(self, question: str) -> bool:
+        """Whether that is a yes."""
+        return self.ask(question).strip().lower() == "yes"
+
     def interrupted(self) -> bool:
         """Holds so often."""
         self.holds -= 1

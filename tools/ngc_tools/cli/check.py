@@ -202,7 +202,7 @@ class Listing:
         if advice := self._once(advice):
             print(wrapped(f"mend: {shown(advice)}"))
         if finding.text.strip():
-            print(f"    goes on {_goes_on(finding)}")
+            print(f"    goes on {goes_on(finding)}")
 
     def warned(self, dangers: list[Danger], whole: Lines, more: bool) -> None:
         """Prints the warnings, ten of a kind, and the counts. `more`: there are refusals that weren't looked for."""
@@ -232,7 +232,7 @@ class Listing:
         return text if new else ""
 
 
-def _goes_on(finding: Finding) -> str:
+def goes_on(finding: Finding) -> str:
     if finding.added:
         return f"as with{finding.added.decode()}"
     if finding.left_out is None:

@@ -120,6 +120,10 @@ class Screen:
             self._print("\n")
             return ""
 
+    def agrees(self, question: str) -> bool:
+        """Whether a person types yes. Raises AskedToEnd."""
+        return self.ask(question).strip().lower() == "yes"
+
     def interrupted(self) -> bool:
         """Whether Enter or Ctrl-C was pressed since the last prompt, or the session has to end. Another line than an
         aside is Enter too. Of lines that come from a pipe or a file those that set the override are taken meanwhile, up

@@ -77,7 +77,10 @@ class Face(Protocol):
         """Is told each report of the player."""
 
     def ask(self, question: str) -> str:
-        """What a person answers; nothing if nobody does."""
+        """What a person types as an answer; nothing if nobody does."""
+
+    def agrees(self, question: str) -> bool:
+        """Whether a person answers with a yes; anything else, nothing too, is a no."""
 
     def interrupted(self) -> bool:
         """Whether somebody wants to hold since the last command was given."""

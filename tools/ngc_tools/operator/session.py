@@ -78,8 +78,8 @@ class Session:
         self.face.moved(report)
 
     def agrees(self, question: str) -> bool:
-        """Whether a person answers with a typed yes; anything else, nothing too, is a no."""
-        return self.face.ask(question).strip().lower() == "yes"
+        """Whether a person answers with a yes; anything else, nothing too, is a no."""
+        return self.face.agrees(question)
 
     def line(self, status: Status) -> str:
         """The program's line at the place."""

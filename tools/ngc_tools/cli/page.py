@@ -1,0 +1,162 @@
+"""The words of `ngc-page`, and its session from start to end."""
+import argparse
+import os
+import secrets
+import sys
+from dataclasses import dataclass
+
+from ngc_tools.cli.operate import as_found, bound, metered
+from ngc_tools.cli.run import add_ngc, new_parser, run
+from ngc_tools.failure import BadNumber, Failure
+from ngc_tools.ngc.before_start import CannotBegin, look
+from ngc_tools.ngc.console import Console
+from ngc_tools.ngc.machine_report import Motion
+from ngc_tools.ngc.run import find_ngc
+from ngc_tools.ngc.usable_settings import look_at_settings
+from ngc_tools.operator.meter import LIMIT, Meter
+from ngc_tools.operator.operator import Operator
+from ngc_tools.operator.recovery import Found
+from ngc_tools.operator.synced import SyncedLink
+from ngc_tools.page.face import PageFace
+from ngc_tools.page.server import Server
+from ngc_tools.page.session import Opened, Session
+from ngc_tools.player.progress import Link
+
+ABOUT = """A page in the browser over `ngc run`: the machine's state, the program, its path, and what an operator does.
+
+It holds the session as ngc-operate does; with --player it is metered. It listens at this computer alone, and whoever
+opens the page has to know the key in the address that it prints."""
+
+EXAMPLE = """example:
+  ngc format mill.dev                                   (once; it OVERWRITES mill.dev)
+  mkfifo axis
+  ngc-player axis mill.toml position --progress progress    (in another terminal)
+  ngc-page mill.dev mill.toml axis --player progress
+
+exit status:
+  0  the session was ended by quit
+  2  the words are wrong, `ngc run` can't be started or failed, a signal came: it says why"""
+
+_SWITCH_S = 0.0005  # after so long threads take turns, so that a tick doesn't wait for a page
+
+
+def make_parser() -> argparse.ArgumentParser:
+    """The words that it takes."""
+    parser = new_parser("ngc-page", ABOUT, EXAMPLE)
+    parser.add_argument("device", metavar="DEVICE", help="the device, as `ngc format` made it")
+    parser.add_argument("settings", metavar="SETTINGS", help="the machine's settings, in TOML")
+    parser.add_argument("out", metavar="OUT", help="where pulses go: a named pipe with a player, a file, a serial line")
+    parser.add_argument("--player", metavar="SOCKET", help="the socket of ngc-player's --progress")
+    parser.add_argument("--machine", metavar="FILE", help="what the motors allow, as the player takes it: times with"
+                        " ramps")
+    parser.add_argument("--ahead", type=int, metavar="N",
+                        help="how many lines OUT may be ahead of the player at most (without it as many as the player"
+                        f" wants, {LIMIT} of one that doesn't say it)")
+    parser.add_argument("--listen", default="127.0.0.1:8585", metavar="HOST:PORT", help="where pages come from"
+                        " (without it 127.0.0.1:8585); another HOST lets in whoever hears the network, which the key"
+                        " crosses in clear: docs/PAGE.md has a safer way for a tablet")
+    add_ngc(parser)
+    return parser
+
+
+def main(arguments: list[str] | None = None) -> int:
+    """Runs it, and returns the exit status."""
+    return run(make_parser(), work, arguments)
+
+
+def work(args: argparse.Namespace) -> int:
+    """Looks at what is given, and does the session. Raises CannotBegin, NoAnswer, BadSettings, BadMachine, ValueError,
+    OSError."""
+    host, port = address(args.listen)
+    ngc = find_ngc(args.ngc)
+    if args.machine:
+        look_at_settings(ngc, args.settings)
+        Motion.read(ngc, args.machine, args.settings)
+    sys.setswitchinterval(_SWITCH_S)
+    session = Session(Opener(ngc, args), PageFace(), args.machine or "")
+    try:
+        serve(session, host, port)
+    finally:
+        status = ended(session)
+    if status:
+        raise Failure(f"ngc ended with status {status}: the device or OUT failed in this session")
+    return 0
+
+
+def address(text: str) -> tuple[str, int]:
+    """The host and the port of --listen. Raises BadNumber."""
+    host, _, port = text.rpartition(":")
+    if not host or not port.isdecimal() or int(port) > 65_535:
+        raise BadNumber(f"{text}: --listen takes HOST:PORT")
+    return host, int(port)
+
+
+@dataclass(frozen=True, slots=True)
+class Opener:
+    """Begins sessions of `ngc run` with these words."""
+
+    ngc: str
+    args: argparse.Namespace
+
+    def __call__(self, face: PageFace) -> Opened:
+        """Begins one. Raises CannotBegin, NoAnswer, BadSettings, ValueError, Ended, OSError."""
+        args = self.args
+        meter = metered(args)
+        pipe = look(args.device, args.settings, args.out)
+        look_at_settings(self.ngc, args.settings)
+        found = as_found(args.device)
+        link = meter.link if meter else None
+        out = Found.of(self.ngc, args.settings, link, found) if isinstance(link, SyncedLink) else None
+        console = Console(self.ngc, args.device, args.settings, args.out, Patience(face))
+        try:
+            return self._opened(console, face, meter, found, out, pipe)
+        except BaseException:
+            if console.child.poll() is None:
+                console.kill()
+            raise
+
+    def _opened(self, console: Console, face: PageFace, meter: Meter | None, found: object, out: Found | None,
+                pipe: int | None) -> Opened:
+        console.status()
+        operator = Operator(console, face, meter)
+        operator.recover.found = out
+        said = bound(self.args, meter, pipe)
+        if pipe is not None:
+            os.close(pipe)
+        return Opened(operator, said, found, Link(self.args.player) if self.args.player else None)
+
+
+class Patience:
+    """Says it once if `ngc` doesn't answer, since nobody reads OUT."""
+
+    def __init__(self, face: PageFace) -> None:
+        self.face = face
+
+    def __call__(self, seconds: float) -> None:
+        """Is called while a reply doesn't come."""
+        if seconds > 2:
+            self.face.once("ngc waits until the reader of OUT takes lines; a hold is heeded after that")
+            if self.face.is_left:
+                raise CannotBegin("ended; a block that was under way is half-done")
+
+
+def serve(session: Session, host: str, port: int) -> None:
+    """Serves pages until the session is over. Raises OSError."""
+    server = Server(os.environ.get("NGC_PAGE_KEY") or secrets.token_urlsafe(16), session)
+    server.listen(host, port)
+    print(f"http://{host}:{server.port}/{server.key}/", flush=True)
+    try:
+        session.over.wait()
+    finally:
+        session.leave()
+        server.close()
+
+
+def ended(session: Session) -> int:
+    """Ends what is left of `ngc`, and returns its exit status."""
+    operator = session.operator
+    session.leave()
+    if operator.console.child.poll() is not None:
+        return operator.console.child.returncode
+    operator.ending.tell_player()
+    return operator.console.quit()

@@ -1,0 +1,122 @@
+"""Work that takes long, done in a process of its own, so that it takes no time from the ticks of a session.
+
+A child keeps its standard input open. Where that ends, since whoever asked gave up or was killed, it ends itself with
+all that it started."""
+import os
+import pickle
+import signal
+import struct
+import subprocess
+import sys
+import threading
+from collections.abc import Callable
+from contextlib import suppress
+from pathlib import Path
+from typing import Any, BinaryIO
+
+from ngc_tools.failure import Failure
+
+_HEAD = struct.Struct("<Q")
+
+
+class NotDone(Failure):
+    """The work aside failed, or was ended before it was done; the text says why."""
+
+
+class Child:
+    """A function at work. It has to be of a module, and what it takes and gives has to be plain."""
+
+    def __init__(self, function: Callable, *given: Any) -> None:
+        """Begins it. Raises OSError."""
+        paths = os.pathsep.join([str(Path(__file__).resolve().parents[2]), os.environ.get("PYTHONPATH", "")])
+        self._process = subprocess.Popen([sys.executable, "-m", "ngc_tools.page.aside"], stdin=subprocess.PIPE,
+                                         stdout=subprocess.PIPE, stderr=subprocess.DEVNULL, process_group=0,
+                                         env=os.environ | {"PYTHONPATH": paths})
+        self._work = pickle.dumps((function, given))
+
+    def result(self) -> Any:
+        """Waits for what the function returns. Raises NotDone."""
+        said = b""
+        with suppress(OSError, ValueError):
+            self._process.stdin.write(_HEAD.pack(len(self._work)) + self._work)
+            self._process.stdin.flush()
+            said = self._process.stdout.read()
+        self.give_up()
+        self._process.wait()
+        self._process.stdout.close()
+        if not said:
+            raise NotDone("it was ended before it was done")
+        is_done, result = pickle.loads(said)  # noqa: S301  of a child of this process
+        if not is_done:
+            raise NotDone(result)
+        return result
+
+    def give_up(self) -> None:
+        """Ends it."""
+        with suppress(OSError):
+            self._process.stdin.close()
+
+
+class Aside:
+    """What is at work now."""
+
+    def __init__(self) -> None:
+        self._children: set[Child] = set()
+        self._lock = threading.Lock()
+        self._is_closed = False
+
+    def call(self, function: Callable, *given: Any) -> Any:
+        """Does it in a child, and waits for the result. Raises NotDone, OSError."""
+        return self.finish(self.begin(function, *given))
+
+    def begin(self, function: Callable, *given: Any) -> Child:
+        """Begins it. Raises NotDone, OSError."""
+        child = Child(function, *given)
+        with self._lock:
+            self._children.add(child)
+            if not self._is_closed:
+                return child
+        child.give_up()
+        raise NotDone("the session is over")
+
+    def finish(self, child: Child) -> Any:
+        """Waits for the result. Raises NotDone."""
+        try:
+            return child.result()
+        finally:
+            with self._lock:
+                self._children.discard(child)
+
+    def close(self) -> None:
+        """Ends all that is under way; nothing more is begun."""
+        with self._lock:
+            self._is_closed = True
+            children = list(self._children)
+        for child in children:
+            child.give_up()
+
+
+def main() -> None:
+    """The child: does what it is told on its standard input."""
+    os.nice(10)
+    given, said = sys.stdin.buffer, os.dup(1)
+    os.dup2(2, 1)  # what it starts writes nowhere
+    (size,) = _HEAD.unpack(given.read(_HEAD.size))
+    function, arguments = pickle.loads(given.read(size))  # noqa: S301  of its parent
+    threading.Thread(target=_watch, args=[given], daemon=True).start()
+    try:
+        result = (True, function(*arguments))
+    except Exception as error:  # whoever asked is told
+        result = (False, error.said() if isinstance(error, Failure) else f"{type(error).__name__}: {error}")
+    with open(said, "wb") as file:
+        file.write(pickle.dumps(result))
+
+
+def _watch(given: BinaryIO) -> None:
+    """Ends this process and what it started once its input ends."""
+    given.read()
+    os.killpg(os.getpgrp(), signal.SIGKILL)
+
+
+if __name__ == "__main__":
+    main()

@@ -1,0 +1,138 @@
+"""What a page may ask for, by name, each with its words looked at. No word of a page reaches `ngc` but in these forms.
+"""
+import re
+from collections.abc import Callable
+from dataclasses import dataclass
+from http import HTTPStatus
+
+from ngc_tools.page.http import Refused
+from ngc_tools.page.pages import Pages
+from ngc_tools.page.rehearse import rehearse
+from ngc_tools.page.session import Session
+
+_NUMBER = re.compile(r"[-+]?(?:[0-9]{1,7}\.?[0-9]{0,6}|\.[0-9]{1,6})")
+_LONGEST_LINE = 256
+_LONGEST_ANSWER = 64
+_MOST_KEPT = 2  # programs that were looked at and may be loaded
+
+
+class BadWords(ValueError):
+    """Words of a page that aren't as they should be; the text says how."""
+
+
+@dataclass(slots=True)
+class Given:
+    """What a deed is done with: the session, its pages, the programs that were looked at, and the words."""
+
+    session: Session
+    pages: Pages
+    checked: dict[str, tuple[str, bytes]]
+    words: dict
+
+    def flag(self, name: str) -> bool:
+        """Whether a word is true. Raises BadWords for what is neither true nor false."""
+        value = self.words.get(name, False)
+        if not isinstance(value, bool):
+            raise BadWords(f"{name}: true or false")
+        return value
+
+    def count(self, name: str, most: int) -> int:
+        """A whole number from 0. Raises BadWords."""
+        value = self.words.get(name)
+        if not isinstance(value, int) or isinstance(value, bool) or not 0 <= value <= most:
+            raise BadWords(f"{name}: a whole number from 0 to {most:,}")
+        return value
+
+    def number(self, name: str) -> str:
+        """A number in millimetres as `ngc` reads it. Raises BadWords."""
+        return number_of(self.words.get(name))
+
+    def point(self, name: str) -> list[str]:
+        """Three numbers in millimetres. Raises BadWords."""
+        found = self.words.get(name)
+        if not isinstance(found, list) or len(found) != 3:
+            raise BadWords(f"{name}: three numbers in millimetres")
+        return list(map(number_of, found))
+
+    def line(self, name: str, longest: int) -> str:
+        """A line of printable characters. Raises BadWords."""
+        value = self.words.get(name)
+        if not isinstance(value, str) or not value.strip() or not value.isprintable() or len(value) > longest:
+            raise BadWords(f"{name}: one line of at most {longest} printable characters")
+        return value.strip()
+
+    def anyway(self) -> str:
+        """What is put behind a command that is to be done whatever the player says."""
+        return " anyway" if self.flag("anyway") else ""
+
+
+def number_of(value: object) -> str:
+    """A number in millimetres. Raises BadWords."""
+    if not isinstance(value, str) or not _NUMBER.fullmatch(value):
+        raise BadWords("a number in millimetres, with at most six decimals")
+    return value
+
+
+def keep_checked(checked: dict[str, tuple[str, bytes]], name: str, text: bytes, ident: str) -> None:
+    """Keeps a program that was looked at, until it is loaded; the oldest ones go."""
+    checked[ident] = (name, text)
+    for old in list(checked)[:-_MOST_KEPT]:
+        del checked[old]
+
+
+def _load(given: Given) -> dict:
+    found = given.checked.get(str(given.words.get("id")))
+    if found is None:
+        raise Refused(HTTPStatus.GONE, "check it again")
+    return {"taken": given.session.load(*found)}
+
+
+def _mdi(given: Given) -> None:
+    line = given.line("line", _LONGEST_LINE)
+    given.session.type(f"anyway {line}" if given.flag("anyway") else f"mdi {line}")
+
+
+def _reference(given: Given) -> None:
+    at = "player" if given.words.get("at") == "player" else " ".join(given.point("at"))
+    given.session.tell(f"reference {at}{given.anyway()}")
+
+
+def _tool(given: Given) -> None:
+    given.session.tell(f"tool {given.count('slot', 128)} {given.number('length')}")
+
+
+def _switch(given: Given) -> None:
+    if given.words.get("name") not in ("optional", "delete"):
+        raise BadWords("name: optional or delete")
+    given.session.tell(f"{given.words['name']} {'on' if given.flag('on') else 'off'}")
+
+
+def _answer(given: Given) -> dict:
+    text = "yes" if given.words.get("yes") is True else "no"
+    if "text" in given.words:
+        text = given.line("text", _LONGEST_ANSWER)
+    return {"taken": given.session.face.answer(given.count("question", 10**9), text)}
+
+
+def _rehearse(given: Given) -> dict:
+    at = given.point("at") if given.words.get("at") is not None else None
+    return rehearse(given.session, at)
+
+
+DEEDS: dict[str, Callable[[Given], dict | None]] = {
+    "load": _load, "mdi": _mdi, "reference": _reference, "tool": _tool, "switch": _switch, "answer": _answer,
+    "rehearse": _rehearse,
+    "run": lambda given: given.session.run("run" + given.anyway()),
+    "resume": lambda given: given.session.type("resume" + given.anyway()),
+    "recover": lambda given: given.session.type("recover"),
+    "drop": lambda given: given.session.type("drop"),
+    "restore": lambda given: given.session.type("restore"),
+    "release": lambda given: given.session.type("release"),
+    "abandon": lambda given: given.session.tell("abandon"),
+    "go": lambda given: given.session.tell("go"),
+    "percent": lambda given: given.session.tell(f"percent {given.count('percent', 100)}"),
+    "loss": lambda given: given.pages.choose(given.flag("goes")),
+    "restart": lambda given: given.session.restart(),
+    "quit": lambda given: given.session.quit(),
+}
+"""What the page that commands may ask for."""

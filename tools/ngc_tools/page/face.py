@@ -1,0 +1,187 @@
+"""The face of a session that pages see: what is said, what is under way, questions, and who wants to hold."""
+import threading
+import time
+from collections import deque
+from collections.abc import Callable
+from dataclasses import dataclass
+
+from ngc_tools.operator.face import MESSAGE, REFUSED, SAID, WARNING, WHERE, UnderWay
+from ngc_tools.operator.sentences import SWITCHED, SWITCHED_THERE
+from ngc_tools.player.progress import Report
+
+ENTRIES = 400
+"""So many entries of the log are kept."""
+LOOKS = (SWITCHED.strip(), SWITCHED_THERE.strip())
+"""The questions at which somebody has to look at the machine: its outputs are on, and nothing has moved."""
+_EVERY_S = 0.1  # what moves is shown about so often
+
+
+@dataclass(frozen=True, slots=True)
+class Entry:
+    """An entry of the log: its number, when it was said in seconds since 1970, its kind, its text."""
+
+    id: int
+    at: float
+    kind: str
+    text: str
+
+
+@dataclass(frozen=True, slots=True)
+class Question:
+    """What a page is asked. `kind` is `yes`, to agree to or not, or `text`, to be typed."""
+
+    id: int
+    text: str
+    kind: str
+
+
+class PageFace:
+    """A face whose watchers are told that something is new, in `version`, by `changed`, which may be called in any
+    thread.
+
+    A wish to hold counts from the moment that it is made. One that comes before a command has begun holds that command
+    too, since each command begins with the wishes that whoever gave it had seen."""
+
+    def __init__(self) -> None:
+        self.changed: Callable[[], None] = lambda: None
+        self.version = 0
+        self.log: deque[Entry] = deque(maxlen=ENTRIES)
+        self.view: UnderWay | None = None
+        self.report: Report | None = None
+        self.message = ""  # of the program, since it was started or went on
+        self.refusal = ""  # since the last command
+        self.question: Question | None = None
+        self.holds = 0  # how often somebody wanted to hold
+        self.is_left = False  # nobody is there any more
+        self.has_looked = False  # somebody agreed to go on at one of LOOKS, since the command began
+        self._heeded = 0  # the wishes that the command under way began with
+        self._asides: deque[str] = deque()
+        self._lock = threading.Condition()
+        self._answer: str | None = None
+        self._count = 0
+        self._said: set[str] = set()
+        self._shown = 0.0
+
+    # what the operator's core tells
+
+    def say(self, text: str, kind: str = SAID) -> None:
+        """Adds an entry to the log; what a page shows anyway isn't said."""
+        if kind == WHERE:
+            return
+        if kind == MESSAGE:
+            self.message = text.partition(": ")[2]
+        if kind == REFUSED:
+            self.refusal = text
+        with self._lock:
+            self._count += 1
+            self.log.append(Entry(self._count, time.time(), kind, text))
+        self.publish()
+
+    def once(self, text: str, kind: str = WARNING) -> None:
+        """Says it once in a command."""
+        if text not in self._said:
+            self._said.add(text)
+            self.say(text, kind)
+
+    def live(self, view: UnderWay | None) -> None:
+        """Takes what is under way."""
+        before, self.view = self.view, view
+        self._publish_sometimes(view is None or before is None or before.status.does != view.status.does)
+
+    def moved(self, report: Report) -> None:
+        """Takes a report of the player."""
+        before, self.report = self.report, report
+        self._publish_sometimes(before is None or _state(before) != _state(report))
+
+    def ask(self, question: str) -> str:
+        """What is typed at a page; nothing where somebody wants to hold."""
+        return self._asked(question, "text")
+
+    def agrees(self, question: str) -> bool:
+        """Whether somebody agrees at a page; a wish to hold is a no."""
+        agrees = self._asked(question, "yes") == "yes"
+        self.has_looked = self.has_looked or agrees and question.strip() in LOOKS
+        return agrees
+
+    def interrupted(self) -> bool:
+        """Whether somebody wants to hold since the command was given."""
+        return self.holds > self._heeded
+
+    def asides(self) -> list[str]:
+        """The commands that were given meanwhile, each once."""
+        found = []
+        while self._asides:
+            found.append(self._asides.popleft())
+        return found
+
+    def is_gone(self) -> bool:
+        """Whether nobody is there any more who could let motors go on."""
+        return self.is_left
+
+    def _asked(self, text: str, kind: str) -> str:
+        with self._lock:
+            self._count += 1
+            self._answer = None
+            self.question = Question(self._count, text.strip(), kind)
+        self.publish()
+        with self._lock:
+            while self._answer is None and not self.interrupted() and not self.is_left:
+                self._lock.wait()
+            self.question = None
+            answer = self._answer or ""
+        self.publish()
+        return answer
+
+    # what pages give
+
+    def hold(self) -> None:
+        """Somebody wants to hold."""
+        with self._lock:
+            self.holds += 1
+            self._lock.notify_all()
+
+    def leave(self) -> None:
+        """Nobody is there any more: what is under way is held, and questions aren't answered."""
+        self.is_left = True
+        self.hold()
+
+    def answer(self, question: int, text: str) -> bool:
+        """Answers a question; False if it isn't asked any more."""
+        with self._lock:
+            if self.question is None or self.question.id != question or self._answer is not None:
+                return False
+            self._answer = text
+            self._lock.notify_all()
+            return True
+
+    def give_aside(self, command: str) -> None:
+        """A command that is taken while something runs."""
+        self._asides.append(command)
+
+    # the session
+
+    def begin(self, heeded: int) -> None:
+        """A command begins; whoever gave it had seen so many wishes to hold."""
+        self._heeded = heeded
+        self.refusal, self.has_looked = "", False
+        self._said.clear()
+
+    def last_id(self) -> int:
+        """The number of the last entry or question."""
+        return self._count
+
+    def publish(self) -> None:
+        """Pages have something new to show."""
+        with self._lock:
+            self.version += 1
+            self._shown = time.monotonic()
+        self.changed()
+
+    def _publish_sometimes(self, at_once: bool) -> None:
+        if at_once or time.monotonic() > self._shown + _EVERY_S:
+            self.publish()
+
+
+def _state(report: Report) -> tuple[bool, bool, int]:
+    """What of a report is shown at once."""
+    return report.waits, report.is_held, report.percent

@@ -1,0 +1,155 @@
+"""What `resume` or `run` would do, for a page: done aside over a copy of the device, with what lies in the way."""
+import pickle
+from dataclasses import dataclass
+
+from ngc_tools.formats.device import Device
+from ngc_tools.formats.lines import Program
+from ngc_tools.formats.position import nanometres
+from ngc_tools.job.figures import duration
+from ngc_tools.job.figures import millimetres as rounded
+from ngc_tools.job.moves import CUT, Move, Point, distance
+from ngc_tools.ngc.copies import CommandRefused
+from ngc_tools.operator.rehearsal import Rehearsal, outputs
+from ngc_tools.operator.sentences import explained
+from ngc_tools.page.drawing import Drawing, Job
+from ngc_tools.page.session import Busy, Session
+
+_NEAR_NM = 100_000  # so near a finished cut the way counts as within it
+_ON_NM = 20_000  # the motors are on a step if they are as near
+_LOOKS = 400  # points of the way that are looked at, at most
+_APART_NM = 250_000  # and so far apart at least
+
+
+@dataclass(frozen=True, slots=True)
+class Asked:
+    """What is rehearsed: by which `ngc` and settings, over which image, from where, with the job as it was drawn and
+    where the motors are, if that is known."""
+
+    ngc: str
+    settings: str
+    image: bytes
+    at: list[str] | None
+    drawing: Drawing | None
+    motors: list[str] | None
+
+
+def rehearse(session: Session, at: list[str] | None) -> dict:
+    """What a page is told. It takes no turn of the session's, since nothing but a copy is touched. Raises Busy where
+    something runs, NotDone, OSError."""
+    if session.is_busy or session.ended:
+        raise Busy("something runs: hold first")
+    console, report, image = session.operator.console, session.face.report, session.stand.device.image
+    asked = Asked(console.ngc, console.settings, image, at, session.drawing, report.at.split() if report else None)
+    return session.aside.call(rehearsed, asked)
+
+
+def rehearsed(asked: Asked) -> dict:
+    """The rehearsal, in a process aside."""
+    rehearsal = Rehearsal(asked.ngc, asked.settings, asked.image, asked.at)
+    try:
+        lines = rehearsal.lines()
+    except CommandRefused as error:
+        return {"refused": explained(error.reply), "lines": [error.reply], "begins": [], "rest": "", "rest_us": 0,
+                "comes_on": "", "approach": None}
+    comes_on = outputs(rehearsal.comes_on) if rehearsal.comes_on else ""
+    approach = _approach(asked, *rehearsal.approach) if rehearsal.approach else None
+    return {"lines": lines, "begins": rehearsal.begins, "rest": duration(rehearsal.rest_us),
+            "rest_us": rehearsal.rest_us, "comes_on": comes_on, "approach": approach,
+            "refused": lines[-1] if rehearsal.refused else ""}
+
+
+def _approach(asked: Asked, start: tuple[str, ...], end: tuple[str, ...], us: int) -> dict:
+    """The straight way of an approach, with what is dangerous about it."""
+    a, b = _point(start), _point(end)
+    return {"from": start, "to": end, "length": rounded(distance(a, b)), "time": duration(us),
+            "lowest": rounded(min(a[2], b[2])), "down": rounded(max(0, a[2] - b[2])),
+            "warnings": [*_goes_down(a, b), *_goes_beside(asked, a, b)]}
+
+
+def _point(at: tuple[str, ...] | list[str]) -> Point:
+    x, y, z = map(nanometres, at)
+    return x, y, z
+
+
+def _goes_down(a: Point, b: Point) -> list[str]:
+    if b[2] >= a[2]:
+        return []
+    sideways = max(abs(a[0] - b[0]), abs(a[1] - b[1]))
+    at_once = f", and {rounded(sideways)} mm sideways at once" if sideways else ""
+    return [f"It goes DOWN {rounded(a[2] - b[2])} mm, to Z {rounded(b[2])}{at_once}, at the traverse rate."]
+
+
+def _goes_beside(asked: Asked, a: Point, b: Point) -> list[str]:
+    """Where the way goes below the highest cut and beside all that is cut already. Geometry alone."""
+    if asked.drawing is None:
+        return []
+    beside, length = _Cut.of(asked).beside(a, b)
+    if length <= _NEAR_NM:
+        return []
+    near = f": up to {rounded(beside)} mm beside the nearest one" if beside else ""
+    return [f"For {rounded(length)} mm of its way the tool goes below the highest cut where no finished cut is as"
+            f" deep{near}. Is there material, a clamp, an island?"]
+
+
+@dataclass(frozen=True, slots=True)
+class _Cut:
+    """What is cut already: chords, and the highest point of the cuts up to here."""
+
+    chords: list[tuple[Point, Point]]
+    top: int
+
+    @staticmethod
+    def of(asked: Asked) -> "_Cut":
+        """By the job, up to the half-done segment, and in it up to the motors."""
+        job: Job = pickle.loads(asked.drawing.job)  # noqa: S301  of this program
+        state = Device(asked.image).state
+        line = Program(Device(asked.image).program).number(state.place)
+        own = job.segments.get(line, [])
+        end = next((number for number in own[state.segment:] if number >= 0), None)
+        cuts = [(step, number) for step, number in zip(job.steps, job.lines, strict=True)
+                if isinstance(step, Move) and step.kind == CUT]
+        done = [step for step in job.steps[:end] if isinstance(step, Move) and step.kind == CUT]
+        top = max((max(point[2] for point in step.points) for step, number in cuts if number <= line), default=0)
+        chords = [(p, q) for step in done for p, q in zip(step.points, step.points[1:])]
+        under = job.steps[end] if end is not None else None
+        if isinstance(under, Move) and under.kind == CUT and asked.motors:
+            chords += _up_to(list(zip(under.points, under.points[1:])), _point(asked.motors))
+        return _Cut(chords, top)
+
+    def beside(self, a: Point, b: Point) -> tuple[int, int]:
+        """How far beside finished cuts that are as deep the way goes at most, and for how long; in nm."""
+        count = max(1, min(_LOOKS, distance(a, b) // _APART_NM))
+        worst = length = 0
+        for k in range(count + 1):
+            x, y, z = (p + (q - p) * k // count for p, q in zip(a, b, strict=True))
+            if z >= self.top:
+                continue
+            near = self._nearest((x, y, z))
+            if near is None or near > _NEAR_NM:
+                length += distance(a, b) // (count + 1)
+                worst = max(worst, near or 0)
+        return worst, length
+
+    def _nearest(self, at: Point) -> int | None:
+        """How far the nearest finished cut is that is as deep, seen from above; None if there is none."""
+        return min((_apart(at, p, q) for p, q in self.chords if min(p[2], q[2]) <= at[2]), default=None)
+
+
+def _up_to(chords: list[tuple[Point, Point]], here: Point) -> list[tuple[Point, Point]]:
+    """The chords of a step up to a point, if that lies on it."""
+    def off(chord: tuple[Point, Point]) -> int:
+        """How far the point is off a chord."""
+        low, high = sorted((chord[0][2], chord[1][2]))
+        return _apart(here, *chord) + abs(here[2] - min(max(here[2], low), high))
+
+    near = [(off(chord), k) for k, chord in enumerate(chords)]
+    best, k = min(near, default=(10**9, 0))
+    return [*chords[:k], (chords[k][0], here)] if best <= _ON_NM else []
+
+
+def _apart(at: Point, p: Point, q: Point) -> int:
+    """The distance of a point from a chord, seen from above; in nm."""
+    ax, ay, bx, by = q[0] - p[0], q[1] - p[1], at[0] - p[0], at[1] - p[1]
+    whole = ax * ax + ay * ay
+    share = min(1.0, max(0.0, (ax * bx + ay * by) / whole)) if whole else 0.0
+    return int(((bx - share * ax) ** 2 + (by - share * ay) ** 2) ** 0.5)

@@ -1,0 +1,311 @@
+"""The server of `ngc-page`: who may ask, what is answered, and the streams by which pages are told what changes.
+
+One thread serves all connections in turn, none of which waits for another one: a wish to hold is taken however many are
+idle or slow. Where there are too many, the one goes that has been waiting for its next request longest. Whoever asks
+has to know the key in the path. No request names a file: what is served was read before, and a program comes by
+upload."""
+import asyncio
+import hmac
+import json
+import re
+import socket
+import threading
+import time
+import urllib.parse
+from collections.abc import Coroutine
+from contextlib import suppress
+from dataclasses import asdict
+from http import HTTPStatus
+from pathlib import Path
+from typing import Any
+
+from ngc_tools.failure import Failure
+from ngc_tools.formats.device import MOST_LARGE_PROGRAM
+from ngc_tools.page.deeds import DEEDS, BadWords, Given, keep_checked
+from ngc_tools.page.http import MOST_HEAD, Refused, Request, head_of, read_body, read_request
+from ngc_tools.page.pages import Pages
+from ngc_tools.page.session import Busy, Session
+from ngc_tools.page.state import state_of
+
+STATIC = Path(__file__).resolve().parent / "static"
+MOST_CONNECTIONS = 64
+_KINDS = {".html": "text/html; charset=utf-8", ".css": "text/css; charset=utf-8", ".svg": "image/svg+xml",
+          ".js": "text/javascript; charset=utf-8", ".png": "image/png", ".woff2": "font/woff2"}
+_JSON = "application/json"
+_POLICY = ("default-src 'none'; script-src 'self'; style-src 'self'; connect-src 'self'; font-src 'self';"
+           " img-src 'self' data:; base-uri 'none'; form-action 'none'; frame-ancestors 'none'")
+_HEADERS = {"Cache-Control": "no-store", "Referrer-Policy": "no-referrer", "X-Content-Type-Options": "nosniff",
+            "Content-Security-Policy": _POLICY, "Cross-Origin-Opener-Policy": "same-origin",
+            "Cross-Origin-Resource-Policy": "same-origin"}
+_PAGE = re.compile(r"[A-Za-z0-9-]{8,40}")
+_MOST_WORDS = 4096  # bytes of a request that is no program
+_REQUEST_S = 20.0  # how long a request may take to come, and an answer to be taken
+_IDLE_S = 120.0  # how long a connection may wait for its next request
+_LOST_S = 3.0  # a page that takes nothing for so long is lost
+_EVERY_S = 1.0  # something is sent to each page at least so often
+_APART_S = 0.03  # and not more often than so
+
+
+class Server:
+    """`key` is the secret in the path; `host` and `port` are where it listens."""
+
+    def __init__(self, key: str, session: Session) -> None:
+        """Reads what is served. Raises OSError."""
+        self.key, self.session, self.pages = key, session, Pages(session)
+        self.host, self.port = "", 0
+        self._static = {str(path.relative_to(STATIC)): (path.read_bytes(), _KINDS[path.suffix])
+                        for path in sorted(STATIC.rglob("*")) if path.suffix in _KINDS}
+        self._checked: dict[str, tuple[str, bytes]] = {}
+        self._waiting: dict[asyncio.Task, None] = {}  # in the order in which they began to wait
+        self._all: set[asyncio.Task] = set()
+        self._new = asyncio.Event()
+        self._uploads = asyncio.Semaphore(2)
+        self._loop = asyncio.new_event_loop()
+        self._thread = threading.Thread(target=self._loop.run_forever, name="server", daemon=True)
+
+    # its beginning and end, in another thread
+
+    def listen(self, host: str, port: int) -> None:
+        """Begins to serve. Raises OSError."""
+        self._thread.start()
+        found = self._call(asyncio.start_server(self._connected, host, port, limit=MOST_HEAD, backlog=128))
+        self.host, self.port = host, found.sockets[0].getsockname()[1]
+        self.names = {f"{name}:{self.port}" for name in (host, "127.0.0.1", "localhost")}
+        self.session.face.changed = lambda: self._loop.call_soon_threadsafe(self._new.set)
+
+    def close(self) -> None:
+        """Tells pages how the session ended, and ends."""
+        self.session.face.changed = lambda: None
+        with suppress(TimeoutError):
+            self._call(self._end(), 2 * _LOST_S)
+        self._loop.call_soon_threadsafe(self._loop.stop)
+        self._thread.join(_LOST_S)
+
+    def _call(self, work: Coroutine, patience_s: float | None = None) -> Any:
+        return asyncio.run_coroutine_threadsafe(work, self._loop).result(patience_s)
+
+    async def _end(self) -> None:
+        self._new.set()
+        await asyncio.wait(self._all, timeout=_LOST_S / 3) if self._all else None
+        for task in self._all:
+            task.cancel()
+
+    # connections
+
+    async def _connected(self, reader: asyncio.StreamReader, writer: asyncio.StreamWriter) -> None:
+        """Serves a connection to its end."""
+        task = asyncio.current_task()
+        if len(self._all) >= MOST_CONNECTIONS:
+            if not self._waiting:
+                writer.close()
+                return
+            next(iter(self._waiting)).cancel()
+        self._all.add(task)
+        try:
+            await _Connection(self, reader, writer).serve()
+        except (OSError, TimeoutError, asyncio.CancelledError):
+            pass  # a connection that breaks is none
+        finally:
+            self._all.discard(task)
+            self._waiting.pop(task, None)
+            writer.close()
+
+    async def next_request(self, reader: asyncio.StreamReader) -> Request | None:
+        """Waits for a connection's next request; None at its end. Raises Refused, OSError, TimeoutError."""
+        task = asyncio.current_task()
+        self._waiting[task] = None
+        async with asyncio.timeout(_IDLE_S):
+            request = await read_request(reader)
+        del self._waiting[task]
+        return request
+
+    def checked_path(self, request: Request) -> str:
+        """The path after the key. Raises Refused for whoever doesn't know the key, comes by another name, as after DNS
+        was rebound, or from another site."""
+        if request.headers.get("host", "") not in self.names:
+            raise Refused(HTTPStatus.MISDIRECTED_REQUEST)
+        key, _, path = request.path.removeprefix("/").partition("/")
+        if not hmac.compare_digest(key.encode(), self.key.encode()):
+            raise Refused(HTTPStatus.NOT_FOUND)
+        origin = request.headers.get("origin")
+        own = {f"http://{name}" for name in self.names}
+        if origin is not None and origin not in own or request.method == "POST" and origin is None:
+            raise Refused(HTTPStatus.FORBIDDEN, "another origin")
+        if request.headers.get("sec-fetch-site", "same-origin") not in ("same-origin", "none"):
+            raise Refused(HTTPStatus.FORBIDDEN, "another site")
+        return path
+
+    # what is answered
+
+    def static(self, name: str) -> tuple[bytes, str]:
+        """What is served by a name, and its kind. Raises Refused."""
+        if (name or "index.html") not in self._static:
+            raise Refused(HTTPStatus.NOT_FOUND)
+        return self._static[name or "index.html"]
+
+    def program(self) -> bytes:
+        """The program that is stored."""
+        session = self.session
+        text = session.operator.session.program.text.decode("utf-8", "replace")
+        return _json({"id": session.program_id, "name": session.name, "text": text})
+
+    def job(self) -> bytes:
+        """What is drawn of it."""
+        session, settings = self.session, self.session.settings
+        said = {"id": session.job_id, "failed": session.job_failed, "low": [nm // 1000 for nm in settings.low_nm],
+                "high": [nm // 1000 for nm in settings.high_nm], "traverse": settings.traverse_nm_per_min // 10**6}
+        job = session.drawing.text if session.drawing else b"null"
+        return _json(said)[:-1] + b',"job":' + job + b"}"
+
+    def state(self, page: str, told: int) -> tuple[bytes, int]:
+        """What a page shows, with the entries of the log behind the one that it was told last, and the last one now."""
+        log = [asdict(entry) for entry in list(self.session.face.log) if entry.id > told]
+        said = state_of(self.session) | {"log": log, "yours": self.pages.commands == page, "pages": len(self.pages),
+                                         "on_loss": self.pages.on_loss, "now": time.time()}
+        return _json(said), log[-1]["id"] if log else told
+
+    async def changed(self, seen: int) -> int:
+        """Waits until there is something new behind a version, for a second at most; returns the version."""
+        if self.session.face.version == seen:
+            self._new.clear()
+            with suppress(TimeoutError):
+                await asyncio.wait_for(self._new.wait(), _EVERY_S)
+        return self.session.face.version
+
+    async def do(self, name: str, page: str, words: dict) -> dict:
+        """Does what a page asks for. Whoever sees that something is wrong may hold, a page that watches too. Raises
+        Refused, Busy, BadWords, Failure, OSError."""
+        if name == "hold":
+            self.session.hold()
+            return {}
+        if name == "takeover":
+            self.pages.take_over(page)
+            return {}
+        if page != self.pages.commands:
+            raise Refused(HTTPStatus.FORBIDDEN, "another page commands: take over first")
+        if name not in DEEDS:
+            raise Refused(HTTPStatus.NOT_FOUND)
+        given = Given(self.session, self.pages, self._checked, words)
+        return await asyncio.to_thread(DEEDS[name], given) or {}
+
+    async def check(self, name: str, text: bytes) -> dict:
+        """What is wrong with a program; it is loaded by the `id` that is answered. Raises Failure, OSError."""
+        found = await asyncio.to_thread(self.session.check, text)
+        ident = f"{time.monotonic_ns():x}"
+        keep_checked(self._checked, name, text, ident)
+        return found | {"id": ident, "name": name, "bytes": len(text), "count": len(text.splitlines())}
+
+    @property
+    def uploads(self) -> asyncio.Semaphore:
+        """So many programs are taken at once."""
+        return self._uploads
+
+
+class _Connection:
+    """One connection."""
+
+    def __init__(self, server: Server, reader: asyncio.StreamReader, writer: asyncio.StreamWriter) -> None:
+        self.server, self.reader, self.writer = server, reader, writer
+
+    async def serve(self) -> None:
+        """Answers its requests. Raises OSError, TimeoutError."""
+        self.writer.get_extra_info("socket").setsockopt(socket.IPPROTO_TCP, socket.TCP_NODELAY, 1)
+        try:
+            while request := await self.server.next_request(self.reader):
+                path = self.server.checked_path(request)
+                if request.method == "GET" and path.partition("?")[0] == "events":
+                    await self._stream(path)
+                    return
+                async with asyncio.timeout(_REQUEST_S):
+                    body = await self._body(request, path)
+                await self._answer(request, path, body)
+        except Refused as error:
+            await self._send(error.status, _json({"why": str(error)}), _JSON, {"Connection": "close"})
+
+    async def _body(self, request: Request, path: str) -> bytes:
+        """The body of a request. Raises Refused."""
+        return await read_body(self.reader, request, MOST_LARGE_PROGRAM if path == "check" else _MOST_WORDS)
+
+    async def _answer(self, request: Request, path: str, body: bytes) -> None:
+        try:
+            if request.method == "GET":
+                await self._send(HTTPStatus.OK, *self._got(path))
+            else:
+                said = await self._posted(request, path, body)
+                await self._send(HTTPStatus.OK, _json(said), _JSON)
+        except Refused as error:
+            await self._send(error.status, _json({"why": str(error)}), _JSON)
+        except Busy as error:
+            await self._send(HTTPStatus.CONFLICT, _json({"why": str(error)}), _JSON)
+        except (Failure, BadWords) as error:
+            said = error.said() if isinstance(error, Failure) else str(error)
+            await self._send(HTTPStatus.UNPROCESSABLE_ENTITY, _json({"why": said}), _JSON)
+
+    def _got(self, path: str) -> tuple[bytes, str]:
+        name = path.partition("?")[0]
+        if name in ("program", "job"):
+            return self.server.program() if name == "program" else self.server.job(), _JSON
+        return self.server.static(name)
+
+    async def _posted(self, request: Request, path: str, body: bytes) -> dict:
+        """Does what is asked. Raises what `do` and `check` raise."""
+        page = request.headers.get("x-page", "")
+        if not _PAGE.fullmatch(page):
+            raise Refused(HTTPStatus.BAD_REQUEST, "no page")
+        if path == "check":
+            async with self.server.uploads:
+                return await self.server.check(_name(request.headers.get("x-name", "")), body)
+        if request.headers.get("content-type", "").partition(";")[0].strip() != _JSON:
+            raise Refused(HTTPStatus.UNSUPPORTED_MEDIA_TYPE)
+        try:
+            words = json.loads(body)
+        except ValueError:
+            raise Refused(HTTPStatus.BAD_REQUEST, "no JSON") from None
+        if not isinstance(words, dict):
+            raise Refused(HTTPStatus.BAD_REQUEST, "no object")
+        return await self.server.do(path, page, words)
+
+    async def _stream(self, path: str) -> None:
+        """Tells a page all that changes, as server-sent events."""
+        page = urllib.parse.parse_qs(path.partition("?")[2]).get("page", [""])[0]
+        if not _PAGE.fullmatch(page):
+            raise Refused(HTTPStatus.BAD_REQUEST, "no page")
+        if not self.server.pages.came(page):
+            raise Refused(HTTPStatus.SERVICE_UNAVAILABLE, "too many pages")
+        try:
+            self.writer.get_extra_info("socket").setsockopt(socket.IPPROTO_TCP, socket.TCP_USER_TIMEOUT,
+                                                            int(1000 * _LOST_S))
+            self.writer.transport.set_write_buffer_limits(0)
+            self.writer.write(head_of(HTTPStatus.OK, _HEADERS, "text/event-stream", None))
+            await self._tell(page)
+        finally:
+            self.server.pages.went(page)
+
+    async def _tell(self, page: str) -> None:
+        seen, told = -1, 0
+        while True:
+            seen = await self.server.changed(seen)
+            is_over = self.server.session.over.is_set()
+            text, told = self.server.state(page, told)
+            self.writer.write(b"data: " + text + b"\n\n")
+            async with asyncio.timeout(_LOST_S):
+                await self.writer.drain()
+            if is_over or self.reader.at_eof():
+                return
+            await asyncio.sleep(_APART_S)
+
+    async def _send(self, status: HTTPStatus, content: bytes, kind: str, more: dict[str, str] | None = None) -> None:
+        """Sends an answer. Raises TimeoutError for one that isn't taken."""
+        self.writer.write(head_of(status, _HEADERS | (more or {}), kind, len(content)) + content)
+        async with asyncio.timeout(_REQUEST_S):
+            await self.writer.drain()
+
+
+def _json(what: dict) -> bytes:
+    return json.dumps(what, separators=(",", ":")).encode()
+
+
+def _name(header: str) -> str:
+    """The name of an upload, for people: no path, and nothing that isn't printable."""
+    name = urllib.parse.unquote(header).replace("\\", "/").rpartition("/")[2]
+    return "".join(sign if sign.isprintable() else "\ufffd" for sign in name)[:80] or "a program"

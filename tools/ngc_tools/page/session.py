@@ -1,0 +1,339 @@
+"""A session of `ngc run` for pages: one thread gives all commands, by the operator's core.
+
+Whoever asks from another thread sets wishes, which are heeded within a piece of work, or gives one command where none
+is under way."""
+import secrets
+import threading
+import time
+from collections.abc import Callable
+from contextlib import suppress
+from dataclasses import dataclass, field
+from typing import Any
+
+from ngc_tools.failure import Failure
+from ngc_tools.formats.device import Device
+from ngc_tools.formats.settings import Settings
+from ngc_tools.ngc.console import Ended, Status
+from ngc_tools.operator.face import REFUSED, SAID, WARNING
+from ngc_tools.operator.operator import Operator
+from ngc_tools.operator.sentences import explained
+from ngc_tools.page.aside import Aside, Child, NotDone
+from ngc_tools.page.drawing import Drawing, Source, draw, draw_exactly
+from ngc_tools.page.face import PageFace
+from ngc_tools.page.findings import Check, find
+from ngc_tools.page.stand import Stand, recovery_of
+from ngc_tools.player.progress import Link, NoAnswer
+
+MOVES = {"run", "mdi", "resume", "recover", "restore", "release"}
+"""The commands that move the machine."""
+_LOOK_S = 0.15  # how often it looks while nothing runs
+_ASIDES = {"percent", "go", "optional", "delete"}
+_SWITCHES = {"optional", "delete"}
+
+
+class Busy(Failure):
+    """Something runs, or the session is over: what was asked isn't done."""
+
+
+@dataclass(frozen=True, slots=True)
+class Opened:
+    """A session of `ngc run` as it begins: the operator's core over it, what is said of OUT and the motors, the device
+    as it stood before, and a link by which its motors are held at once, if it has a player."""
+
+    operator: Operator
+    bound: str
+    found: Device | None
+    motors: Link | None
+
+
+Opens = Callable[[PageFace], Opened]
+"""Begins a session of `ngc run`; raises Failure or OSError where that can't be."""
+
+
+@dataclass(slots=True)
+class Command:
+    """Something that the session's thread does: its word, the wishes to hold and the entries of the log before it, and
+    once it is done its result, or why it failed."""
+
+    word: str
+    does: Callable[[], Any]
+    holds: int
+    since: int
+    done: threading.Event = field(default_factory=threading.Event)
+    result: Any = None
+    failed: Failure | OSError | None = None
+
+
+class Session:
+    """All that pages may do. `name` is that of the program that was loaded last, `program_id` and `job_id` grow with
+    each program and each drawing. `ended` says why `ngc` has ended, if it has; `over` is set once nothing follows."""
+
+    def __init__(self, opens: Opens, face: PageFace, machine: str = "") -> None:
+        """Begins it. `machine` is the machine's file, nothing for none. Raises what `opens` raises."""
+        self._opens, self.face, self.machine = opens, face, machine
+        self.aside = Aside()
+        self.over = threading.Event()
+        self.name, self.program_id = "", 1
+        self.drawing: Drawing | None = None
+        self.job_id, self.job_failed = 0, ""
+        self.started = 0.0  # when the program was started in this session, in seconds since 1970
+        self.is_finished = False  # it ran to its end, and nothing was begun since
+        self._next: Command | None = None
+        self.under: Command | None = None
+        self._wake = threading.Condition()
+        self._drawn: Child | None = None
+        self._draws = threading.Lock()
+        self._begin()
+
+    def _begin(self) -> None:
+        """Begins a session of `ngc run`, and its thread."""
+        self.opened = self._opens(self.face)
+        self.operator, self.ended = self.opened.operator, ""
+        self.ident = secrets.token_hex(8)  # a page that was shown another session begins anew
+        console = self.operator.console
+        self.settings = Settings.read(console.settings)
+        self.operator.begin(self.opened.bound, self.opened.found)
+        self.stand = Stand(console.status(), Device.read(console.device))
+        self._source = self._source_of(self.stand.device)
+        if self.stand.status.place and self.opened.found is not None:
+            self._source = self._source_of(self.opened.found)
+        self._look()
+        self.draw(False)
+        self._thread = threading.Thread(target=self._work, name="session")
+        self._thread.start()
+
+    # what pages ask for
+
+    @property
+    def is_busy(self) -> bool:
+        """Whether a command is under way."""
+        return self.under is not None or self._next is not None
+
+    def give(self, word: str, does: Callable[[], Any]) -> Command:
+        """Gives the session's thread something to do. Raises Busy."""
+        with self._wake:
+            if self.ended or self.over.is_set():
+                raise Busy(self.ended or "the session is over")
+            if self.is_busy:
+                raise Busy("something runs: hold first")
+            command = self._next = Command(word, does, self.face.holds, self.face.last_id())
+            self._wake.notify_all()
+        return command
+
+    def ask(self, word: str, does: Callable[[], Any], patience_s: float = 10.0) -> Any:
+        """Gives it something to do, and waits for the result. Raises Busy, and what it failed by."""
+        command = self.give(word, does)
+        command.done.wait(patience_s)
+        if command.failed:
+            raise command.failed
+        return command.result
+
+    def type(self, line: str) -> None:
+        """Does a command of the operator's core, as a person types it. Raises Busy."""
+        self.give(line.split()[0], lambda: self.operator.do(line))
+
+    def tell(self, line: str) -> None:
+        """Does a short command, and waits for it; one that may come while something runs is given then. Raises Busy."""
+        word = line.split()[0]
+        if word in _ASIDES and self.is_busy:
+            self.face.give_aside(line)
+        else:
+            self.ask(word, lambda: self.operator.do(line))
+        if word in _SWITCHES:
+            self.draw(False)
+
+    def hold(self) -> None:
+        """Holds at once, whatever is under way: the motors first, then `ngc`. It waits for nothing."""
+        if self.opened.motors and self.stand.has_ramps:
+            with suppress(NoAnswer):  # the session's thread says it
+                self.opened.motors.hold()
+        self.face.hold()
+        with suppress(Busy):
+            self.give("hold", lambda: self.operator.do("hold"))
+
+    def run(self, line: str) -> None:
+        """Starts the program, or goes on with it, by `run` or `run anyway`. Raises Busy."""
+        def does() -> None:
+            self.face.message = ""
+            if not self.stand.status.place and self.stand.status.does == "idle":
+                self.started = time.time()
+                self.draw(True)
+            self.operator.do(line)
+        self.give("run", does)
+
+    def load(self, name: str, text: bytes) -> bool:
+        """Stores a program that people call `name`; whether it was taken. Raises Busy."""
+        def does() -> bool:
+            if not self.operator.load(name, text):
+                return False
+            self.name, self.program_id, self.started = name, self.program_id + 1, 0.0
+            self.face.message = ""
+            self.draw(True)
+            return True
+        return bool(self.ask("load", does, 600))
+
+    def check(self, text: bytes) -> dict:
+        """What `ngc-check` finds of a text, which begins as the device stands. Raises NotDone, OSError."""
+        console = self.operator.console
+        check = Check(console.ngc, console.settings, self.stand.device.image, self.operator.session.delete)
+        return self.aside.call(find, check, text)
+
+    def restart(self) -> None:
+        """Begins a session of `ngc run` anew, after it has ended. Raises Busy, and what `Opens` raises."""
+        with self._wake:
+            if not self.ended or self.over.is_set():
+                raise Busy("ngc hasn't ended")
+            if self._thread.is_alive():
+                raise Busy("it isn't through yet")
+            self._begin()
+        self.face.publish()
+
+    def quit(self) -> None:
+        """Ends the session, once a person agrees to what that leaves. Raises Busy."""
+        if self.ended:
+            self.over.set()
+            self.face.publish()
+            return
+        self.give("quit", lambda: self.operator.do("quit"))
+
+    def leave(self) -> None:
+        """Nobody is there any more: holds what is under way, and waits for the end of it, for ten seconds at most."""
+        self.over.set()
+        self.face.leave()
+        with self._wake:
+            self._wake.notify_all()
+        self._thread.join(10)
+        self.aside.close()
+
+    # its thread
+
+    def _work(self) -> None:
+        while not self.over.is_set() and not self.ended:
+            with self._wake:
+                if self._next is None:
+                    self._wake.wait(_LOOK_S)
+                self.under, self._next = self._next, None
+            try:
+                if self.under:
+                    self._do(self.under)
+                self._look()
+            except Ended as ended:
+                self._tell_end(ended)
+            finally:
+                command, self.under = self.under, None
+                if command:
+                    command.done.set()
+                    self.face.publish()
+
+    def _do(self, command: Command) -> None:
+        """Does a command, and sees how it ended."""
+        self.face.begin(command.holds)
+        self.face.publish()
+        before = self.stand.status
+        try:
+            command.result = command.does()
+        except Ended:
+            raise
+        except (Failure, OSError) as error:
+            command.failed = error
+            self.face.say(error.said() if isinstance(error, Failure) else str(error), WARNING)
+        if self.operator.over:
+            self._quit()
+        elif command.word in MOVES | {"load"}:
+            self._see_end(command, before)
+
+    def _see_end(self, command: Command, before: Status) -> None:
+        """Sees whether the program ran to its end."""
+        status = self.operator.console.status()
+        ran = command.word in ("run", "resume", "recover") and (before.place or before.half == "program"
+                                                                or before.entries != status.entries)
+        at_start = status.does == "idle" and status.half == "none" and not status.place
+        self.is_finished = bool(ran and at_start and not self.face.refusal)
+
+    def _quit(self) -> None:
+        """The end that a person wanted."""
+        self.operator.ending.tell_player()
+        status = self.operator.console.quit()
+        self.ended = "the session was ended" if not status else f"ngc ended with status {status}"
+        self.over.set()
+
+    def _tell_end(self, ended: Ended) -> None:
+        """The end that nobody wanted."""
+        refusals = [explained(reply) for reply in ended.replies if reply.startswith("refused")]
+        self.ended = f"ngc ended with status {ended.status}" + (f": {refusals[-1]}" if refusals else "")
+        self.face.say(f"{self.ended}. What is stored stays", REFUSED)
+
+    def _look(self) -> None:
+        """Looks how all stands."""
+        if self.ended:
+            return
+        operator, before = self.operator, self.stand
+        gone = ""
+        try:
+            status, report = operator.look()
+        except NoAnswer as error:
+            status, report, gone = operator.console.status(), before.report, str(error)
+        self.face.report = report
+        recovery = recovery_of(operator.recover.found)
+        self.stand = before.after(status, report, gone, recovery, operator.console.device)
+        if self.stand != before:
+            self.face.publish()
+
+    # what is drawn
+
+    def draw(self, is_begun: bool) -> None:
+        """Draws the stored program aside; `is_begun` says that it begins as the device stands now."""
+        with self._draws:
+            if is_begun:
+                self.stand = self.stand.read_anew(self.operator.console.device)
+                self._source = self._source_of(self.stand.device)
+            self._source = self._source_with(self.operator.session.delete)
+            before, self._drawn = self._drawn, None
+            if before:
+                before.give_up()
+            source = self._source
+        threading.Thread(target=self._drawn_aside, args=[source], daemon=True).start()
+
+    def _source_of(self, device: Device) -> Source:
+        """What is drawn where a program is to begin, or began, as a device stands."""
+        console, delete = self.operator.console, self.operator.session.delete
+        return Source(console.ngc, console.settings, self.machine, device.image, not device.state.place, delete)
+
+    def _source_with(self, delete: bool) -> Source:
+        last = self._source
+        return Source(last.ngc, last.settings, last.machine, last.image, last.is_begun_there, delete)
+
+    def _drawn_aside(self, source: Source) -> None:
+        """Draws with times by length, then with exact ones, until something else is to be drawn."""
+        try:
+            if not self.operator.session.program.text:
+                self._take(source, None)
+                return
+            drawing = self._call(source, draw, source)
+            self._take(source, drawing)
+            if drawing is not None:
+                self._take(source, self._call(source, draw_exactly, source, drawing))
+        except (NotDone, OSError) as error:
+            self._take(source, None, str(error))
+
+    def _call(self, source: Source, function: Callable, *given: Any) -> Any:
+        with self._draws:
+            if source is not self._source:
+                return None
+            child = self._drawn = self.aside.begin(function, *given)
+        return self.aside.finish(child)
+
+    def _take(self, source: Source, drawing: Drawing | None, failed: str = "") -> None:
+        """Takes what was drawn, if nothing newer is wanted."""
+        with self._draws:
+            if source is not self._source:
+                return
+            if drawing is not None or not failed or self.drawing is None or not self.drawing.is_exact:
+                self.drawing = drawing if drawing is not None or not failed else self.drawing
+            self.job_failed = failed
+            self.job_id += 1
+        self.face.publish()
+
+    def say(self, text: str, kind: str = SAID) -> None:
+        """Says something of the pages themselves."""
+        self.face.say(text, kind)

@@ -1,0 +1,159 @@
+"""What pages show and what changes, as JSON has it."""
+from ngc_tools.formats.device import Device
+from ngc_tools.formats.lines import Program
+from ngc_tools.formats.out import Switch
+from ngc_tools.formats.position import millimetres, nanometres
+from ngc_tools.formats.text import shown_line
+from ngc_tools.ngc.console import Status
+from ngc_tools.operator.display import in_force_on, outputs_on
+from ngc_tools.operator.motors import way_nm
+from ngc_tools.page.face import LOOKS
+from ngc_tools.page.session import MOVES, Session
+from ngc_tools.page.stand import Stand
+from ngc_tools.player.progress import Report
+
+_IN_MODES = ("unit", "distance", "plane", "system", "feed_mode", "motion")
+
+
+class Pictured:
+    """How a session stands at one moment."""
+
+    def __init__(self, session: Session) -> None:
+        self.session, self.face = session, session.face
+        self.operator, self.stand = session.operator, session.stand
+        self.command, view = session.under, session.face.view
+        self.status: Status = view.status if view and self.command else self.stand.status
+        self.report: Report | None = self.face.report
+        self.device: Device = self.stand.device
+        self.program: Program = self.operator.session.program
+
+    def plain(self) -> dict:
+        """All of it."""
+        return {**self._words(), **self._machine(), **self._motors(), **self._in_force(), **self._session()}
+
+    @property
+    def number(self) -> int:
+        """The line under way, from 1. `ngc` is some lines ahead of a player that waits for a tool."""
+        number = self.program.number(self.status.place)
+        if self.report and self.report.waits and self.session.drawing:
+            changes = [line for line in self.session.drawing.tools if line <= number]
+            return max(changes, default=number)
+        return number
+
+    def _machine(self) -> dict:
+        status, face = self.status, self.face
+        state, session = self.device.state, self.operator.session
+        question = face.question and {"id": face.question.id, "text": face.question.text, "kind": face.question.kind,
+                                      "purpose": "look" if face.question.text in LOOKS else ""}
+        return {"does": status.does, "half": status.half, "segment": status.segment, "known": status.known,
+                "entries": status.entries, "line": self.number, "place": status.place, "at": status.at,
+                "own": session.own, "optional": session.optional, "delete": session.delete, "question": question,
+                "message": face.message, "half_text": shown_line(state.half_text) if state.half else "",
+                "half_opened": state.opened, "busy": self.command is not None, "moving": self._moves(),
+                "command": self.command and {"word": self.command.word, "since": self.command.since}}
+
+    def _motors(self) -> dict:
+        """Where the motors are, with the outputs as they have them: `ngc` may be ahead of them."""
+        report, meter = self.report, self.operator.session.meter
+        out = report.outputs if report else outputs_on(self.device.state)
+        said = {"player": meter is not None, "player_gone": self.stand.gone, "motors": report and report.at.split(),
+                "speed": out.speed / 10**6, "spindle": out.spindle, "mist": out.mist, "flood": out.flood,
+                "slot": out.slot, "selected": out.selected, "recover": self.stand.recovery}
+        if not report or not meter:
+            return said | {"behind": None, "waits": False, "ahead": None, "percent": 100, "has_percent": False,
+                           "held_motors": False, "behind_mm": None, "keeps": False}
+        return said | {"behind": report.behind, "waits": report.waits, "waits_tool": report.tool,
+                       "ahead": meter.limit(report), "percent": report.percent, "has_percent": report.wants > 0,
+                       "held_motors": report.is_held, "keeps": self.operator.recover.found is not None,
+                       "behind_mm": way_nm(report, self.session.settings) / 10**6}
+
+    def _in_force(self) -> dict:
+        state = self.device.state
+        in_force = in_force_on(state)
+        x, y, z = map(nanometres, self.report.at.split() if self.report else self.status.at)
+        return {"work": list(map(millimetres, in_force.to_program((x, y, z)))), "feed": state.feed_nm_per_min / 10**6,
+                "tool_length": millimetres(state.tool_length_nm), "origin": list(map(millimetres, in_force.origin)),
+                "tools": list(map(millimetres, self.device.tools_nm)),
+                **{name: getattr(state, name) for name in _IN_MODES}}
+
+    def _session(self) -> dict:
+        session = self.session
+        return {"session": session.ident, "ended": session.ended, "over": session.over.is_set(),
+                "program": {"id": session.program_id, "name": session.name, "lines": self.program.count},
+                "job": session.job_id, "finished": session.is_finished, "started": session.started}
+
+    def _moves(self) -> bool:
+        """Whether a command is under way that moves the machine, and nobody has to look or agree first."""
+        if self.command is None or self.face.question is not None or self.command.word not in MOVES:
+            return False
+        return self.command.word not in ("resume", "recover") or self.face.has_looked
+
+    # in words
+
+    def _words(self) -> dict:
+        word, tone, detail = self._word()
+        return {"word": word, "tone": tone, "detail": detail}
+
+    def _word(self) -> tuple[str, str, str]:
+        """What the machine does, in a word, its tone, and more of it."""
+        session, report = self.session, self.report
+        if session.ended:
+            return "Ended", "fail", session.ended
+        if self.status.does == "broken":
+            return "Device failed", "fail", "Remove the cause, then start again. What is stored stays"
+        if self.stand.gone:
+            return "Player gone", "fail", "Nothing more is handed out. Start the player again"
+        if report and report.waits:
+            detail = f"Put in tool {report.tool}" if report.tool else "Take the tool out"
+            return "Tool change", "ask", detail
+        if self.face.question and self.face.question.text in LOOKS:
+            return "Switched on", "ask", "Nothing has moved. Look at spindle, tool and way"
+        if self.face.question:
+            return "Question", "ask", self.face.question.text
+        if self._is_running():
+            return "Running", "run", self.operator.session.own or self._here
+        return self._at_rest()
+
+    def _is_running(self) -> bool:
+        return self.command is not None and (self.command.word in MOVES or self.status.does == "running")
+
+    @property
+    def _here(self) -> str:
+        return f"line {self.number} of {self.program.count}" if self.program.text else ""
+
+    def _at_rest(self) -> tuple[str, str, str]:
+        """The same while nothing runs."""
+        status, here = self.status, self._here
+        if status.does == "held" or self.report and self.report.is_held and self.report.behind:
+            return "Held", "hold", f"Before the rest of {here}" if here else "Continue goes on"
+        if status.half != "none":
+            within = here if status.half == "program" else "a line of yours"
+            return "Half-done", "ask", f"Power was lost, or the session ended, within {within}"
+        if self.stand.recovery and self.stand.recovery["left"]:
+            return "Lines left", "ask", "Lines stand in OUT that no motor carried out"
+        if not status.known:
+            return "Place unknown", "ask", "Tell where the machine stands"
+        if self.face.refusal:
+            return "Refused", "fail", _short(self.face.refusal)
+        if status.does == "stopped":
+            return "Stopped", "ask", self.face.message or f"Continue goes on with {here}"
+        return "Idle", "idle", self._idle()
+
+    def _idle(self) -> str:
+        if not self.program.text:
+            return "No program is loaded"
+        if self.session.is_finished:
+            return "The program ran to its end"
+        return f"Next is {self._here}" if self.status.place else "Ready"
+
+
+def _short(refusal: str) -> str:
+    """A refusal in one sentence; the log has all of it."""
+    where, _, what = refusal.rpartition("refused ") if refusal.startswith("line ") else ("", "", refusal)
+    what = what.removeprefix("refused ").partition("\n")[0].partition(". ")[0]
+    return f"{where.strip()}: {what}" if where else what
+
+
+def state_of(session: Session) -> dict:
+    """All that a page shows and that changes."""
+    return Pictured(session).plain()
