@@ -10,7 +10,7 @@ import tempfile
 import time
 from pathlib import Path
 
-PATIENCE_S = 60
+PATIENCE_S = int(os.environ.get("NGC_PATIENCE_S", 60))
 NAMES = ("chromium", "chromium-browser", "google-chrome")
 WORDS = ("--headless=new", "--no-sandbox", "--disable-gpu", "--no-first-run", "--disable-background-networking",
          "--disable-component-update", "--disable-sync", "--disable-extensions", "--hide-scrollbars", "--mute-audio",
@@ -127,13 +127,13 @@ class Browser:
         """Waits until an expression holds, and returns its value. Raises Failed."""
         until = time.monotonic() + PATIENCE_S
         while time.monotonic() < until:
+            failed = ""
             try:
-                if found := self.js(expression):
+                found = self.js(f"({expression}) || null")
+                if found is not None:
                     return found
             except Failed as error:  # as while a page is loaded
                 failed = str(error)
-            else:
-                failed = ""
             time.sleep(0.02)
         state = self.js("window.ngc && JSON.stringify(ngc.state).slice(0, 2000)")
         raise Failed(f"waited in vain for {expression} {failed}; {state}")

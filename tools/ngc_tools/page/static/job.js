@@ -47,7 +47,7 @@ export class Job {
     return low;
   }
 
-  // The step that the motors are on: `ngc` is ahead of them, so it is `now` or one that was handed out shortly before.
+  // The step that the motors are on: `now`, or one that was handed out shortly before, since `ngc` is ahead of them.
   reached(now, at, aheadUm) {
     let step = now, way = aheadUm, best = this.along(now, at), found = now;
     while (best.off > NEAR_UM && step > 0 && way > 0) {
@@ -96,7 +96,7 @@ export class Job {
 
   pointsOf(step) {
     const found = [];
-    for (let i = this.first[step]; i < this.first[step + 1]; i++) found.push([...this.points.subarray(3 * i, 3 * i + 3)]);
+    for (let i = 3 * this.first[step]; i < 3 * this.first[step + 1]; i += 3) found.push([...this.points.subarray(i, i + 3)]);
     return found;
   }
 
@@ -131,7 +131,8 @@ function bands(job) {
   const deep = new Float64Array(job.count).fill(Infinity), band = new Uint8Array(job.count);
   job.line.forEach((_, step) => { if (job.kind[step] === CUT) deep[step] = lowest(job, step); });
   const cuts = deep.filter(Number.isFinite);
-  const top = cuts.reduce((a, b) => Math.max(a, b), -Infinity), bottom = cuts.reduce((a, b) => Math.min(a, b), Infinity);
+  const top = cuts.reduce((a, b) => Math.max(a, b), -Infinity);
+  const bottom = cuts.reduce((a, b) => Math.min(a, b), Infinity);
   if (top > bottom) {
     deep.forEach((z, step) => { if (z < Infinity) band[step] = Math.round((BANDS - 1) * (top - z) / (top - bottom)); });
   }

@@ -8,21 +8,23 @@ export async function load(file, asks) {
     [sheet.gap(), el('button', { onclick: sheet.close }, 'Back')]);
   try {
     const found = await check(file);
-    parts.words.replaceChildren(el('p', { class: 'soft' }, `${grouped(found.bytes)} bytes, ${counted(found.count, 'line')}`),
-      verdict(found), ...found.refusals.map(refusal), ...found.warnings.map(warning));
+    const size = el('p', { class: 'soft' }, `${grouped(found.bytes)} bytes, ${counted(found.count, 'line')}`);
+    parts.words.replaceChildren(size, verdict(found), ...found.refusals.map(refusal), ...found.warnings.map(warning));
     parts.foot.append(loading(found, asks));
   } catch (error) {
     parts.words.replaceChildren(sheet.warning(error.message, 'bad'));
   }
 }
 
-function verdict({ refusals, warnings, more }) {
+function verdict({ refusals, warnings, more, unreadable }) {
+  if (unreadable) return sheet.warning(unreadable, 'bad');
   if (refusals.length) {
-    return sheet.warning(`${counted(refusals.length, 'line')} refused${more ? ', and more' : ''}. A refused line stops the `
-      + 'program there. Mend these, and load it again.', 'bad');
+    return sheet.warning(`${counted(refusals.length, 'line')} refused${more ? ', and more' : ''}. A refused line stops `
+      + 'the program there. Mend these, and load it again.', 'bad');
   }
   if (!warnings.length) return sheet.warning('No line is refused, and there are no warnings.', 'fine');
-  return sheet.warning(`No line is refused. ${counted(warnings.length, 'warning')}: what is valid may be meant otherwise.`);
+  return sheet.warning(`No line is refused. ${counted(warnings.length, 'warning')}: what is valid may be meant `
+    + 'otherwise.');
 }
 
 function refusal(one) {
@@ -32,17 +34,17 @@ function refusal(one) {
 }
 
 function warning(one) {
-  return el('div', { class: 'finding mild' }, el('h3', {}, one.line ? `Line ${one.line}  ` : '', el('span', {}, 'Warning')),
+  const where = one.line ? `Line ${one.line}  ` : '';
+  return el('div', { class: 'finding mild' }, el('h3', {}, where, el('span', {}, 'Warning')),
     one.text.trim() ? el('pre', {}, one.text) : null, el('p', {}, one.what));
 }
 
 function loading(found, asks) {
   const isRefused = found.refusals.length > 0;
   const button = el('button', { class: isRefused ? '' : 'go' }, isRefused ? 'Load it all the same' : 'Load');
-  button.onclick = async () => {
-    button.disabled = true;
-    await asks('load', { id: found.id });
+  button.onclick = () => {
     sheet.close();
+    asks('load', { id: found.id });
   };
   return button;
 }

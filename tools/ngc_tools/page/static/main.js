@@ -13,7 +13,7 @@ import { Setup } from './setup.js';
 import * as sheet from './sheet.js';
 import * as tools from './tools.js';
 
-const app = { state: null, job: null, travel: null, never: [], programId: null, jobId: null, asked: 0 };
+const app = { state: null, job: null, travel: null, never: [], programId: null, jobId: null, asked: 0, hasTyped: false };
 window.ngc = app; // for who looks at the page from outside, as tests do
 
 const log = new Log();
@@ -24,7 +24,7 @@ const picture = new Picture($('canvas'), (um, px) => {
   text($('scale'), um >= 1000 ? `${grouped(um / 1000)} mm` : `${um} µm`);
   $('scale').style.width = `${px}px`;
 });
-const recovery = new Recovery(app, asks);
+const recovery = new Recovery(app, asks, log);
 
 // Asks the server for something. Gives its answer, or null where it isn't done, which is said.
 async function asks(what, body) {
@@ -65,7 +65,7 @@ function show(s) {
 function showWords(s) {
   document.body.dataset.tone = s.tone;
   text($('word'), s.word);
-  text($('detail'), s.detail);
+  text($('detail'), s.word === 'Question' ? question.read(s.question).says : s.detail);
   document.title = `${s.word} \u2013 ngc`;
   document.body.classList.toggle('blind', Boolean(s.player_gone || s.ended));
   const others = s.pages - 1;
@@ -77,7 +77,7 @@ function showControls(s) {
   $('takeover').hidden = s.yours;
   $('load').disabled = !app.isIdle;
   $('quit').disabled = s.busy || !s.yours;
-  $('restart').hidden = !(s.can?.restart && s.yours);
+  $('restart').hidden = !(s.ended && !s.over && s.yours);
   for (const one of [$('line'), $('do')]) one.disabled = !(app.isRest && s.does !== 'broken');
   $('hold').disabled = Boolean(s.ended);
   for (const name of ['single', 'optional', 'delete']) {
@@ -94,15 +94,22 @@ function showControls(s) {
 // What the large button does now.
 function running(s) {
   const isHalf = s.half !== 'none' && !s.busy && s.does === 'idle';
-  if (s.waits) return ['Tool is in', s.yours, () => asks('go')];
+  if (s.waits) return [s.waits_tool ? `Tool ${s.waits_tool} is in` : 'Tool is out', s.yours, () => asks('go')];
   if (s.question) return ['Answer first', false, null];
   if (isHalf) return ['Recover', s.yours && !recovery.isOpen, () => recovery.begin()];
   if (s.player_gone || s.alarm) return ['Run', false, null];
+  if (s.recover?.left && !s.busy && s.half === 'none') return ['Recover', s.yours, takeUpLines];
   if (s.held_motors && s.does !== 'held' && !s.busy) return ['Let go on', s.yours, () => asks('release')];
-  if (s.does === 'held') return ['Continue', s.yours && !s.busy, () => asks('run')];
-  if (s.does === 'stopped') return ['Continue', app.isRest, () => goOn(s, 'Continue')];
+  if (s.does === 'held') return ['Continue', s.yours && !s.busy, run];
+  if (s.does === 'stopped') return ['Continue', app.isRest, () => (app.hasTyped ? goOn(s, 'Continue') : run())];
   if (s.place > 0 && !s.busy) return [`Run from ${s.line}`, app.isRest && s.known, () => goOn(s, `Run from ${s.line}`)];
-  return ['Run', app.isRest && s.known && s.program.lines > 0 && !app.job?.refused, () => asks('run')];
+  return ['Run', app.isRest && s.known && s.program.lines > 0 && !app.job?.refused, run];
+}
+
+// Starts the program, or goes on with it.
+function run() {
+  app.hasTyped = false;
+  return asks('run');
 }
 
 // A question that isn't of the recovery comes as a sheet of its own.
@@ -113,7 +120,8 @@ function showQuestion(s) {
     sheet.close();
   } else {
     const { content, buttons } = question.parts(s.question, s.yours, asks);
-    sheet.open('A question', content, [sheet.gap(), ...buttons]);
+    const said = log.since(s.command?.since ?? Infinity, ['said', 'warning', 'refused']);
+    sheet.open('A question', [el('pre', { class: 'all' }, said.join('\n')), ...content], [sheet.gap(), ...buttons]);
   }
   app.asked = id;
 }
@@ -172,6 +180,16 @@ async function fetchNew(s) {
   show(app.state);
 }
 
+// Lines stand in OUT that no motor carried out, and no block is half-done.
+function takeUpLines() {
+  const { words } = app.state.recover, does = what => () => { sheet.close(); asks(what); };
+  sheet.open('Lines that no motor carried out', [el('p', { class: 'asked' }, words),
+    el('p', {}, 'Recover lets the motors go there, each step asked. Drop cuts these lines off, and nothing makes them any '
+      + 'more.')],
+  [el('button', { onclick: sheet.close }, 'Back'), sheet.gap('Nothing moves yet.'), el('button', { onclick: does('drop') }, 'Drop'),
+    el('button', { class: 'go', onclick: does('recover') }, 'Recover')]);
+}
+
 // From the middle of a program what is on stays as it is, and a cut may come first: it is rehearsed before.
 async function goOn(s, title) {
   const found = await asks('rehearse');
@@ -188,7 +206,7 @@ async function goOn(s, title) {
     sheet.warning(spindle, s.spindle ? 'fine' : ''),
     el('div', { class: 'lead' }, program.line(s.line)),
     el('p', {}, `The tool goes on from where it is now: ${point(s.at)}. Look that the way is free.`),
-    el('pre', { class: 'all' }, (found.lines ?? []).join('\n'))], title, () => asks('run', { agreed: true }));
+    el('pre', { class: 'all' }, (found.lines ?? []).join('\n'))], title, run);
 }
 
 // ---- what people touch
@@ -214,7 +232,9 @@ $('restart').onclick = () => asks('restart');
 $('typed').addEventListener('submit', async event => {
   event.preventDefault();
   const line = $('line').value.trim();
-  if (line && await asks('mdi', { line })) $('line').select();
+  if (!line || !await asks('mdi', { line })) return;
+  app.hasTyped = true;
+  $('line').select();
 });
 for (const name of ['single', 'optional', 'delete']) {
   $(name).onclick = () => asks('switch', { name, on: $(name).getAttribute('aria-checked') !== 'true' });

@@ -8,8 +8,8 @@ import * as paint from './paint.js';
 import { View } from './view.js';
 
 const BANDS = 5, FINE_PX = 0.6, COARSE_PX = 3, SETTLED_MS = 140;
-const NAMES = ['panel', 'line', 'soft', 'faint', 'amber', 'red', 'violet', 'blue', 'cross', 'grid', 'grid-strong',
-  'path-done', 'path-deep', 'path-left', 'path-rapid'];
+const NAMES = ['panel', 'line', 'soft', 'faint', 'amber', 'red', 'violet', 'cross', 'grid', 'grid-strong',
+  'path-now', 'path-done', 'path-deep', 'path-left', 'path-rapid'];
 
 export class Picture {
   // `scaled` is told how many micrometres and pixels the scale is long.
@@ -107,7 +107,8 @@ export class Picture {
 
   paint() {
     const ratio = devicePixelRatio || 1, { width, height } = this;
-    for (const canvas of [this.canvas, this.layer]) this.sized(canvas, Math.round(width * ratio), Math.round(height * ratio));
+    const size = [Math.round(width * ratio), Math.round(height * ratio)];
+    for (const canvas of [this.canvas, this.layer]) this.sized(canvas, ...size);
     this.m = this.view.map(width, height);
     this.em = parseFloat(getComputedStyle(document.body).fontSize);
     this.paintLayer(this.layer.getContext('2d'), ratio);
@@ -210,7 +211,7 @@ export class Picture {
     if (!job || now < 0 || job.kind[now] === WAIT) return;
     const points = job.pointsOf(now);
     g.lineJoin = g.lineCap = 'round';
-    g.strokeStyle = colours.amber;
+    g.strokeStyle = colours['path-now'];
     g.lineWidth = 4;
     g.setLineDash(job.kind[now] === TRAVERSE ? [7, 6] : []);
     g.globalAlpha = 0.42;

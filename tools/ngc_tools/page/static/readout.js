@@ -66,7 +66,7 @@ export class Readout {
     }
     const speed = grouped(s.speed);
     if (s.spindle) fill(gauges.Spindle, `${TURNS[s.spindle]} ${speed}`, '/min');
-    else fill(gauges.Spindle, 'stands', s.speed ? `set ${speed}` : '', true);
+    else fill(gauges.Spindle, 'off', s.speed ? `set ${speed}` : '', true);
     const flows = [s.mist && 'mist', s.flood && 'flood'].filter(Boolean);
     fill(gauges.Coolant, flows.join(' + ') || 'off', '', !flows.length);
   }
@@ -76,9 +76,10 @@ export class Readout {
     $('override').hidden = !s.has_percent;
     text($('percent'), `Override ${this.percent} %`);
     $('percent').classList.toggle('apart', this.percent !== 100);
-    $('percent').disabled = !s.yours;
-    $('slower').disabled = !s.yours || this.percent <= 10;
-    $('faster').disabled = !s.yours || this.percent >= 100;
+    const isFree = s.yours && !s.player_gone && !s.ended;
+    $('percent').disabled = !isFree;
+    $('slower').disabled = !isFree || this.percent <= 10;
+    $('faster').disabled = !isFree || this.percent >= 100;
   }
 
   // What a loss of power would cost now: lines that were handed out, and that no motor has carried out.

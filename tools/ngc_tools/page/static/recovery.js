@@ -1,17 +1,18 @@
 // After a loss of power: what was stored, where the machine is, a rehearsal, and then step by step. Nothing moves and
 // nothing is switched before the last step.
-import { $, AXES, counted, el, grouped, lasting, micrometres, mm, point, typedNumber } from './dom.js';
+import { AXES, counted, el, grouped, lasting, micrometres, mm, point, typedNumber } from './dom.js';
 import { Picture } from './picture.js';
 import * as question from './question.js';
 import * as sheet from './sheet.js';
 
+const LEFT = 'Lines stand in OUT that no motor carried out, and recover goes by the place of the record. Home the machine, and '
+  + 'start the player anew with --at and the coordinates of its home.';
 const NAMES = ['Stored', 'Where it stands', 'Rehearsal', 'Step by step'];
 
 export class Recovery {
-  // `app` has the state and the job; `asks` sends a request, and gives its answer, or null.
-  constructor(app, asks) {
-    this.app = app;
-    this.asks = asks;
+  // `app` has the state and the job; `asks` sends a request, and gives its answer, or null; `log` knows what was said.
+  constructor(app, asks, log) {
+    Object.assign(this, { app, asks, log });
     this.isOpen = false;
     this.isLater = false;    // somebody put it off
   }
@@ -55,17 +56,27 @@ export class Recovery {
     this.picture.marks = begins?.length ? [{ point: micrometres(begins), colour: 'amber', label: 'the segment begins' }] : [];
     this.picture.ways = (this.app.never ?? []).map(points => ({ points, colour: 'red', isSolid: true }));
     const way = this.step >= 2 && this.way();
-    if (way) this.picture.ways.push({ points: way.points.map(micrometres), colour: 'violet' });
+    if (way) this.picture.ways.push({ points: way, colour: 'violet' });
     const here = state.busy ? state.motors ?? state.at : isTyped ? this.at : null;
     this.picture.at(at.done, at.now, 0, here && micrometres(here));
     this.picture.draw();
   }
 
-  // The way that will be gone: that of recover where there is one, else the straight approach.
+  // What recover would do, from where the record has the motors; null where it isn't that, or can't be done.
+  get along() {
+    const { recover, motors } = this.app.state;
+    const isRecord = motors && this.at.every((number, i) => Number(number) === Number(motors[i]));
+    return recover && !recover.problem && isRecord ? recover : null;
+  }
+
+  // The way that will be gone, as points.
   way() {
-    const { plan } = this;
-    if (plan?.way?.points) return plan.way;
-    return plan?.approach ? { points: [plan.approach.from, plan.approach.to] } : null;
+    const { along, plan } = this, { state, job } = this.app;
+    if (!along) return plan?.approach ? [plan.approach.from, plan.approach.to].map(micrometres) : null;
+    const stands = micrometres(along.stands), ends = micrometres(along.at), now = job ? job.place(state).now : -1;
+    const here = now < 0 ? { off: Infinity } : job.along(now, stands);
+    if (!along.way?.back || here.off > 100) return along.there ? null : [stands, ends];
+    return [stands, ...job.pointsOf(now).slice(0, here.part).reverse()];
   }
 
   rehearse(at) { return this.asks('rehearse', at ? { at } : {}); }
@@ -189,11 +200,13 @@ export class Recovery {
         [this.back(1), sheet.gap()]);
       return;
     }
-    const said = plan.way ? alongOut(plan) : plan.approach ? straight(plan) : [];
-    this.put([...said, plan.refused ? sheet.warning(plan.refused, 'bad') : null, lost(plan),
-      el('details', {}, el('summary', {}, 'All that the rehearsal says'), el('pre', { class: 'all' }, (plan.lines ?? []).join('\n')))],
-    [this.back(1), sheet.gap('Nothing has moved.'),
-      this.next('Next: step by step', () => this.go(3), Boolean(plan.way || plan.approach))]);
+    const { recover } = this.app.state, { along } = this;
+    const said = along ? alongOut(along, plan) : plan.approach ? straight(plan) : [];
+    const canGo = Boolean(along || plan.approach && !recover?.left);
+    this.put([...said, recover?.problem ? sheet.warning(recover.problem, 'bad') : null,
+      canGo ? null : sheet.warning(LEFT, 'bad'), plan.refused ? sheet.warning(plan.refused, 'bad') : null,
+      el('details', {}, el('summary', {}, 'All that the rehearsal says'), el('pre', { class: 'all' }, plan.lines.join('\n')))],
+    [this.back(1), sheet.gap('Nothing has moved.'), this.next('Next: step by step', () => this.go(3))]);
   }
 
   // ---- 4: step by step
@@ -208,12 +221,14 @@ export class Recovery {
 
   questioned(state) {
     const { content, buttons } = question.parts(state.question, state.yours, this.asks);
+    const said = this.log.since(state.command?.since ?? 0, ['said', 'warning', 'refused']);
+    const gap = sheet.gap('Hold and the space bar work at any moment.');
     if (state.question.purpose === 'look') {
       this.put([el('h2', {}, 'The outputs are switched, and nothing has moved. Look:'), ...this.looks(state, buttons[1])],
-        [sheet.gap('Space bar and Hold work at any moment.'), ...buttons]);
+        [gap, ...buttons]);
       return;
     }
-    this.put([el('h2', {}, 'Look, and answer'), ...content], [sheet.gap('Space bar and Hold work at any moment.'), ...buttons]);
+    this.put([el('pre', { class: 'all' }, said.join('\n')), ...content], [gap, ...buttons]);
   }
 
   // What somebody has to have looked at before it moves: each is touched.
@@ -243,19 +258,21 @@ export class Recovery {
   }
 
   choice() {
-    const { plan } = this, isAlong = Boolean(plan?.way);
+    const { recover, player } = this.app.state, { along } = this, isStraight = Boolean(this.plan?.approach) && !recover?.left;
     const straightOn = this.next('Resume in one line', () => this.resume());
-    const along = this.next(isAlong ? 'Go back along the path' : 'Resume: switch on', () => (isAlong ? this.recover() : this.resume()));
-    straightOn.className = '';
+    const byPath = this.next(along ? 'Go along the path' : 'Go by legs', () => this.asks('recover'));
+    if (along) straightOn.className = ''; else byPath.className = '';
     this.put([el('h2', {}, 'Take the line up, or give it up'),
-      isAlong ? says('Go back along the path', 'moves the tool through what it cut to where the segment begins. Each step '
-        + 'is asked before it is done.') : null,
-      says(isAlong ? 'Resume in one line' : 'Resume', 'switches spindle and coolant on as they were, and stops before it '
-        + 'moves. You look, and then the tool goes in one straight line to where the segment begins.'),
-      says('Give up', 'moves and switches nothing. The line counts as not begun, and the program stays before it. Then '
-        + 'the tool is freed by lines of G-code.'),
+      along ? says('Go along the path', 'moves the tool through what it cut to where the segment begins. Each step is asked '
+        + 'before it is done.') : null,
+      !along && player ? says('Go by legs', 'asks for a height, and goes straight up to it, over, and straight down to where '
+        + 'the segment begins.') : null,
+      isStraight ? says('Resume in one line', 'switches spindle and coolant on as they were, and stops before it moves. You '
+        + 'look, and then the tool goes in one straight line to where the segment begins.') : null,
+      says('Give up', 'moves and switches nothing. The line counts as not begun, and the program stays before it. Then the '
+        + 'tool is freed by lines of G-code.'),
       sheet.warning('Keep a hand at Hold, and the other at the emergency stop.')],
-    [this.back(2), sheet.gap(), this.giveUp(), isAlong && plan.approach ? straightOn : '', along]);
+    [this.back(2), sheet.gap(), this.giveUp(), along || player ? byPath : '', isStraight ? straightOn : '']);
   }
 
   // It takes two touches.
@@ -268,8 +285,6 @@ export class Recovery {
     };
     return button;
   }
-
-  async recover() { await this.asks('recover', { at: this.at }); }
 
   async resume() {
     if (await this.asks('reference', { at: this.at })) await this.asks('resume');
@@ -297,20 +312,12 @@ function straight(plan) {
 }
 
 // The way of recover, along OUT or by legs.
-function alongOut(plan) {
-  const { way } = plan;
-  const titles = { back: 'Back through what was cut', on: 'On along what was handed out', legs: 'By legs: up, over, and down',
-    none: 'The motors are where the segment begins' };
-  const pairs = [['Lowest', way.lowest === undefined ? null : sheet.code(`Z ${mm(way.lowest)}`)], ['It takes', way.time],
-    ['Was on there', plan.comes_on], ['Then, to the end', plan.rest ?? lasting(plan.rest_us)]];
-  return [el('h2', {}, titles[way.kind] + (Number(way.length) ? `: ${mm(way.length)} mm` : '')),
-    way.says ? el('p', {}, way.says) : null, ...(way.warnings ?? []).map(one => sheet.warning(one)),
+function alongOut(recover, plan) {
+  const { way } = recover, length = way && Number(way.length) ? `: ${mm(way.length)} mm` : '';
+  const title = recover.there ? 'The motors are where the segment begins' : !way ? 'By legs: up, over, and down'
+    : way.back ? `Back through what was cut${length}` : `On along what was handed out${length}`;
+  const pairs = [['It goes', recover.words], ['It takes', way?.time], ['Lowest', way && sheet.code(`Z ${mm(way.lowest)}`)],
+    ['To', sheet.code(point(recover.at))], ['Was on there', plan.comes_on], ['Then, to the end', plan.rest]];
+  return [el('h2', {}, title), recover.there ? null : sheet.warning('No line is lost: the tool goes through what it cut.', 'fine'),
     sheet.facts(pairs.filter(([, what]) => what))];
-}
-
-function lost(plan) {
-  const never = plan.never_cut;
-  if (!never?.lines) return null;
-  return sheet.warning(`Never cut: ${counted(never.lines, 'line')}${never.mm ? `, ${mm(never.mm)} mm` : ''}, red in the picture. `
-    + 'They were handed out, and no motor carried them out. Cut them by lines of your own afterwards.', 'bad');
 }
