@@ -30,7 +30,7 @@ def imported(path: Path) -> set[str]:
 
 
 class Tools(InFolder):
-    """Each of the eight."""
+    """Each of the nine."""
 
     def run_tool(self, name: str, *words: str, path: str = "", tools: Path = TOOLS) -> tuple[int, str, str]:
         """Runs a tool with this PATH: the exit status and what it writes."""
@@ -40,7 +40,7 @@ class Tools(InFolder):
 
     def test_help(self) -> None:
         """An example and what each exit status means, on standard output."""
-        self.assertEqual(len(NAMES), 8)
+        self.assertEqual(len(NAMES), 9)
         for name in NAMES:
             status, said, error = self.run_tool(name, "--help")
             self.assertEqual((status, error), (0, ""), name)

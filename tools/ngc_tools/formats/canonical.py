@@ -19,7 +19,7 @@ _SHAPES = {
     "[^()]*": ("COMMENT", "MESSAGE"),
 }
 _ARGUMENTS = {name: re.compile(shape, re.DOTALL) for shape, names in _SHAPES.items() for name in names}
-_COMMAND = re.compile(r"([A-Z_]+)\((.*)\)", re.DOTALL)
+_IN_NUMBERS = {name for shape in (_POINT, _NUMBER, "[0-9]+") for name in _SHAPES[shape]}
 _REFUSED = re.compile(r"REFUSED line ([0-9]+): ([A-Z][0-9]+) ([A-Za-z0-9]+)")
 
 MOTIONS = ("STRAIGHT_TRAVERSE", "STRAIGHT_FEED", "ARC_FEED")
@@ -58,19 +58,21 @@ def read_commands(text: bytes | str) -> list[Command]:
 
 
 def _command(line: str, number: int) -> Command:
-    if match := _REFUSED.fullmatch(line):
-        return Command("REFUSED", (int(match[1]), match[2], match[3]))
-    match = _COMMAND.fullmatch(line)
-    shape = _ARGUMENTS.get(match[1]) if match else None
-    if match is None or shape is None or shape.fullmatch(match[2]) is None:
+    name, _, rest = line.partition("(")
+    shape, inner = _ARGUMENTS.get(name), rest[:-1]
+    if shape is None or rest[-1:] != ")" or shape.fullmatch(inner) is None:
+        return _refusal(line, number)
+    if name in _IN_NUMBERS:
+        return Command(name, tuple(map(int, inner.replace(".", "").split(", "))))
+    if name == "ARC_FEED":
+        *numbers, turn = inner.replace(".", "").split(", ")
+        return Command(name, (*map(int, numbers), turn))
+    return Command(name, (inner,) if inner or name in ("COMMENT", "MESSAGE") else ())
+
+
+def _refusal(line: str, number: int) -> Command:
+    """The command that says what is refused. Raises BadText for any other text."""
+    match = _REFUSED.fullmatch(line)
+    if match is None:
         raise BadText(number, line)
-    if match[1] in ("COMMENT", "MESSAGE"):
-        return Command(match[1], (match[2],))
-    words = match[2].split(", ") if match[2] else []
-    return Command(match[1], tuple(map(_argument, words)))
-
-
-def _argument(word: str) -> int | str:
-    if word[0] not in "-0123456789":
-        return word
-    return int(word.replace(".", ""))
+    return Command("REFUSED", (int(match[1]), match[2], match[3]))

@@ -27,6 +27,8 @@ class InForce:
 
     def after(self, command: Command) -> "InForce":
         """What is in force after a command."""
+        if command.name in MOTIONS:
+            return replace(self, inverse=0) if self.inverse else self
         match command.name:
             case "SELECT_PLANE":
                 return replace(self, plane=str(command.args[0]))
@@ -52,8 +54,6 @@ class InForce:
                 return replace(self, flood=command.name == "FLOOD_ON")
             case "START_SPINDLE_CLOCKWISE" | "START_SPINDLE_COUNTERCLOCKWISE" | "STOP_SPINDLE_TURNING":
                 return replace(self, spindle=command.name)
-            case name if name in MOTIONS:
-                return replace(self, inverse=0) if self.inverse else self
         return self
 
     def to_program(self, at: Point) -> Point:

@@ -53,6 +53,8 @@ class Move:
     @property
     def length(self) -> int:
         """Its length in nm: of an arc that of its chords, which is less by up to 0.1 %."""
+        if len(self.points) == 2:
+            return distance(*self.points)
         return sum(distance(a, b) for a, b in zip(self.points, self.points[1:]))
 
 
@@ -70,7 +72,8 @@ Step = Move | Wait
 
 def distance(a: Point, b: Point) -> int:
     """The distance of two points in nm, rounded down."""
-    return isqrt(sum((q - p) ** 2 for p, q in zip(a, b, strict=True)))
+    (p, q, r), (s, t, u) = a, b
+    return isqrt((s - p) * (s - p) + (t - q) * (t - q) + (u - r) * (u - r))
 
 
 def of_canonical(commands: Iterable[Command], before: Iterable[Command] = ()) -> Iterator[Step]:

@@ -69,14 +69,14 @@ def _folded(acts: Iterable[Act], settings: Settings, said: tuple[Refusal | None,
     total, moves = 0, []
     for act in acts:
         views[act.line] = act.in_force.after(act.command)
-        step = step_of(act)
-        total += lasts_us(step, settings)
+        step = _step(act)
+        total += _lasts_us(step, settings)
         ends[act.line] = total
         moves += [step] if isinstance(step, Move) else []
     return Timeline(views, ends, total, box(moves), *said)
 
 
-def step_of(act: Act) -> Step | None:
+def _step(act: Act) -> Step | None:
     """The move or the wait of a command, if it is one."""
     command, in_force = act.command, act.in_force
     match command.name:
@@ -92,7 +92,7 @@ def step_of(act: Act) -> Step | None:
     return None
 
 
-def lasts_us(step: Step | None, settings: Settings) -> int:
+def _lasts_us(step: Step | None, settings: Settings) -> int:
     """About how long a step lasts: by length and rate."""
     if not isinstance(step, Move):
         return step.us if step else 0

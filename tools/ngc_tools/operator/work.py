@@ -90,7 +90,7 @@ class Work:
             self.chunk.lasted(time.monotonic() - begun)
             status = self._status = session.console.status()
             session.passed(status)
-            self._show_messages(status)
+            self._show_messages(status, "idle" in replies and not session.own)
             if ended := self._ended(replies, status):
                 self._shown = _Shown(status.place, "all is handed out", None, ())
                 return ended
@@ -131,7 +131,10 @@ class Work:
         the motors are held, or the player is gone."""
         session = self.session
         try:
-            if not session.meter or session.meter.drained(self._goes_on):
+            if not session.meter:
+                return True
+            if session.meter.drained(self._goes_on):
+                session.take(session.meter.link.ask())  # as all is carried out
                 return True
             session.face.say("the player isn't through with its lines yet", WARNING)
         except NoAnswer as error:
@@ -156,10 +159,11 @@ class Work:
         self._is_unwanted = not self._wanted()
         return not self._is_unwanted
 
-    def _show_messages(self, status: Status) -> None:
-        """Shows the messages of the lines that the place has passed."""
+    def _show_messages(self, status: Status, is_through: bool) -> None:
+        """Shows the messages of the lines that the place has passed; a program that is through stands at its start."""
         session = self.session
-        end = status.place if status.place >= session.told else len(session.program.text)
+        goes_on = status.place > session.told or status.place == session.told and not is_through
+        end = status.place if goes_on else len(session.program.text)
         for number, message in session.program.messages(session.told, end, session.delete):
             session.face.say(f"message, line {number}: {message}", MESSAGE)
         session.told = status.place

@@ -2,6 +2,7 @@
 
 A child keeps its standard input open. Where that ends, since whoever asked gave up or was killed, it ends itself with
 all that it started."""
+import gc
 import os
 import pickle
 import signal
@@ -71,13 +72,12 @@ class Aside:
 
     def begin(self, function: Callable, *given: Any) -> Child:
         """Begins it. Raises NotDone, OSError."""
-        child = Child(function, *given)
         with self._lock:
+            if self._is_closed:
+                raise NotDone("the session is over")
+            child = Child(function, *given)
             self._children.add(child)
-            if not self._is_closed:
-                return child
-        child.give_up()
-        raise NotDone("the session is over")
+        return child
 
     def finish(self, child: Child) -> Any:
         """Waits for the result. Raises NotDone."""
@@ -99,6 +99,7 @@ class Aside:
 def main() -> None:
     """The child: does what it is told on its standard input."""
     os.nice(10)
+    gc.disable()  # it lives for one piece of work
     given, said = sys.stdin.buffer, os.dup(1)
     os.dup2(2, 1)  # what it starts writes nowhere
     (size,) = _HEAD.unpack(given.read(_HEAD.size))

@@ -1,24 +1,21 @@
 """A stored program as a page draws it: the steps of each line by a dry run from the device, with exact times from
 `ngc run`. All of it is made in a process aside; a session keeps its bytes alone."""
 import json
-import pickle
-from collections.abc import Iterable
+from collections.abc import Iterator
 from dataclasses import dataclass, replace
 
 from ngc_tools.formats.canonical import MOTIONS, Command
 from ngc_tools.formats.device import Device
 from ngc_tools.formats.out import BadLine
 from ngc_tools.formats.settings import Settings
-from ngc_tools.job.figures import micrometres
-from ngc_tools.job.moves import TRAVERSE, Move, Step
-from ngc_tools.job.printed import Act, Printed, acts_of, by_line
+from ngc_tools.job.figures import by_length, micrometres
+from ngc_tools.job.moves import TRAVERSE, Move, Point, Step, of_canonical
+from ngc_tools.job.printed import Printed, by_line
 from ngc_tools.job.refused import Lines
 from ngc_tools.ngc.beginning import Beginning
 from ngc_tools.ngc.pacing import NotTimed
 from ngc_tools.ngc.run import Refusal, refusal
 from ngc_tools.ngc.timing import timed, with_ramps
-from ngc_tools.operator.display import in_force_on
-from ngc_tools.operator.timeline import lasts_us, step_of
 
 _SWITCHES = {"SET_SPINDLE_SPEED", "SELECT_TOOL", "CHANGE_TOOL", "START_SPINDLE_CLOCKWISE", "STOP_SPINDLE_TURNING",
              "START_SPINDLE_COUNTERCLOCKWISE", "MIST_ON", "FLOOD_ON", "MIST_OFF"}
@@ -27,6 +24,10 @@ end does, which is looked at apart."""
 _STEPS = {*MOTIONS, "DWELL"}
 SWITCH = -1
 """Stands for a segment that is a switch of the outputs."""
+
+
+_FRESH = {"unit": 21, "distance": 90, "plane": 17, "feed_mode": 94, "retract": 98}
+"""The modes that a program's end leaves: those of a program of which nothing tells how it was begun."""
 
 
 @dataclass(frozen=True, slots=True)
@@ -58,34 +59,43 @@ class Job:
     ramps_us: int
     refused: Refusal | None
 
-    def plain(self) -> dict:
-        """As JSON has it: points in micrometres, one after the other, times in us."""
+    def text(self, traverse_nm_per_min: int) -> bytes:
+        """As JSON has it: points in micrometres, one after the other, times in us. A move without a time has that of
+        its length and feed, or of this rate."""
         refused = self.refused and {"line": self.refused.line, "code": self.refused.code, "name": self.refused.name}
-        steps = [_plain(step, line) for step, line in zip(self.steps, self.lines, strict=True)]
-        return {"steps": steps, "segments": self.segments, "tools": self.tools, "known_start": self.is_known,
-                "exact": self.is_exact, "ramps_us": self.ramps_us, "refused": refused}
+        rest = {"segments": self.segments, "tools": self.tools, "known_start": self.is_known, "exact": self.is_exact,
+                "ramps_us": self.ramps_us, "refused": refused}
+        steps = ",".join(_plain(self.steps, self.lines, traverse_nm_per_min))
+        return f'{{"steps":[{steps}],{json.dumps(rest, separators=(",", ":"))[1:]}'.encode()
 
 
 @dataclass(frozen=True, slots=True)
 class Drawing:
-    """A job as a session keeps it: `text` for pages, in JSON, and `job` for a process aside. `tools` are as of the
-    job."""
+    """A job as a session keeps it: `text` for pages, in JSON, and what was drawn. `tools` are those of the job."""
 
+    source: Source
     text: bytes
-    job: bytes
     tools: dict[int, int]
     is_exact: bool
+
+
+def as_begun(device: Device) -> Device | None:
+    """What stood as the program that a device holds was begun, by the device's log; None where that doesn't tell it.
+    """
+    states = [device.snapshot, *(record.state for record in device.records)]
+    found = [number for number, state in enumerate(states) if not state.place and not state.half]
+    return Device(device.before(found[-1])) if found else None
 
 
 def draw(source: Source) -> Drawing:
     """The job of the stored program, with times by length and rate, which is quick. Raises CannotSetUp, NoDevice,
     BadText, CannotRun, OSError, BadSettings."""
-    return _kept(job_of(source))
+    return _kept(source, job_of(source))
 
 
-def draw_exactly(source: Source, drawing: Drawing) -> Drawing:
-    """The same job with the times that `ngc run` gives each step. Raises NotTimed, OSError, BadSettings."""
-    job: Job = pickle.loads(drawing.job)  # noqa: S301  of this program
+def draw_exactly(source: Source) -> Drawing:
+    """The same with the times that `ngc run` gives each step. Raises NotTimed too."""
+    job = job_of(source)
     steps = timed(source.ngc, source.settings, job.steps)
     ramps_us = 0
     if source.machine:
@@ -93,12 +103,14 @@ def draw_exactly(source: Source, drawing: Drawing) -> Drawing:
             ramps_us = with_ramps(source.ngc, source.settings, source.machine, job.steps, lambda _: None).with_ramps_us
         except (NotTimed, BadLine):
             ramps_us = 0
-    return _kept(replace(job, steps=steps, is_exact=True, ramps_us=ramps_us))
+    return _kept(source, replace(job, steps=steps, is_exact=True, ramps_us=ramps_us))
 
 
 def job_of(source: Source) -> Job:
-    """The job, with times by length and rate. Raises what `draw` raises."""
+    """The job; its moves have no times yet. Raises what `draw` raises."""
     device = Device(source.image)
+    if not source.is_begun_there:
+        device.state = replace(device.state, **_FRESH)
     beginning, text = Beginning.of(device), device.program
 
     def run(part: bytes) -> bytes:
@@ -108,23 +120,12 @@ def job_of(source: Source) -> Job:
     printed = by_line(Lines(text), run)
     refused = refusal(*beginning.dry(source.ngc, text, source.settings, source.block_delete))
     is_known = source.is_begun_there and bool(device.state.point_known)
-    acts = acts_of(printed, in_force_on(device.state), device.state.point_nm)
-    steps, lines = _steps(acts, Settings.read(source.settings))
+    numbered = [(number, command) for number in sorted(printed) for command in printed[number]]
+    steps = list(of_canonical((command for _, command in numbered), beginning.set_up(source.ngc, source.settings)))
+    lines = [number for number, command in numbered if command.name in _STEPS]
     if not is_known and steps and isinstance(steps[0], Move):  # nobody knows where the machine stood before it
         steps[0] = replace(steps[0], points=(steps[0].points[-1],) * 2, arc=None)
     return Job(steps, lines, *_segments(printed), is_known, False, 0, refused)
-
-
-def _steps(acts: Iterable[Act], settings: Settings) -> tuple[list[Step], list[int]]:
-    """The moves and waits, and the line of each."""
-    steps: list[Step] = []
-    lines: list[int] = []
-    for act in acts:
-        step = step_of(act)
-        if step is not None:
-            steps.append(replace(step, us=lasts_us(step, settings)))
-            lines.append(act.line)
-    return steps, lines
 
 
 def _segments(printed: Printed) -> tuple[dict[int, list[int]], dict[int, int]]:
@@ -153,13 +154,26 @@ def _segments_of(commands: list[Command], count: int) -> tuple[list[int], int]:
     return own or [SWITCH] * is_end, count
 
 
-def _plain(step: Step, line: int) -> dict:
-    if not isinstance(step, Move):
-        return {"n": line, "k": "w", "us": step.us}
-    points = [micrometres(nm) for point in step.points for nm in point]
-    return {"n": line, "k": "t" if step.kind == TRAVERSE else "c", "us": step.us, "p": points}
+def _plain(steps: list[Step], lines: list[int], traverse: int) -> Iterator[str]:
+    """The steps in JSON. It is written by hand, since a long program has 50,000 of them."""
+    last, said = (0, 0, 0), "0,0,0"
+    for step, line in zip(steps, lines, strict=True):
+        if not isinstance(step, Move):
+            yield f'{{"n":{line},"k":"w","us":{step.us}}}'
+            continue
+        first, *rest = step.points
+        points = [said if first == last else _point(first), *map(_point, rest)]
+        last, said = step.points[-1], points[-1]
+        us = step.us if step.us is not None else by_length(step) or step.length * 60_000_000 // traverse
+        yield f'{{"n":{line},"k":"{"t" if step.kind == TRAVERSE else "c"}","us":{us},"p":[{",".join(points)}]}}'
 
 
-def _kept(job: Job) -> Drawing:
-    text = json.dumps(job.plain(), separators=(",", ":")).encode()
-    return Drawing(text, pickle.dumps(job), job.tools, job.is_exact)
+def _point(point: Point) -> str:
+    """A point in whole micrometres."""
+    x, y, z = point
+    return f"{micrometres(x)},{micrometres(y)},{micrometres(z)}"
+
+
+def _kept(source: Source, job: Job) -> Drawing:
+    text = job.text(Settings.read(source.settings).traverse_nm_per_min)
+    return Drawing(source, text, job.tools, job.is_exact)

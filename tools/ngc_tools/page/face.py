@@ -13,6 +13,7 @@ ENTRIES = 400
 """So many entries of the log are kept."""
 LOOKS = (SWITCHED.strip(), SWITCHED_THERE.strip())
 """The questions at which somebody has to look at the machine: its outputs are on, and nothing has moved."""
+_LOOK_S = 0.15
 _EVERY_S = 0.1  # what moves is shown about so often
 
 
@@ -44,6 +45,7 @@ class PageFace:
 
     def __init__(self) -> None:
         self.changed: Callable[[], None] = lambda: None
+        self.look: Callable[[], None] = lambda: None  # is called again and again while a page is asked
         self.version = 0
         self.log: deque[Entry] = deque(maxlen=ENTRIES)
         self.view: UnderWay | None = None
@@ -124,13 +126,18 @@ class PageFace:
             self._answer = None
             self.question = Question(self._count, text.strip(), kind)
         self.publish()
+        while not self._is_answered():
+            self.look()
         with self._lock:
-            while self._answer is None and not self.interrupted() and not self.is_left:
-                self._lock.wait()
             self.question = None
             answer = self._answer or ""
         self.publish()
         return answer
+
+    def _is_answered(self) -> bool:
+        """Waits for an answer for a while; whether there is one, or none will come."""
+        with self._lock:
+            return self._lock.wait_for(lambda: self._answer is not None or self.interrupted() or self.is_left, _LOOK_S)
 
     # what pages give
 

@@ -1,5 +1,4 @@
 """What `resume` or `run` would do, for a page: done aside over a copy of the device, with what lies in the way."""
-import pickle
 from dataclasses import dataclass
 
 from ngc_tools.formats.device import Device
@@ -11,7 +10,7 @@ from ngc_tools.job.moves import CUT, Move, Point, distance
 from ngc_tools.ngc.copies import CommandRefused
 from ngc_tools.operator.rehearsal import Rehearsal, outputs
 from ngc_tools.operator.sentences import explained
-from ngc_tools.page.drawing import Drawing, Job
+from ngc_tools.page.drawing import Source, job_of
 from ngc_tools.page.session import Busy, Session
 
 _NEAR_NM = 100_000  # so near a finished cut the way counts as within it
@@ -22,14 +21,14 @@ _APART_NM = 250_000  # and so far apart at least
 
 @dataclass(frozen=True, slots=True)
 class Asked:
-    """What is rehearsed: by which `ngc` and settings, over which image, from where, with the job as it was drawn and
-    where the motors are, if that is known."""
+    """What is rehearsed: by which `ngc` and settings, over which image, from where, with what is drawn and where the
+    motors are, if that is known."""
 
     ngc: str
     settings: str
     image: bytes
     at: list[str] | None
-    drawing: Drawing | None
+    source: Source | None
     motors: list[str] | None
 
 
@@ -38,8 +37,8 @@ def rehearse(session: Session, at: list[str] | None) -> dict:
     something runs, NotDone, OSError."""
     if session.is_busy or session.ended:
         raise Busy("something runs: hold first")
-    console, report, image = session.operator.console, session.face.report, session.stand.device.image
-    asked = Asked(console.ngc, console.settings, image, at, session.drawing, report.at.split() if report else None)
+    console, report, image = session.operator.console, session.face.report, session.kept.device.image
+    asked = Asked(console.ngc, console.settings, image, at, session.drawing and session.drawing.source, report.at.split() if report else None)
     return session.aside.call(rehearsed, asked)
 
 
@@ -81,7 +80,7 @@ def _goes_down(a: Point, b: Point) -> list[str]:
 
 def _goes_beside(asked: Asked, a: Point, b: Point) -> list[str]:
     """Where the way goes below the highest cut and beside all that is cut already. Geometry alone."""
-    if asked.drawing is None:
+    if asked.source is None:
         return []
     beside, length = _Cut.of(asked).beside(a, b)
     if length <= _NEAR_NM:
@@ -101,7 +100,7 @@ class _Cut:
     @staticmethod
     def of(asked: Asked) -> "_Cut":
         """By the job, up to the half-done segment, and in it up to the motors."""
-        job: Job = pickle.loads(asked.drawing.job)  # noqa: S301  of this program
+        job = job_of(asked.source)
         state = Device(asked.image).state
         line = Program(Device(asked.image).program).number(state.place)
         own = job.segments.get(line, [])

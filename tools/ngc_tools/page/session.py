@@ -18,10 +18,10 @@ from ngc_tools.operator.face import REFUSED, SAID, WARNING
 from ngc_tools.operator.operator import Operator
 from ngc_tools.operator.sentences import explained
 from ngc_tools.page.aside import Aside, Child, NotDone
-from ngc_tools.page.drawing import Drawing, Source, draw, draw_exactly
+from ngc_tools.page.drawing import Drawing, Source, as_begun, draw, draw_exactly
 from ngc_tools.page.face import PageFace
 from ngc_tools.page.findings import Check, find
-from ngc_tools.page.stand import Stand, recovery_of
+from ngc_tools.page.stand import Kept, Stand, recovery_of
 from ngc_tools.player.progress import Link, NoAnswer
 
 MOVES = {"run", "mdi", "resume", "recover", "restore", "release"}
@@ -73,7 +73,7 @@ class Session:
         self._opens, self.face, self.machine = opens, face, machine
         self.aside = Aside()
         self.over = threading.Event()
-        self.name, self.program_id = "", 1
+        self.name, self.program_id, self.ended = "", 1, "it isn't begun yet"
         self.drawing: Drawing | None = None
         self.job_id, self.job_failed = 0, ""
         self.started = 0.0  # when the program was started in this session, in seconds since 1970
@@ -88,16 +88,18 @@ class Session:
     def _begin(self) -> None:
         """Begins a session of `ngc run`, and its thread."""
         self.opened = self._opens(self.face)
-        self.operator, self.ended = self.opened.operator, ""
-        self.ident = secrets.token_hex(8)  # a page that was shown another session begins anew
-        console = self.operator.console
+        operator = self.opened.operator
+        console = operator.console
         self.settings = Settings.read(console.settings)
-        self.operator.begin(self.opened.bound, self.opened.found)
-        self.stand = Stand(console.status(), Device.read(console.device))
-        self._source = self._source_of(self.stand.device)
-        if self.stand.status.place and self.opened.found is not None:
-            self._source = self._source_of(self.opened.found)
+        self.face.begin(self.face.holds)
+        operator.begin(self.opened.bound, self.opened.found)
+        self.operator, self.ident = operator, secrets.token_hex(8)  # a page that saw another one begins anew
+        self.stand, self.kept = Stand(console.status()), Kept(console.device)
+        begun = as_begun(self.opened.found) if self.opened.found and self.stand.status.place else None
+        self._source = self._source_of(begun or self.kept.device)
+        self.face.look = self._look
         self._look()
+        self.ended = ""
         self.draw(False)
         self._thread = threading.Thread(target=self._work, name="session")
         self._thread.start()
@@ -175,7 +177,7 @@ class Session:
     def check(self, text: bytes) -> dict:
         """What `ngc-check` finds of a text, which begins as the device stands. Raises NotDone, OSError."""
         console = self.operator.console
-        check = Check(console.ngc, console.settings, self.stand.device.image, self.operator.session.delete)
+        check = Check(console.ngc, console.settings, self.kept.device.image, self.operator.session.delete)
         return self.aside.call(find, check, text)
 
     def restart(self) -> None:
@@ -216,7 +218,8 @@ class Session:
             try:
                 if self.under:
                     self._do(self.under)
-                self._look()
+                if not self.ended:
+                    self._look()
             except Ended as ended:
                 self._tell_end(ended)
             finally:
@@ -265,8 +268,6 @@ class Session:
 
     def _look(self) -> None:
         """Looks how all stands."""
-        if self.ended:
-            return
         operator, before = self.operator, self.stand
         gone = ""
         try:
@@ -274,8 +275,8 @@ class Session:
         except NoAnswer as error:
             status, report, gone = operator.console.status(), before.report, str(error)
         self.face.report = report
-        recovery = recovery_of(operator.recover.found)
-        self.stand = before.after(status, report, gone, recovery, operator.console.device)
+        self.kept.at(status)
+        self.stand = Stand(status, report, gone, recovery_of(operator.recover.found))
         if self.stand != before:
             self.face.publish()
 
@@ -285,8 +286,7 @@ class Session:
         """Draws the stored program aside; `is_begun` says that it begins as the device stands now."""
         with self._draws:
             if is_begun:
-                self.stand = self.stand.read_anew(self.operator.console.device)
-                self._source = self._source_of(self.stand.device)
+                self._source = self._source_of(self.kept.read())
             self._source = self._source_with(self.operator.session.delete)
             before, self._drawn = self._drawn, None
             if before:
@@ -312,7 +312,7 @@ class Session:
             drawing = self._call(source, draw, source)
             self._take(source, drawing)
             if drawing is not None:
-                self._take(source, self._call(source, draw_exactly, source, drawing))
+                self._take(source, self._call(source, draw_exactly, source))
         except (NotDone, OSError) as error:
             self._take(source, None, str(error))
 

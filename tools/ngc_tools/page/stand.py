@@ -1,5 +1,7 @@
-"""How all stands while nothing runs: what `ngc` says, what the device holds, the player's report, what is left of OUT."""
-from dataclasses import dataclass, replace
+"""How all stands: what `ngc` says, what the device holds, the player's report, what is left of OUT."""
+import time
+from contextlib import suppress
+from dataclasses import dataclass
 
 from ngc_tools.formats.device import Device, NoDevice
 from ngc_tools.formats.position import millimetres
@@ -10,6 +12,8 @@ from ngc_tools.operator.display import on_words
 from ngc_tools.operator.recovery import Found, Recovery
 from ngc_tools.player.progress import Report
 
+_OFTEN_S = 0.25
+
 
 @dataclass(frozen=True, slots=True)
 class Stand:
@@ -17,7 +21,6 @@ class Stand:
     OUT is no file that is followed."""
 
     status: Status
-    device: Device
     report: Report | None = None
     gone: str = ""
     recovery: dict | None = None
@@ -27,24 +30,30 @@ class Stand:
         """Whether the motors heed a wish to hold."""
         return self.report is not None and self.report.wants > 0
 
-    def after(self, status: Status, report: Report | None, gone: str, recovery: dict | None, path: str) -> "Stand":
-        """How it stands now; the device is read where something was stored since."""
-        device = self.device
-        if status.entries != device.state.entries or status.half != self.status.half:
-            device = _read(path, device)
-        return Stand(status, device, report, gone, recovery)
 
-    def read_anew(self, path: str) -> "Stand":
-        """The same with what the device holds now."""
-        return replace(self, device=_read(path, self.device))
+class Kept:
+    """What a device holds, read again where something was stored since, but not too often: a reading takes some
+    milliseconds."""
 
+    def __init__(self, path: str) -> None:
+        """Raises NoDevice, OSError."""
+        self.path = path
+        self.device = Device.read(path)
+        self._read = time.monotonic()
 
-def _read(path: str, last: Device) -> Device:
-    """What a device holds; the last that was read where it can't be read meanwhile."""
-    try:
-        return Device.read(path)
-    except (OSError, NoDevice):
-        return last
+    def at(self, status: Status, is_running: bool = False) -> Device:
+        """What it holds at a status; while something runs as it was up to a quarter of a second ago."""
+        is_new = status.entries != self.device.state.entries or (status.half == "none") != (not self.device.state.half)
+        if is_new and (not is_running or time.monotonic() > self._read + _OFTEN_S):
+            self.read()
+        return self.device
+
+    def read(self) -> Device:
+        """What it holds now; what was read last where it can't be read meanwhile."""
+        with suppress(OSError, NoDevice):
+            self.device = Device.read(self.path)
+        self._read = time.monotonic()
+        return self.device
 
 
 def recovery_of(found: Found | None) -> dict | None:

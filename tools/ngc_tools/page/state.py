@@ -9,7 +9,6 @@ from ngc_tools.operator.display import in_force_on, outputs_on
 from ngc_tools.operator.motors import way_nm
 from ngc_tools.page.face import LOOKS
 from ngc_tools.page.session import MOVES, Session
-from ngc_tools.page.stand import Stand
 from ngc_tools.player.progress import Report
 
 _IN_MODES = ("unit", "distance", "plane", "system", "feed_mode", "motion")
@@ -24,7 +23,7 @@ class Pictured:
         self.command, view = session.under, session.face.view
         self.status: Status = view.status if view and self.command else self.stand.status
         self.report: Report | None = self.face.report
-        self.device: Device = self.stand.device
+        self.device: Device = session.kept.at(self.status, self.command is not None)
         self.program: Program = self.operator.session.program
 
     def plain(self) -> dict:

@@ -1,0 +1,170 @@
+"""What tests of the page share: a device, a player, the server, and pages that ask and are told."""
+import http.client
+import json
+import os
+import re
+import signal
+import subprocess
+import time
+from collections.abc import Callable
+from pathlib import Path
+
+from session_support import PATIENCE_S, InFolder, ngc
+
+from ngc_tools.player.progress import Link
+
+PAGE, OTHER = "page-number-1", "page-number-2"
+LONG = "G17 G21 G90 G94\nG0 X0 Y0 Z0\nG1 X2 F60\nG1 X0 Z-1\nG1 X1\nM2\n"
+"""Cuts of 2, 2.2 and 1 s."""
+
+
+class Page:
+    """A page: what it asks for, and what it is told."""
+
+    def __init__(self, address: str, name: str = PAGE) -> None:
+        """Opens its stream."""
+        match = re.fullmatch(r"http://127\.0\.0\.1:(\d+)/([\w-]{20,})/", address)
+        if match is None:
+            raise AssertionError(f"no address: {address}")
+        self.port, self.key, self.name = int(match[1]), match[2], name
+        self.log: list[dict] = []
+        self._answered: set[int] = set()
+        self._stream = http.client.HTTPConnection("127.0.0.1", self.port, timeout=PATIENCE_S)
+        self._stream.request("GET", f"/{self.key}/events?page={name}")
+        self._events = self._stream.getresponse()
+        if self._events.status != 200:
+            raise AssertionError(f"no stream: {self._events.read()!r}")
+
+    def next(self) -> dict:
+        """The next state. Raises EOFError where the stream has ended."""
+        while line := self._events.readline():
+            if line.startswith(b"data: "):
+                state = json.loads(line[6:])
+                self.log += state["log"]
+                return state
+        raise EOFError
+
+    def until(self, what: str, holds: Callable[[dict], object]) -> dict:
+        """The next state of which something holds."""
+        end = time.monotonic() + PATIENCE_S
+        while not holds(state := self.next()):
+            if time.monotonic() > end:
+                raise AssertionError(f"waited in vain until {what}: {state}, {self.log}")
+        return state
+
+    def last(self) -> dict:
+        """The last state of the session."""
+        state = {}
+        try:
+            while True:
+                state = self.next()
+        except EOFError:
+            return state
+
+    def rested(self) -> dict:
+        """The next state in which nothing is under way."""
+        return self.until("nothing is under way", lambda state: not state["busy"])
+
+    def asked(self) -> dict:
+        """The next state with a question."""
+        return self.until("it asks", lambda state: state["question"]
+                          and state["question"]["id"] not in self._answered)
+
+    def agree(self, state: dict, text: str = "") -> None:
+        """Answers the question of a state with a yes, or with a text."""
+        words = {"text": text} if text else {"yes": True}
+        if self.post("answer", {"question": state["question"]["id"]} | words) != (200, {"taken": True}):
+            raise AssertionError(f"it isn't asked: {state['question']}")
+        self._answered.add(state["question"]["id"])
+
+    def get(self, path: str, **headers: str) -> tuple[int, bytes, dict[str, str]]:
+        """One request: status, body and headers."""
+        return request(self.port, "GET", f"/{self.key}/{path}", None, **headers)
+
+    def post(self, what: str, body: object = None, **headers: str) -> tuple[int, dict]:
+        """Asks for something: the status, and what is answered."""
+        given = {"Origin": f"http://127.0.0.1:{self.port}", "X_Page": self.name, "Content_Type": "application/json"}
+        raw = body if isinstance(body, bytes) else json.dumps({} if body is None else body).encode()
+        status, text, _ = request(self.port, "POST", f"/{self.key}/{what}", raw, **given | headers)
+        return status, json.loads(text)
+
+    def said(self) -> str:
+        """The texts of the log."""
+        return "\n".join(entry["text"] for entry in self.log)
+
+    def close(self) -> None:
+        """Goes."""
+        self._events.close()
+        self._stream.close()
+
+
+def request(port: int, method: str, path: str, body: bytes | None = None,
+            **headers: str) -> tuple[int, bytes, dict[str, str]]:
+    """One request: status, body and headers. `_` in the name of a header stands for `-`."""
+    link = http.client.HTTPConnection("127.0.0.1", port, timeout=PATIENCE_S)
+    try:
+        link.request(method, path, body, {name.replace("_", "-"): value for name, value in headers.items()})
+        answer = link.getresponse()
+        return answer.status, answer.read(), dict(answer.getheaders())
+    finally:
+        link.close()
+
+
+class Served(InFolder):
+    """A device, OUT, a player, the server."""
+
+    OUT = "axis"
+
+    def setUp(self) -> None:
+        """Starts the player and the server."""
+        super().setUp()
+        self.device()
+        if self.OUT == "axis":
+            os.mkfifo("axis")
+        else:
+            Path(self.OUT).touch()
+        self.begin()
+
+    def begin(self) -> None:
+        """Starts both, as after power came back."""
+        self.begin_player()
+        self.server = self.start("ngc-page", "mill.dev", "first.toml", self.OUT, "--player", "progress", "--ngc", ngc(),
+                                 "--listen", "127.0.0.1:0")
+        self.address = self.server.stdout.readline().strip()
+        if not self.address:
+            self.fail(self.server.stderr.read())
+
+    def begin_player(self) -> None:
+        """Starts the player, and waits until it answers."""
+        words = ("--follow",) if self.OUT != "axis" else ()
+        self.player = self.start("ngc-player", self.OUT, "first.toml", "position", "--progress", "progress", *words)
+        self.wait_for("the player listens", lambda: os.path.exists("progress"))
+        link = Link("progress", PATIENCE_S)
+        self.addCleanup(link.close)
+        link.ask()
+        self.link = link
+
+    def page(self, name: str = PAGE) -> Page:
+        """Opens a page."""
+        page = Page(self.address, name)
+        self.addCleanup(page.close)
+        return page
+
+    def load(self, page: Page, text: str) -> None:
+        """Uploads and loads a program."""
+        found = page.post("check", text.encode(), X_Name="part.ngc", Content_Type="application/octet-stream")[1]
+        self.assertEqual(page.post("load", {"id": found["id"]}), (200, {"taken": True}), page.said())
+
+    def pull(self) -> None:
+        """Power is lost."""
+        for pid in (*self.children(), self.player.pid, self.server.pid):
+            os.kill(pid, signal.SIGKILL)
+        self.server.wait()
+        self.player.wait()
+        os.unlink("progress")
+
+    def children(self) -> list[int]:
+        """The processes of `ngc` that the server started."""
+        name = Path(ngc()).name[:15]
+        found = subprocess.run(["pgrep", "-P", str(self.server.pid), "-x", name], capture_output=True, text=True)
+        return list(map(int, found.stdout.split()))

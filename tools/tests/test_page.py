@@ -1,0 +1,387 @@
+"""The page's server, without a browser: who may ask, what is asked, what is told, and a loss of power."""
+import json
+import os
+import signal
+import socket
+import subprocess
+import sys
+import time
+import unittest
+from pathlib import Path
+
+sys.path.insert(0, str(Path(__file__).resolve().parent))
+
+from page_support import LONG, OTHER, PAGE, Served, request  # noqa: E402
+from session_support import PATIENCE_S, TOOLS, InFolder, ngc, told  # noqa: E402
+
+from ngc_tools.cli.page import main  # noqa: E402
+from ngc_tools.ngc.console import Console  # noqa: E402
+from ngc_tools.page import server as server_module  # noqa: E402
+from ngc_tools.page.aside import Aside, NotDone  # noqa: E402
+from ngc_tools.page.drawing import SWITCH, Source, draw, draw_exactly, job_of  # noqa: E402
+
+EXAMPLES = TOOLS.parent / "examples"
+COARSE = """step_nm = [100000, 100000, 100000]
+low_nm = [-1000000000, -1000000000, -1000000000]
+high_nm = [1000000000, 1000000000, 1000000000]
+traverse_nm_per_min = 60000000000
+period_us = 50
+tools_nm = [50000000, 62500000, 0]
+"""
+
+
+class Who(Served):
+    """Who may ask, and how."""
+
+    def test_key_host_origin(self) -> None:
+        """Without the key, by another name, from another site nothing is answered; nor is any file of the server."""
+        page = self.page()
+        port, key = page.port, page.key
+        headers = page.get("job")[2]
+        self.assertIn("default-src 'none'", headers["Content-Security-Policy"])
+        self.assertNotIn("unsafe", headers["Content-Security-Policy"])
+        self.assertEqual((headers["Referrer-Policy"], headers["Cache-Control"], headers["X-Content-Type-Options"]),
+                         ("no-referrer", "no-store", "nosniff"))
+        for path in ("/", "/index.html", f"/{key[:-1]}/", f"/{key}x/", f"/{key}/../{key}/x", f"/{key}/../../etc/passwd",
+                     f"/{key}/%2e%2e/server.py", f"/{key}//etc/passwd", f"/{key}/../server.py", "/%C3%A9", f"/{key}"
+                     f"/../../../../../../../../etc/passwd"):
+            self.assertEqual(request(port, "GET", path)[0], 404, path)
+        self.assertEqual(page.get("job", Host="evil.example")[0], 421)
+        self.assertEqual(page.get("job", Host=f"evil.example:{port}")[0], 421)
+        self.assertEqual(page.get("job", Host=f"localhost:{port}")[0], 200)
+        self.assertEqual(page.get("job", Origin="http://evil.example")[0], 403)
+        self.assertEqual(page.get("job", Sec_Fetch_Site="cross-site")[0], 403)
+        for given in ({"Origin": "http://evil.example"}, {"Origin": "null"}, {"Sec_Fetch_Site": "same-site"},
+                      {"Origin": f"https://127.0.0.1:{port}"}, {"Origin": f"http://127.0.0.1:{port + 1}"}):
+            self.assertEqual(page.post("hold", **given)[0], 403, given)
+        no_origin = {"X_Page": PAGE, "Content_Type": "application/json"}
+        self.assertEqual(request(port, "POST", f"/{key}/hold", b"{}", **no_origin)[0], 403)
+        self.assertEqual(request(port, "PUT", f"/{key}/hold")[0], 501)
+
+    def test_requests(self) -> None:
+        """What is too long, of another kind, or no request of a page."""
+        page = self.page()
+        for body, given, status in ((b"{" * 5000, {}, 413), (b"{}", {"Content_Type": "text/plain"}, 415),
+                                    (b"[]", {}, 400), (b"{", {}, 400), (b"{}", {"X_Page": "<b>"}, 400)):
+            self.assertEqual(page.post("run", body, **given)[0], status, body[:9])
+        self.assertEqual(page.post("check", b"", Content_Length="1048577")[0], 413)
+        for what in ("__init__", "nothing", "_json", "mdi/..", "RUN"):
+            self.assertEqual(page.post(what)[0], 404, what)
+        self.assertEqual(page.post("load", {"id": "/etc/passwd"})[0], 410)
+        for line in ("G0 X1\nquit", "", "\x00", "G0 X1\r", "G0 X1\u2028M2", 7, "G" * 257):
+            self.assertEqual(page.post("mdi", {"line": line})[0], 422, line)
+        for at in (["1", "2"], ["1", "2", "3\nquit"], ["1", "2", "x"], "123", None, ["1", "2", "3 anyway"], [1, 2, 3]):
+            self.assertEqual(page.post("reference", {"at": at})[0], 422, at)
+        for what, words in (("tool", {"slot": "1\nquit", "length": "1"}), ("tool", {"slot": True, "length": "1"}),
+                            ("switch", {"name": "load", "on": True}), ("percent", {"percent": 101}),
+                            ("switch", {"name": "delete", "on": "on"}), ("answer", {"question": 1, "text": "a\nb"})):
+            self.assertEqual(page.post(what, words)[0], 422, words)
+        self.assertEqual((self.server.poll(), [entry["kind"] for entry in page.next()["log"]]), (None, ["said"]))
+
+    def test_two_pages(self) -> None:
+        """The first commands; the other watches, may hold, and takes over; a fifth is one too many."""
+        one, two = self.page(), self.page(OTHER)
+        self.assertEqual((one.next()["yours"], two.next()["yours"]), (True, False))
+        self.assertEqual(two.post("mdi", {"line": "G0 X1"})[0], 403)
+        self.assertEqual(two.post("hold")[0], 200)
+        self.assertEqual(two.post("takeover")[0], 200)
+        two.until("it commands", lambda state: state["yours"] and not state["busy"])
+        self.assertEqual((one.post("run")[0], two.post("switch", {"name": "optional", "on": True})[0]), (403, 200))
+        self.assertTrue(one.until("it is told", lambda state: state["optional"])["optional"])
+        self.page("page-number-3"), self.page("page-number-4")
+        with self.assertRaisesRegex(AssertionError, "too many pages"):
+            self.page("page-number-5")
+
+    def test_idle_and_slow(self) -> None:
+        """More connections that wait, or come in pieces, than there may be: a wish to hold is taken all the same."""
+        page = self.page()
+        self.load(page, LONG)
+        page.post("run")
+        page.until("it runs", lambda state: state["does"] == "running")
+        pieces = (b"", b"GET /", b"POST / HTTP/1.1\r\nHost: a\r\nX: ", b"\r\n\r")
+        for number in range(2 * server_module.MOST_CONNECTIONS):
+            idle = socket.create_connection(("127.0.0.1", page.port), PATIENCE_S)
+            self.addCleanup(idle.close)
+            idle.sendall(pieces[number % len(pieces)])
+        slow = socket.create_connection(("127.0.0.1", page.port), PATIENCE_S)
+        self.addCleanup(slow.close)
+        slow.sendall(f"POST /{page.key}/check HTTP/1.1\r\nHost: 127.0.0.1:{page.port}\r\nOrigin: http://127.0.0.1:"
+                     f"{page.port}\r\nX-Page: {PAGE}\r\nContent-Length: 1000000\r\n\r\nG0 X".encode())
+        self.assertEqual(page.post("hold"), (200, {}))
+        self.assertEqual(page.until("it is held", lambda state: state["does"] == "held")["word"], "Held")
+        self.assertTrue(page.next()["yours"])
+
+
+class Work(Served):
+    """What is done."""
+
+    def test_job(self) -> None:
+        """A program is looked at, loaded and run to its end; lines, tools, refusals; quit."""
+        page = self.page()
+        found = page.post("check", b"G1 X1 Q2 F10\n(<b>)\n", X_Name="..%2F%3Cb%3E", Content_Type="x/y")[1]
+        self.assertEqual((found["name"], found["refusals"][0]["carets"]), ("<b>", "      ^^"))
+        self.load(page, "(MSG, a <b>)\nG17 G21 G90 G94\nG0 X0.05\nM0\nG1 X0 F60\nM2\n")
+        page.until("it is drawn", lambda state: state["job"] >= 3 and not state["busy"])
+        job = json.loads(page.get("job")[1])["job"]
+        self.assertEqual([(step["n"], step["k"], step["us"], step["p"]) for step in job["steps"]],
+                         [(3, "t", 2500, [0, 0, 0, 50, 0, 0]), (5, "c", 50000, [50, 0, 0, 0, 0, 0])])
+        self.assertEqual((job["exact"], job["refused"], json.loads(page.get("program")[1])["name"]),
+                         (True, None, "part.ngc"))
+        self.assertEqual(page.post("run"), (200, {}))
+        state = page.until("it stopped", lambda state: state["does"] == "stopped" and not state["busy"])
+        self.assertEqual((state["word"], state["detail"], state["motors"][0]), ("Stopped", "a <b>", "0.050000"))
+        self.assertEqual(page.post("mdi", {"line": "G0 X9999"}), (200, {}))
+        page.until("it is refused", lambda state: state["word"] == "Refused")
+        self.assertIn("X2 OutsideTravel", page.log[-1]["text"])
+        self.assertEqual(page.post("tool", {"slot": 1, "length": "50"}), (200, {}))
+        self.assertEqual(page.until("it is there", lambda state: state["tools"])["tools"], ["50.000000"])
+        self.assertEqual(page.post("run")[0], 200)
+        state = page.until("it is through", lambda state: state["finished"] and not state["busy"])
+        self.assertEqual((state["motors"][0], state["detail"]), ("0.000000", "The program ran to its end"))
+        self.assertEqual(page.post("quit"), (200, {}))
+        self.assertTrue(page.last()["over"])
+        self.assertEqual((self.server.wait(PATIENCE_S), self.player.wait(PATIENCE_S)), (0, 0))
+
+    def test_hold(self) -> None:
+        """Hold is heeded within a line; what is asked meanwhile is refused; it goes on."""
+        page = self.page()
+        self.load(page, LONG)
+        page.post("run")
+        page.until("it cuts", lambda state: state["line"] == 3 and state["half"] == "program")
+        self.assertEqual(page.post("mdi", {"line": "G0 X1"})[0], 409)
+        self.assertEqual(page.post("switch", {"name": "delete", "on": True})[0], 200)
+        page.post("hold")
+        page.until("it is held", lambda state: state["does"] == "held" and not state["busy"])
+        state = page.until("the motors stand", lambda state: state["behind"] == 0)
+        self.assertEqual((self.link.ask().at.split(), state["line"]), (state["motors"], 3))
+        page.post("run")
+        self.assertTrue(page.until("it is through", lambda state: state["finished"])["delete"])
+
+    def test_page_lost(self) -> None:
+        """Where the page that commands is lost, what runs is held, or goes on."""
+        page, other = self.page(), self.page(OTHER)
+        self.load(page, LONG)
+        page.post("run")
+        page.until("it runs", lambda state: state["does"] == "running")
+        page.close()
+        other.until("it is held", lambda state: state["does"] == "held" and not state["busy"])
+        self.assertIn("the page that commands is lost: hold", other.said())
+        page = self.page()
+        other.post("takeover")
+        other.post("loss", {"goes": True})
+        other.post("run")
+        page.until("it runs", lambda state: state["does"] == "running" and state["on_loss"] == "go")
+        other.close()
+        self.assertEqual(page.until("it is through", lambda state: state["finished"])["pages"], 1)
+
+    def test_hostile_text(self) -> None:
+        """What a program says stays text, and nothing of it is obeyed."""
+        page = self.page()
+        self.load(page, "(MSG, <script>alert(1)</script>)\n(\x1b[2J data: x)\nG21 G90\nG0 X0.01\nM2\n".replace(
+            "alert(1)", "alert"))
+        page.post("run")
+        state = page.until("it is through", lambda state: state["finished"])
+        self.assertEqual(state["message"], "<script>alert</script>")
+        status, text, headers = page.get("program")
+        self.assertEqual((status, headers["Content-Type"]), (200, "application/json"))
+        self.assertIn("\x1b[2J", json.loads(text)["text"])
+
+    def test_quit_asks(self) -> None:
+        """What a session's end leaves on is asked about, and switched off."""
+        page = self.page()
+        page.post("mdi", {"line": "M3 S100"})
+        page.until("it turns", lambda state: state["spindle"] == 1 and not state["busy"])
+        self.assertEqual(page.post("quit"), (200, {}))
+        state = page.asked()
+        self.assertEqual((state["question"]["kind"], state["question"]["purpose"]), ("yes", ""))
+        self.assertIn("still on: the spindle", state["question"]["text"])
+        self.assertEqual(page.post("answer", {"question": 0, "yes": True})[1], {"taken": False})
+        page.agree(state)
+        self.assertEqual(page.last()["spindle"], 0)
+        self.assertEqual(self.server.wait(PATIENCE_S), 0)
+
+    def test_ngc_fails(self) -> None:
+        """`ngc` is started again after it ended; a page sees that it is another session."""
+        page = self.page()
+        self.load(page, LONG)
+        before = page.rested()["session"]
+        self.assertEqual(page.post("restart")[0], 409)
+        page.post("run")
+        page.until("it cuts", lambda state: state["line"] == 3 and state["half"] == "program")
+        os.kill(self.children()[0], signal.SIGKILL)
+        state = page.until("it has ended", lambda state: state["ended"] and not state["busy"])
+        self.assertEqual((state["word"], state["over"]), ("Ended", False))
+        self.assertEqual(page.post("run")[0], 409)
+        self.assertEqual(self.player.wait(PATIENCE_S), 1)  # its pipe has ended
+        self.assertEqual(page.post("restart")[0], 422)
+        self.begin_player()
+        self.assertEqual(page.post("restart"), (200, {}))
+        state = page.until("it stands again", lambda state: not state["ended"])
+        self.assertNotEqual(state["session"], before)
+        self.assertEqual((state["word"], state["half"]), ("Half-done", "program"))
+
+    def test_player_gone(self) -> None:
+        """Without its player nothing more is handed out."""
+        page = self.page()
+        self.load(page, LONG)
+        page.post("run")
+        page.until("it runs", lambda state: state["does"] == "running")
+        self.player.kill()
+        self.assertEqual(page.until("that is said", lambda state: state["player_gone"])["word"], "Player gone")
+
+    def test_signal(self) -> None:
+        """A signal holds, and ends the session."""
+        page = self.page()
+        self.load(page, LONG)
+        page.post("run")
+        page.until("it runs", lambda state: state["does"] == "running")
+        self.server.send_signal(signal.SIGTERM)
+        self.assertEqual(self.server.wait(PATIENCE_S), -signal.SIGTERM)
+        self.player.wait(PATIENCE_S)
+        self.assertIn("half-done", told_of_device())
+
+
+class Power(Served):
+    """A loss of power with a pipe: the machine is told where it stands, and goes straight back."""
+
+    def test_resume(self) -> None:
+        """Rehearsal, reference, resume, which stops after the switch and asks."""
+        page = self.page()
+        self.load(page, "M3 S100\n" + LONG)
+        page.post("run")
+        page.until("it cuts", lambda state: state["line"] == 5 and float(state["motors"][0]) < 1.9)
+        session = page.next()["session"]
+        self.pull()
+        self.begin()
+        page = self.page()
+        state = page.next()
+        self.assertEqual((state["word"], state["line"], state["spindle"], state["known"], state["recover"]),
+                         ("Half-done", 5, 0, False, None))
+        self.assertNotEqual(state["session"], session)
+        page.until("it is drawn", lambda state: state["job"])
+        self.assertTrue(json.loads(page.get("job")[1])["job"]["known_start"])
+        said = page.post("rehearse", {"at": ["0.5", "0", "2"]})[1]
+        self.assertEqual((said["begins"][0], said["approach"]["down"], said["refused"]), ("2.000000", "2.000", ""))
+        self.assertIn("DOWN 2.000 mm", said["approach"]["warnings"][0])
+        self.assertEqual(page.post("reference", {"at": ["0.5", "0", "2"], "anyway": True})[0], 200)
+        state = page.until("it is known", lambda state: state["known"])
+        self.assertEqual(page.post("resume")[0], 200)
+        state = page.asked()
+        self.assertEqual((state["motors"][2], state["spindle"], state["moving"], state["question"]["purpose"]),
+                         ("2.000000", 1, False, "look"))
+        page.agree(state)
+        state = page.until("it is through", lambda state: state["finished"])
+        self.assertEqual(state["motors"], ["1.000000", "0.000000", "-1.000000"])
+
+
+class PowerOfFile(Served):
+    """A loss of power with a file: the motors go back along it."""
+
+    OUT = "out"
+
+    def test_recover(self) -> None:
+        """What `recover` would do is told before; its questions, its way, the switch, and on to the end."""
+        page = self.page()
+        self.load(page, "M3 S100\n" + LONG)
+        page.post("run")
+        page.until("it cuts", lambda state: state["line"] == 5 and float(state["motors"][0]) < 1.9)
+        self.pull()
+        self.begin()
+        page = self.page()
+        recover = page.next()["recover"]
+        self.assertEqual((recover["way"]["back"], recover["problem"], recover["at"]),
+                         (True, "", ["2.000000", "0.000000", "0.000000"]))
+        self.assertEqual(page.post("recover")[0], 200)
+        for _ in range(4):  # where it stands, what comes on, whether it goes, and the look
+            state = page.asked()
+            if state["question"]["purpose"] == "look":
+                break
+            self.assertFalse(state["moving"])
+            page.agree(state)
+        self.assertEqual((state["motors"], state["spindle"]), (["2.000000", "0.000000", "0.000000"], 1))
+        page.agree(state)
+        state = page.until("it is through", lambda state: state["finished"])
+        self.assertEqual(state["motors"], ["1.000000", "0.000000", "-1.000000"])
+
+
+class Jobs(InFolder):
+    """What is drawn, without a server."""
+
+    def test_segments(self) -> None:
+        """Each line of each example has as many segments as `ngc run` opens."""
+        Path("coarse.toml").write_text(COARSE)
+        for name in ("ring", "pocket", "bolts", "bores", "face", "percent"):
+            subprocess.run([ngc(), "format", f"{name}.dev"], check=True, capture_output=True)
+            console = Console(ngc(), f"{name}.dev", "coarse.toml", f"out-{name}")
+            self.addCleanup(console.kill)
+            for number, length in enumerate((50, 62.5, 0), 1):
+                console.ask(f"tool {number} {length}")
+            text = (EXAMPLES / f"{name}.ngc").read_bytes()
+            console.load(text)
+            job = job_of(Source(ngc(), "coarse.toml", "", Path(f"{name}.dev").read_bytes(), True, False))
+            console.ask("start")
+            opened: dict[int, int] = {}
+            while not any(reply in ("idle", "stopped") or reply.startswith("refused")
+                          for reply in console.ask("tick 1")):
+                status = console.status()
+                if status.half == "program":
+                    line = text.count(b"\n", 0, status.place) + 1
+                    opened[line] = max(opened.get(line, 0), status.segment + 1)
+            self.assertEqual({line: len(own) for line, own in job.segments.items() if line in opened}, opened, name)
+            self.assertEqual(set(opened) - set(job.segments), set(), name)
+
+    def test_offsets(self) -> None:
+        """A job begins with the device's own offsets, and its exact times are those of the pulses."""
+        self.device()
+        self.run_ngc("mdi G10 L2 P1 X3 Y0 Z-1\ntick 5\nload 29\nG21 G90\nG0 X0\nM3 S5\nG0 Z0\nM2\n")
+        source = Source(ngc(), "first.toml", "", Path("mill.dev").read_bytes(), True, False)
+        job = json.loads(draw_exactly(source).text)
+        # 3 mm and 1 mm at 100 mm/s
+        self.assertEqual([(step["p"], step["us"]) for step in job["steps"]],
+                         [([0, 0, 0, 3000, 0, 0], 150_000), ([3000, 0, 0, 3000, 0, -1000], 50_000)])
+        self.assertEqual((job["segments"], job["exact"]), ({"2": [0], "3": [SWITCH] * 2, "4": [1], "5": [SWITCH]}, True))
+        self.assertFalse(json.loads(draw(source).text)["exact"])
+
+
+class Asides(InFolder):
+    """Work in processes aside."""
+
+    def test_failed(self) -> None:
+        """What a function raises is told; what is given up ends."""
+        aside = Aside()
+        self.addCleanup(aside.close)
+        self.assertEqual(aside.call(divmod, 7, 2), (3, 1))
+        with self.assertRaisesRegex(NotDone, "ZeroDivisionError"):
+            aside.call(divmod, 7, 0)
+        child = aside.begin(time.sleep, 1000)
+        child.give_up()
+        with self.assertRaises(NotDone):
+            aside.finish(child)
+        aside.close()
+        with self.assertRaises(NotDone):
+            aside.call(divmod, 7, 2)
+
+
+class Words(InFolder):
+    """The words of the command line."""
+
+    def test_wrong(self) -> None:
+        """What is wrong is said in a line, with status 2."""
+        self.device()
+        for words, why in ((("mill.dev", "first.toml", "out", "--listen", "8585"), "8585: --listen takes HOST:PORT"),
+                           (("mill.dev", "first.toml", "out", "--listen", "a:99999"), "a:99999: --listen takes"),
+                           (("none.dev", "first.toml", "out"), "none.dev: there is no such device"),
+                           (("mill.dev", "first.toml", "out", "--player", "none"), "none: no player listens there")):
+            status, out, error = told(main, *words, "--ngc", ngc())
+            self.assertEqual((status, out, error.count("\n")), (2, "", 1), words)
+            self.assertIn(f"ngc-page: {why}", error)
+
+
+def told_of_device() -> str:
+    """What `ngc-device` says of the device."""
+    from ngc_tools.cli.device import main as device
+    return told(device, "mill.dev")[1]
+
+
+if __name__ == "__main__":
+    unittest.main()
