@@ -4,12 +4,11 @@ export const $ = id => document.getElementById(id);
 const SYSTEMS = ['G54', 'G55', 'G56', 'G57', 'G58', 'G59', 'G59.1', 'G59.2', 'G59.3'];
 export const AXES = ['X', 'Y', 'Z'];
 
-// Makes an element. `props` are its properties, `on...` listeners, and attributes where it has no such property.
+// Makes an element. `props` are its properties, and attributes where it has no such property.
 export function el(tag, props = {}, ...children) {
   const made = document.createElement(tag);
   for (const [name, value] of Object.entries(props)) {
-    if (name.startsWith('on')) made.addEventListener(name.slice(2), value);
-    else if (name === 'class') made.className = value;
+    if (name === 'class') made.className = value;
     else if (name in made) made[name] = value;
     else made.setAttribute(name, value);
   }

@@ -96,7 +96,9 @@ export class Job {
 
   pointsOf(step) {
     const found = [];
-    for (let i = 3 * this.first[step]; i < 3 * this.first[step + 1]; i += 3) found.push([...this.points.subarray(i, i + 3)]);
+    for (let i = this.first[step]; i < this.first[step + 1]; i++) {
+      found.push([...this.points.subarray(3 * i, 3 * i + 3)]);
+    }
     return found;
   }
 

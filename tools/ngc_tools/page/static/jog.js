@@ -5,7 +5,8 @@ import { el } from './dom.js';
 const AGAIN_MS = 100;
 const RATES = [['Slow', 100], ['Medium', 600], ['Fast', 3000]]; // mm a minute
 const LENGTHS = [['Hold', null], ['10', 10], ['1', 1], ['0.1', 0.1], ['0.01', 0.01]]; // mm
-const PAD = [['Y', 1, 'up'], ['X', -1, 'left'], ['X', 1, 'right'], ['Y', -1, 'down'], ['Z', 1, 'above'], ['Z', -1, 'below']];
+const PAD = [['Y', 1, 'up'], ['X', -1, 'left'], ['X', 1, 'right'], ['Y', -1, 'down'], ['Z', 1, 'above'],
+  ['Z', -1, 'below']];
 
 export class Jog {
   constructor(asks) {
@@ -58,9 +59,11 @@ export class Jog {
 
 function choices(name, options, chosen, first) {
   const box = el('div', { class: 'choices', role: 'group', 'aria-label': name });
-  box.append(...options.map(([says, value]) => el('button', { 'aria-pressed': String(value === first), onclick: event => {
-    for (const one of box.children) one.setAttribute('aria-pressed', String(one === event.target));
+  const choose = value => event => {
+    for (const one of box.children) one.setAttribute('aria-pressed', String(one === event.currentTarget));
     chosen(value);
-  } }, says)));
+  };
+  box.append(...options.map(([says, value]) =>
+    el('button', { 'aria-pressed': String(value === first), onclick: choose(value) }, says)));
   return box;
 }

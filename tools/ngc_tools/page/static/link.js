@@ -53,7 +53,8 @@ export function check(file) {
     throw new Error(`${file.size.toLocaleString('en')} bytes: a program has at most 131,072, on a large device `
       + '1,048,576. ngc-split parts it.');
   }
-  const headers = { 'Content-Type': 'application/octet-stream', 'X-Page': page, 'X-Name': encodeURIComponent(file.name) };
+  const name = encodeURIComponent(file.name);
+  const headers = { 'Content-Type': 'application/octet-stream', 'X-Page': page, 'X-Name': name };
   return answered(fetch('check', { method: 'POST', body: file, headers }));
 }
 

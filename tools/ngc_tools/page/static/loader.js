@@ -4,11 +4,11 @@ import { check } from './link.js';
 import * as sheet from './sheet.js';
 
 export async function load(file, asks) {
-  const parts = sheet.open(`Load ${file.name}`, [el('p', { class: 'soft' }, 'ngc looks at each line\u2026')],
-    [sheet.gap(), el('button', { onclick: sheet.close }, 'Back')]);
+  const parts = sheet.open(`Load ${file.name}`, [sheet.soft('ngc looks at each line\u2026')],
+    [sheet.gap(), sheet.button('Back', sheet.close)]);
   try {
     const found = await check(file);
-    const size = el('p', { class: 'soft' }, `${grouped(found.bytes)} bytes, ${counted(found.count, 'line')}`);
+    const size = sheet.soft(`${grouped(found.bytes)} bytes, ${counted(found.count, 'line')}`);
     parts.words.replaceChildren(size, verdict(found), ...found.refusals.map(refusal), ...found.warnings.map(warning));
     parts.foot.append(loading(found, asks));
   } catch (error) {
@@ -41,10 +41,9 @@ function warning(one) {
 
 function loading(found, asks) {
   const isRefused = found.refusals.length > 0;
-  const button = el('button', { class: isRefused ? '' : 'go' }, isRefused ? 'Load it all the same' : 'Load');
-  button.onclick = () => {
+  const give = () => {
     sheet.close();
     asks('load', { id: found.id });
   };
-  return button;
+  return isRefused ? sheet.button('Load it all the same', give) : sheet.go('Load', give);
 }

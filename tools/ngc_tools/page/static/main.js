@@ -13,7 +13,7 @@ import { Setup } from './setup.js';
 import * as sheet from './sheet.js';
 import * as tools from './tools.js';
 
-const app = { state: null, job: null, travel: null, never: [], programId: null, jobId: null, asked: 0, hasTyped: false };
+const app = { state: null, job: null, travel: null, never: [], programId: null, jobId: null, asked: 0 };
 window.ngc = app; // for who looks at the page from outside, as tests do
 
 const log = new Log();
@@ -25,6 +25,7 @@ const picture = new Picture($('canvas'), (um, px) => {
   $('scale').style.width = `${px}px`;
 });
 const recovery = new Recovery(app, asks, log);
+Object.assign(app, { picture, program });
 
 // Asks the server for something. Gives its answer, or null where it isn't done, which is said.
 async function asks(what, body) {
@@ -65,7 +66,7 @@ function show(s) {
 function showWords(s) {
   document.body.dataset.tone = s.tone;
   text($('word'), s.word);
-  text($('detail'), s.word === 'Question' ? question.read(s.question).says : s.detail);
+  text($('detail'), s.word === 'Question' ? question.short(s.question) : s.detail);
   document.title = `${s.word} \u2013 ngc`;
   document.body.classList.toggle('blind', Boolean(s.player_gone || s.ended));
   const others = s.pages - 1;
@@ -121,7 +122,7 @@ function showQuestion(s) {
   } else {
     const { content, buttons } = question.parts(s.question, s.yours, asks);
     const said = log.since(s.command?.since ?? Infinity, ['said', 'warning', 'refused']);
-    sheet.open('A question', [el('pre', { class: 'all' }, said.join('\n')), ...content], [sheet.gap(), ...buttons]);
+    sheet.open('A question', [sheet.lines(said), ...content], [sheet.gap(), ...buttons]);
   }
   app.asked = id;
 }
@@ -130,7 +131,7 @@ function showQuestion(s) {
 function progress(s) {
   const { job } = app, motors = micrometres(s.motors ?? s.at), place = job ? job.place(s) : { done: 0, now: -1 };
   const ahead = 1000 * (s.behind_mm ?? 2) + 1000;
-  const reached = job && place.now >= 0 ? job.reached(place.now, motors, ahead) : { step: place.now, share: 0, part: 1 };
+  const reached = place.now >= 0 ? job.reached(place.now, motors, ahead) : { step: -1, share: 0, part: 1 };
   const done = place.now >= 0 ? reached.step : place.done;
   picture.origin = s.origin ? micrometres(s.origin) : null;
   picture.at(done, reached.step, reached.part, motors);
@@ -184,10 +185,10 @@ async function fetchNew(s) {
 function takeUpLines() {
   const { words } = app.state.recover, does = what => () => { sheet.close(); asks(what); };
   sheet.open('Lines that no motor carried out', [el('p', { class: 'asked' }, words),
-    el('p', {}, 'Recover lets the motors go there, each step asked. Drop cuts these lines off, and nothing makes them any '
-      + 'more.')],
-  [el('button', { onclick: sheet.close }, 'Back'), sheet.gap('Nothing moves yet.'), el('button', { onclick: does('drop') }, 'Drop'),
-    el('button', { class: 'go', onclick: does('recover') }, 'Recover')]);
+    sheet.said('Recover lets the motors go there, each step asked. Drop cuts these lines off, and nothing makes them '
+      + 'any more.')],
+  [sheet.button('Back', sheet.close), sheet.gap('Nothing moves yet.'), sheet.button('Drop', does('drop')),
+    sheet.go('Recover', does('recover'))]);
 }
 
 // From the middle of a program what is on stays as it is, and a cut may come first: it is rehearsed before.
@@ -195,18 +196,17 @@ async function goOn(s, title) {
   const found = await asks('rehearse');
   if (!found) return;
   const { job } = app, drawn = job ? job.left(job.place(s).done, 0) : 0, differs = Math.abs(found.rest_us - drawn);
-  const turns = s.spindle === 1 ? 'clockwise' : 'counter-clockwise';
+  const turns = s.spindle === 1 ? 'clockwise' : 'counter-clockwise', modes = `G${s.motion} G${s.distance} G${s.unit}`;
   const spindle = s.spindle ? `The spindle turns ${turns} at ${grouped(s.speed)}.`
-    : 'The spindle stands, and nothing switches it on by itself: give M3 as a line first, unless it is meant so.';
-  const modes = `G${s.motion} G${s.distance} G${s.unit} are in force`;
+    : 'The spindle is off, and nothing switches it on by itself: give M3 as a line first, unless it is meant so.';
   sheet.ask(title, [
-    job && differs > 1e6 && differs > drawn / 10 ? sheet.warning(`From here it would take ${lasting(found.rest_us)}; as the program `
-      + `was drawn it takes ${lasting(drawn)}. Lines of one\u2019s own changed a mode: ${modes}.`, 'bad') : null,
-    ...(found.warnings ?? []).map(one => sheet.warning(one, 'bad')),
-    sheet.warning(spindle, s.spindle ? 'fine' : ''),
-    el('div', { class: 'lead' }, program.line(s.line)),
-    el('p', {}, `The tool goes on from where it is now: ${point(s.at)}. Look that the way is free.`),
-    el('pre', { class: 'all' }, (found.lines ?? []).join('\n'))], title, run);
+    job && differs > 1e6 && differs > drawn / 10 && sheet.warning(`From here it would take ${lasting(found.rest_us)}; `
+      + `as the program was drawn it takes ${lasting(drawn)}. Lines of one\u2019s own changed a mode: ${modes} are in `
+      + 'force.', 'bad'),
+    ...(found.warnings ?? []).map(one => sheet.warning(one, 'bad')), sheet.warning(spindle, s.spindle ? 'fine' : ''),
+    sheet.lead(program.line(s.line)),
+    sheet.said(`The tool goes on from where it is now: ${point(s.at)}. Look that the way is free.`),
+    sheet.lines(found.lines)], title, run);
 }
 
 // ---- what people touch
@@ -247,8 +247,8 @@ $('file').onchange = () => {
 };
 $('quit').onclick = () => {
   const isHalf = app.state.half !== 'none';
-  sheet.ask('End the session?', isHalf ? 'A line stays half-done: it is taken up or given up in the next session.'
-    : 'What is stored stays.', 'Quit', () => asks('quit'));
+  sheet.ask('End the session?', [sheet.said(isHalf ? 'A line stays half-done: it is taken up or given up in the next '
+    + 'session.' : 'What is stored stays.')], 'Quit', () => asks('quit'));
 };
 
 function look(isFlat) {
@@ -287,10 +287,11 @@ theme(localStorage.theme ?? 'dark');
 
 function lost(isOver) {
   const s = app.state;
-  const of = isOver ? 'The session has ended.' : !s ? 'The server doesn\u2019t answer.'
-    : !s.busy ? 'Nothing was running when it was lost.'
-      : s.on_loss === 'go' ? 'The job goes on, as was chosen (Setup).' : 'The machine holds, unless its power is gone too.';
-  text($('lost-says'), of);
+  const running = s?.on_loss === 'go' ? 'The job goes on, as was chosen.'
+    : 'The machine holds, unless its power is gone too.';
+  const says = isOver ? 'The session has ended.' : !s ? 'The server doesn\u2019t answer.'
+    : s.busy ? running : 'Nothing was running when it was lost.';
+  text($('lost-says'), says);
   $('lost').hidden = false;
 }
 

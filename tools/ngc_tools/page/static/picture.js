@@ -1,7 +1,8 @@
 // The path: what is done solid, what is under way bright, what is left pale, traverses dashed, a cross at the motors.
 //
-// What stays the same is painted once, on a layer; what moves comes over it. While somebody moves the picture, points
-// that would lie close together are left out, so that the path of a long program follows the finger.
+// What stays the same is painted once, on a layer; what moves comes over it. While somebody moves the picture, the layer
+// is moved and magnified as it is, so that the path of a long program follows the finger; while somebody turns it, points
+// that would lie close together are left out.
 import { listen } from './gestures.js';
 import { CUT, TRAVERSE, WAIT } from './job.js';
 import * as paint from './paint.js';
@@ -87,7 +88,7 @@ export class Picture {
     this.isMoving = true;
     clearTimeout(this.settles);
     this.settles = setTimeout(() => { this.isMoving = false; this.redraw(); }, SETTLED_MS);
-    this.redraw();
+    this.draw();
   }
 
   redraw() {
@@ -111,11 +112,9 @@ export class Picture {
     for (const canvas of [this.canvas, this.layer]) this.sized(canvas, ...size);
     this.m = this.view.map(width, height);
     this.em = parseFloat(getComputedStyle(document.body).fontSize);
-    this.paintLayer(this.layer.getContext('2d'), ratio);
+    if (!this.isMoving || this.isTurned) this.paintLayer(this.layer.getContext('2d'), ratio);
     const g = this.canvas.getContext('2d');
-    g.setTransform(1, 0, 0, 1, 0, 0);
-    g.clearRect(0, 0, this.canvas.width, this.canvas.height);
-    g.drawImage(this.layer, 0, 0);
+    this.copyLayer(g, ratio);
     g.setTransform(ratio, 0, 0, ratio, 0, 0);
     g.font = `${this.em}px ${getComputedStyle(document.body).fontFamily}`;
     this.paintNow(g);
@@ -129,9 +128,22 @@ export class Picture {
     this.isStale = true;
   }
 
+  // Whether the picture is turned otherwise than what the layer shows.
+  get isTurned() { return this.shown?.turn !== this.view.turn || this.shown.tilt !== this.view.tilt; }
+
+  // Puts the layer where the view has it now.
+  copyLayer(g, ratio) {
+    const { m, shown } = this, k = this.view.zoom / shown.zoom;
+    g.setTransform(1, 0, 0, 1, 0, 0);
+    g.clearRect(0, 0, this.canvas.width, this.canvas.height);
+    g.setTransform(k, 0, 0, k, ratio * (m[3] - k * shown.m[3]), ratio * (m[7] - k * shown.m[7]));
+    g.drawImage(this.layer, 0, 0);
+  }
+
   paintLayer(g, ratio) {
     g.setTransform(ratio, 0, 0, ratio, 0, 0);
-    if (this.isStale) {
+    if (this.isStale || this.isTurned) {
+      this.shown = { turn: this.view.turn, tilt: this.view.tilt, zoom: this.view.zoom, m: this.m };
       g.clearRect(0, 0, this.width, this.height);
       this.paintGround(g);
       this.paintPath(g, 0, this.job?.count ?? 0, false);
@@ -167,7 +179,7 @@ export class Picture {
     if (!this.job || from >= to) return;
     const { colours } = this;
     g.lineJoin = g.lineCap = 'round';
-    g.setLineDash([5, 5]);
+    g.setLineDash(this.isMoving ? [] : [5, 5]);
     g.lineWidth = 1.2;
     g.strokeStyle = isDone ? colours.faint : colours['path-rapid'];
     this.stroke(g, from, to, TRAVERSE, -1);

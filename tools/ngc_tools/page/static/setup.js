@@ -10,12 +10,13 @@ export class Setup {
     this.home = ['XYZ', ...AXES].map(axes => el('button', { onclick: () => asks('home', { axes }) },
       axes === 'XYZ' ? 'Home all' : axes));
     this.system = el('span', { class: 'soft' });
-    this.value = el('input', { value: '0', inputMode: 'decimal' });
-    this.value.setAttribute('aria-label', 'Work coordinate of this place, in mm');
+    const label = 'Work coordinate of this place, in mm';
+    this.value = el('input', { value: '0', inputMode: 'decimal', 'aria-label': label });
     this.zero = [...AXES, 'XY'].map(axes => el('button', { onclick: () => this.sets(axes) }, `Set ${axes}`));
     this.touch = el('button', { class: 'wide', onclick: () => asks('touch', { slot: this.slot }) });
     this.undo = el('button', { class: 'wide', onclick: () => asks('undo') });
-    this.loss = el('button', { role: 'switch', class: 'wide' }, el('i'), el('span', {}, 'Job goes on if this page is lost'));
+    const says = el('span', {}, 'Job goes on if this page is lost');
+    this.loss = el('button', { role: 'switch', class: 'wide' }, el('i'), says);
     this.loss.onclick = () => asks('loss', { goes: this.loss.getAttribute('aria-checked') !== 'true' });
     this.parts = {
       home: part('Home', this.homed, el('div', { class: 'four' }, ...this.home)),

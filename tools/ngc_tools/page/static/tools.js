@@ -8,7 +8,8 @@ export function show(s, isIdle, asks) {
   const key = JSON.stringify([s.tools, s.slot, isIdle]);
   if (key === shown || document.activeElement?.closest?.('#tab-tools input')) return;
   shown = key;
-  const rows = [...s.tools, ''].slice(0, MOST_SLOTS).map((length, i) => row(i + 1, length, s.slot === i + 1, isIdle, asks));
+  const lengths = [...s.tools, ''].slice(0, MOST_SLOTS);
+  const rows = lengths.map((length, i) => row(i + 1, length, s.slot === i + 1, isIdle, asks));
   $('tab-tools').replaceChildren(
     el('p', { class: 'hint' }, 'Lengths in mm. A new length counts from the next G43 on.'), ...rows);
 }
@@ -16,8 +17,7 @@ export function show(s, isIdle, asks) {
 function row(slot, length, isIn, isIdle, asks) {
   const isNew = length === '';
   const input = el('input', { value: isNew ? '' : mm(length).replace('\u2212', '-'), inputMode: 'decimal',
-    disabled: !isIdle, placeholder: isNew ? 'a length' : '' });
-  input.setAttribute('aria-label', `Length of tool ${slot}`);
+    disabled: !isIdle, placeholder: isNew ? 'a length' : '', 'aria-label': `Length of tool ${slot}` });
   const give = () => {
     const typed = typedNumber(input.value);
     input.classList.toggle('wrong', typed === null);

@@ -18,8 +18,8 @@ export class View {
   // The numbers of the map: x is m[0] X + m[1] Y + m[2] Z + m[3], y the same of the last four.
   map(width, height) {
     const c = Math.cos(this.turn), s = Math.sin(this.turn), up = Math.cos(this.tilt), z = Math.sin(this.tilt);
-    const k = this.zoom, [right, far] = this.shift;
-    return [k * c, -k * s, 0, width / 2 - right * k, -k * s * up, -k * c * up, -k * z, height / 2 + ROOM.down + far * k];
+    const k = this.zoom, x = width / 2 - this.shift[0] * k, y = height / 2 + ROOM.down + this.shift[1] * k;
+    return [k * c, -k * s, 0, x, -k * s * up, -k * c * up, -k * z, y];
   }
 
   // Sets zoom and shift so that all points are in sight. They are in one array, three numbers each.
@@ -28,7 +28,8 @@ export class View {
     this.shift = [0, 0];
     const m = this.map(0, -2 * ROOM.down), low = [Infinity, Infinity], high = [-Infinity, -Infinity];
     for (let i = 0; i < points.length; i += 3) {
-      const x = m[0] * points[i] + m[1] * points[i + 1], y = m[4] * points[i] + m[5] * points[i + 1] + m[6] * points[i + 2];
+      const x = m[0] * points[i] + m[1] * points[i + 1];
+      const y = m[4] * points[i] + m[5] * points[i + 1] + m[6] * points[i + 2];
       low[0] = Math.min(low[0], x); high[0] = Math.max(high[0], x);
       low[1] = Math.min(low[1], y); high[1] = Math.max(high[1], y);
     }
