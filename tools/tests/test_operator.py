@@ -785,6 +785,24 @@ class Motors(Core):
         console.ask = ask
         return link
 
+    def test_single(self) -> None:
+        """It holds after each line that hands something out, once the line is done; not after a line of one's own."""
+        self.begin(FileLink())
+        self.load("G21 G90\n(hello)\nG0 X0.002\nM3 S5\nG0 X0.001\nM2\n")
+        self.assertEqual(self.do("single", "single on"),
+                         ["single on, or single off: whether it holds after each line", "single on"])
+        lines, places = [], []
+        for _ in range(3):
+            self.do("run")
+            lines.append(Path("out").read_text().count("\n"))
+            places.append((self.status().does, self.status().place, self.status().half))
+        self.assertEqual(places, [("held", 26, "none"), ("held", 32, "none"), ("held", 42, "none")])
+        self.assertEqual(lines, [2, 4, 5])
+        self.do("G0 X0.003")
+        self.assertEqual(self.status().at[0], "0.003000")
+        self.do("single off", "run", answers=("yes",))
+        self.assertEqual((self.status().does, self.status().place), ("idle", 0))
+
     def test_hold(self) -> None:
         """The motors are held first, and then `ngc`; nothing more is handed out; run lets both go on, and all is
         carried out: 1,000 lines, of which never more than 340 are in hand."""

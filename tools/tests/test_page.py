@@ -19,6 +19,7 @@ from ngc_tools.ngc.console import Console  # noqa: E402
 from ngc_tools.page import server as server_module  # noqa: E402
 from ngc_tools.page.aside import Aside, NotDone  # noqa: E402
 from ngc_tools.page.drawing import SWITCH, Source, draw, draw_exactly, job_of  # noqa: E402
+from ngc_tools.page.rehearse import Asked, rehearsed  # noqa: E402
 
 EXAMPLES = TOOLS.parent / "examples"
 COARSE = """step_nm = [100000, 100000, 100000]
@@ -343,6 +344,22 @@ class Jobs(InFolder):
         self.assertFalse(json.loads(draw(source).text)["exact"])
 
 
+    def test_differs(self) -> None:
+        """What a line of one's own makes of the rest of a program is told, with the time that it takes."""
+        self.device()
+        program = b"G21 G90\nG1 X0.1 F6\nM0\nX0\nM2\n"
+        self.run_ngc(f"load {len(program)}\n{program.decode()}")
+        begun = Path("mill.dev").read_bytes()
+        drawing = draw_exactly(Source(ngc(), "first.toml", "", begun, True, False))
+        for line, differs in (("", []), ("mdi G0 X0.1\ntick 9\n", [
+                "Line 4 goes by a traverse to X 0.000 Y 0.000 Z 0.000. As it was drawn, it cuts to X 0.000 Y 0.000"
+                " Z 0.000.", "From line 4 to the end it takes 0.005 s. As it was drawn, that takes 1.000 s."])):
+            Path("mill.dev").write_bytes(begun)
+            self.run_ngc(f"start\ntick 9999\n{line}")
+            asked = Asked(ngc(), "first.toml", Path("mill.dev").read_bytes(), None, drawing, None)
+            self.assertEqual(rehearsed(asked)["differs"], differs)
+
+
 class Asides(InFolder):
     """Work in processes aside."""
 
@@ -366,15 +383,22 @@ class Words(InFolder):
     """The words of the command line."""
 
     def test_wrong(self) -> None:
-        """What is wrong is said in a line, with status 2."""
+        """What is wrong is said, with status 2."""
         self.device()
+        taken = socket.create_server(("127.0.0.1", 0))
+        self.addCleanup(taken.close)
+        port = taken.getsockname()[1]
         for words, why in ((("mill.dev", "first.toml", "out", "--listen", "8585"), "8585: --listen takes HOST:PORT"),
+                           (("mill.dev", "first.toml", "out", "--listen", "0.0.0.0:1"), "0.0.0.0:1: name the address"),
+                           (("mill.dev", "first.toml", "out", "--address", "mill"), "mill: --address takes https://"),
                            (("mill.dev", "first.toml", "out", "--listen", "a:99999"), "a:99999: --listen takes"),
                            (("none.dev", "first.toml", "out"), "none.dev: there is no such device"),
-                           (("mill.dev", "first.toml", "out", "--player", "none"), "none: no player listens there")):
+                           (("mill.dev", "first.toml", "out", "--player", "none"), "none: no player listens there"),
+                           (("mill.dev", "first.toml", "out", "--listen", f"127.0.0.1:{port}"), f"127.0.0.1:{port}:"
+                            " pages can't come from there: Address already in use")):
             status, out, error = told(main, *words, "--ngc", ngc())
-            self.assertEqual((status, out, error.count("\n")), (2, "", 1), words)
-            self.assertIn(f"ngc-page: {why}", error)
+            self.assertEqual((status, out), (2, ""), words)
+            self.assertIn(why, error.splitlines()[-1])
 
 
 def told_of_device() -> str:

@@ -1,13 +1,16 @@
 """The words of `ngc-page`, and its session from start to end."""
 import argparse
 import os
+import re
 import secrets
+import socket
 import sys
 from dataclasses import dataclass
 
 from ngc_tools.cli.operate import as_found, bound, metered
 from ngc_tools.cli.run import add_ngc, new_parser, run
-from ngc_tools.failure import BadNumber, Failure
+from ngc_tools.failure import Failure, WrongWords
+from ngc_tools.formats.device import Device
 from ngc_tools.ngc.before_start import CannotBegin, look
 from ngc_tools.ngc.console import Console
 from ngc_tools.ngc.machine_report import Motion
@@ -37,6 +40,8 @@ exit status:
   0  the session was ended by quit
   2  the words are wrong, `ngc run` can't be started or failed, a signal came: it says why"""
 
+_ADDRESS = re.compile(r"https?://[A-Za-z0-9.-]+(?::[0-9]{1,5})?")
+_ALL = ("0.0.0.0", "[::]", "::")
 _SWITCH_S = 0.0005  # after so long threads take turns, so that a tick doesn't wait for a page
 
 
@@ -55,6 +60,8 @@ def make_parser() -> argparse.ArgumentParser:
     parser.add_argument("--listen", default="127.0.0.1:8585", metavar="HOST:PORT", help="where pages come from"
                         " (without it 127.0.0.1:8585); another HOST lets in whoever hears the network, which the key"
                         " crosses in clear: docs/PAGE.md has a safer way for a tablet")
+    parser.add_argument("--address", action="append", default=[], metavar="URL", help="another address by which pages"
+                        " come, as https://mill.example through a proxy that has TLS; it may be given again")
     add_ngc(parser)
     return parser
 
@@ -68,27 +75,41 @@ def work(args: argparse.Namespace) -> int:
     """Looks at what is given, and does the session. Raises CannotBegin, NoAnswer, BadSettings, BadMachine, ValueError,
     OSError."""
     host, port = address(args.listen)
+    if wrong := next((url for url in args.address if not _ADDRESS.fullmatch(url)), None):
+        raise WrongWords(f"{wrong}: --address takes https://NAME, or http://NAME:PORT")
     ngc = find_ngc(args.ngc)
     if args.machine:
         look_at_settings(ngc, args.settings)
         Motion.read(ngc, args.machine, args.settings)
     sys.setswitchinterval(_SWITCH_S)
-    session = Session(Opener(ngc, args), PageFace(), args.machine or "")
-    try:
-        serve(session, host, port)
-    finally:
-        status = ended(session)
+    with listening(host, port) as file:
+        session = Session(Opener(ngc, args), PageFace(), args.machine or "")
+        try:
+            serve(session, host, file, args.address)
+        finally:
+            status = ended(session)
     if status:
         raise Failure(f"ngc ended with status {status}: the device or OUT failed in this session")
     return 0
 
 
 def address(text: str) -> tuple[str, int]:
-    """The host and the port of --listen. Raises BadNumber."""
+    """The host and the port of --listen. Raises WrongWords."""
     host, _, port = text.rpartition(":")
     if not host or not port.isdecimal() or int(port) > 65_535:
-        raise BadNumber(f"{text}: --listen takes HOST:PORT")
+        raise WrongWords(f"{text}: --listen takes HOST:PORT")
+    if host in _ALL:
+        raise WrongWords(f"{text}: name the address of one network, since pages have to come by its name")
     return host, int(port)
+
+
+def listening(host: str, port: int) -> socket.socket:
+    """A socket that listens there. Raises CannotBegin."""
+    family = socket.AF_INET6 if host.startswith("[") else socket.AF_INET
+    try:
+        return socket.create_server((host.strip("[]"), port), family=family, backlog=128)
+    except OSError as error:
+        raise CannotBegin(f"{host}:{port}: pages can't come from there: {error.strerror or error}") from None
 
 
 @dataclass(frozen=True, slots=True)
@@ -104,26 +125,26 @@ class Opener:
         meter = metered(args)
         pipe = look(args.device, args.settings, args.out)
         look_at_settings(self.ngc, args.settings)
-        found = as_found(args.device)
+        found, left_at = as_found(args.device), os.stat(args.device).st_mtime
         link = meter.link if meter else None
         out = Found.of(self.ngc, args.settings, link, found) if isinstance(link, SyncedLink) else None
         console = Console(self.ngc, args.device, args.settings, args.out, Patience(face))
         try:
-            return self._opened(console, face, meter, found, out, pipe)
+            return self._opened(console, face, meter, (found, left_at), out, pipe)
         except BaseException:
             if console.child.poll() is None:
                 console.kill()
             raise
 
-    def _opened(self, console: Console, face: PageFace, meter: Meter | None, found: object, out: Found | None,
-                pipe: int | None) -> Opened:
+    def _opened(self, console: Console, face: PageFace, meter: Meter | None, before: tuple[Device | None, float],
+                out: Found | None, pipe: int | None) -> Opened:
         console.status()
         operator = Operator(console, face, meter)
         operator.recover.found = out
         said = bound(self.args, meter, pipe)
         if pipe is not None:
             os.close(pipe)
-        return Opened(operator, said, found, Link(self.args.player) if self.args.player else None)
+        return Opened(operator, said, *before, Link(self.args.player, 0.0) if self.args.player else None)
 
 
 class Patience:
@@ -140,11 +161,12 @@ class Patience:
                 raise CannotBegin("ended; a block that was under way is half-done")
 
 
-def serve(session: Session, host: str, port: int) -> None:
+def serve(session: Session, host: str, file: socket.socket, addresses: list[str]) -> None:
     """Serves pages until the session is over. Raises OSError."""
-    server = Server(os.environ.get("NGC_PAGE_KEY") or secrets.token_urlsafe(16), session)
-    server.listen(host, port)
-    print(f"http://{host}:{server.port}/{server.key}/", flush=True)
+    server = Server(os.environ.get("NGC_PAGE_KEY") or secrets.token_urlsafe(16), session, addresses)
+    server.listen(host, file)
+    for origin in (f"http://{host}:{server.port}", *addresses):
+        print(f"{origin}/{server.key}/", flush=True)
     try:
         session.over.wait()
     finally:

@@ -25,7 +25,7 @@ from ngc_tools.operator.rehearsing import rehearse
 from ngc_tools.operator.sentences import HELP, NOT_MOVED, SWITCHED, SWITCHED_THERE, TAKEN_UP, TAKEN_UP_THERE
 from ngc_tools.operator.session import Nothing, Session, place
 from ngc_tools.operator.typed import ANYWAY, Typed
-from ngc_tools.operator.work import Work
+from ngc_tools.operator.work import SINGLE, Work
 from ngc_tools.player.progress import NoAnswer, Report
 
 PLAIN = ("abandon", "tool", "optional", "delete")
@@ -51,7 +51,7 @@ class Operator:
             "where": self._where, "status": self._status, "reference": self._reference, "resume": self._resume,
             "rehearse": self._rehearse, "restore": self._restore, "go": self._go, "help": self._help, "?": self._help,
             "recover": self._recover, "drop": self._drop, "quit": self._quit, "exit": self._quit, "tick": self._tick,
-            "hold": self._hold_all, "release": self._release, "percent": self._percent,
+            "hold": self._hold_all, "release": self._release, "percent": self._percent, "single": self._single,
             "mdi": lambda typed: self._mdi(typed.rest, typed.anyway),
             **dict.fromkeys(PLAIN, self._plain),
         }
@@ -200,6 +200,13 @@ class Operator:
         if taken(self.session, reply, f"{typed.word} {typed.rest}".strip()) and typed.word in ("delete", "optional"):
             setattr(self.session, typed.word, typed.rest.lower() == "on")
 
+    def _single(self, typed: Typed) -> None:
+        if typed.rest.lower() not in ("on", "off"):
+            self.face.say("single on, or single off: whether it holds after each line", REFUSED)
+            return
+        self.session.single = typed.rest.lower() == "on"
+        self.face.say(f"single {typed.rest.lower()}")
+
     def _hold_all(self, typed: Typed) -> None:
         stand = self.motors.hold()
         self._plain(typed)
@@ -334,6 +341,8 @@ class Operator:
             self._hold()
             return None
         self.session.own = ""
+        if ended == SINGLE:
+            ended = self.console.ask("hold")[0]
         return ended
 
     def _say_stand(self, ended: str) -> None:

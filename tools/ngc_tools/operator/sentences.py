@@ -23,6 +23,7 @@ resume, abandon    take a half-done block up, give it up
 anyway             after run, resume and others, before a line: do it
                    whatever the player says
 go                 tells the player that the tool is in
+single on, off     hold after each line
 optional on, off   stop at M1
 delete on, off     leave out lines with a slash
 quit               end; Ctrl-D too

@@ -30,7 +30,7 @@ class Nothing:
 @dataclass(slots=True)
 class Session:
     """`own` is a line of the operator's that is under way. The messages of the lines before the place `told` are shown;
-    `delete` and `optional` are the switches as they were set. `seen` is what the player said last; `gone` says that it
+    `delete`, `optional` and `single` are the switches as they were set. `seen` is what the player said last; `gone` says that it
     stopped to answer."""
 
     console: Console
@@ -41,6 +41,7 @@ class Session:
     told: int = 0
     delete: bool = False
     optional: bool = False
+    single: bool = False  # it holds after each line that hands something out
     own: str = ""
     seen: Report | None = None
     gone: bool = False

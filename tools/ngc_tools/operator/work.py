@@ -15,6 +15,8 @@ from ngc_tools.operator.timeline import Timeline
 from ngc_tools.player.progress import NoAnswer, Report
 
 ENDS = ("idle", "stopped", "held", "refused")
+SINGLE = "single"
+"""What ended the work where it is to hold after each line."""
 FIRST_TICKS, MOST_TICKS = 20, 1000
 
 
@@ -66,17 +68,18 @@ class Work:
         self._status: Status | None = None  # of what is under way
         self._waited: int | None = None  # the tool that the player was waiting for as it was asked last
         self._is_unwanted = False  # somebody wants to hold
+        self._is_within = False  # a line is under way that hands something out
 
     def go(self) -> str | None:
         """Gives ticks until there is nothing to do, or somebody wants to hold.
 
-        It returns what ended them: idle, stopped, held or refused; None for a wish to hold, or a player that is gone.
+        It returns what ended them: idle, stopped, held, refused or SINGLE; None for a wish to hold, or a player that is gone.
         After all but a refusal it waits until the motors are through."""
         self.session.gone = False
         self._waited = None
         self._shown = _NOTHING_SHOWN
         ended = self._ticks()
-        if ended in ("idle", "stopped", "held"):
+        if ended in ("idle", "stopped", "held", SINGLE):
             self.await_motors()
         self._status = None
         self.session.face.live(None)
@@ -86,7 +89,8 @@ class Work:
         session = self.session
         while count := self.room():
             begun = time.monotonic()
-            replies = session.console.ask(f"tick {count}")
+            is_single = session.single and not session.own
+            replies = session.console.ask(f"tick {1 if is_single else count}")
             self.chunk.lasted(time.monotonic() - begun)
             status = self._status = session.console.status()
             session.passed(status)
@@ -94,10 +98,18 @@ class Work:
             if ended := self._ended(replies, status):
                 self._shown = _Shown(status.place, "all is handed out", None, ())
                 return ended
+            if self._is_line_done(replies, status) and is_single:
+                return SINGLE
             self._show()
             if not self._wanted():
                 return None
         return None
+
+    def _is_line_done(self, replies: list[str], status: Status) -> bool:
+        """Whether a line that handed something out is done, by the replies of a tick."""
+        is_done = self._is_within and any(reply.startswith("done") for reply in replies)
+        self._is_within = status.half != "none"
+        return is_done
 
     def _wanted(self) -> bool:
         """Does what is given meanwhile; whether nobody wants to hold."""

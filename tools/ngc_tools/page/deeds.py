@@ -102,8 +102,8 @@ def _tool(given: Given) -> None:
 
 
 def _switch(given: Given) -> None:
-    if given.words.get("name") not in ("optional", "delete"):
-        raise BadWords("name: optional or delete")
+    if given.words.get("name") not in ("optional", "delete", "single"):
+        raise BadWords("name: optional, delete or single")
     given.session.tell(f"{given.words['name']} {'on' if given.flag('on') else 'off'}")
 
 
@@ -116,7 +116,7 @@ def _answer(given: Given) -> dict:
 
 def _rehearse(given: Given) -> dict:
     at = given.point("at") if given.words.get("at") is not None else None
-    return rehearse(given.session, at)
+    return rehearse(given.session, at, given.flag("recover"))
 
 
 DEEDS: dict[str, Callable[[Given], dict | None]] = {

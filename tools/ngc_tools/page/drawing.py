@@ -87,6 +87,14 @@ def as_begun(device: Device) -> Device | None:
     return Device(device.before(found[-1])) if found else None
 
 
+def setup_of(device: Device) -> tuple:
+    """What decides where the program of a device goes, but for where the machine stands."""
+    state = device.state
+    modes = (state.unit, state.distance, state.plane, state.feed_mode, state.retract)
+    return (device.program, state.system, state.origin_nm, state.g92_nm, state.tool_length_nm, modes, device.tools_nm,
+            device.parameters)
+
+
 def draw(source: Source) -> Drawing:
     """The job of the stored program, with times by length and rate, which is quick. Raises CannotSetUp, NoDevice,
     BadText, CannotRun, OSError, BadSettings."""

@@ -1,16 +1,20 @@
 """What `resume` or `run` would do, for a page: done aside over a copy of the device, with what lies in the way."""
 from dataclasses import dataclass
 
+from ngc_tools.failure import Failure
 from ngc_tools.formats.device import Device
 from ngc_tools.formats.lines import Program
-from ngc_tools.formats.position import nanometres
-from ngc_tools.job.figures import duration
+from ngc_tools.formats.position import millimetres, nanometres
+from ngc_tools.formats.settings import Settings
+from ngc_tools.job.figures import duration, micrometres
 from ngc_tools.job.figures import millimetres as rounded
-from ngc_tools.job.moves import CUT, Move, Point, distance
+from ngc_tools.job.moves import CUT, Move, Point, distance, of_out
 from ngc_tools.ngc.copies import CommandRefused
+from ngc_tools.operator.recovery import Found
 from ngc_tools.operator.rehearsal import Rehearsal, outputs
 from ngc_tools.operator.sentences import explained
-from ngc_tools.page.drawing import Source, job_of
+from ngc_tools.page.differs import differences
+from ngc_tools.page.drawing import Drawing, job_of
 from ngc_tools.page.session import Busy, Session
 
 _NEAR_NM = 100_000  # so near a finished cut the way counts as within it
@@ -20,41 +24,93 @@ _APART_NM = 250_000  # and so far apart at least
 
 
 @dataclass(frozen=True, slots=True)
+class Along:
+    """A way along OUT: its path, the bytes between which it lies, the point at the lower of these, and whether it goes
+    back from there."""
+
+    out: str
+    low: int
+    high: int
+    at_nm: Point
+    is_back: bool
+
+
+@dataclass(frozen=True, slots=True)
 class Asked:
-    """What is rehearsed: by which `ngc` and settings, over which image, from where, with what is drawn and where the
-    motors are, if that is known."""
+    """What is rehearsed: by which `ngc` and settings, over which image, from where, with what is drawn, where the
+    motors are, if that is known, and the way of `recover` along OUT, if it goes so."""
 
     ngc: str
     settings: str
     image: bytes
     at: list[str] | None
-    source: Source | None
+    drawing: Drawing | None
     motors: list[str] | None
+    along: Along | None = None
 
 
-def rehearse(session: Session, at: list[str] | None) -> dict:
-    """What a page is told. It takes no turn of the session's, since nothing but a copy is touched. Raises Busy where
-    something runs, NotDone, OSError."""
+def rehearse(session: Session, at: list[str] | None, by_recover: bool = False) -> dict:
+    """What a page is told of `resume`, or `run`, from a point, or of `recover`. It takes no turn of the session's,
+    since nothing but a copy is touched. Raises Busy where something runs, NotDone, OSError."""
     if session.is_busy or session.ended:
         raise Busy("something runs: hold first")
     console, report, image = session.operator.console, session.face.report, session.kept.device.image
-    asked = Asked(console.ngc, console.settings, image, at, session.drawing and session.drawing.source, report.at.split() if report else None)
-    return session.aside.call(rehearsed, asked)
+    found = session.operator.recover.found if by_recover else None
+    if found is not None and found.recovery.beginning is not None:
+        at = list(map(millimetres, found.recovery.at_nm))
+    motors = report.at.split() if report else None
+    return session.aside.call(rehearsed, Asked(console.ngc, console.settings, image, at, session.drawing, motors,
+                                               _along(found) if found else None))
+
+
+def _along(found: Found) -> Along | None:
+    """The way of `recover`, if it goes along OUT."""
+    recovery, beginning = found.recovery, found.recovery.beginning
+    if beginning is None or recovery.way is None:
+        return None
+    is_back = beginning.size < recovery.size
+    low, high = sorted((beginning.size, recovery.size))
+    return Along(found.link.out, low, high, recovery.at_nm if is_back else recovery.stands_nm, is_back)
 
 
 def rehearsed(asked: Asked) -> dict:
     """The rehearsal, in a process aside."""
     rehearsal = Rehearsal(asked.ngc, asked.settings, asked.image, asked.at)
+    found = {"begins": [], "rest": "", "rest_us": 0, "comes_on": "", "approach": None, "differs": [], "along": None}
     try:
         lines = rehearsal.lines()
     except CommandRefused as error:
-        return {"refused": explained(error.reply), "lines": [error.reply], "begins": [], "rest": "", "rest_us": 0,
-                "comes_on": "", "approach": None}
+        return found | {"refused": explained(error.reply), "lines": [error.reply]}
     comes_on = outputs(rehearsal.comes_on) if rehearsal.comes_on else ""
     approach = _approach(asked, *rehearsal.approach) if rehearsal.approach else None
-    return {"lines": lines, "begins": rehearsal.begins, "rest": duration(rehearsal.rest_us),
-            "rest_us": rehearsal.rest_us, "comes_on": comes_on, "approach": approach,
-            "refused": lines[-1] if rehearsal.refused else ""}
+    return found | {"lines": lines, "begins": rehearsal.begins, "rest": duration(rehearsal.rest_us),
+                    "rest_us": rehearsal.rest_us, "comes_on": comes_on, "approach": approach,
+                    "refused": lines[-1] if rehearsal.refused else "", "differs": _differs(asked, rehearsal.rest_us),
+                    "along": _points(asked) if asked.along else None}
+
+
+def _differs(asked: Asked, rest_us: int) -> list[str]:
+    """What is otherwise than it was drawn, where the program goes on with a line."""
+    now = Device(asked.image)
+    if asked.drawing is None or now.state.half or not now.state.place:
+        return []
+    source = asked.drawing.source
+    line = Program(now.program).number(now.state.place)
+    try:
+        return list(differences(source, job_of(source), now, line, rest_us, asked.drawing.text))
+    except (Failure, OSError) as error:
+        return [f"It can't be compared with what is drawn: {error}"]
+
+
+def _points(asked: Asked) -> list[list[int]]:
+    """The points of the way along OUT, in micrometres."""
+    along, settings = asked.along, Settings.read(asked.settings)
+    with open(along.out, "rb") as file:
+        file.seek(along.low)
+        text = file.read(along.high - along.low)
+    moves = [step for step in of_out(text, settings, along.at_nm) if isinstance(step, Move)]
+    points = [list(map(micrometres, point)) for move in moves for point in move.points]
+    return points[::-1] if along.is_back else points
 
 
 def _approach(asked: Asked, start: tuple[str, ...], end: tuple[str, ...], us: int) -> dict:
@@ -80,7 +136,7 @@ def _goes_down(a: Point, b: Point) -> list[str]:
 
 def _goes_beside(asked: Asked, a: Point, b: Point) -> list[str]:
     """Where the way goes below the highest cut and beside all that is cut already. Geometry alone."""
-    if asked.source is None:
+    if asked.drawing is None:
         return []
     beside, length = _Cut.of(asked).beside(a, b)
     if length <= _NEAR_NM:
@@ -100,7 +156,7 @@ class _Cut:
     @staticmethod
     def of(asked: Asked) -> "_Cut":
         """By the job, up to the half-done segment, and in it up to the motors."""
-        job = job_of(asked.source)
+        job = job_of(asked.drawing.source)
         state = Device(asked.image).state
         line = Program(Device(asked.image).program).number(state.place)
         own = job.segments.get(line, [])

@@ -12,7 +12,7 @@ import socket
 import threading
 import time
 import urllib.parse
-from collections.abc import Coroutine
+from collections.abc import Coroutine, Iterable
 from contextlib import suppress
 from dataclasses import asdict
 from http import HTTPStatus
@@ -47,12 +47,13 @@ _APART_S = 0.03  # and not more often than so
 
 
 class Server:
-    """`key` is the secret in the path; `host` and `port` are where it listens."""
+    """`key` is the secret in the path; `port` is where it listens, once it does."""
 
-    def __init__(self, key: str, session: Session) -> None:
-        """Reads what is served. Raises OSError."""
-        self.key, self.session, self.pages = key, session, Pages(session)
-        self.host, self.port = "", 0
+    def __init__(self, key: str, session: Session, addresses: Iterable[str] = ()) -> None:
+        """`addresses` are other ones by which pages come, as `https://mill.example` through a proxy. Reads what is
+        served. Raises OSError."""
+        self.key, self.session, self.pages, self.port = key, session, Pages(session), 0
+        self._origins = set(addresses)
         self._static = {str(path.relative_to(STATIC)): (path.read_bytes(), _KINDS[path.suffix])
                         for path in sorted(STATIC.rglob("*")) if path.suffix in _KINDS}
         self._checked: dict[str, tuple[str, bytes]] = {}
@@ -65,12 +66,13 @@ class Server:
 
     # its beginning and end, in another thread
 
-    def listen(self, host: str, port: int) -> None:
-        """Begins to serve. Raises OSError."""
+    def listen(self, host: str, listening: socket.socket) -> None:
+        """Begins to serve at a socket that listens at a host. Raises OSError."""
+        self.port = listening.getsockname()[1]
+        self._origins |= {f"http://{name}:{self.port}" for name in (host, "127.0.0.1", "localhost")}
+        self._names = {origin.partition("://")[2] for origin in self._origins}
         self._thread.start()
-        found = self._call(asyncio.start_server(self._connected, host, port, limit=MOST_HEAD, backlog=128))
-        self.host, self.port = host, found.sockets[0].getsockname()[1]
-        self.names = {f"{name}:{self.port}" for name in (host, "127.0.0.1", "localhost")}
+        self._call(asyncio.start_server(self._connected, sock=listening, limit=MOST_HEAD))
         self.session.face.changed = lambda: self._loop.call_soon_threadsafe(self._new.set)
 
     def close(self) -> None:
@@ -122,14 +124,13 @@ class Server:
     def checked_path(self, request: Request) -> str:
         """The path after the key. Raises Refused for whoever doesn't know the key, comes by another name, as after DNS
         was rebound, or from another site."""
-        if request.headers.get("host", "") not in self.names:
+        if request.headers.get("host", "") not in self._names:
             raise Refused(HTTPStatus.MISDIRECTED_REQUEST)
         key, _, path = request.path.removeprefix("/").partition("/")
         if not hmac.compare_digest(key.encode(), self.key.encode()):
             raise Refused(HTTPStatus.NOT_FOUND)
         origin = request.headers.get("origin")
-        own = {f"http://{name}" for name in self.names}
-        if origin is not None and origin not in own or request.method == "POST" and origin is None:
+        if origin is not None and origin not in self._origins or request.method == "POST" and origin is None:
             raise Refused(HTTPStatus.FORBIDDEN, "another origin")
         if request.headers.get("sec-fetch-site", "same-origin") not in ("same-origin", "none"):
             raise Refused(HTTPStatus.FORBIDDEN, "another site")

@@ -18,7 +18,7 @@ from ngc_tools.operator.face import REFUSED, SAID, WARNING
 from ngc_tools.operator.operator import Operator
 from ngc_tools.operator.sentences import explained
 from ngc_tools.page.aside import Aside, Child, NotDone
-from ngc_tools.page.drawing import Drawing, Source, as_begun, draw, draw_exactly
+from ngc_tools.page.drawing import Drawing, Source, as_begun, draw, draw_exactly, setup_of
 from ngc_tools.page.face import PageFace
 from ngc_tools.page.findings import Check, find
 from ngc_tools.page.stand import Kept, Stand, recovery_of
@@ -27,8 +27,7 @@ from ngc_tools.player.progress import Link, NoAnswer
 MOVES = {"run", "mdi", "resume", "recover", "restore", "release"}
 """The commands that move the machine."""
 _LOOK_S = 0.15  # how often it looks while nothing runs
-_ASIDES = {"percent", "go", "optional", "delete"}
-_SWITCHES = {"optional", "delete"}
+_ASIDES = {"percent", "go", "optional", "delete", "single"}
 
 
 class Busy(Failure):
@@ -38,12 +37,20 @@ class Busy(Failure):
 @dataclass(frozen=True, slots=True)
 class Opened:
     """A session of `ngc run` as it begins: the operator's core over it, what is said of OUT and the motors, the device
-    as it stood before, and a link by which its motors are held at once, if it has a player."""
+    as it stood before and when it was written last, in seconds since 1970, and a link by which its motors are held at
+    once, if it has a player."""
 
     operator: Operator
     bound: str
     found: Device | None
+    left_at: float
     motors: Link | None
+
+    def close(self) -> None:
+        """Asks and tells the player nothing more."""
+        for link in (self.motors, self.operator.session.meter and self.operator.session.meter.link):
+            if link:
+                link.close()
 
 
 Opens = Callable[[PageFace], Opened]
@@ -81,6 +88,7 @@ class Session:
         self._next: Command | None = None
         self.under: Command | None = None
         self._wake = threading.Condition()
+        self._restarts = threading.Lock()
         self._drawn: Child | None = None
         self._draws = threading.Lock()
         self._begin()
@@ -97,6 +105,7 @@ class Session:
         self.stand, self.kept = Stand(console.status()), Kept(console.device)
         begun = as_begun(self.opened.found) if self.opened.found and self.stand.status.place else None
         self._source = self._source_of(begun or self.kept.device)
+        self._setup, self._drawn_from = setup_of(self.kept.device), self.kept.device.state.entries
         self.face.look = self._look
         self._look()
         self.ended = ""
@@ -141,15 +150,15 @@ class Session:
             self.face.give_aside(line)
         else:
             self.ask(word, lambda: self.operator.do(line))
-        if word in _SWITCHES:
+        if word == "delete":
             self.draw(False)
 
     def hold(self) -> None:
-        """Holds at once, whatever is under way: the motors first, then `ngc`. It waits for nothing."""
+        """Holds at once, whatever is under way: the motors, and then `ngc`. It waits for nothing."""
+        self.face.hold()
         if self.opened.motors and self.stand.has_ramps:
             with suppress(NoAnswer):  # the session's thread says it
                 self.opened.motors.hold()
-        self.face.hold()
         with suppress(Busy):
             self.give("hold", lambda: self.operator.do("hold"))
 
@@ -159,7 +168,8 @@ class Session:
             self.face.message = ""
             if not self.stand.status.place and self.stand.status.does == "idle":
                 self.started = time.time()
-                self.draw(True)
+                if self.kept.device.state.entries != self._drawn_from:
+                    self.draw(True)
             self.operator.do(line)
         self.give("run", does)
 
@@ -181,13 +191,17 @@ class Session:
         return self.aside.call(find, check, text)
 
     def restart(self) -> None:
-        """Begins a session of `ngc run` anew, after it has ended. Raises Busy, and what `Opens` raises."""
-        with self._wake:
-            if not self.ended or self.over.is_set():
-                raise Busy("ngc hasn't ended")
-            if self._thread.is_alive():
-                raise Busy("it isn't through yet")
-            self._begin()
+        """Begins a session of `ngc run` anew, after it has ended, its device failed, or its player is gone. Raises
+        Busy, and what `Opens` raises."""
+        if not self.ended and (self.stand.gone or self.stand.status.does == "broken"):
+            self.ask("restart", self._give_up)
+        if not self.ended or self.over.is_set():
+            raise Busy("nothing failed: quit ends the session")
+        self._thread.join()
+        with self._restarts:
+            if self.ended:
+                self.opened.close()
+                self._begin()
         self.face.publish()
 
     def quit(self) -> None:
@@ -260,6 +274,11 @@ class Session:
         self.ended = "the session was ended" if not status else f"ngc ended with status {status}"
         self.over.set()
 
+    def _give_up(self) -> None:
+        """Ends `ngc` where nothing more can be done with it."""
+        self.operator.ending.tell_player()
+        self.ended = f"ngc ended with status {self.operator.console.quit()}"
+
     def _tell_end(self, ended: Ended) -> None:
         """The end that nobody wanted."""
         refusals = [explained(reply) for reply in ended.replies if reply.startswith("refused")]
@@ -276,9 +295,18 @@ class Session:
             status, report, gone = operator.console.status(), before.report, str(error)
         self.face.report = report
         self.kept.at(status)
-        self.stand = Stand(status, report, gone, recovery_of(operator.recover.found))
+        self.stand = Stand(status, report, gone, recovery_of(operator.recover.found), *self._typed())
+        if status.half == "none" and not status.place and setup_of(self.kept.device) != self._setup:
+            self.draw(True)
         if self.stand != before:
             self.face.publish()
+
+    def _typed(self) -> tuple[bool, tuple[str, ...]]:
+        """Whether something was done between two lines of the program, and what puts back what that left in force."""
+        left = self.operator.left
+        if left.device is None:
+            return False, ()
+        return True, left.restoring().lines
 
     # what is drawn
 
@@ -287,6 +315,7 @@ class Session:
         with self._draws:
             if is_begun:
                 self._source = self._source_of(self.kept.read())
+                self._setup, self._drawn_from = setup_of(self.kept.device), self.kept.device.state.entries
             self._source = self._source_with(self.operator.session.delete)
             before, self._drawn = self._drawn, None
             if before:

@@ -18,12 +18,15 @@ _OFTEN_S = 0.25
 @dataclass(frozen=True, slots=True)
 class Stand:
     """`gone` says why the player doesn't answer, nothing if it does. `recovery` is what `recover` would do, None where
-    OUT is no file that is followed."""
+    OUT is no file that is followed. `typed` says that something was done between two lines of the program, `restore`
+    are the lines that put back what that left in force."""
 
     status: Status
     report: Report | None = None
     gone: str = ""
     recovery: dict | None = None
+    typed: bool = False
+    restore: tuple[str, ...] = ()
 
     @property
     def has_ramps(self) -> bool:

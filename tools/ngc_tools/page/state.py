@@ -46,9 +46,9 @@ class Pictured:
                                       "purpose": "look" if face.question.text in LOOKS else ""}
         return {"does": status.does, "half": status.half, "segment": status.segment, "known": status.known,
                 "entries": status.entries, "line": self.number, "place": status.place, "at": status.at,
-                "own": session.own, "optional": session.optional, "delete": session.delete, "question": question,
-                "message": face.message, "half_text": shown_line(state.half_text) if state.half else "",
-                "half_opened": state.opened, "busy": self.command is not None, "moving": self._moves(),
+                "own": session.own, "optional": session.optional, "delete": session.delete, "single": session.single,
+                "question": question, "message": face.message, "half_opened": state.opened,
+                "half_text": shown_line(state.half_text) if state.half else "", "busy": self.command is not None, "moving": self._moves(),
                 "command": self.command and {"word": self.command.word, "since": self.command.since}}
 
     def _motors(self) -> dict:
@@ -79,7 +79,8 @@ class Pictured:
         session = self.session
         return {"session": session.ident, "ended": session.ended, "over": session.over.is_set(),
                 "program": {"id": session.program_id, "name": session.name, "lines": self.program.count},
-                "job": session.job_id, "finished": session.is_finished, "started": session.started}
+                "job": session.job_id, "finished": session.is_finished, "started": session.started,
+                "left_at": session.opened.left_at, "typed": self.stand.typed, "restore": self.stand.restore}
 
     def _moves(self) -> bool:
         """Whether a command is under way that moves the machine, and nobody has to look or agree first."""
