@@ -21,6 +21,7 @@ export class Job {
     this.points = flattened(steps, this.first);
     this.before = sums(this.us);
     this.total = this.before[this.count];
+    this.ramps = plain.ramps_us && this.total ? plain.ramps_us / this.total : 1; // what ramps make of the times
     this.band = bands(this);
   }
 
@@ -102,7 +103,7 @@ export class Job {
     return found;
   }
 
-  // What is left from a place on, in us.
+  // What is left from a place on, in us, without ramps.
   left(done, share) {
     return this.total - this.before[done] - (done < this.count ? share * this.us[done] : 0);
   }

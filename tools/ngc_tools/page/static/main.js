@@ -37,6 +37,8 @@ async function asks(what, body) {
   }
 }
 
+const run = () => asks('run');
+
 // ---- what the server says
 
 function show(s) {
@@ -102,15 +104,9 @@ function running(s) {
   if (s.recover?.left && !s.busy && s.half === 'none') return ['Recover', s.yours, takeUpLines];
   if (s.held_motors && s.does !== 'held' && !s.busy) return ['Let go on', s.yours, () => asks('release')];
   if (s.does === 'held') return ['Continue', s.yours && !s.busy, run];
-  if (s.does === 'stopped') return ['Continue', app.isRest, () => (app.hasTyped ? goOn(s, 'Continue') : run())];
+  if (s.does === 'stopped') return ['Continue', app.isRest, () => (s.typed ? goOn(s, 'Continue') : run())];
   if (s.place > 0 && !s.busy) return [`Run from ${s.line}`, app.isRest && s.known, () => goOn(s, `Run from ${s.line}`)];
   return ['Run', app.isRest && s.known && s.program.lines > 0 && !app.job?.refused, run];
-}
-
-// Starts the program, or goes on with it.
-function run() {
-  app.hasTyped = false;
-  return asks('run');
 }
 
 // A question that isn't of the recovery comes as a sheet of its own.
@@ -147,12 +143,12 @@ function showTimes(s, done, share) {
     $('bar').style.width = '0';
     return;
   }
-  const left = s.left_us ?? job.left(done, share) * 100 / (s.percent ?? 100);
-  const percent = job.total ? 100 * (1 - job.left(done, share) / job.total) : 0;
+  const left = job.left(done, share), percent = job.total ? 100 * (1 - left / job.total) : 0;
   $('bar').style.width = `${percent}%`;
-  const of = `${Math.floor(percent)} % of ${lasting(job.total)}`;
+  const whole = lasting(job.total * job.ramps), of = `${Math.floor(percent)} % of ${whole}`;
+  const rest = lasting(left * job.ramps * 100 / (s.percent ?? 100));
   text($('share'), job.refused ? `Ends refused at line ${job.refused.line}` : s.finished ? 'Done' : of);
-  text($('left'), s.finished ? lasting(job.total) : `${job.exact ? '' : 'about '}${lasting(left)} left`);
+  text($('left'), s.finished ? whole : `${job.exact ? '' : 'about '}${rest} left`);
 }
 
 // How fast the motors go, by the step that they are on.
@@ -195,18 +191,18 @@ function takeUpLines() {
 async function goOn(s, title) {
   const found = await asks('rehearse');
   if (!found) return;
-  const { job } = app, drawn = job ? job.left(job.place(s).done, 0) : 0, differs = Math.abs(found.rest_us - drawn);
-  const turns = s.spindle === 1 ? 'clockwise' : 'counter-clockwise', modes = `G${s.motion} G${s.distance} G${s.unit}`;
+  const turns = s.spindle === 1 ? 'clockwise' : 'counter-clockwise';
   const spindle = s.spindle ? `The spindle turns ${turns} at ${grouped(s.speed)}.`
     : 'The spindle is off, and nothing switches it on by itself: give M3 as a line first, unless it is meant so.';
-  sheet.ask(title, [
-    job && differs > 1e6 && differs > drawn / 10 && sheet.warning(`From here it would take ${lasting(found.rest_us)}; `
-      + `as the program was drawn it takes ${lasting(drawn)}. Lines of one\u2019s own changed a mode: ${modes} are in `
-      + 'force.', 'bad'),
-    ...(found.warnings ?? []).map(one => sheet.warning(one, 'bad')), sheet.warning(spindle, s.spindle ? 'fine' : ''),
-    sheet.lead(program.line(s.line)),
+  const does = what => () => { sheet.close(); asks(what); };
+  sheet.open(title, [
+    found.refused && sheet.warning(found.refused, 'bad'), ...(found.differs ?? []).map(one => sheet.warning(one, 'bad')),
+    s.restore?.length ? sheet.said(`Restore puts back what your lines left in force: ${s.restore.join(', ')}`) : null,
+    sheet.warning(spindle, s.spindle ? 'fine' : ''), sheet.lead(program.line(s.line)),
     sheet.said(`The tool goes on from where it is now: ${point(s.at)}. Look that the way is free.`),
-    sheet.lines(found.lines)], title, run);
+    sheet.lines(found.lines)],
+  [sheet.gap(), sheet.button('Back', sheet.close), s.restore?.length ? sheet.button('Restore', does('restore')) : '',
+    sheet.go(title, does('run'))]);
 }
 
 // ---- what people touch
@@ -232,9 +228,7 @@ $('restart').onclick = () => asks('restart');
 $('typed').addEventListener('submit', async event => {
   event.preventDefault();
   const line = $('line').value.trim();
-  if (!line || !await asks('mdi', { line })) return;
-  app.hasTyped = true;
-  $('line').select();
+  if (line && await asks('mdi', { line })) $('line').select();
 });
 for (const name of ['single', 'optional', 'delete']) {
   $(name).onclick = () => asks('switch', { name, on: $(name).getAttribute('aria-checked') !== 'true' });

@@ -9,7 +9,6 @@ import * as ways from './ways.js';
 const NAMES = ['Stored', 'Where it stands', 'Rehearsal', 'Step by step'];
 const AT_ANY_MOMENT = 'Hold and the space bar work at any moment.';
 const SAID = ['said', 'warning', 'refused'];
-const ON_PATH_UM = 100;
 const CHOICES = {
   along: ['Go along the path', 'moves the tool along its very path to where the segment begins. Each step is asked '
     + 'before it is done.'],
@@ -134,13 +133,10 @@ export class Recovery {
 
   // The way that will be gone, as points.
   way() {
-    const { along, plan } = this, { state, job } = this.app;
+    const { along, plan } = this;
     if (!along) return plan?.approach ? [plan.approach.from, plan.approach.to].map(micrometres) : null;
     if (along.there) return null;
-    const stands = micrometres(along.stands), now = job ? job.place(state).now : -1;
-    const here = now < 0 ? { off: Infinity } : job.along(now, stands);
-    if (!along.way?.back || here.off > ON_PATH_UM) return [stands, micrometres(along.at)];
-    return [stands, ...job.pointsOf(now).slice(0, here.part).reverse()];
+    return plan?.along ?? [along.stands, along.at].map(micrometres);
   }
 
   // ---- 1: what was stored
@@ -168,7 +164,7 @@ export class Recovery {
   second() {
     const { state } = this.app, next = this.next('Next: rehearsal', () => this.rehearsal());
     const enable = () => { next.disabled = !(state.yours && this.sure.every(Boolean)); };
-    const age = state.record_age_s ? ` It was ${lasting(state.record_age_s * 1e6)} old as the player was started.` : '';
+    const age = state.left_at ? ` The device was written last ${lasting(1e6 * (state.now - state.left_at))} ago.` : '';
     this.put([sheet.title('Where does the machine stand now?'),
       sheet.said('Machine coordinates in mm. Look at the machine, and confirm each axis.'),
       ...AXES.map((_, i) => this.confirm(i, enable)),
@@ -205,7 +201,7 @@ export class Recovery {
   async rehearsal() {
     this.plan = null;
     this.go(2);
-    this.plan = await this.asks('rehearse', { at: this.at });
+    this.plan = await this.asks('rehearse', { at: this.at, recover: Boolean(this.along) });
     if (!this.isOpen || this.step !== 2) return;
     this.go(this.plan ? 2 : 1);
     this.picture.fit();

@@ -20,7 +20,7 @@ export class Setup {
     this.loss.onclick = () => asks('loss', { goes: this.loss.getAttribute('aria-checked') !== 'true' });
     this.parts = {
       home: part('Home', this.homed, el('div', { class: 'four' }, ...this.home)),
-      jog: part('Jog', null, this.jog.box),
+      jog: el('section', { class: 'part' }, this.jog.box),
       zero: part('Work zero', this.system, el('label', { class: 'this-place' }, 'This place is', this.value, 'mm'),
         el('div', { class: 'four' }, ...this.zero), this.touch, this.undo),
       page: part('This page', null, el('div', { class: 'switches' }, this.loss)),

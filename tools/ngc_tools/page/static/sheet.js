@@ -6,7 +6,7 @@ export function open(name, content, buttons, beside = null) {
   const sheet = { head: el('div', { class: 'head' }, el('h1', {}, name)), words: el('div', { class: 'words' }),
     foot: el('div', { class: 'foot' }) };
   sheet.words.append(...content.filter(Boolean));
-  sheet.foot.append(...buttons);
+  sheet.foot.append(...buttons.filter(Boolean));
   const middle = beside ? el('div', { class: 'two' }, sheet.words, beside) : sheet.words;
   $('over').replaceChildren(sheet.head, middle, sheet.foot);
   $('over').hidden = false;
