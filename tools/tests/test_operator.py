@@ -319,11 +319,11 @@ class Places(Core):
         """While the player doesn't say where the motors are, nothing is begun."""
         link = FileLink()
         self.begin(link)
-        link.silent = 1
+        link.silent = 2  # it is looked for an alarm first
         silent = ("nothing is done. Once the player answers, again; if it is gone, quit, and start a player and this"
                   " again")
         self.assertEqual(self.do("G0 X1"), ["progress: the player doesn't answer", silent])
-        link.silent = 1
+        link.silent = 2  # it is looked for an alarm first
         self.assertEqual(self.do("reference player"), ["progress: the player doesn't answer", silent])
         self.assertEqual(self.out(), [])
 

@@ -11,7 +11,8 @@ from pathlib import Path
 
 sys.path.insert(0, str(Path(__file__).resolve().parent))
 
-from page_support import LONG, OTHER, PAGE, Served, request  # noqa: E402
+from machine_support import SocketMachine  # noqa: E402
+from page_support import LONG, OTHER, PAGE, Page, Served, request  # noqa: E402
 from session_support import PATIENCE_S, TOOLS, InFolder, ngc, told  # noqa: E402
 
 from ngc_tools.cli.page import main  # noqa: E402
@@ -240,6 +241,87 @@ class Work(Served):
         self.assertEqual(self.server.wait(PATIENCE_S), -signal.SIGTERM)
         self.player.wait(PATIENCE_S)
         self.assertIn("half-done", told_of_device())
+
+
+class WithRamps(SocketMachine):
+    """A player with a machine's file."""
+
+    wants = 340
+
+
+class Moves(Served):
+    """Home, jog, seek and touch-off, by a player that makes moves without lines."""
+
+    def begin_player(self) -> None:
+        """A player in this process, and a reader of OUT."""
+        self.pipe = os.open("axis", os.O_RDONLY | os.O_NONBLOCK)
+        self.addCleanup(os.close, self.pipe)
+        self.machine = WithRamps(os.path.abspath("axis"))
+        self.addCleanup(self.machine.close)
+
+    def moved(self, page: Page, what: str, words: dict) -> dict:
+        """How all stands once a move is over."""
+        before = page.rested()["entries"]
+        self.assertEqual(page.post(what, words), (200, {}), page.said())
+        return page.until("it is over", lambda state: not state["busy"] and state["entries"] > before)
+
+    def test_moves(self) -> None:
+        """Each ends where the player says; `ngc` is told so."""
+        page = self.page()
+        self.assertEqual((page.next()["machine"], page.next()["homed"]), ("stands", ""))
+        state = self.moved(page, "home", {"axes": "XYZ"})
+        self.assertEqual((state["at"], state["homed"]), (["-298.000000", "-198.000000", "-2.000000"], "XYZ"))
+        state = self.moved(page, "jog", {"axis": "X", "sign": 1, "rate": "600", "length": "8"})
+        self.assertEqual((state["at"][0], self.machine.axes.words[-1].split()[2:]),
+                         ("-290.000000", ["X+", "600", "for", "8"]))
+        state = self.moved(page, "seek", {"axis": "Z", "sign": -1, "rate": "60", "within": "10"})
+        self.assertEqual(state["touched"], ["-290.000000", "-198.000000", "-5.000000"])
+        state = self.moved(page, "zero", {"axes": {"X": "0", "Z": "10"}})
+        self.assertEqual((state["work"][0], state["work"][2], state["undo"]),
+                         ("0.000000", "10.000000", "G10 L2 P1 X0 Y0 Z0"))
+        state = self.moved(page, "undo", {})
+        self.assertEqual((state["work"][0], state["undo"]), ("-290.000000", ""))
+        self.moved(page, "touch", {"slot": 1, "height": "-9", "probe": True})
+        self.assertEqual(page.until("it is read", lambda state: state["tools"])["tools"], ["4.000000"])
+        for what, words in (("jog", {"axis": "A", "sign": 1, "rate": "1"}), ("jog", {"axis": "X", "sign": 2}),
+                            ("home", {"axes": "ZX"}), ("zero", {"axes": {}}), ("zero", {"axes": {"X": "0 probe"}}),
+                            ("seek", {"axis": "Z", "sign": -1, "rate": "60"}), ("touch", {"slot": "1 2"})):
+            self.assertEqual(page.post(what, words)[0], 422, words)
+
+    def jogs(self) -> int:
+        """How often the player was told to jog, or to jog on."""
+        return len([word for word in self.machine.axes.words if " Y- 300" in word])
+
+    def test_held(self) -> None:
+        """A jog goes on while its wish is repeated, and ends when that is let go, isn't repeated, or somebody holds."""
+        page = self.page()
+        ends = (lambda: page.post("jogstop", {"press": 1}), lambda: None, lambda: page.post("hold"))
+        for press, end in enumerate(ends, 1):
+            before = page.rested()["entries"]
+            wish = {"axis": "Y", "sign": -1, "rate": "300", "press": press}
+            count = self.jogs()
+            while self.jogs() < count + 2:
+                self.assertEqual(page.post("jog", wish), (200, {}))
+                page.next()
+            end()
+            page.until("it is over", lambda state, before=before: not state["busy"] and state["entries"] > before)
+            self.assertIn("stop", self.machine.axes.words)
+        count = len(self.machine.axes.words)
+        self.assertEqual(page.post("jogstop", {"press": 7}), (200, {}))
+        self.assertEqual(page.post("jog", wish | {"press": 7}), (200, {}))  # it comes late
+        self.assertFalse(page.rested()["moving"])
+        self.assertEqual(len(self.machine.axes.words), count)
+
+    def test_alarm(self) -> None:
+        """It is shown in capitals, and home alone is taken."""
+        page = self.page()
+        self.machine.axes.alarm("emergency_stop")
+        state = page.until("it is told", lambda state: state["alarm"])
+        self.assertEqual((state["word"], state["tone"], state["alarm"]), ("ALARM", "fail", "emergency_stop"))
+        page.post("run")
+        page.until("it is refused", lambda state: "home comes first" in page.said() and not state["busy"])
+        state = self.moved(page, "home", {})
+        self.assertEqual((state["word"], state["alarm"]), ("Idle", ""))
 
 
 class Power(Served):

@@ -19,6 +19,7 @@ from ngc_tools.operator.meter import LIMIT, LIMITS, Meter, check_limit
 from ngc_tools.operator.operator import Operator
 from ngc_tools.operator.recovery import Found
 from ngc_tools.operator.sentences import explained
+from ngc_tools.operator.setter import read_setter
 from ngc_tools.operator.synced import SYNCED_AT_ONCE, SYNCED_PARTS, SyncedLink
 from ngc_tools.player.progress import Link, Report
 from ngc_tools.ngc.run import find_ngc
@@ -58,6 +59,8 @@ def make_parser() -> argparse.ArgumentParser:
     parser.add_argument("--ahead", type=int, metavar="N",
                         help="how many lines OUT may be ahead of the player at most (without it as many as the player"
                         f" wants, {LIMIT} of one that doesn't say it)")
+    parser.add_argument("--machine", metavar="FILE",
+                        help="the machine's file: `touch` takes height_um of its table [setter]")
     parser.add_argument("--ngc", metavar="PATH", help="the program ngc (else beside this tool, else on PATH)")
     return parser
 
@@ -68,13 +71,15 @@ def main(arguments: list[str] | None = None) -> int:
 
 
 def work(args: argparse.Namespace) -> int:
-    """Looks at what is given, and does the session. Raises CannotBegin, NoAnswer, BadSettings, ValueError, OSError."""
+    """Looks at what is given, and does the session. Raises CannotBegin, NoAnswer, BadSettings, BadSetter, ValueError,
+    OSError."""
     ngc = find_ngc(args.ngc)
+    setter_nm = read_setter(args.machine) if args.machine else None
     meter = metered(args)
     pipe = look(args.device, args.settings, args.out)
     look_at_settings(ngc, args.settings)
     try:
-        return session(ngc, args, meter, pipe)
+        return session(ngc, args, meter, pipe, setter_nm)
     except Ended as ended:
         raise Failure(told(ended)) from None
 
@@ -122,7 +127,7 @@ def metered_by(meter: Meter, report: Report) -> str:
             f" {meter.limit(report):,} and never more than {meter.most or LIMITS[-1]:,}, {costs}")
 
 
-def session(ngc: str, args: argparse.Namespace, meter: Meter | None, pipe: int | None) -> int:
+def session(ngc: str, args: argparse.Namespace, meter: Meter | None, pipe: int | None, setter_nm: int | None) -> int:
     """From the start of `ngc` to its end. Raises Ended if it ends by itself."""
     found = as_found(args.device)
     link = meter.link if meter else None
@@ -133,6 +138,8 @@ def session(ngc: str, args: argparse.Namespace, meter: Meter | None, pipe: int |
             console.status()
             operator = Operator(console, screen, meter)
             operator.recover.found = out
+            operator.touch.setter_nm = setter_nm
+            operator.keys = screen.keys if screen.is_terminal else None
             said = bound(args, meter, pipe)
             if pipe is not None:
                 os.close(pipe)

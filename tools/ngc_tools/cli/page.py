@@ -19,11 +19,12 @@ from ngc_tools.ngc.usable_settings import look_at_settings
 from ngc_tools.operator.meter import LIMIT, Meter
 from ngc_tools.operator.operator import Operator
 from ngc_tools.operator.recovery import Found
+from ngc_tools.operator.setter import read_setter
 from ngc_tools.operator.synced import SyncedLink
 from ngc_tools.page.face import PageFace
 from ngc_tools.page.server import Server
 from ngc_tools.page.session import Opened, Session
-from ngc_tools.player.progress import Link
+from ngc_tools.player.progress import Link, NoAnswer
 
 ABOUT = """A page in the browser over `ngc run`: the machine's state, the program, its path, and what an operator does.
 
@@ -42,6 +43,7 @@ exit status:
 
 _ADDRESS = re.compile(r"https?://[A-Za-z0-9.-]+(?::[0-9]{1,5})?")
 _ALL = ("0.0.0.0", "[::]", "::")
+_ANSWERS_S = 1.0  # a player that doesn't answer for so long doesn't know the question
 _SWITCH_S = 0.0005  # after so long threads take turns, so that a tick doesn't wait for a page
 
 
@@ -141,10 +143,26 @@ class Opener:
         console.status()
         operator = Operator(console, face, meter)
         operator.recover.found = out
+        operator.touch.setter_nm = read_setter(self.args.machine) if self.args.machine else None
         said = bound(self.args, meter, pipe)
         if pipe is not None:
             os.close(pipe)
-        return Opened(operator, said, *before, Link(self.args.player, 0.0) if self.args.player else None)
+        if meter is None:
+            return Opened(operator, said, *before, None)
+        return Opened(operator, said, *before, Link(self.args.player, 0.0), self._has_moves(meter))
+
+    def _has_moves(self, meter: Meter) -> bool:
+        """Whether the player makes moves without lines: one with ramps that answers such a question."""
+        if not meter.link.ask().wants:
+            return False
+        link = Link(self.args.player, _ANSWERS_S)
+        try:
+            link.machine()
+        except NoAnswer:
+            return False
+        finally:
+            link.close()
+        return True
 
 
 class Patience:

@@ -6,9 +6,11 @@ import signal
 import sys
 import textwrap
 import time
+from contextlib import AbstractContextManager
 from types import FrameType
 
 from ngc_tools.formats.text import shown
+from ngc_tools.cli.keys import TerminalKeys, terminal_keys
 from ngc_tools.cli.typed_lines import TypedLines
 from ngc_tools.operator.face import SAID, WARNING, UnderWay, is_aside, is_override
 from ngc_tools.player.progress import Report
@@ -137,6 +139,10 @@ class Screen:
             else:
                 self.asked_to_hold += 1
         return self.asked_to_hold > 0 or self.ending != ""
+
+    def keys(self) -> AbstractContextManager[TerminalKeys]:
+        """The keys of the terminal, until Ctrl-C is pressed or the session has to end. Raises OSError if it is gone."""
+        return terminal_keys(sys.stdin.fileno(), lambda: self.asked_to_hold > 0 or self.ending != "")
 
     def is_gone(self) -> bool:
         """Whether the session has to end: then nobody lets held motors go on."""

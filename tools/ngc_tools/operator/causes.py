@@ -40,7 +40,7 @@ def _cause(session: Session, code: str, command: str) -> str | None:
     if code == "K4":
         return "no block is half-done: run goes on with the program"
     if code == "K3":
-        return f"it isn't known where the machine stands: {_reference(session)}"
+        return f"it isn't known where the machine stands: {reference_words(session)}"
     if cause := _by_words(code, command, session.settings):
         return cause
     device = session.stored()
@@ -86,11 +86,11 @@ def _within(session: Session, status: Status, word: str) -> str:
     if status.does in ("held", "running"):
         return (f"{status.does} in {half}: run goes on; to give the block up: quit, start again, abandon. No other line"
                 " is done before that")
-    place = "" if status.known else f"{_reference(session)}, "
+    place = "" if status.known else f"{reference_words(session)}, "
     then = f", and {'a line of yours' if word == 'mdi' else word} after that" if word not in _GO_ON else ""
     return f"{half} is half-done. rehearse says what resume would do; {place}then resume or abandon{then}"
 
 
-def _reference(session: Session) -> str:
+def reference_words(session: Session) -> str:
     """How to tell where the machine stands."""
     return "reference player, or reference X Y Z" if session.meter else "reference X Y Z"

@@ -6,13 +6,15 @@ from math import isqrt
 from ngc_tools.formats.settings import Settings
 from ngc_tools.job.figures import millimetres as rounded
 from ngc_tools.operator.face import REFUSED, WARNING, WHERE
-from ngc_tools.operator.session import Session
+from ngc_tools.operator.session import ALARM, BROKEN, Session
 from ngc_tools.player.progress import NoAnswer, Report
 
 PERCENTS = range(1, 101)
 """What an override may be, in percent of OUT's rates."""
 TEN = 10  # percent that a key changes
 
+_STATES = {"moves": "moving", "waits spindle": "waiting for the spindle's speed", ALARM: "ALARM: not to be trusted",
+           BROKEN: "broken off: no more line is carried out"}
 _REST_S = 10.0  # how long motors may take to come to rest
 _STILL_S = 0.5  # without a line for so long they stand, or nearly: in a dwell nothing else says it
 
@@ -40,8 +42,8 @@ def behind(report: Report, settings: Settings) -> str:
 
 
 def manner(report: Report) -> list[str]:
-    """Whether they are held, and the override, in words; nothing where nothing is to be said."""
-    said = ["held"] if report.is_held else []
+    """Whether they are held, or what else they do, and the override, in words; nothing where nothing is to be said."""
+    said = ["held"] if report.is_held else [_STATES[report.word]] if report.word in _STATES else []
     return said + ([f"{report.percent} %"] if report.wants or report.percent != PERCENTS[-1] else [])
 
 
@@ -74,6 +76,8 @@ class Motors:
         """Brings them to rest, if they can be told, and somebody is there who can let them go on; whether it does."""
         session = self.session
         if session.meter is None or session.gone or not self.have_ramps or session.face.is_gone():
+            return False
+        if session.is_in(ALARM, BROKEN):
             return False
         self.is_told = self._tell(session.meter.link.hold)
         return self.is_told

@@ -4,26 +4,31 @@ One core for whatever shows it, a `Face`."""
 import difflib
 import os
 from collections.abc import Callable
+from contextlib import AbstractContextManager
 
 from ngc_tools.files import read_regular
 from ngc_tools.formats.device import Device
 from ngc_tools.formats.lines import Program
 from ngc_tools.formats.settings import Settings
 from ngc_tools.ngc.console import Console, Status
+from ngc_tools.operator.alarm import Alarm
 from ngc_tools.operator.causes import refused, taken
 from ngc_tools.operator.ending import Ending
 from ngc_tools.operator.face import REFUSED, WARNING, WHERE, Face, are_keys
+from ngc_tools.operator.jog_keys import Keys, jog_by_keys
 from ngc_tools.operator.left import Left, dropped_g92
 from ngc_tools.operator.loading import Loading
 from ngc_tools.operator.look import Look
 from ngc_tools.operator.meter import Meter
 from ngc_tools.operator.motors import Motors
+from ngc_tools.operator.moves import Moves
 from ngc_tools.operator.opening import say_opening
 from ngc_tools.operator.places import Places, stops_outputs
 from ngc_tools.operator.recover import Recover
 from ngc_tools.operator.rehearsing import rehearse
 from ngc_tools.operator.sentences import HELP, NOT_MOVED, SWITCHED, SWITCHED_THERE, TAKEN_UP, TAKEN_UP_THERE
-from ngc_tools.operator.session import Nothing, Session, place
+from ngc_tools.operator.session import ALARM, BROKEN, Nothing, Session, place
+from ngc_tools.operator.touch import Touch
 from ngc_tools.operator.typed import ANYWAY, Typed
 from ngc_tools.operator.work import SINGLE, Work
 from ngc_tools.player.progress import NoAnswer, Report
@@ -32,7 +37,8 @@ PLAIN = ("abandon", "tool", "optional", "delete")
 
 
 class Operator:
-    """A person's session. It sends no tick that nobody asked for, and hides no refusal."""
+    """A person's session. It sends no tick that nobody asked for, and hides no refusal. `keys` are those of a terminal,
+    by which a person jogs; None where there are none."""
 
     def __init__(self, console: Console, face: Face, meter: Meter | None) -> None:
         """Raises BadSettings or OSError if the settings of the console can't be read."""
@@ -45,6 +51,10 @@ class Operator:
         self.loading = Loading(self.session)
         self.ending = Ending(self.session)
         self.recover = Recover(self.session)
+        self.alarm = Alarm(self.session)
+        self.moves = Moves(self.session, self.left, self.recover, self.do)
+        self.touch = Touch(self.session, self.places, self.moves, self._line_done)
+        self.keys: Callable[[], AbstractContextManager[Keys]] | None = None
         self.over = False
         self._doings: dict[str, Callable[[Typed], None]] = {
             "load": self._load, "run": self._run, "start": self._start, "continue": self._continue,
@@ -52,6 +62,11 @@ class Operator:
             "rehearse": self._rehearse, "restore": self._restore, "go": self._go, "help": self._help, "?": self._help,
             "recover": self._recover, "drop": self._drop, "quit": self._quit, "exit": self._quit, "tick": self._tick,
             "hold": self._hold_all, "release": self._release, "percent": self._percent, "single": self._single,
+            "home": lambda typed: self.moves.home(typed.rest), "jog": self._jog,
+            "seek": lambda typed: self.moves.seek(typed.rest),
+            "zero": lambda typed: self.touch.zero(typed.rest, typed.anyway),
+            "touch": lambda typed: self.touch.tool(typed.rest, typed.anyway),
+            "undo": lambda _: self.touch.undo(),
             "mdi": lambda typed: self._mdi(typed.rest, typed.anyway),
             **dict.fromkeys(PLAIN, self._plain),
         }
@@ -69,7 +84,7 @@ class Operator:
         """Does what a person typed. Raises Ended if `ngc` ends."""
         typed = Typed.read(line)
         is_line = typed.word not in self._doings and not are_keys(typed.line)
-        if typed.word and self.recover.forbids(typed.word, is_line):
+        if typed.word and (self.alarm.forbids(typed.word) or self.recover.forbids(typed.word, is_line)):
             return
         if typed.word in self._doings:
             self._doings[typed.word](typed)
@@ -223,6 +238,12 @@ class Operator:
         if self.work.await_motors():
             Look(self.session).after_work()
 
+    def _jog(self, typed: Typed) -> None:
+        if typed.rest or self.keys is None:
+            self.moves.jog(typed.rest)
+        else:
+            jog_by_keys(self.moves, self.keys())
+
     def _percent(self, typed: Typed) -> None:
         self.motors.override(typed.word, typed.rest)
 
@@ -355,7 +376,7 @@ class Operator:
         """Holds the motors, if they make ramps, and then `ngc`."""
         session, stand = self.session, self.motors.hold()
         reply = self.console.ask("hold")[0]
-        if reply == "held" and not session.gone and not stand:
+        if reply == "held" and not session.gone and not stand and not session.is_in(ALARM, BROKEN):
             reply += f"; {self._ahead()} are still carried out"
         self.face.say(reply)
         if stand:

@@ -10,7 +10,7 @@ from ngc_tools.operator.face import SAID, WARNING
 from ngc_tools.operator.modes import point_words
 from ngc_tools.operator.numbers import nanometres_of
 from ngc_tools.operator.sentences import PLAYER_SILENT
-from ngc_tools.operator.session import Session
+from ngc_tools.operator.session import ALARM, BROKEN, Session
 from ngc_tools.operator.work import Work
 from ngc_tools.player.progress import NoAnswer, Report
 
@@ -91,7 +91,9 @@ class Places:
     def _say_unsettled(self) -> None:
         """Says why nothing is done, and what to do, where the player doesn't come to that."""
         session = self.session
-        if session.seen and session.seen.is_held and not session.gone:
+        if session.is_in(ALARM, BROKEN):
+            session.face.say("nothing is done", WARNING)
+        elif session.seen and session.seen.is_held and not session.gone:
             self.work.motors.say_held(session.seen)
         else:
             session.face.say(f"nothing is done. {PLAYER_SILENT}", WARNING)

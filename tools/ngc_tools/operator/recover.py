@@ -23,7 +23,7 @@ from ngc_tools.player.progress import Report
 from ngc_tools.player.retrace import legs_to
 from ngc_tools.player.way import NoWay, count_lines
 
-_MOVING = ("run", "start", "continue", "resume", "mdi", "restore")
+_MOVING = ("run", "start", "continue", "resume", "mdi", "restore", "zero", "undo")
 LEFT = """\
 lines stand in OUT that no motor carried out, behind line {line}: recover goes on along them, or back; drop cuts them
 off, and then nothing makes them any more"""
@@ -75,6 +75,10 @@ class Recover:
             self.session.face.say(LEFT.format(line=self.found.recovery.lines), WARNING)
         elif status.half != "none":
             self.session.face.say(HALF, WARNING)
+
+    def still(self) -> None:
+        """What was done since the session began left what the last one left as it was."""
+        self._entries = self.session.console.status().entries
 
     def drop(self) -> None:
         """Cuts off what no motor carried out. Raises NoAnswer, OSError."""

@@ -6,6 +6,14 @@ load FILE          try a program by a dry run, and store it
 run                start it, or go on with it
 G0 X1 ..           a line of G-code of your own
 restore            put back what lines of your own left in force
+home, home X Z     to the switches; then ngc knows where the machine is
+jog                by the arrow keys, at a terminal
+jog X+ 600 for 10  at 600 mm a minute, by 10 mm
+seek Z- 60 within 10   until the probe is on, at most 10 mm
+zero X Y Z         here is X0, Y0, Z0 of the work; zero Z 10: here is Z10
+touch tool N       slot N has the length of the tool on the setter
+probe              behind zero and touch: where it was touched
+undo               put back what zero or touch set last
 hold               Enter or Ctrl-C while something runs
 release            lets held motors carry out what is in hand
 percent N          go at N % of the rates; - and + are 10 %

@@ -1,5 +1,6 @@
 """What the parts of a person's session share: `ngc`, its device, the player, the face, and what is under way."""
 import re
+from collections.abc import Callable
 from contextlib import suppress
 from dataclasses import dataclass, field
 
@@ -13,6 +14,11 @@ from ngc_tools.operator.outside import breach_of_line
 from ngc_tools.operator.sentences import explained
 from ngc_tools.operator.synced import SyncedLink
 from ngc_tools.player.progress import NoAnswer, Report
+
+
+ALARM, BROKEN = "alarm", "broken"
+"""What a player's report says where the machine's place isn't to be trusted, and where it was homed after an alarm that
+came with lines in hand, so that no more line of the session is carried out."""
 
 
 def place(status: Status) -> str:
@@ -30,8 +36,8 @@ class Nothing:
 @dataclass(slots=True)
 class Session:
     """`own` is a line of the operator's that is under way. The messages of the lines before the place `told` are shown;
-    `delete`, `optional` and `single` are the switches as they were set. `seen` is what the player said last; `gone` says that it
-    stopped to answer."""
+    `delete`, `optional` and `single` are the switches as they were set. `seen` is what the player said last; `gone`
+    says that it stopped to answer. `on_alarm` is called as an alarm comes."""
 
     console: Console
     face: Face
@@ -45,6 +51,7 @@ class Session:
     own: str = ""
     seen: Report | None = None
     gone: bool = False
+    on_alarm: Callable[[], None] = lambda: None
 
     def stored(self) -> Device | Nothing:
         """What the device holds, which `ngc` has synced."""
@@ -75,8 +82,15 @@ class Session:
 
     def take(self, report: Report) -> None:
         """Takes what the player says."""
+        was_alarm = self.is_in(ALARM)
         self.seen = report
         self.face.moved(report)
+        if self.is_in(ALARM) and not was_alarm:
+            self.on_alarm()
+
+    def is_in(self, *words: str) -> bool:
+        """Whether the player said one of these of itself, as ALARM."""
+        return self.seen is not None and self.seen.word in words
 
     def agrees(self, question: str) -> bool:
         """Whether a person answers with a yes; anything else, nothing too, is a no."""

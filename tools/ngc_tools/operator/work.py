@@ -10,7 +10,7 @@ from ngc_tools.operator.display import short_words, work_words
 from ngc_tools.operator.face import MESSAGE, WARNING, WHERE, UnderWay
 from ngc_tools.operator.meter import AT_ONCE
 from ngc_tools.operator.motors import Motors, live
-from ngc_tools.operator.session import Session
+from ngc_tools.operator.session import ALARM, BROKEN, Session
 from ngc_tools.operator.timeline import Timeline
 from ngc_tools.player.progress import NoAnswer, Report
 
@@ -148,7 +148,8 @@ class Work:
             if session.meter.drained(self._goes_on):
                 session.take(session.meter.link.ask())  # as all is carried out
                 return True
-            session.face.say("the player isn't through with its lines yet", WARNING)
+            if not session.is_in(ALARM, BROKEN):
+                session.face.say("the player isn't through with its lines yet", WARNING)
         except NoAnswer as error:
             session.face.say(str(error), WARNING)
         else:
@@ -169,7 +170,7 @@ class Work:
             self.session.face.say(f"the player waits for {what}: once that is done, type go here, or press Enter there",
                                   WHERE)
         self._is_unwanted = not self._wanted()
-        return not self._is_unwanted
+        return not self._is_unwanted and not self.session.is_in(ALARM, BROKEN)
 
     def _show_messages(self, status: Status, is_through: bool) -> None:
         """Shows the messages of the lines that the place has passed; a program that is through stands at its start."""

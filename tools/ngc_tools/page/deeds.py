@@ -13,6 +13,7 @@ from ngc_tools.page.session import Session
 _NUMBER = re.compile(r"[-+]?(?:[0-9]{1,7}\.?[0-9]{0,6}|\.[0-9]{1,6})")
 _LONGEST_LINE = 256
 _LONGEST_ANSWER = 64
+_MOST_PRESSES = 10**9
 _MOST_KEPT = 2  # programs that were looked at and may be loaded
 
 
@@ -107,6 +108,50 @@ def _switch(given: Given) -> None:
     given.session.tell(f"{given.words['name']} {'on' if given.flag('on') else 'off'}")
 
 
+def _way(given: Given) -> str:
+    """An axis and a direction, as `X+`."""
+    axis, sign = given.words.get("axis"), given.words.get("sign")
+    if axis not in ("X", "Y", "Z") or sign not in (1, -1):
+        raise BadWords("axis: X, Y or Z; sign: 1 or -1")
+    return f"{axis}{'+' if sign > 0 else '-'}"
+
+
+def _home(given: Given) -> None:
+    axes = given.words.get("axes", "")
+    if not isinstance(axes, str) or not re.fullmatch("X?Y?Z?", axes):
+        raise BadWords("axes: as XYZ")
+    given.session.type(f"home {' '.join(axes)}".strip())
+
+
+def _jog(given: Given) -> None:
+    way, rate = _way(given), given.number("rate")
+    if given.words.get("length") is not None:
+        given.session.type(f"jog {way} {rate} for {given.number('length')}")
+    else:
+        given.session.jog(way, rate, given.count("press", _MOST_PRESSES))
+
+
+def _seek(given: Given) -> None:
+    given.session.type(f"seek {_way(given)} {given.number('rate')} within {given.number('within')}")
+
+
+def _zero(given: Given) -> None:
+    axes = given.words.get("axes")
+    if not isinstance(axes, dict) or not axes or not set(axes) <= set("XYZ"):
+        raise BadWords('axes: as {"X": "0"}')
+    words = " ".join(f"{axis}{number_of(axes[axis])}mm" for axis in sorted(axes))
+    given.session.type(f"zero {words}{_by_probe(given)}{given.anyway()}")
+
+
+def _touch(given: Given) -> None:
+    height = f" {given.number('height')}mm" if given.words.get("height") is not None else ""
+    given.session.type(f"touch tool {given.count('slot', 128)}{height}{_by_probe(given)}{given.anyway()}")
+
+
+def _by_probe(given: Given) -> str:
+    return " probe" if given.flag("probe") else ""
+
+
 def _answer(given: Given) -> dict:
     text = "yes" if given.words.get("yes") is True else "no"
     if "text" in given.words:
@@ -121,7 +166,9 @@ def _rehearse(given: Given) -> dict:
 
 DEEDS: dict[str, Callable[[Given], dict | None]] = {
     "load": _load, "mdi": _mdi, "reference": _reference, "tool": _tool, "switch": _switch, "answer": _answer,
-    "rehearse": _rehearse,
+    "rehearse": _rehearse, "home": _home, "jog": _jog, "seek": _seek, "zero": _zero, "touch": _touch,
+    "jogstop": lambda given: given.session.jogs.let_go(given.count("press", _MOST_PRESSES)),
+    "undo": lambda given: given.session.type("undo"),
     "run": lambda given: given.session.run("run" + given.anyway()),
     "resume": lambda given: given.session.type("resume" + given.anyway()),
     "recover": lambda given: given.session.type("recover"),

@@ -31,6 +31,7 @@ class Pages:
         self._streams[page] = self._streams.get(page, 0) + 1
         if self.commands not in self._streams:
             self.commands = page
+            self.session.jogs.forget()
         self.session.face.publish()
         return True
 
@@ -46,6 +47,7 @@ class Pages:
     def take_over(self, page: str) -> None:
         """Another page commands from now on."""
         self.commands = page
+        self.session.jogs.forget()
         self.session.face.publish()
 
     def choose(self, goes: bool) -> None:

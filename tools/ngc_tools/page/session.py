@@ -21,11 +21,13 @@ from ngc_tools.page.aside import Aside, Child, NotDone
 from ngc_tools.page.drawing import Drawing, Source, as_begun, draw, draw_exactly, setup_of
 from ngc_tools.page.face import PageFace
 from ngc_tools.page.findings import Check, find
+from ngc_tools.page.jog import HeldJog
 from ngc_tools.page.stand import Kept, Stand, recovery_of
 from ngc_tools.player.progress import Link, NoAnswer
 
-MOVES = {"run", "mdi", "resume", "recover", "restore", "release"}
-"""The commands that move the machine."""
+WITHOUT_LINES = {"home", "jog", "seek"}
+MOVES = {"run", "mdi", "resume", "recover", "restore", "release", *WITHOUT_LINES}
+"""The commands that move the machine, and those of them that the player makes without lines of OUT."""
 _LOOK_S = 0.15  # how often it looks while nothing runs
 _ASIDES = {"percent", "go", "optional", "delete", "single"}
 
@@ -37,14 +39,15 @@ class Busy(Failure):
 @dataclass(frozen=True, slots=True)
 class Opened:
     """A session of `ngc run` as it begins: the operator's core over it, what is said of OUT and the motors, the device
-    as it stood before and when it was written last, in seconds since 1970, and a link by which its motors are held at
-    once, if it has a player."""
+    as it stood before and when it was written last, in seconds since 1970, a link by which its motors are held at once,
+    if it has a player, and whether that makes moves without lines."""
 
     operator: Operator
     bound: str
     found: Device | None
     left_at: float
     motors: Link | None
+    has_moves: bool = False
 
     def close(self) -> None:
         """Asks and tells the player nothing more."""
@@ -78,7 +81,7 @@ class Session:
     def __init__(self, opens: Opens, face: PageFace, machine: str = "") -> None:
         """Begins it. `machine` is the machine's file, nothing for none. Raises what `opens` raises."""
         self._opens, self.face, self.machine = opens, face, machine
-        self.aside = Aside()
+        self.aside, self.jogs = Aside(), HeldJog()
         self.over = threading.Event()
         self.name, self.program_id, self.ended = "", 1, "it isn't begun yet"
         self.drawing: Drawing | None = None
@@ -158,9 +161,21 @@ class Session:
         self.face.hold()
         if self.opened.motors and self.stand.has_ramps:
             with suppress(NoAnswer):  # the session's thread says it
-                self.opened.motors.hold()
+                self.opened.motors.stop() if self._moves_without_lines() else self.opened.motors.hold()
         with suppress(Busy):
             self.give("hold", lambda: self.operator.do("hold"))
+
+    def _moves_without_lines(self) -> bool:
+        command = self.under
+        return command is not None and command.word in WITHOUT_LINES
+
+    def jog(self, way: str, rate: str, press: int) -> None:
+        """Jogs along a way, as `X+`, for as long as this is called again and again. Raises Busy."""
+        if not self.jogs.wish(way, rate, press):
+            return
+        command = self.under or self._next
+        if command is None or command.word != "jog":
+            self.give("jog", lambda: self.jogs.go(self.operator.moves))
 
     def run(self, line: str) -> None:
         """Starts the program, or goes on with it, by `run` or `run anyway`. Raises Busy."""
@@ -288,14 +303,15 @@ class Session:
     def _look(self) -> None:
         """Looks how all stands."""
         operator, before = self.operator, self.stand
-        gone = ""
+        gone, machine = "", None
         try:
             status, report = operator.look()
+            machine = operator.session.meter.link.machine() if self.opened.has_moves else None
         except NoAnswer as error:
             status, report, gone = operator.console.status(), before.report, str(error)
         self.face.report = report
         self.kept.at(status)
-        self.stand = Stand(status, report, gone, recovery_of(operator.recover.found), *self._typed())
+        self.stand = Stand(status, report, gone, recovery_of(operator.recover.found), *self._typed(), machine)
         if status.half == "none" and not status.place and setup_of(self.kept.device) != self._setup:
             self.draw(True)
         if self.stand != before:

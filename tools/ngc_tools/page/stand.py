@@ -10,7 +10,7 @@ from ngc_tools.job.figures import millimetres as rounded
 from ngc_tools.ngc.console import Status
 from ngc_tools.operator.display import on_words
 from ngc_tools.operator.recovery import Found, Recovery
-from ngc_tools.player.progress import Report
+from ngc_tools.player.progress import Machine, Report
 
 _OFTEN_S = 0.25
 
@@ -19,7 +19,8 @@ _OFTEN_S = 0.25
 class Stand:
     """`gone` says why the player doesn't answer, nothing if it does. `recovery` is what `recover` would do, None where
     OUT is no file that is followed. `typed` says that something was done between two lines of the program, `restore`
-    are the lines that put back what that left in force."""
+    are the lines that put back what that left in force. `machine` is what the player says of moves without lines, None
+    where it makes none."""
 
     status: Status
     report: Report | None = None
@@ -27,6 +28,7 @@ class Stand:
     recovery: dict | None = None
     typed: bool = False
     restore: tuple[str, ...] = ()
+    machine: Machine | None = None
 
     @property
     def has_ramps(self) -> bool:

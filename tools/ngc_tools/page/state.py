@@ -7,10 +7,16 @@ from ngc_tools.formats.text import shown_line
 from ngc_tools.ngc.console import Status
 from ngc_tools.operator.display import in_force_on, outputs_on
 from ngc_tools.operator.motors import way_nm
+from ngc_tools.operator.session import ALARM, BROKEN
 from ngc_tools.page.face import LOOKS
 from ngc_tools.page.session import MOVES, Session
 from ngc_tools.player.progress import Report
 
+_TROUBLES = {
+    ALARM: ("ALARM", "fail", "The motors stood at once, and where the machine is isn't known. Home comes first"),
+    BROKEN: ("Broken off", "fail", "No more line of this session is carried out. Quit, and start the player and this"
+             " again"),
+}
 _IN_MODES = ("unit", "distance", "plane", "system", "feed_mode", "motion")
 
 
@@ -28,7 +34,8 @@ class Pictured:
 
     def plain(self) -> dict:
         """All of it."""
-        return {**self._words(), **self._machine(), **self._motors(), **self._in_force(), **self._session()}
+        return {**self._words(), **self._machine(), **self._motors(), **self._moves_too(), **self._in_force(),
+                **self._session()}
 
     @property
     def number(self) -> int:
@@ -66,6 +73,15 @@ class Pictured:
                        "held_motors": report.is_held, "keeps": self.operator.recover.found is not None,
                        "behind_mm": way_nm(report, self.session.settings) / 10**6}
 
+    def _moves_too(self) -> dict:
+        """What the player says of moves without lines."""
+        machine = self.stand.machine
+        if machine is None:
+            return {"machine": None, "homed": "", "alarm": "", "inputs": [], "touched": None}
+        touched = machine.touched.split() if machine.touched else None
+        return {"machine": machine.does, "homed": machine.homed, "alarm": machine.alarm, "inputs": machine.on,
+                "touched": touched}
+
     def _in_force(self) -> dict:
         state = self.device.state
         in_force = in_force_on(state)
@@ -80,7 +96,8 @@ class Pictured:
         return {"session": session.ident, "ended": session.ended, "over": session.over.is_set(),
                 "program": {"id": session.program_id, "name": session.name, "lines": self.program.count},
                 "job": session.job_id, "finished": session.is_finished, "started": session.started,
-                "left_at": session.opened.left_at, "typed": self.stand.typed, "restore": self.stand.restore}
+                "left_at": session.opened.left_at, "undo": self.operator.touch.undoes,
+                "setter": self.operator.touch.setter_nm and millimetres(self.operator.touch.setter_nm), "typed": self.stand.typed, "restore": self.stand.restore}
 
     def _moves(self) -> bool:
         """Whether a command is under way that moves the machine, and nobody has to look or agree first."""
@@ -103,6 +120,8 @@ class Pictured:
             return "Device failed", "fail", "Remove the cause, then start again. What is stored stays"
         if self.stand.gone:
             return "Player gone", "fail", "Nothing more is handed out. Start the player again"
+        if report and report.word in _TROUBLES:
+            return _TROUBLES[report.word]
         if report and report.waits:
             detail = f"Put in tool {report.tool}" if report.tool else "Take the tool out"
             return "Tool change", "ask", detail

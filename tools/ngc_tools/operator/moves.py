@@ -1,0 +1,159 @@
+"""Moves without lines: `home`, `jog` and `seek`. The player makes them, and `ngc` is told where they end."""
+import re
+import time
+from collections.abc import Callable
+
+from ngc_tools.formats.position import nanometres
+from ngc_tools.ngc.console import Status
+from ngc_tools.operator.causes import busy, taken
+from ngc_tools.operator.face import REFUSED, SAID, WARNING, UnderWay, axes
+from ngc_tools.operator.left import Left
+from ngc_tools.operator.look import Look
+from ngc_tools.operator.modes import trimmed
+from ngc_tools.operator.numbers import length_of, nanometres_of
+from ngc_tools.operator.recover import Recover
+from ngc_tools.operator.session import ALARM, BROKEN, Session
+from ngc_tools.player.progress import Link, Machine, NoAnswer
+
+ASKED_S = 0.05
+"""Between two questions: without one for a second the player brings a move to rest."""
+DONE = "done"
+
+_WAY = r"\s*([xyz])\s*([-+])\s+(\S+)"
+_JOG = re.compile(_WAY + r"\s+for\s+(\S+)\s*", re.IGNORECASE)
+_SEEK = re.compile(_WAY + r"\s+within\s+(\S+)\s*", re.IGNORECASE)
+_HOME = re.compile(r"[xyz\s]*", re.IGNORECASE)
+_FORMS = {
+    "home": "home, or home X Z: these axes alone",
+    "jog": "jog X+ RATE for MM: at a rate in mm a minute, as jog X+ 600 for 10; jog alone goes by keys at a terminal",
+    "seek": "seek Z- RATE within MM: until the probe is on, as seek Z- 60 within 10",
+}
+_NOT_KNOWN = "home, jog and seek are of tools/player with -m"
+_LATER = ("ngc isn't told where the machine is, since {half} is under way: quit, start the player and this again, and go"
+          " on as after a loss of power")
+
+Asked = tuple[int, str]
+"""The number of a move, and why it is refused; nothing where it is taken."""
+
+
+class Moves:
+    """What they do. `do` does a command that is given meanwhile. `touched_nm` is where the probe was touched last."""
+
+    def __init__(self, session: Session, left: Left, recover: Recover, do: Callable[[str], None]) -> None:
+        self.session, self.left, self.recover, self.do = session, left, recover, do
+        self.touched_nm: tuple[int, int, int] | None = None
+
+    def home(self, rest: str) -> None:
+        """Homes all axes, or those that are named."""
+        if not _HOME.fullmatch(rest):
+            self._refuse(_FORMS["home"])
+        elif self.begins("home"):
+            names = "".join(sorted(set("".join(rest.upper().split()))))
+            self.touched_nm = None
+            self._go("home", lambda link: link.home(names))
+
+    def jog(self, rest: str) -> None:
+        """Goes along an axis, by a length."""
+        words = self._read("jog", _JOG, rest)
+        if words and self.begins("jog"):
+            self._go(f"jog {words[0]}", lambda link: link.jog(*words))
+
+    def seek(self, rest: str) -> None:
+        """Goes along an axis until the probe is on."""
+        words = self._read("seek", _SEEK, re.sub(r"\s+until\s+probe\b", "", rest, flags=re.IGNORECASE))
+        if words and self.begins("seek"):
+            self.touched_nm = None
+            self._go(f"seek {words[0]}", lambda link: link.seek(*words))
+
+    def begins(self, word: str) -> bool:
+        """Whether one may begin: a player is there, and `ngc` can be told where it ends; says why not. In an alarm
+        `home` goes without that."""
+        if not self.session.meter:
+            self.session.face.say("no player is known: --player SOCKET")
+            return False
+        status = self.session.console.status()
+        if status.does in ("idle", "stopped") or self.session.is_in(ALARM, BROKEN):
+            return True
+        self._refuse(busy(self.session, status, word))
+        return False
+
+    def _read(self, word: str, form: re.Pattern[str], rest: str) -> tuple[str, str, str] | None:
+        """The way, the rate and the length of a command, as the player takes them; None, which is said, for others."""
+        match = form.fullmatch(rest)
+        rate, length = (nanometres_of(match[3]), length_of(match[4])) if match else (None, None)
+        if match is None or not rate or not length or rate < 0 or length < 0:
+            self._refuse(_FORMS[word])
+            return None
+        return f"{match[1].upper()}{match[2]}", trimmed(rate), trimmed(length)
+
+    def _refuse(self, text: str) -> None:
+        self.session.face.say(text, REFUSED)
+
+    def _go(self, name: str, begin: Callable[[Link], Asked]) -> None:
+        """Makes a move, and says how it ended."""
+        try:
+            number, why = begin(self.session.meter.link)
+            if why:
+                self._refuse(f"{name}: {why}")
+                return
+            machine = self.ended(number, name)
+        except NoAnswer as error:
+            self.say_silent(error)
+            return
+        finally:
+            self.session.face.live(None)
+        self._say(name, machine)
+        self.tell()
+
+    def say_silent(self, error: NoAnswer) -> None:
+        """Says that the player doesn't answer, or is gone."""
+        is_there = str(error).endswith("doesn't answer")
+        self.session.face.say(f"{error}; {_NOT_KNOWN}" if is_there else str(error), WARNING)
+
+    def ended(self, number: int, name: str) -> Machine:
+        """Waits until a move is over. Whoever wants to hold ends it. Raises NoAnswer."""
+        session, is_told = self.session, False
+        status = session.console.status()
+        while (machine := session.meter.link.machine()).ended != number or machine.does != "stands":
+            self.show(name, status)
+            if not is_told and session.face.interrupted():
+                session.meter.link.stop()
+                is_told = True
+            for command in session.face.asides():
+                self.do(command)
+            time.sleep(ASKED_S)
+        return machine
+
+    def show(self, name: str, status: Status) -> None:
+        """Shows what moves, and where it is. Raises NoAnswer."""
+        report = self.session.meter.link.ask()
+        self.session.take(report)
+        self.session.face.live(UnderWay(name, status, report.at))
+
+    def _say(self, name: str, machine: Machine) -> None:
+        """Says how a move ended."""
+        if machine.how != DONE:
+            self.session.face.say(f"{name}: {machine.how}", WARNING)
+        elif name == "home":
+            self.session.face.say(f"homed: {' '.join(machine.homed)}")
+        if name.startswith("seek") and machine.how == DONE and machine.touched:
+            x, y, z = map(nanometres, machine.touched.split())
+            self.touched_nm = (x, y, z)
+            self.session.face.say(f"the probe was touched at {axes(machine.touched.split())}", SAID)
+
+    def tell(self) -> None:
+        """Tells `ngc` where the machine is now."""
+        session = self.session
+        report, status = session.report(), session.console.status()
+        if report is None or report.word == ALARM:
+            return
+        if status.does not in ("idle", "stopped"):
+            session.face.say(_LATER.format(half=session.half(status)), WARNING)
+            return
+        if status.half == "none":
+            self.left.keep()
+        command = f"reference {report.at}"
+        session.face.say(command)
+        if taken(session, session.console.ask(command)[0], command):
+            self.recover.still()
+        Look(session).after_work()

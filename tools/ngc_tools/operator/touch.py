@@ -1,0 +1,259 @@
+"""Touch-off: a work zero and a tool's length from where the machine stands, and one step back.
+
+`ngc` does each as a line of G-code, or a command, that is shown. What is in force is read from the device."""
+import re
+from collections.abc import Callable
+from dataclasses import dataclass
+
+from ngc_tools.failure import Failure
+from ngc_tools.formats.device import Device, State
+from ngc_tools.ngc.console import Status
+from ngc_tools.operator.causes import busy, reference_words, taken
+from ngc_tools.operator.display import in_force_on
+from ngc_tools.operator.face import REFUSED, WARNING, WHERE
+from ngc_tools.operator.look import Look
+from ngc_tools.operator.modes import SYSTEMS, point_words, trimmed
+from ngc_tools.operator.moves import Moves
+from ngc_tools.operator.numbers import length_of, nanometres_of
+from ngc_tools.operator.places import Places
+from ngc_tools.operator.session import Session
+from ngc_tools.operator.typed import ANYWAY
+
+Point = tuple[int, int, int]
+
+_AXES, _PROBE = "XYZ", "probe"
+_AXIS = re.compile(r"([xyz])\s*([-+.\d]*(?:mm|in)?)\s*", re.IGNORECASE)
+_ZERO = "zero X Y Z: which axes are 0 here? zero Z 10 for another coordinate than 0"
+_TOUCH = "touch tool N: which slot's tool stands on the setter? touch tool 3, or touch tool 3 HEIGHT"
+_HEIGHT = ("at which machine Z does the bare spindle reach the setter's top? touch tool {slot} HEIGHT, or height_um of"
+           " [setter] in the file of --machine")
+_NOT_TOUCHED = "the probe wasn't touched since home: seek Z- RATE within MM"
+_INCHES = "inches are in force (G20): write {text}in, or {text}mm"
+
+
+class CannotTouch(Failure):
+    """Why nothing is set; the text is for people."""
+
+
+@dataclass(frozen=True, slots=True)
+class Back:
+    """What `undo` puts back: `command` does, as long as `now` is what the device has of it."""
+
+    name: str
+    command: str
+    now: tuple[int, ...]
+    read: Callable[[Device], tuple[int, ...]]
+
+
+def axes_of(text: str, unit: int) -> dict[int, int]:
+    """What `zero` is told: axes, and the coordinate in nm that each is to have, 0 without a number. Numbers are
+    millimetres, with `mm` or `in` behind them that; under G20 one of the two has to stand. Raises CannotTouch."""
+    found: dict[int, int] = {}
+    at = 0
+    while match := _AXIS.match(text, at):
+        axis, at = _AXES.index(match[1].upper()), match.end()
+        if axis in found:
+            raise CannotTouch(f"{match[1].upper()} stands twice")
+        found[axis] = _length(match[2], unit) if match[2] else 0
+    if not found or at < len(text):
+        raise CannotTouch(_ZERO)
+    return found
+
+
+def _length(text: str, unit: int) -> int:
+    """A coordinate in nm. Raises CannotTouch."""
+    nm = length_of(text)
+    if nm is None:
+        raise CannotTouch(f"not a number: {text}")
+    if nm and unit == 20 and nanometres_of(text) is not None:
+        raise CannotTouch(_INCHES.format(text=text))
+    return nm
+
+
+def origin_of(device: Device, system: int) -> Point:
+    """The origin of a coordinate system, by the parameters, in nm."""
+    first = 5221 + 20 * (system - 1)
+    return device.parameters[first], device.parameters[first + 1], device.parameters[first + 2]
+
+
+def length_in(device: Device, slot: int) -> tuple[int, ...]:
+    """The length of a slot in nm; nothing where the table has no such slot."""
+    return tuple(device.tools_nm[slot - 1:slot])
+
+
+class Touch:
+    """What `zero`, `touch` and `undo` do. `setter_nm` is the machine Z at which a tool of length 0 would touch the
+    setter, None if nobody said it."""
+
+    def __init__(self, session: Session, places: Places, moves: Moves,
+                 line_done: Callable[[str, bool], str | None]) -> None:
+        """`line_done` does a line of G-code; it returns None where that wasn't taken."""
+        self.session, self.places, self.moves, self.line_done = session, places, moves, line_done
+        self.setter_nm: int | None = None
+        self._back: Back | None = None
+
+    def zero(self, rest: str, anyway: bool) -> None:
+        """Makes the point where the machine stands X0, Y0, Z0, or what is typed, of the system in force."""
+        self._said_why(lambda: self._zero(rest, anyway))
+
+    def tool(self, rest: str, anyway: bool) -> None:
+        """Gives a slot the length of the tool that stands on the setter."""
+        self._said_why(lambda: self._tool(rest, anyway))
+
+    def undo(self) -> None:
+        """Puts back what the last `zero` or `touch` set, once."""
+        self._said_why(self._undo)
+
+    @property
+    def undoes(self) -> str:
+        """What `undo` would do; nothing if there is nothing to undo."""
+        return self._back.command if self._back else ""
+
+    def _said_why(self, what: Callable[[], None]) -> None:
+        try:
+            what()
+        except CannotTouch as why:
+            self.session.face.say(str(why), REFUSED)
+
+    def _zero(self, rest: str, anyway: bool) -> None:
+        """Raises CannotTouch."""
+        status, device = self._found()
+        named, by_probe = _parted(rest)
+        wanted = axes_of(named, device.state.unit)
+        at = self._at("zero", status, device, by_probe)
+        if not anyway and not self.places.agree(status, f"zero {rest} {ANYWAY}"):
+            return
+        if 2 in wanted:
+            self.session.face.say(_tip(device.state), WHERE)
+        for text in _dangers(device, wanted):
+            self.session.face.say(text, WARNING)
+        here, system = in_force_on(device.state).to_program(at), device.state.system
+        origin = {axis: device.state.origin_nm[axis] + here[axis] - nm for axis, nm in wanted.items()}
+        words = " ".join(f"{_AXES[axis]}{trimmed(nm)}" for axis, nm in sorted(origin.items()))
+        if not self._line(f"G10 L2 P{system} {words}", device.state.unit):
+            return
+        now = self._device()
+        self._back = Back(SYSTEMS[system - 1], f"G10 L2 P{system} {point_words(device.state.origin_nm)}",
+                          origin_of(now, system), lambda device: origin_of(device, system))
+        Look(self.session).after_work()
+        self._say_back(point_words(now.state.origin_nm), point_words(device.state.origin_nm))
+
+    def _tool(self, rest: str, anyway: bool) -> None:
+        """Raises CannotTouch."""
+        named, by_probe = _parted(rest)
+        words = named.lower().split()
+        if len(words) not in (2, 3) or words[0] != "tool" or not _is_slot(words[1]):
+            raise CannotTouch(_TOUCH)
+        slot, height = int(words[1]), self._height(words)
+        status, device = self._found()
+        _, _, z = self._at("touch", status, device, by_probe)
+        if not anyway and not (self.places.agree(status, f"touch {rest} {ANYWAY}") and self._is_in(slot, device)):
+            return
+        what = "the probe was touched at machine Z" if by_probe else "machine Z is"
+        self.session.face.say(f"{what} {trimmed(z)}, and the setter's top is at {trimmed(height)}", WHERE)
+        command, before = f"tool {slot} {trimmed(z - height)}", length_in(device, slot)
+        self.session.face.say(command)
+        if not taken(self.session, self.session.console.ask(command)[0], command):
+            return
+        self._back = Back(f"tool {slot}", f"tool {slot} {trimmed(before[0] if before else 0)}", (z - height,),
+                          lambda device: length_in(device, slot))
+        self._say_back(trimmed(z - height), trimmed(before[0]) if before else "no slot")
+        self.session.face.say(f"G43 H{slot} takes it; a length that is in force stays until then", WHERE)
+
+    def _undo(self) -> None:
+        """Raises CannotTouch."""
+        back = self._back
+        if back is None:
+            raise CannotTouch("nothing to undo: it takes back the last zero or touch, once")
+        device = self._device()
+        if back.read(device) != back.now:
+            raise CannotTouch(f"{back.name} isn't any more what was set: nothing is done. {back.command} puts back what"
+                              " was before")
+        if back.command.startswith("tool"):
+            self.session.face.say(back.command)
+            is_done = taken(self.session, self.session.console.ask(back.command)[0], back.command)
+        elif is_done := self._line(back.command, device.state.unit):
+            Look(self.session).after_work()
+        self._back = None if is_done else back
+
+    def _line(self, text: str, unit: int) -> bool:
+        """Does a line whose numbers are millimetres, whatever unit is in force, and shows it; whether it was taken."""
+        lines = [text] if unit == 21 else [f"G21 {text}", "G20"]
+        for line in lines:
+            self.session.face.say(line)
+            if self.line_done(line, True) is None:
+                return False
+        return True
+
+    def _say_back(self, now: str, before: str) -> None:
+        self.session.face.say(f"{self._back.name}: {now} ({before} before). undo puts it back", WHERE)
+
+    def _found(self) -> tuple[Status, Device]:
+        """How `ngc` stands, at rest or not."""
+        return self.session.console.status(), self._device()
+
+    def _device(self) -> Device:
+        """What stands on the device. Raises CannotTouch."""
+        device = self.session.stored()
+        if not isinstance(device, Device):
+            raise CannotTouch("the device can't be read: nothing is known of the offsets")
+        return device
+
+    def _at(self, word: str, status: Status, device: Device, by_probe: bool) -> Point:
+        """The machine point in nm, for a command, or that at which the probe was touched. Raises CannotTouch where it
+        isn't known, or within a block."""
+        if status.half != "none":
+            raise CannotTouch(busy(self.session, status, word))
+        if not status.known:
+            raise CannotTouch(f"it isn't known where the machine stands: {reference_words(self.session)}")
+        if not by_probe:
+            return device.state.point_nm
+        if self.moves.touched_nm is None:
+            raise CannotTouch(_NOT_TOUCHED)
+        return self.moves.touched_nm
+
+    def _height(self, words: list[str]) -> int:
+        """The setter's height in nm. Raises CannotTouch."""
+        height = self.setter_nm
+        if len(words) == 3:
+            height = length_of(words[2])
+            if height is None:
+                raise CannotTouch(f"not a number: {words[2]}")
+        if height is None:
+            raise CannotTouch(_HEIGHT.format(slot=words[1]))
+        return height
+
+    def _is_in(self, slot: int, device: Device) -> bool:
+        """Whether no other tool is in the spindle, as far as `ngc` knows, or a person says that it is right."""
+        return device.slot in (0, slot) or self.session.agrees(
+            f"tool {device.slot} is in the spindle, by its last M6. yes gives slot {slot} the length: ")
+
+
+def _parted(rest: str) -> tuple[str, bool]:
+    """What stands before the word `probe`, and whether that stands at the end."""
+    *named, last = rest.split() or [""]
+    return (" ".join(named), True) if last.lower() == _PROBE else (rest, False)
+
+
+def _is_slot(text: str) -> bool:
+    return text.isascii() and text.isdecimal() and len(text) < 4
+
+
+def _tip(state: State) -> str:
+    """What of the tool Z is that of."""
+    if not state.tool_length_nm:
+        return "Z is that of a tool of length 0: no tool length is in force"
+    return f"Z is that of the tool's tip, by the tool length in force, {trimmed(state.tool_length_nm)} mm"
+
+
+def _dangers(device: Device, wanted: dict[int, int]) -> list[str]:
+    """What moves the zero point of these axes later."""
+    state, said = device.state, []
+    if any(state.g92_nm[axis] for axis in wanted):
+        said.append(f"a G92 offset is in force, {point_words(state.g92_nm)}, and is allowed for. The program's end, M2"
+                    " or M30, drops it, and the zero point moves by it: G92.1 first, then zero, does without it")
+    tool = length_in(device, state.slot) if 2 in wanted and state.slot else ()
+    if tool and tool[0] != state.tool_length_nm:
+        said.append(f"tool {state.slot}, in the spindle, is {trimmed(tool[0])} mm long: Z0 moves once G43 H{state.slot}"
+                    f" takes that. G43 H{state.slot} first, then zero, does without it")
+    return said

@@ -1,0 +1,361 @@
+"""ngc-operate: home, jog and seek over a player that makes them, alarms, and touching off by the probe."""
+import os
+import signal
+import sys
+import unittest
+from pathlib import Path
+
+sys.path.insert(0, str(Path(__file__).resolve().parent))
+
+from machine_support import STEP_NM, MachineLink, SocketMachine  # noqa: E402
+from session_support import TOOLS, InFolder, Terminal  # noqa: E402
+from test_operate import PROMPT, operate  # noqa: E402
+from test_operator import Core  # noqa: E402
+
+from ngc_tools.cli.keys import TerminalKeys  # noqa: E402
+from ngc_tools.formats.position import Position  # noqa: E402
+from ngc_tools.operator import jog_keys  # noqa: E402
+
+HOMED = "-298.000000 -198.000000 -2.000000"
+MOTORS = "the motors are at X {} Y {} Z {}, 0 lines behind"
+FORMS = {
+    "home": "home, or home X Z: these axes alone",
+    "jog": "jog X+ RATE for MM: at a rate in mm a minute, as jog X+ 600 for 10; jog alone goes by keys at a terminal",
+    "seek": "seek Z- RATE within MM: until the probe is on, as seek Z- 60 within 10",
+}
+
+
+class Moves(Core):
+    """The commands, by a player within the process."""
+
+    def setUp(self) -> None:
+        """A player that makes moves."""
+        super().setUp()
+        self.link = MachineLink()
+        self.axes = self.link.axes
+
+    def test_home(self) -> None:
+        """It homes, and tells `ngc` where the machine is then."""
+        self.begin(self.link)
+        at = HOMED.split()
+        self.assertEqual(self.do("home"), [
+            "homed: X Y Z", f"reference {HOMED}", "done 1", "idle; X {} Y {} Z {}".format(*at), MOTORS.format(*at)])
+        self.assertEqual(self.axes.words, ["home 1"])
+        self.assertEqual(self.status().at, tuple(at))
+        self.do("Home x z")
+        self.assertEqual(self.axes.words[-1], "home 2 XZ")
+        self.assertEqual([view.line for view in self.face.views if view], ["home"] * 4)
+
+    def test_jog_and_seek(self) -> None:
+        """A length, and the probe: where the machine comes to rest isn't where the probe was touched."""
+        self.begin(self.link)
+        self.do("jog x + 600 for 12.5", "JOG Y- 60.5 for 1in")
+        self.assertEqual(self.axes.words, ["jog 1 X+ 600 for 12.5", "jog 2 Y- 60.5 for 25.4"])
+        self.assertEqual(self.status().at, ("12.500000", "-25.400000", "0.000000"))
+        self.assertEqual(self.do("seek Z- 60 within 10 until probe")[:3], [
+            "the probe was touched at X 12.500000 Y -25.400000 Z -5.000000",
+            "reference 12.500000 -25.400000 -5.020000", "done 3"])
+        self.assertEqual(self.axes.words[-1], "seek 3 Z- 60 within 10")
+
+    def test_refused(self) -> None:
+        """What isn't understood, and what the player refuses: nothing moves, and `ngc` is told nothing."""
+        self.begin(self.link)
+        for typed in ("home Q", "jog", "jog X 600 for 1", "jog X+ for 1", "jog X+ 600", "jog X+ 0 for 1",
+                      "jog X+ -5 for 1", "jog X+ 600 for 0", "jog W+ 600 for 1", "jog X+ 6e2 for 1", "seek Z- 60",
+                      "seek Z- 60 within", "seek Z- 60 within x", "seek"):
+            self.assertEqual(self.do(typed), [FORMS[typed.split()[0]]], typed)
+        self.assertEqual(self.axes.words, [])
+        for typed, name, why in (("home", "home", "the machine's file has no [home]"),
+                                 ("jog X+ 600 for 1", "jog X+", "X ends at -300.000"),
+                                 ("seek Z- 60 within 1", "seek Z-", "no input is the probe")):
+            self.axes.refuses = why
+            self.assertEqual(self.do(typed), [f"{name}: {why}"])
+        self.assertEqual(self.status().entries, 0)
+
+    def test_ends_otherwise(self) -> None:
+        """Where a move ends otherwise that is said, and `ngc` is told where the machine is all the same."""
+        self.begin(self.link)
+        why = "X: two touches differ: -300.012 and -300.051"
+        self.axes.fails = why
+        self.assertEqual(self.do("home")[:3], [f"home: {why}", "reference 0.000000 0.000000 0.000000", "done 1"])
+        self.axes.fails = "the probe isn't touched within 1.000 mm"
+        self.assertEqual(self.do("seek Z- 60 within 1")[0], "seek Z-: the probe isn't touched within 1.000 mm")
+        self.assertEqual(self.do("zero Z probe"), ["the probe wasn't touched since home: seek Z- RATE within MM"])
+        self.face.looks, self.face.holds_at = 0, 2
+        self.assertEqual(self.do("jog X+ 600 for 10")[0], "jog X+: stopped")
+        self.assertEqual(self.axes.words[-1], "stop")
+
+    def test_other_player(self) -> None:
+        """Without a player, and with one that has no such moves."""
+        self.begin()
+        self.assertEqual(self.do("home"), ["no player is known: --player SOCKET"])
+        self.end()
+        self.link.knows = False
+        self.begin(self.link)
+        self.assertEqual(self.do("jog X+ 600 for 1"), [
+            "progress: the player doesn't answer; home, jog and seek are of tools/player with -m"])
+        self.assertEqual(self.status().entries, 0)
+
+    def test_at_a_stop(self) -> None:
+        """At M0 a jog is taken, and `run` asks whether the program goes on from there."""
+        self.begin(self.link)
+        self.load("G21 G90\nG0 X1\nM0\nG0 X2\nM2\n")
+        self.do("run", "jog Y+ 600 for 0.5")
+        said = self.do("run", answers=("yes",))
+        self.assertIn("line 4 begins at X1 Y0 Z0. The machine is at X1 Y0.5 Z0, 0.500 mm away, and the line would go"
+                      " from there", said)
+        self.assertEqual(self.status().at, ("2.000000", "0.500000", "0.000000"))
+
+    def test_held(self) -> None:
+        """Where `ngc` takes no `reference` nothing moves."""
+        self.begin(self.link)
+        self.load("G21 G90\nG0 X1\nG0 X2\nM2\n")
+        self.hold_after(1)
+        self.do("run")
+        said = self.do("jog X+ 600 for 1")
+        self.assertEqual(len(said), 1)
+        self.assertIn("run goes on", said[0])
+        self.assertEqual(self.axes.words, [])
+
+    def test_half_done(self) -> None:
+        """Over a half-done block too; `recover` is still for what the last session left."""
+        self.run_ngc("mdi G0 X0.005\ntick 4\nquit\n", "before")
+        self.begin(self.link)
+        self.do("jog X+ 600 for 2")
+        self.assertTrue(self.status().known)
+        self.assertEqual(self.status().at[0], "2.000000")
+        said = self.do("recover")
+        self.assertNotIn("recover is for what the last session left, before anything else is done", said)
+
+    def test_probe(self) -> None:
+        """A zero and a length by where the probe was touched, also once the machine is elsewhere; not after home."""
+        self.begin(self.link)
+        self.do("seek Z- 60 within 10", "jog Z+ 600 for 4")
+        self.assertIn("G10 L2 P1 Z-7", self.do("zero Z 2 Probe"))
+        self.assertIn("G10 L2 P1 Z-1.02", self.do("zero Z"))  # 5.02 below, 4 up
+        self.assertEqual(self.do("touch tool 1 -60 probe")[:2],
+                         ["the probe was touched at machine Z -5, and the setter's top is at -60", "tool 1 55"])
+        self.do("home")
+        self.assertEqual(self.do("touch tool 1 -60 probe"),
+                         ["the probe wasn't touched since home: seek Z- RATE within MM"])
+
+
+class Alarms(Core):
+    """The emergency stop and the limits."""
+
+    STOPPED = ("EMERGENCY STOP: THE MOTORS STAND, SPINDLE AND COOLANT ARE OFF, AND WHERE THE MACHINE IS ISN'T KNOWN."
+               " HOME COMES FIRST")
+    NOTHING = "nothing is done: EMERGENCY STOP. home comes first; until then where and quit alone are taken"
+
+    def setUp(self) -> None:
+        """A player that makes moves."""
+        super().setUp()
+        self.link = MachineLink()
+        self.axes = self.link.axes
+
+    def test_at_rest(self) -> None:
+        """It is told of at the next command, which isn't done; home, where and quit are, and then all is again."""
+        self.begin(self.link)
+        self.load("G21 G90\nG0 X1\nM2\n")
+        self.axes.alarm("emergency_stop")
+        self.assertEqual(self.do("run"), [self.STOPPED, self.NOTHING])
+        for typed in ("G0 X1", "M5", "jog X+ 600 for 1", "seek Z- 6 within 1", "reference 0 0 0", "zero X", "undo",
+                      "load x", "resume", "continue", "recover", "release", "tool 1 5", "halp"):
+            self.assertEqual(self.do(typed), [self.NOTHING], typed)
+        self.assertIn("the motors are at X 0.000000 Y 0.000000 Z 0.000000, 0 lines behind, ALARM: not to be trusted",
+                      self.do("where"))
+        self.assertIn("recover", self.do("help")[0])
+        self.assertEqual((self.axes.words, self.out(), self.status().entries), ([], [], 1))
+        self.axes.home_at = [500_000, -200_000, 0]
+        self.assertEqual(self.do("home")[:2], ["homed: X Y Z", "reference 0.500000 -0.200000 0.000000"])
+        self.do("run")
+        self.assertEqual(self.status().at, ("1.000000", "-0.200000", "0.000000"))
+
+    def test_limit(self) -> None:
+        """A limit is named by its switch."""
+        self.begin(self.link)
+        self.axes.alarm("limits")
+        self.assertEqual(self.do("G0 X1"), [
+            self.STOPPED.replace("EMERGENCY STOP", "LIMIT OF LIMIT X LOW"),
+            self.NOTHING.replace("EMERGENCY STOP", "LIMIT OF LIMIT X LOW")])
+        self.axes.refuses = "the emergency stop is on"
+        self.assertEqual(self.do("home"), ["home: the emergency stop is on"])
+        self.assertEqual(self.do("G0 X1"), [self.NOTHING.replace("EMERGENCY STOP", "LIMIT OF LIMIT X LOW")])
+
+    def test_in_a_move(self) -> None:
+        """It ends a jog; `ngc` isn't told a place."""
+        self.begin(self.link)
+        self.axes.alarm_at = 2
+        said = self.do("jog X+ 600 for 10")
+        self.assertEqual(said, ["jog X+: the emergency stop is on", self.STOPPED])
+        self.assertEqual(self.status().entries, 0)
+
+    def test_with_lines_in_hand(self) -> None:
+        """No more line is handed out, and after home no more of the session is carried out."""
+        self.begin(self.link)
+        self.load("G21 G90\nG1 X3 F60\nM2\n")
+        before = self.link.ask
+
+        def ask():
+            if Path("out").stat().st_size and self.axes.word == "works":
+                self.axes.alarm("emergency_stop")
+            return before()
+
+        self.link.ask = ask
+        said = self.do("run")
+        self.assertEqual(said[:2], [self.STOPPED, "held"])
+        self.assertEqual(self.status().does, "held")
+        self.assertLess(len(self.out()), 201)
+        count = len(self.out())
+        self.axes.home_at = [0, 0, 0]
+        self.link.ask = before
+        self.link.lazy = True
+        said = self.do("home")
+        self.assertEqual(said, ["homed: X Y Z", "ngc isn't told where the machine is, since segment 0 of line 2: G1 X3"
+                                " F60 is under way: quit, start the player and this again, and go on as after a loss"
+                                " of power"])
+        self.axes.word = "broken"
+        broken = ("nothing is done: what the player had in hand in the alarm is never carried out, and so nothing that"
+                  " comes after. quit, start the player and this again, and go on as after a loss of power")
+        for typed in ("run", "G0 X1", "resume", "release"):
+            self.assertEqual(self.do(typed), [broken], typed)
+        self.assertEqual(len(self.out()), count)
+        self.assertIn("stays half-done", self.do("quit", answers=("yes",))[0])
+        self.assertTrue(self.operator.over)
+
+
+class ByKeys(InFolder):
+    """At a terminal, over a socket."""
+
+    def setUp(self) -> None:
+        """A device and a player of the file `out`."""
+        super().setUp()
+        self.device()
+        Path("out").touch()
+        os.mkfifo("axis")
+        self.pipe = os.open("axis", os.O_RDONLY | os.O_NONBLOCK)
+        self.addCleanup(os.close, self.pipe)
+        self.player = SocketMachine(os.path.abspath("axis"))
+        self.addCleanup(self.player.close)
+        words = operate("mill.dev", "first.toml", "axis", "--player", "progress")
+        self.terminal = Terminal(str(TOOLS / "ngc-operate"), *words, kind="xterm", columns=100)
+        self.terminal.read_to(PROMPT)
+
+    def begin_jog(self) -> None:
+        """Types `jog`, and waits until it heeds keys."""
+        self.terminal.send(b"jog\n")
+        self.terminal.read_to(b"taps 0.1 mm  X 0.000000 Y 0.000000 Z 0.000000")
+
+    def jogs(self) -> list[str]:
+        """The jogs that the player was told."""
+        return [word for word in self.player.axes.words if word.startswith("jog")]
+
+    def test_taps(self) -> None:
+        """A tap of each key goes a step; Enter ends, and `ngc` is told where the machine is."""
+        self.begin_jog()
+        for key in (b"\x1b[C", b"\x1b[D", b"\x1b[A", b"\x1b[B", b"\x1b[5~", b"\x1b[6~", b"\x1bOC"):
+            count = len(self.jogs())
+            self.terminal.send(key)
+            self.wait_for("it jogs", lambda count=count: len(self.jogs()) > count)
+        for keys in (b"3+\x1b[C", b"1--\x1b[A"):
+            count = len(self.jogs())
+            self.terminal.send(keys)
+            self.wait_for("it jogs", lambda count=count: len(self.jogs()) > count)
+        self.wait_for("the last is over", lambda: self.player.axes.machine.does == "stands")
+        self.terminal.send(b"\n")
+        shown = self.terminal.read_to(PROMPT).decode()
+        self.assertIn("reference 1.100000 0.010000 0.000000\r\ndone 1\r\nidle; X 1.100000 Y 0.010000", shown)
+        self.assertEqual([word.split(" ", 2)[2] for word in self.jogs()], [
+            "X+ 300 for 0.100000", "X- 300 for 0.100000", "Y+ 300 for 0.100000", "Y- 300 for 0.100000",
+            "Z+ 300 for 0.100000", "Z- 300 for 0.100000", "X+ 300 for 0.100000", "X+ 600 for 1.000000",
+            "Y+ 120 for 0.010000"])
+
+    def test_held(self) -> None:
+        """A key that is held goes on, and as it is let go the motors are told to stop. Three at once are a held key."""
+        self.begin_jog()
+        told = self.player.axes.words
+
+        def goes_on() -> bool:
+            self.terminal.send(b"\x1b[C" * 3)
+            kept = [word for word in told if word.endswith(" X+ 300")]
+            return any(kept.count(word) > 2 for word in kept)
+
+        self.wait_for("it goes on", goes_on)
+        self.wait_for("it is let go", lambda: told[-1] == "stop" and self.player.axes.machine.does == "stands")
+        self.assertEqual([word for word in told if word != "stop" and not word.endswith(" X+ 300")], [])
+        x = Position(STEP_NM, self.player.axes.at_nm)
+        self.terminal.send(b"q")
+        self.assertIn(f"reference {x}\r\ndone 1\r\n", self.terminal.read_to(PROMPT).decode())
+
+    def test_alarm(self) -> None:
+        """It ends by an alarm, and `ngc` is told no place."""
+        self.begin_jog()
+        self.player.axes.alarm("limits")
+        shown = " ".join(self.terminal.read_to(PROMPT).decode().split())
+        self.assertIn("LIMIT OF LIMIT X LOW: THE MOTORS STAND", shown)
+        self.assertNotIn("reference", shown)
+
+    def test_refused(self) -> None:
+        """A jog that is refused is said once, however often its key repeats; Ctrl-C ends."""
+        self.player.axes.refuses = "X ends at -300.000"
+        self.begin_jog()
+        self.terminal.send(b"\x1b[D")
+        self.terminal.read_to(b"jog X-: X ends at -300.000\r\n")
+        self.terminal.send(b"\x03")
+        self.assertIn("done 1\r\n", self.terminal.read_to(PROMPT).decode())
+
+    def test_player_gone(self) -> None:
+        """Where the player is gone it ends, and the terminal is as it was: lines can be typed again."""
+        self.begin_jog()
+        self.player.close()
+        self.assertIn(b"progress: the player is gone: ", self.terminal.read_to(PROMPT))
+        self.terminal.send(b"tick 1\n")
+        self.assertTrue(self.terminal.read_to(PROMPT).startswith(b"tick 1\r\nticks are given by run"))
+
+    def test_killed(self) -> None:
+        """A signal ends it, and what moves is told to stop."""
+        self.begin_jog()
+        self.terminal.end_by(signal.SIGTERM)
+        self.assertEqual((self.terminal.status(), self.player.axes.words[-1]), (2, "stop"))
+
+
+class Pressed(unittest.TestCase):
+    """Which key is held, and which was tapped."""
+
+    def test_taps(self) -> None:
+        """Taps that come slower than repeats are so many steps; those of another key begin anew."""
+        pressed = jog_keys.Pressed()
+        for number in range(5):
+            pressed.take("X+", number * 0.1)
+        self.assertEqual((pressed.taps, pressed.is_held(0.4)), (5, False))
+        pressed.take("X-", 0.41)
+        self.assertEqual((pressed.way, pressed.taps), ("X-", 1))
+
+    def test_held(self) -> None:
+        """The first repeat of a keyboard comes late, those after it 33 ms apart; then it is held until it stays out for
+        200 ms."""
+        pressed = jog_keys.Pressed()
+        for at in (0.0, 0.5, 0.533, 0.566):
+            self.assertFalse(pressed.is_held(at))
+            pressed.take("Z+", at)
+        self.assertEqual((pressed.taps, pressed.is_held(0.566), pressed.is_held(0.76)), (0, True, True))
+        self.assertFalse(pressed.is_held(0.77))
+
+    def test_keys(self) -> None:
+        """Keys by their bytes, in parts; others are passed over; an Escape alone ends."""
+        ours, theirs = os.pipe()
+        self.addCleanup(os.close, ours)
+        keys = TerminalKeys(ours, lambda: False)
+        for sent, found in ((b"\x1b[C\x1b[5~", ["X+", "Z+"]), (b"x\x1b[1;5C\xc3\xa4+", ["faster"]),
+                            (b"\x1b[", []), (b"6~-", ["Z-", "slower"]), (b"\x1b", []), (b"OB", ["Y-"]),
+                            (b"\x1b[A\x1b", ["Y+"])):
+            os.write(theirs, sent)
+            self.assertEqual(keys.next(5), found, sent)
+        self.assertEqual(keys.next(0), ["end"])
+        self.assertEqual(keys.next(0), [])
+        os.close(theirs)
+        self.assertEqual(keys.next(5), ["end"])
+
+
+if __name__ == "__main__":
+    unittest.main()
