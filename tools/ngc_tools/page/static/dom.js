@@ -1,0 +1,53 @@
+// Elements, and numbers as people read them. All text becomes text: nothing that a program says is read as HTML.
+export const $ = id => document.getElementById(id);
+
+const SYSTEMS = ['G54', 'G55', 'G56', 'G57', 'G58', 'G59', 'G59.1', 'G59.2', 'G59.3'];
+export const AXES = ['X', 'Y', 'Z'];
+
+// Makes an element. `props` are its properties, and attributes where it has no such property.
+export function el(tag, props = {}, ...children) {
+  const made = document.createElement(tag);
+  for (const [name, value] of Object.entries(props)) {
+    if (name === 'class') made.className = value;
+    else if (name in made) made[name] = value;
+    else made.setAttribute(name, value);
+  }
+  made.append(...children.filter(child => child !== null && child !== undefined && child !== ''));
+  return made;
+}
+
+export function text(node, value) {
+  if (node.textContent !== value) node.textContent = value;
+}
+
+export const grouped = number => Number(number).toLocaleString('en');
+
+export const counted = (count, what) => `${grouped(count)} ${what}${count === 1 ? '' : 's'}`;
+
+// Millimetres to a thousandth, with a true minus sign.
+export function mm(number, digits = 3) {
+  const fixed = Number(number).toFixed(digits);
+  return Number(fixed) === 0 ? (0).toFixed(digits) : fixed.replace('-', '\u2212');
+}
+
+export const point = at => AXES.map((axis, i) => `${axis} ${mm(at[i])}`).join('   ');
+
+export const micrometres = at => at.map(number => Math.round(Number(number) * 1000));
+
+// A number that somebody typed, as ngc reads it; null if it is none.
+export function typedNumber(typed) {
+  const plain = typed.trim().replace(',', '.').replace('\u2212', '-');
+  return /^[-+]?(\d{1,7}\.?\d{0,6}|\.\d{1,6})$/.test(plain) ? plain : null;
+}
+
+export function lasting(us) {
+  const s = Math.max(0, us / 1e6);
+  if (s < 60) return `${s.toFixed(1)} s`;
+  const whole = Math.round(s), two = n => String(n).padStart(2, '0');
+  const h = Math.floor(whole / 3600), m = Math.floor(whole / 60) % 60;
+  return h ? `${h}:${two(m)}:${two(whole % 60)} h` : `${m}:${two(whole % 60)} min`;
+}
+
+export const systemName = number => SYSTEMS[number - 1] ?? '';
+
+export const clock = date => date.toTimeString().slice(0, 8);

@@ -1,0 +1,69 @@
+// Jogging. A button moves an axis while a finger is on it: the page says so again and again, and the machine stops
+// where it says nothing any more. With a length it goes that far at each touch.
+import { el } from './dom.js';
+
+const AGAIN_MS = 100;
+const RATES = [['Slow', 100], ['Medium', 600], ['Fast', 3000]]; // mm a minute
+const LENGTHS = [['Hold', null], ['10', 10], ['1', 1], ['0.1', 0.1], ['0.01', 0.01]]; // mm
+const PAD = [['Y', 1, 'up'], ['X', -1, 'left'], ['X', 1, 'right'], ['Y', -1, 'down'], ['Z', 1, 'above'],
+  ['Z', -1, 'below']];
+
+export class Jog {
+  constructor(asks) {
+    this.asks = asks;
+    this.rate = 600;
+    this.length = null;
+    this.timer = 0;
+    this.buttons = PAD.map(([axis, sign, where]) => this.button(axis, sign, where));
+    this.rates = choices('Rate', RATES, rate => { this.rate = rate; }, this.rate);
+    this.lengths = choices('Millimetres', LENGTHS, length => { this.length = length; }, this.length);
+    this.box = el('div', { class: 'jog' }, this.lengths, el('div', { class: 'pad' }, ...this.buttons), this.rates);
+    for (const kind of ['blur', 'pagehide']) window.addEventListener(kind, () => this.stop());
+    document.addEventListener('visibilitychange', () => { if (document.hidden) this.stop(); });
+  }
+
+  button(axis, sign, where) {
+    const name = `${axis}${sign > 0 ? '+' : '\u2212'}`;
+    const button = el('button', { class: where, oncontextmenu: event => event.preventDefault() }, name);
+    button.addEventListener('pointerdown', event => {
+      event.preventDefault();
+      button.setPointerCapture(event.pointerId);
+      this.start(axis, sign);
+    });
+    for (const kind of ['pointerup', 'pointercancel', 'lostpointercapture']) {
+      button.addEventListener(kind, () => this.stop());
+    }
+    return button;
+  }
+
+  start(axis, sign) {
+    this.stop();
+    const { rate, length } = this, says = () => this.asks('jog', { axis, sign, rate, length });
+    this.isOn = true;
+    if (length === null) this.timer = setInterval(() => says().then(done => { if (!done) this.stop(); }), AGAIN_MS);
+    says().then(done => { if (!done) this.stop(); });
+  }
+
+  // The finger is gone.
+  stop() {
+    clearInterval(this.timer);
+    if (this.isOn && this.length === null) this.asks('jogstop', {});
+    this.isOn = false;
+  }
+
+  enable(isFree) {
+    for (const button of this.buttons) button.disabled = !isFree;
+    if (!isFree && !this.isOn) this.stop();
+  }
+}
+
+function choices(name, options, chosen, first) {
+  const box = el('div', { class: 'choices', role: 'group', 'aria-label': name });
+  const choose = value => event => {
+    for (const one of box.children) one.setAttribute('aria-pressed', String(one === event.currentTarget));
+    chosen(value);
+  };
+  box.append(...options.map(([says, value]) =>
+    el('button', { 'aria-pressed': String(value === first), onclick: choose(value) }, says)));
+  return box;
+}

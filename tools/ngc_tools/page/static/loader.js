@@ -1,0 +1,49 @@
+// A program is looked at before it is loaded: what ngc refuses, with carets, and what is dangerous.
+import { counted, el, grouped } from './dom.js';
+import { check } from './link.js';
+import * as sheet from './sheet.js';
+
+export async function load(file, asks) {
+  const parts = sheet.open(`Load ${file.name}`, [sheet.soft('ngc looks at each line\u2026')],
+    [sheet.gap(), sheet.button('Back', sheet.close)]);
+  try {
+    const found = await check(file);
+    const size = sheet.soft(`${grouped(found.bytes)} bytes, ${counted(found.count, 'line')}`);
+    parts.words.replaceChildren(size, verdict(found), ...found.refusals.map(refusal), ...found.warnings.map(warning));
+    parts.foot.append(loading(found, asks));
+  } catch (error) {
+    parts.words.replaceChildren(sheet.warning(error.message, 'bad'));
+  }
+}
+
+function verdict({ refusals, warnings, more, unreadable }) {
+  if (unreadable) return sheet.warning(unreadable, 'bad');
+  if (refusals.length) {
+    return sheet.warning(`${counted(refusals.length, 'line')} refused${more ? ', and more' : ''}. A refused line stops `
+      + 'the program there. Mend these, and load it again.', 'bad');
+  }
+  if (!warnings.length) return sheet.warning('No line is refused, and there are no warnings.', 'fine');
+  return sheet.warning(`No line is refused. ${counted(warnings.length, 'warning')}: what is valid may be meant `
+    + 'otherwise.');
+}
+
+function refusal(one) {
+  return el('div', { class: 'finding' }, el('h3', {}, `Line ${one.line}  `, el('span', {}, `${one.code} ${one.name}`)),
+    one.text.trim() ? el('pre', {}, one.text, '\n', el('b', {}, one.carets)) : null,
+    el('p', {}, one.cause), one.cure ? el('p', {}, `Mend: ${one.cure}.`) : null);
+}
+
+function warning(one) {
+  const where = one.line ? `Line ${one.line}  ` : '';
+  return el('div', { class: 'finding mild' }, el('h3', {}, where, el('span', {}, 'Warning')),
+    one.text.trim() ? el('pre', {}, one.text) : null, el('p', {}, one.what));
+}
+
+function loading(found, asks) {
+  const isRefused = found.refusals.length > 0;
+  const give = () => {
+    sheet.close();
+    asks('load', { id: found.id });
+  };
+  return isRefused ? sheet.button('Load it all the same', give) : sheet.go('Load', give);
+}

@@ -1,0 +1,305 @@
+// The page: what the server says is shown, what people touch is asked. It decides nothing.
+import { $, el, grouped, lasting, micrometres, point, text } from './dom.js';
+import { Job, TRAVERSE } from './job.js';
+import { connect, get, post } from './link.js';
+import { load } from './loader.js';
+import { Log } from './log.js';
+import { Picture } from './picture.js';
+import { Program } from './program.js';
+import * as question from './question.js';
+import { Readout } from './readout.js';
+import { Recovery } from './recovery.js';
+import { Setup } from './setup.js';
+import * as sheet from './sheet.js';
+import * as tools from './tools.js';
+
+const app = { state: null, job: null, travel: null, never: [], programId: null, jobId: null, asked: 0 };
+window.ngc = app; // for who looks at the page from outside, as tests do
+
+const log = new Log();
+const program = new Program();
+const readout = new Readout(asks);
+const setup = new Setup(asks);
+const picture = new Picture($('canvas'), (um, px) => {
+  text($('scale'), um >= 1000 ? `${grouped(um / 1000)} mm` : `${um} µm`);
+  $('scale').style.width = `${px}px`;
+});
+const recovery = new Recovery(app, asks, log);
+Object.assign(app, { picture, program });
+
+// Asks the server for something. Gives its answer, or null where it isn't done, which is said.
+async function asks(what, body) {
+  try {
+    return await post(what, body);
+  } catch (error) {
+    log.refuse(error.message);
+    return null;
+  }
+}
+
+const run = () => asks('run');
+
+// ---- what the server says
+
+function show(s) {
+  if (app.state && app.state.session !== s.session) {
+    location.reload(); // what is on the page is of another session
+    return;
+  }
+  app.state = s;
+  app.isRest = !s.busy && s.half === 'none' && !s.ended && s.yours && !s.player_gone;
+  app.isIdle = app.isRest && ['idle', 'stopped'].includes(s.does);
+  showWords(s);
+  showControls(s);
+  const reached = progress(s);
+  readout.show(s, rate(s, reached));
+  program.follow(s.line, s.busy || s.half === 'program', s.finished);
+  setup.show(s, app.isIdle);
+  tools.show(s, app.isIdle, asks);
+  log.show(s.log);
+  recovery.show(s);
+  showQuestion(s);
+  const isHalf = s.half !== 'none' && !s.busy && s.does === 'idle' && !s.ended;
+  if (isHalf && !recovery.isOpen && !recovery.isLater) recovery.begin();
+  if (s.half === 'none') recovery.isLater = false;
+  fetchNew(s);
+}
+
+function showWords(s) {
+  document.body.dataset.tone = s.tone;
+  text($('word'), s.word);
+  text($('detail'), s.word === 'Question' ? question.short(s.question) : s.detail);
+  document.title = `${s.word} \u2013 ngc`;
+  document.body.classList.toggle('blind', Boolean(s.player_gone || s.ended));
+  const others = s.pages - 1;
+  const watched = others > 0 ? `${others} more page${others > 1 ? 's' : ''}` : '';
+  text($('role'), s.yours ? watched : 'This page watches');
+}
+
+function showControls(s) {
+  $('takeover').hidden = s.yours;
+  $('load').disabled = !app.isIdle;
+  $('quit').disabled = s.busy || !s.yours;
+  $('restart').hidden = !(s.ended && !s.over && s.yours);
+  for (const one of [$('line'), $('do')]) one.disabled = !(app.isRest && s.does !== 'broken');
+  $('hold').disabled = Boolean(s.ended);
+  for (const name of ['single', 'optional', 'delete']) {
+    $(name).setAttribute('aria-checked', String(Boolean(s[name])));
+    $(name).disabled = !s.yours;
+  }
+  $('single').hidden = s.single === undefined;
+  const [says, isEnabled, does] = running(s);
+  text($('run'), says);
+  $('run').disabled = !isEnabled;
+  $('run').onclick = does;
+}
+
+// What the large button does now.
+function running(s) {
+  const isHalf = s.half !== 'none' && !s.busy && s.does === 'idle';
+  if (s.waits) return [s.waits_tool ? `Tool ${s.waits_tool} is in` : 'Tool is out', s.yours, () => asks('go')];
+  if (s.question) return ['Answer first', false, null];
+  if (isHalf) return ['Recover', s.yours && !recovery.isOpen, () => recovery.begin()];
+  if (s.player_gone || s.alarm) return ['Run', false, null];
+  if (s.recover?.left && !s.busy && s.half === 'none') return ['Recover', s.yours, takeUpLines];
+  if (s.held_motors && s.does !== 'held' && !s.busy) return ['Let go on', s.yours, () => asks('release')];
+  if (s.does === 'held') return ['Continue', s.yours && !s.busy, run];
+  if (s.does === 'stopped') return ['Continue', app.isRest, () => (s.typed ? goOn(s, 'Continue') : run())];
+  if (s.place > 0 && !s.busy) return [`Run from ${s.line}`, app.isRest && s.known, () => goOn(s, `Run from ${s.line}`)];
+  return ['Run', app.isRest && s.known && s.program.lines > 0 && !app.job?.refused, run];
+}
+
+// A question that isn't of the recovery comes as a sheet of its own.
+function showQuestion(s) {
+  const id = s.question?.id ?? 0;
+  if (recovery.isOpen || id === app.asked) return;
+  if (!id) {
+    sheet.close();
+  } else {
+    const { content, buttons } = question.parts(s.question, s.yours, asks);
+    const said = log.since(s.command?.since ?? Infinity, ['said', 'warning', 'refused']);
+    sheet.open('A question', [sheet.lines(said), ...content], [sheet.gap(), ...buttons]);
+  }
+  app.asked = id;
+}
+
+// Where the program is, in the picture, the bar and the times. Gives the step that the motors are on.
+function progress(s) {
+  const { job } = app, motors = micrometres(s.motors ?? s.at), place = job ? job.place(s) : { done: 0, now: -1 };
+  const ahead = 1000 * (s.behind_mm ?? 2) + 1000;
+  const reached = place.now >= 0 ? job.reached(place.now, motors, ahead) : { step: -1, share: 0, part: 1 };
+  const done = place.now >= 0 ? reached.step : place.done;
+  picture.origin = s.origin ? micrometres(s.origin) : null;
+  picture.at(done, reached.step, reached.part, motors);
+  showTimes(s, done, s.busy || s.does === 'held' ? reached.share : 0);
+  return reached;
+}
+
+function showTimes(s, done, share) {
+  const { job } = app;
+  if (!job || !s.program.lines) {
+    text($('share'), '');
+    text($('left'), '');
+    $('bar').style.width = '0';
+    return;
+  }
+  const left = job.left(done, share), percent = job.total ? 100 * (1 - left / job.total) : 0;
+  $('bar').style.width = `${percent}%`;
+  const whole = lasting(job.total * job.ramps), of = `${Math.floor(percent)} % of ${whole}`;
+  const rest = lasting(left * job.ramps * 100 / (s.percent ?? 100));
+  text($('share'), job.refused ? `Ends refused at line ${job.refused.line}` : s.finished ? 'Done' : of);
+  text($('left'), s.finished ? whole : `${job.exact ? '' : 'about '}${rest} left`);
+}
+
+// How fast the motors go, by the step that they are on.
+function rate(s, { step }) {
+  if (!app.job || step < 0 || !s.busy || s.half === 'none' || s.held_motors) return null;
+  const mean = app.job.rate(step) * (s.percent ?? 100) / 100;
+  return mean ? { feed: mean, isTraverse: app.job.kind[step] === TRAVERSE } : null;
+}
+
+async function fetchNew(s) {
+  if (s.program.id !== app.programId) {
+    app.programId = s.program.id;
+    const got = await get('program');
+    program.show(got.name, got.text);
+  }
+  if (s.job === app.jobId) return;
+  app.jobId = s.job;
+  const got = await get('job');
+  app.job = got.job ? new Job(got.job) : null;
+  app.travel = [got.low, got.high];
+  app.never = got.never_cut ?? [];
+  picture.ways = app.never.map(points => ({ points, colour: 'red', isSolid: true }));
+  document.querySelector('#legend .never').hidden = !app.never.length;
+  picture.show(app.job, app.travel);
+  recovery.job();
+  show(app.state);
+}
+
+// Lines stand in OUT that no motor carried out, and no block is half-done.
+function takeUpLines() {
+  const { words } = app.state.recover, does = what => () => { sheet.close(); asks(what); };
+  sheet.open('Lines that no motor carried out', [el('p', { class: 'asked' }, words),
+    sheet.said('Recover lets the motors go there, each step asked. Drop cuts these lines off, and nothing makes them '
+      + 'any more.')],
+  [sheet.button('Back', sheet.close), sheet.gap('Nothing moves yet.'), sheet.button('Drop', does('drop')),
+    sheet.go('Recover', does('recover'))]);
+}
+
+// From the middle of a program what is on stays as it is, and a cut may come first: it is rehearsed before.
+async function goOn(s, title) {
+  const found = await asks('rehearse');
+  if (!found) return;
+  const turns = s.spindle === 1 ? 'clockwise' : 'counter-clockwise';
+  const spindle = s.spindle ? `The spindle turns ${turns} at ${grouped(s.speed)}.`
+    : 'The spindle is off, and nothing switches it on by itself: give M3 as a line first, unless it is meant so.';
+  const does = what => () => { sheet.close(); asks(what); };
+  sheet.open(title, [
+    found.refused && sheet.warning(found.refused, 'bad'), ...(found.differs ?? []).map(one => sheet.warning(one, 'bad')),
+    s.restore?.length ? sheet.said(`Restore puts back what your lines left in force: ${s.restore.join(', ')}`) : null,
+    sheet.warning(spindle, s.spindle ? 'fine' : ''), sheet.lead(program.line(s.line)),
+    sheet.said(`The tool goes on from where it is now: ${point(s.at)}. Look that the way is free.`),
+    sheet.lines(found.lines)],
+  [sheet.gap(), sheet.button('Back', sheet.close), s.restore?.length ? sheet.button('Restore', does('restore')) : '',
+    sheet.go(title, does('run'))]);
+}
+
+// ---- what people touch
+
+function hold() {
+  app.pressed = performance.now();
+  asks('hold');
+}
+
+$('hold').addEventListener('pointerdown', event => { event.preventDefault(); hold(); });
+$('hold').addEventListener('click', event => { if (event.detail === 0) hold(); }); // by the keyboard
+document.addEventListener('keydown', event => {
+  const isTyping = event.target.closest?.('input') && !event.target.disabled;
+  if (event.code !== 'Space' || event.repeat || isTyping && !app.state?.busy) return;
+  event.preventDefault();
+  hold();
+});
+document.addEventListener('keyup', event => {
+  if (event.code === 'Space' && event.target.tagName === 'BUTTON') event.preventDefault();
+});
+$('takeover').onclick = () => asks('takeover');
+$('restart').onclick = () => asks('restart');
+$('typed').addEventListener('submit', async event => {
+  event.preventDefault();
+  const line = $('line').value.trim();
+  if (line && await asks('mdi', { line })) $('line').select();
+});
+for (const name of ['single', 'optional', 'delete']) {
+  $(name).onclick = () => asks('switch', { name, on: $(name).getAttribute('aria-checked') !== 'true' });
+}
+$('load').onclick = () => $('file').click();
+$('file').onchange = () => {
+  const [file] = $('file').files;
+  if (file) load(file, asks);
+  $('file').value = '';
+};
+$('quit').onclick = () => {
+  const isHalf = app.state.half !== 'none';
+  sheet.ask('End the session?', [sheet.said(isHalf ? 'A line stays half-done: it is taken up or given up in the next '
+    + 'session.' : 'What is stored stays.')], 'Quit', () => asks('quit'));
+};
+
+function look(isFlat) {
+  $('view-top').setAttribute('aria-pressed', String(isFlat));
+  $('view-solid').setAttribute('aria-pressed', String(!isFlat));
+  picture.look(isFlat);
+}
+
+$('view-top').onclick = () => look(true);
+$('view-solid').onclick = () => look(false);
+$('fit').onclick = () => picture.fit();
+
+const tabs = [...document.querySelectorAll('[data-tab]')];
+
+function choose(tab) {
+  for (const button of tabs) {
+    const isChosen = button.dataset.tab === tab;
+    button.setAttribute('aria-selected', String(isChosen));
+    $(`tab-${button.dataset.tab}`).hidden = !isChosen;
+    if (isChosen) button.classList.remove('news');
+  }
+}
+
+for (const button of tabs) button.onclick = () => choose(button.dataset.tab);
+
+function theme(name) {
+  document.documentElement.dataset.theme = name;
+  localStorage.theme = name;
+  text($('theme'), name === 'light' ? 'Dark' : 'Light');
+  picture.recolour();
+  recovery.recolour();
+}
+
+$('theme').onclick = () => theme(document.documentElement.dataset.theme === 'light' ? 'dark' : 'light');
+theme(localStorage.theme ?? 'dark');
+
+function lost(isOver) {
+  const s = app.state;
+  const running = s?.on_loss === 'go' ? 'The job goes on, as was chosen.'
+    : 'The machine holds, unless its power is gone too.';
+  const says = isOver ? 'The session has ended.' : !s ? 'The server doesn\u2019t answer.'
+    : s.busy ? running : 'Nothing was running when it was lost.';
+  text($('lost-says'), says);
+  $('lost').hidden = false;
+}
+
+connect({
+  state: s => {
+    show(s);
+    if (app.pressed && s.does === 'held') {
+      app.holdMs = performance.now() - app.pressed;
+      app.pressed = 0;
+    }
+  },
+  lost,
+  back: () => {
+    $('lost').hidden = true;
+    app.jobId = app.programId = null;
+  },
+});

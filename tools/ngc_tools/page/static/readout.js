@@ -1,0 +1,103 @@
+// Where the machine is, what turns and flows, how fast it goes: as the motors have it where a player tells it.
+import { $, AXES, el, grouped, mm, systemName, text } from './dom.js';
+
+const TURNS = ['', '\u21bb', '\u21ba'];
+const APART_MM = 0.0006;
+const DIGITS = 7; // as many as fit at full size
+
+export class Readout {
+  // `asks` sends a request: asks('percent', {percent}).
+  constructor(asks) {
+    this.asks = asks;
+    this.percent = 100;
+    this.axes = AXES.map(axis => this.axis(axis));
+    this.gauges = Object.fromEntries(['Feed', 'Spindle', 'Coolant', 'Tool'].map(name => [name, this.gauge(name)]));
+    $('slower').onclick = () => this.sets(this.percent - 10);
+    $('faster').onclick = () => this.sets(this.percent + 10);
+    $('percent').onclick = () => this.sets(100);
+  }
+
+  axis(name) {
+    const work = el('output', {}, '\u2013'), at = el('b'), motors = el('b'), atName = el('span', {}, 'machine');
+    const motorsBox = el('span', {}, 'motors ', motors);
+    $('axes').append(el('div', { class: 'axis' }, el('b', {}, name), work,
+      el('div', {}, el('span', {}, atName, ' ', at), motorsBox)));
+    return { work, at, motors, atName, motorsBox };
+  }
+
+  gauge(name) {
+    const value = el('dd');
+    $('gauges').append(el('div', {}, el('dt', {}, name), value));
+    return value;
+  }
+
+  show(s, rate) {
+    const longest = Math.max(DIGITS, ...s.work.map(number => mm(number).length));
+    $('axes').style.setProperty('--fit', String(DIGITS / longest));
+    this.axes.forEach((axis, i) => this.showAxis(axis, s, i));
+    this.showGauges(s, rate);
+    this.showOverride(s);
+    this.showRisk(s);
+    const words = [systemName(s.system), `G${s.distance}`, `G${s.unit}`, `G${s.plane}`, `G${s.feed_mode}`];
+    text($('modes'), words.join(' ') + (Number(s.tool_length) ? `  length ${mm(s.tool_length)}` : ''));
+  }
+
+  showAxis(axis, s, i) {
+    const isHalf = s.half !== 'none';
+    text(axis.work, mm(s.work[i]));
+    text(axis.atName, isHalf ? 'line began at' : 'machine');
+    text(axis.at, mm(s.at[i]));
+    axis.motorsBox.hidden = !s.motors;
+    if (!s.motors) return;
+    text(axis.motors, mm(s.motors[i]));
+    const isApart = Math.abs(s.motors[i] - s.at[i]) > APART_MM;
+    axis.motorsBox.classList.toggle('apart', !s.busy && !isHalf && isApart);
+  }
+
+  showGauges(s, rate) {
+    const { gauges } = this, length = s.tools[s.slot - 1];
+    if (rate) fill(gauges.Feed, grouped(Math.round(rate.feed)), rate.isTraverse ? 'mm/min traverse' : 'mm/min');
+    else fill(gauges.Feed, s.feed ? grouped(s.feed) : '\u2013', s.feed ? 'mm/min set' : '', true);
+    fill(gauges.Tool, s.slot ? `T${s.slot}` : 'none', s.slot && length ? `${mm(length)} mm` : '', !s.slot);
+    if (s.player_gone) {
+      fill(gauges.Spindle, 'not known', '', true);
+      fill(gauges.Coolant, 'not known', '', true);
+      return;
+    }
+    const speed = grouped(s.speed);
+    if (s.spindle) fill(gauges.Spindle, `${TURNS[s.spindle]} ${speed}`, '/min');
+    else fill(gauges.Spindle, 'off', s.speed ? `set ${speed}` : '', true);
+    const flows = [s.mist && 'mist', s.flood && 'flood'].filter(Boolean);
+    fill(gauges.Coolant, flows.join(' + ') || 'off', '', !flows.length);
+  }
+
+  showOverride(s) {
+    this.percent = s.percent ?? 100;
+    $('override').hidden = !s.has_percent;
+    text($('percent'), `Override ${this.percent} %`);
+    $('percent').classList.toggle('apart', this.percent !== 100);
+    const isFree = s.yours && !s.player_gone && !s.ended;
+    $('percent').disabled = !isFree;
+    $('slower').disabled = !isFree || this.percent <= 10;
+    $('faster').disabled = !isFree || this.percent >= 100;
+  }
+
+  // What a loss of power would cost now: lines that were handed out, and that no motor has carried out.
+  showRisk(s) {
+    const box = $('risk');
+    if (s.behind === null || s.behind === undefined) text(box, '');
+    else if (s.keeps) text(box, `A loss of power costs no line: ${grouped(s.behind)} stand in OUT`);
+    else if (!s.behind) text(box, 'A loss of power costs nothing now');
+    else text(box, `A loss of power costs ${grouped(s.behind)} lines${s.behind_mm ? `, ${mm(s.behind_mm)} mm` : ''}`);
+  }
+
+  sets(percent) { this.asks('percent', { percent: Math.min(100, Math.max(10, percent)) }); }
+}
+
+function fill(box, value, small = '', isOff = false) {
+  const key = `${value}|${small}|${isOff}`;
+  if (box.dataset.key === key) return;
+  box.dataset.key = key;
+  box.className = isOff ? 'off' : '';
+  box.replaceChildren(value, small && el('small', {}, ` ${small}`));
+}

@@ -1,0 +1,299 @@
+// After a loss of power: what was stored, where the machine is, a rehearsal, and then step by step. Nothing moves and
+// nothing is switched before the last step.
+import { AXES, counted, el, grouped, lasting, micrometres, mm, point, typedNumber } from './dom.js';
+import { Picture } from './picture.js';
+import * as question from './question.js';
+import * as sheet from './sheet.js';
+import * as ways from './ways.js';
+
+const NAMES = ['Stored', 'Where it stands', 'Rehearsal', 'Step by step'];
+const AT_ANY_MOMENT = 'Hold and the space bar work at any moment.';
+const SAID = ['said', 'warning', 'refused'];
+const CHOICES = {
+  along: ['Go along the path', 'moves the tool along its very path to where the segment begins. Each step is asked '
+    + 'before it is done.'],
+  legs: ['Go by legs', 'asks for a height, and goes straight up to it, over, and straight down to where the segment '
+    + 'begins.'],
+  straight: ['Resume in one line', 'switches spindle and coolant on as they were, and stops before it moves. You look, '
+    + 'and then the tool goes in one straight line to where the segment begins.'],
+  giveUp: ['Give up', 'moves and switches nothing. The line counts as not begun, and the program stays before it. Then '
+    + 'the tool is freed by lines of G-code.'],
+};
+
+export class Recovery {
+  // `app` has the state and the job; `asks` sends a request, and gives its answer, or null; `log` knows what was said.
+  constructor(app, asks, log) {
+    Object.assign(this, { app, asks, log });
+    this.isOpen = false;
+    this.isLater = false;    // somebody put it off
+  }
+
+  begin() {
+    const { state } = this.app;
+    Object.assign(this, { isOpen: true, isLater: false, step: 0, stored: null, plan: null, key: '' });
+    this.at = [...(state.motors ?? state.at)].map(number => number.replace(/0{1,3}$/, ''));
+    this.sure = [false, false, false];
+    this.steps = el('ol', { class: 'steps' });
+    this.sheet = sheet.open('After the loss of power', [], [], this.sight());
+    this.sheet.head.append(this.steps);
+    this.job();
+    this.look(true);
+    this.go(0);
+    this.asks('rehearse', {}).then(found => {
+      this.stored = found;
+      if (this.isOpen && this.step === 0) this.go(0);
+    });
+  }
+
+  close() {
+    this.isOpen = false;
+    sheet.close();
+  }
+
+  later() {
+    this.isLater = true;
+    this.close();
+  }
+
+  // The session goes on meanwhile: what is shown follows it.
+  show(s) {
+    if (!this.isOpen) return;
+    const isOver = !s.busy && s.half === 'none' || s.moving;
+    if (s.ended || isOver && !s.question) {
+      this.close();
+      return;
+    }
+    this.mark();
+    const key = [s.question?.id, s.busy, s.does, s.yours, s.behind].join();
+    if (key !== this.key) this.go(this.step);
+    this.key = key;
+  }
+
+  go(step) {
+    this.step = step;
+    this.steps.replaceChildren(...NAMES.map((name, i) => el('li', { class: i === step ? 'now' : i < step ? 'was' : '' },
+      el('b', {}, String(i + 1)), el('span', {}, name))));
+    [this.first, this.second, this.third, this.fourth][step].call(this);
+    this.mark();
+  }
+
+  put(content, buttons) {
+    this.sheet.words.replaceChildren(...content.filter(Boolean));
+    this.sheet.foot.replaceChildren(...buttons.filter(Boolean));
+  }
+
+  back(step) { return sheet.button('Back', () => this.go(step)); }
+
+  next(says, does) { return sheet.go(says, does, this.app.state.yours); }
+
+  // ---- the picture
+
+  sight() {
+    const canvas = el('canvas');
+    this.picture = new Picture(canvas);
+    this.views = [['Top', true], ['3-D', false]].map(([says, isFlat]) => sheet.button(says, () => this.look(isFlat)));
+    const fit = sheet.button('Fit', () => this.picture.fit());
+    return el('div', { class: 'sight' }, canvas,
+      el('div', { class: 'views' }, el('div', { class: 'pair' }, ...this.views), fit));
+  }
+
+  look(isFlat) {
+    this.views.forEach((button, i) => button.setAttribute('aria-pressed', String(isFlat === (i === 0))));
+    this.picture.look(isFlat);
+  }
+
+  recolour() { if (this.isOpen) this.picture.recolour(); }
+
+  job() {
+    if (!this.isOpen) return;
+    this.picture.show(this.app.job, this.app.travel);
+    this.mark();
+  }
+
+  // What the picture shows beside the path: where the segment begins, the way there, what was never cut.
+  mark() {
+    const { picture } = this, { state, job } = this.app, at = job ? job.place(state) : { done: 0, now: -1 };
+    const begins = this.plan?.begins ?? this.stored?.begins, label = 'the segment begins';
+    picture.marks = begins?.length ? [{ point: micrometres(begins), colour: 'amber', label }] : [];
+    const way = this.step >= 2 && this.way();
+    picture.ways = this.app.never.map(points => ({ points, colour: 'red', isSolid: true }));
+    if (way) picture.ways.push({ points: way, colour: 'violet' });
+    const typed = this.at.every(number => typedNumber(number) !== null) ? this.at : null;
+    const here = state.busy ? state.motors ?? state.at : typed;
+    picture.at(at.done, at.now, 0, here && micrometres(here));
+    picture.draw();
+  }
+
+  // What recover would do, from where the record has the motors; null where it isn't that, or can't be done.
+  get along() {
+    const { recover, motors } = this.app.state;
+    const isRecord = motors && this.at.every((number, i) => Number(number) === Number(motors[i]));
+    return recover && !recover.problem && isRecord ? recover : null;
+  }
+
+  // The way that will be gone, as points.
+  way() {
+    const { along, plan } = this;
+    if (!along) return plan?.approach ? [plan.approach.from, plan.approach.to].map(micrometres) : null;
+    if (along.there) return null;
+    return plan?.along ?? [along.stands, along.at].map(micrometres);
+  }
+
+  // ---- 1: what was stored
+
+  first() {
+    const { state } = this.app, found = this.stored;
+    const half = state.half === 'program' ? `line ${state.line} of ${state.program.lines}` : 'a line of one\u2019s own';
+    const way = state.half_opened === 2 ? 'the way back to segment' : 'segment';
+    this.put([sheet.title('Everything that was acknowledged is still there'),
+      sheet.lead(state.half_text.trim() || '(no text)'),
+      sheet.facts([['Stored', `${grouped(state.entries)} entries: each is there`], ['Half-done', half],
+        ['Under way', `${way} ${state.segment + 1} of that line`],
+        ['It begins at', found?.begins?.length && sheet.code(point(found.begins))], ['Was on there', found?.comes_on],
+        ['From there to the end', found?.rest_us && lasting(found.rest_us)]]),
+      found ? null : sheet.soft('ngc rehearses it over a copy of the device\u2026'),
+      found?.refused && sheet.warning(found.refused, 'bad'),
+      sheet.soft('In the picture solid is done, amber was under way, pale is left. The amber segment is made again '
+        + 'from its beginning.')],
+    [sheet.button('Later', () => this.later()), sheet.gap('Nothing moves, and nothing is switched.'),
+      this.next('Next: where it stands', () => this.go(1))]);
+  }
+
+  // ---- 2: where the machine stands
+
+  second() {
+    const { state } = this.app, next = this.next('Next: rehearsal', () => this.rehearsal());
+    const enable = () => { next.disabled = !(state.yours && this.sure.every(Boolean)); };
+    const age = state.left_at ? ` The device was written last ${lasting(1e6 * (state.now - state.left_at))} ago.` : '';
+    this.put([sheet.title('Where does the machine stand now?'),
+      sheet.said('Machine coordinates in mm. Look at the machine, and confirm each axis.'),
+      ...AXES.map((_, i) => this.confirm(i, enable)),
+      state.can?.home && sheet.said('Where steps may be lost, choose Back and Later, and home the machine: Setup.'),
+      sheet.soft('The player\u2019s record is older than the loss of power by up to 20 ms and a sync, and a motor that '
+        + `turned went on for a while.${age} If you freed the tool by hand, write where it is now.`)],
+    [this.back(0), sheet.gap(), next]);
+    enable();
+  }
+
+  confirm(i, changed) {
+    const { state } = this.app, button = el('button');
+    const input = el('input', { value: this.at[i], inputMode: 'decimal', 'aria-label': `Machine ${AXES[i]}` });
+    const set = isSure => {
+      this.sure[i] = isSure && typedNumber(input.value) !== null;
+      button.setAttribute('aria-pressed', String(this.sure[i]));
+      button.textContent = this.sure[i] ? '\u2713 It is there' : 'Confirm';
+      changed();
+    };
+    button.onclick = () => set(!this.sure[i]);
+    input.addEventListener('input', () => {
+      this.at[i] = typedNumber(input.value) ?? input.value;
+      set(false);
+      this.mark();
+    });
+    set(this.sure[i]);
+    const record = state.motors ? `the record says ${mm(state.motors[i])}` : 'no player is known: measure it';
+    return el('div', { class: 'confirm' }, el('b', {}, AXES[i]), input, button,
+      el('small', {}, `${record}; before the line ${mm(state.at[i])}`));
+  }
+
+  // ---- 3: a rehearsal
+
+  async rehearsal() {
+    this.plan = null;
+    this.go(2);
+    this.plan = await this.asks('rehearse', { at: this.at, recover: Boolean(this.along) });
+    if (!this.isOpen || this.step !== 2) return;
+    this.go(this.plan ? 2 : 1);
+    this.picture.fit();
+  }
+
+  third() {
+    const { plan } = this;
+    if (plan) {
+      this.put(ways.told(this.along, plan, this.app.state.recover), [this.back(1), sheet.gap('Nothing has moved.'),
+        this.next('Next: step by step', () => this.go(3))]);
+      return;
+    }
+    this.put([sheet.title('Rehearsal'), sheet.soft('ngc does it over a copy of the device; nothing moves\u2026')],
+      [this.back(1), sheet.gap()]);
+  }
+
+  // ---- 4: step by step
+
+  fourth() {
+    const { state } = this.app;
+    if (state.question) this.questioned(state);
+    else if (state.busy) this.onWay(state);
+    else if (state.does === 'held') this.held();
+    else this.choice();
+  }
+
+  questioned(state) {
+    const { content, buttons } = question.parts(state.question, state.yours, this.asks);
+    const said = this.log.since(state.command?.since ?? 0, SAID);
+    if (state.question.purpose !== 'look') {
+      this.put([sheet.lines(said), ...content], [sheet.gap(AT_ANY_MOMENT), ...buttons]);
+      return;
+    }
+    this.put([sheet.title('The outputs are switched, and nothing has moved. Look:'), this.looks(state, buttons[1])],
+      [sheet.gap(AT_ANY_MOMENT), ...buttons]);
+  }
+
+  // What somebody has to have looked at before it moves: each is touched.
+  looks(state, go) {
+    const says = [`Spindle and coolant are as they should be: ${this.plan?.comes_on ?? 'as they were'}`,
+      state.slot ? `Tool ${state.slot} is in the spindle, and it is sound` : 'The right tool is in, and it is sound',
+      'The way is free, and my hand is at Hold'];
+    const seen = says.map(() => false);
+    const look = i => event => {
+      seen[i] = !seen[i];
+      event.currentTarget.setAttribute('aria-pressed', String(seen[i]));
+      go.disabled = !(state.yours && seen.every(Boolean));
+    };
+    go.disabled = true;
+    return el('div', { class: 'look' },
+      ...says.map((one, i) => el('button', { 'aria-pressed': 'false', onclick: look(i) }, one)));
+  }
+
+  onWay(state) {
+    const where = state.behind ? `${counted(state.behind, 'line')} to go` : 'Please wait\u2026';
+    this.put([sheet.title('On the way'), sheet.soft(where)], [sheet.gap('Hold stops it.')]);
+  }
+
+  held() {
+    this.put([sheet.title('Held'), sheet.warning('Spindle and coolant stay as they are: stop them yourself.'),
+      sheet.said('Continue goes on at once, without asking again. After Quit the line is still half-done.')],
+    [sheet.button('Close', () => this.later()), sheet.gap(), this.next('Continue', () => this.asks('run'))]);
+  }
+
+  choice() {
+    const { recover, player } = this.app.state, canResume = Boolean(this.plan?.approach) && !recover?.left;
+    const offered = this.along ? ['along'] : player ? ['legs'] : [];
+    if (canResume) offered.push('straight');
+    const does = { along: () => this.asks('recover'), legs: () => this.asks('recover'), straight: () => this.resume() };
+    const buttons = offered.map((name, i) => (i === (this.along ? 0 : offered.length - 1) ? sheet.go : sheet.button)(
+      CHOICES[name][0], does[name], this.app.state.yours));
+    this.put([sheet.title('Take the line up, or give it up'),
+      ...[...offered, 'giveUp'].map(name => sheet.said(el('b', {}, CHOICES[name][0]), ` ${CHOICES[name][1]}`)),
+      sheet.warning('Keep a hand at Hold, and the other at the emergency stop.')],
+    [this.back(2), sheet.gap(), this.giveUp(), ...buttons]);
+  }
+
+  // It takes two touches.
+  giveUp() {
+    const button = sheet.button('Give up', () => {
+      button.onclick = () => this.abandon();
+      button.textContent = 'Yes, give it up';
+      button.className = 'danger';
+    }, this.app.state.yours);
+    return button;
+  }
+
+  async resume() {
+    if (await this.asks('reference', { at: this.at })) await this.asks('resume');
+  }
+
+  async abandon() {
+    if (await this.asks('reference', { at: this.at }) && await this.asks('abandon')) this.close();
+  }
+}

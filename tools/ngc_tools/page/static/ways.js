@@ -1,0 +1,45 @@
+// What a rehearsal says of the way back to where a half-done segment begins.
+import { el, lasting, mm, point } from './dom.js';
+import * as sheet from './sheet.js';
+
+const FREE = 'Z isn\u2019t lifted first: it goes through whatever stands between. Where the violet line isn\u2019t '
+  + 'free, free the tool by hand, go back, and tell where it is then.';
+const LEFT = 'Lines stand in OUT that no motor carried out, and recover goes by the place of the record. Home the '
+  + 'machine, and start the player anew with --at and the coordinates of its home.';
+
+// `along` is what recover would do, or null; `plan` the rehearsal of a resume.
+export function told(along, plan, recover) {
+  const way = along ? alongOut(along, plan) : plan.approach ? straight(plan) : [];
+  const canGo = along || plan.approach && !recover?.left;
+  return [...way, recover?.problem && sheet.warning(recover.problem, 'bad'), !canGo && sheet.warning(LEFT, 'bad'),
+    plan.refused && sheet.warning(plan.refused, 'bad'),
+    el('details', {}, el('summary', {}, 'All that the rehearsal says'), sheet.lines(plan.lines))];
+}
+
+// The straight way of a resume, and what lies in it.
+function straight(plan) {
+  const way = plan.approach, isThere = Number(way.length) === 0;
+  const title = isThere ? 'The tool is there already: nothing moves before the cut'
+    : `The way back: one straight line of ${mm(way.length)} mm`;
+  const dangers = way.warnings.map(one => sheet.warning(one));
+  const isFine = !dangers.length && !isThere;
+  return [sheet.title(title), ...dangers,
+    isFine && sheet.warning('It doesn\u2019t go down, and stays where cuts are finished.', 'fine'),
+    sheet.facts([['From', sheet.code(point(way.from))], ['To', sheet.code(point(way.to))],
+      ['Lowest', sheet.code(`Z ${mm(way.lowest)}`)], ['At the traverse rate', way.time],
+      ['Comes on first', plan.comes_on], ['Then, to the end', lasting(plan.rest_us)]]),
+    isThere ? null : sheet.said(FREE)];
+}
+
+// The way of recover, along OUT or by legs.
+function alongOut(recover, plan) {
+  const { way } = recover, length = way && Number(way.length) ? `: ${mm(way.length)} mm` : '';
+  const how = way?.back ? 'Back through what was cut' : 'On along what was handed out';
+  const title = recover.there ? 'The motors are where the segment begins'
+    : way ? `${how}${length}` : 'By legs: up, over, and down';
+  return [sheet.title(title),
+    way && !recover.there ? sheet.warning('No line is lost: the tool goes along its very path.', 'fine') : null,
+    sheet.facts([['It goes', recover.words], ['Lowest', way && sheet.code(`Z ${mm(way.lowest)}`)],
+      ['To', sheet.code(point(recover.at))], ['Was on there', plan.comes_on],
+      ['Then, to the end', lasting(plan.rest_us)]])];
+}

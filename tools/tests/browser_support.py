@@ -1,0 +1,176 @@
+"""Chromium without a window, driven by its DevTools protocol over two pipes. It needs nothing but Chromium."""
+import base64
+import fcntl
+import json
+import os
+import select
+import shutil
+import subprocess
+import tempfile
+import time
+from pathlib import Path
+
+PATIENCE_S = int(os.environ.get("NGC_PATIENCE_S", 60))
+NAMES = ("chromium", "chromium-browser", "google-chrome")
+WORDS = ("--headless=new", "--no-sandbox", "--disable-gpu", "--no-first-run", "--disable-background-networking",
+         "--disable-component-update", "--disable-sync", "--disable-extensions", "--hide-scrollbars", "--mute-audio",
+         "--disable-dev-shm-usage", "--remote-debugging-pipe")
+_POINT = """(() => {
+    const found = [...document.querySelectorAll(%s)].filter(one => one.offsetParent !== null && !one.disabled
+        && one.textContent.includes(%s)).pop();
+    if (!found) return null;
+    found.scrollIntoView({block: 'nearest'});
+    const box = found.getBoundingClientRect();
+    return [box.x + box.width / 2, box.y + box.height / 2];
+})()"""
+
+
+def chromium() -> str | None:
+    """The path of Chromium, or None where it isn't installed."""
+    return next(filter(None, map(shutil.which, NAMES)), None)
+
+
+class Failed(AssertionError):
+    """The browser refuses something, or nothing comes of it."""
+
+
+class Browser:
+    """One browser with one page. `complaints` are errors and warnings that the page logged, `asked` the addresses that
+    it asked for."""
+
+    def __init__(self, path: str) -> None:
+        """Starts it. Raises OSError or Failed."""
+        self._profile = tempfile.mkdtemp(prefix="ngc-browser-")
+        theirs, self._to = os.pipe()
+        self._from, mine = os.pipe()
+
+        def connect() -> None:
+            """Chromium reads from 3, and writes to 4."""
+            for end, number in ((fcntl.fcntl(theirs, fcntl.F_DUPFD, 10), 3), (fcntl.fcntl(mine, fcntl.F_DUPFD, 10), 4)):
+                os.dup2(end, number)
+                os.close(end)
+
+        words = [path, *WORDS, f"--user-data-dir={self._profile}", "about:blank"]
+        self._child = subprocess.Popen(words, preexec_fn=connect, close_fds=False, stdin=subprocess.DEVNULL,
+                                       stdout=subprocess.DEVNULL, stderr=subprocess.DEVNULL)
+        os.close(theirs)
+        os.close(mine)
+        self._buffer, self._count, self._session = b"", 0, ""
+        self.complaints: list[str] = []
+        self.asked: list[str] = []
+        target = self.call("Target.createTarget", url="about:blank")["targetId"]
+        self._session = self.call("Target.attachToTarget", targetId=target, flatten=True)["sessionId"]
+        for domain in ("Page", "Runtime", "Log", "Network", "DOM"):
+            self.call(f"{domain}.enable")
+
+    def close(self) -> None:
+        """Ends it."""
+        self._child.kill()
+        self._child.wait()
+        os.close(self._to)
+        os.close(self._from)
+        shutil.rmtree(self._profile, ignore_errors=True)
+
+    def call(self, method: str, **params: object) -> dict:
+        """Asks the browser for something. Raises Failed."""
+        self._count += 1
+        asked = {"id": self._count, "method": method, "params": params}
+        if self._session:
+            asked["sessionId"] = self._session
+        os.write(self._to, json.dumps(asked).encode() + b"\0")
+        until = time.monotonic() + PATIENCE_S
+        while time.monotonic() < until:
+            said = self._read(until)
+            if said.get("id") != self._count:
+                self._note(said)
+            elif "error" in said:
+                raise Failed(f"{method}: {said['error']}")
+            else:
+                return said["result"]
+        raise Failed(f"{method}: no answer")
+
+    def _read(self, until: float) -> dict:
+        while b"\0" not in self._buffer:
+            if not select.select([self._from], [], [], max(0, until - time.monotonic()))[0]:
+                raise Failed("the browser doesn't answer")
+            piece = os.read(self._from, 1 << 16)
+            if not piece:
+                raise Failed("the browser ended")
+            self._buffer += piece
+        said, _, self._buffer = self._buffer.partition(b"\0")
+        return json.loads(said)
+
+    def _note(self, said: dict) -> None:
+        params = said.get("params", {})
+        match said.get("method"):
+            case "Network.requestWillBeSent":
+                self.asked.append(params["request"]["url"])
+            case "Runtime.exceptionThrown":
+                self.complaints.append(json.dumps(params["exceptionDetails"]))
+            case "Runtime.consoleAPICalled" if params["type"] in ("error", "warning", "assert"):
+                self.complaints.append(json.dumps(params["args"]))
+            case "Log.entryAdded" if params["entry"]["level"] in ("error", "warning"):
+                self.complaints.append(params["entry"]["text"])
+
+    def open(self, address: str) -> None:
+        """Goes to a page."""
+        self.call("Page.navigate", url=address)
+
+    def js(self, expression: str) -> object:
+        """The value of an expression. Raises Failed."""
+        found = self.call("Runtime.evaluate", expression=expression, returnByValue=True, awaitPromise=True)
+        if "exceptionDetails" in found:
+            raise Failed(f"{expression}: {json.dumps(found['exceptionDetails'])}")
+        return found["result"].get("value")
+
+    def wait(self, expression: str) -> object:
+        """Waits until an expression holds, and returns its value. Raises Failed."""
+        until = time.monotonic() + PATIENCE_S
+        while time.monotonic() < until:
+            failed = ""
+            try:
+                found = self.js(f"({expression}) || null")
+                if found is not None:
+                    return found
+            except Failed as error:  # as while a page is loaded
+                failed = str(error)
+            time.sleep(0.02)
+        state = self.js("window.ngc && JSON.stringify(ngc.state).slice(0, 2000)")
+        raise Failed(f"waited in vain for {expression} {failed}; {state}")
+
+    def size(self, width: int, height: int) -> None:
+        """Sets the size of the window."""
+        self.call("Emulation.setDeviceMetricsOverride", width=width, height=height, deviceScaleFactor=1, mobile=False)
+        self.js("new Promise(done => requestAnimationFrame(() => requestAnimationFrame(done)))")
+
+    def press(self, says: str, within: str = "button") -> None:
+        """Presses the last button of this text that is enabled, once there is one."""
+        x, y = self.wait(_POINT % (json.dumps(within), json.dumps(says)))
+        self.down(x, y)
+        self.up(x, y)
+
+    def down(self, x: float, y: float) -> None:
+        """A finger, or the mouse's button, comes down."""
+        self.call("Input.dispatchMouseEvent", type="mouseMoved", x=x, y=y)
+        self.call("Input.dispatchMouseEvent", type="mousePressed", x=x, y=y, button="left", buttons=1, clickCount=1)
+
+    def up(self, x: float, y: float) -> None:
+        """It is lifted."""
+        self.call("Input.dispatchMouseEvent", type="mouseReleased", x=x, y=y, button="left", buttons=0, clickCount=1)
+
+    def space(self) -> None:
+        """Presses the space bar."""
+        for kind in ("keyDown", "keyUp"):
+            self.call("Input.dispatchKeyEvent", type=kind, key=" ", code="Space", windowsVirtualKeyCode=32,
+                      **({"text": " "} if kind == "keyDown" else {}))
+
+    def choose_file(self, path: Path) -> None:
+        """Chooses a file for the page's entry of files."""
+        root = self.call("DOM.getDocument")["root"]["nodeId"]
+        node = self.call("DOM.querySelector", nodeId=root, selector="#file")["nodeId"]
+        self.call("DOM.setFileInputFiles", nodeId=node, files=[str(path)])
+
+    def shoot(self, path: Path | str) -> None:
+        """Writes a picture of the page."""
+        found = self.call("Page.captureScreenshot", format="png", optimizeForSpeed=False)
+        Path(path).write_bytes(base64.b64decode(found["data"]))

@@ -1,0 +1,302 @@
+"""The page in a browser: Chromium without a window. Left out where it isn't installed (tools/tests/install_browser.sh)."""
+import os
+import re
+import sys
+import unittest
+from pathlib import Path
+
+sys.path.insert(0, str(Path(__file__).resolve().parent))
+
+from browser_support import Browser, chromium  # noqa: E402
+from page_support import LONG, OTHER, Served  # noqa: E402
+from session_support import ngc  # noqa: E402
+
+SIZES = ((1280, 800), (1024, 768), (1920, 1080))
+HOSTILE = "(<img src=x onerror=window.hacked=1>)\n(MSG, <script>window.hacked=1</script>)\nG17 G21 G90 G94\nM0\nM2\n"
+SIGHT = """(() => {
+    const seen = [...document.querySelectorAll('button, input, summary')].filter(one => one.checkVisibility());
+    const over = document.getElementById('over');
+    return seen.filter(one => over.hidden || over.contains(one) || !one.closest('main')).map(one => {
+        const box = one.getBoundingClientRect(), scrolls = one.closest('.tab, .words');
+        const isOut = !scrolls && (box.left < 0 || box.top < 0 || box.right > innerWidth || box.bottom > innerHeight);
+        const isSmall = Math.min(box.width, box.height) < 44, isCut = one.scrollWidth > one.clientWidth + 1;
+        return isOut || isSmall || isCut ? [one.id, one.textContent, isOut, isSmall, isCut, box.width, box.height] : null;
+    }).filter(Boolean);
+})()"""
+"""Buttons and entries out of the window, too small for a finger, or with text over their edge."""
+CUT = """[...document.querySelectorAll('.axis output, .axis div, #gauges dd, #word, #risk, #left, nav button, h1, h2, dt, dd')]
+    .filter(one => one.checkVisibility() && one.scrollWidth > one.clientWidth + 1).map(one => one.textContent)"""
+"""What a person reads from afar, and that is cut."""
+CONTRAST = """(() => {
+    const canvas = document.createElement('canvas').getContext('2d', { willReadFrequently: true });
+    const parts = colour => {
+        canvas.clearRect(0, 0, 1, 1);
+        canvas.fillStyle = colour;
+        canvas.fillRect(0, 0, 1, 1);
+        const [r, g, b, a] = canvas.getImageData(0, 0, 1, 1).data;
+        return [r, g, b, a / 255];
+    };
+    const over = (a, b) => [0, 1, 2].map(i => a[i] * a[3] + b[i] * (1 - a[3])).concat(1);
+    const ground = one => {
+        const own = parts(getComputedStyle(one).backgroundColor);
+        return own[3] === 1 ? own : over(own, one.parentElement ? ground(one.parentElement) : [255, 255, 255, 1]);
+    };
+    const light = ([r, g, b]) => [r, g, b].map(v => v / 255).map(v => v <= 0.04045 ? v / 12.92 : ((v + 0.055) / 1.055) ** 2.4)
+        .reduce((sum, v, i) => sum + v * [0.2126, 0.7152, 0.0722][i], 0);
+    const walker = document.createTreeWalker(document.body, NodeFilter.SHOW_TEXT), poor = new Set();
+    while (walker.nextNode()) {
+        const one = walker.currentNode.parentElement, style = getComputedStyle(one);
+        if (!walker.currentNode.data.trim() || !one.checkVisibility() || one.closest(':disabled, .blind, script')) continue;
+        const back = ground(one), [a, b] = [light(over(parts(style.color), back)), light(back)];
+        const ratio = (Math.max(a, b) + 0.05) / (Math.min(a, b) + 0.05), px = parseFloat(style.fontSize);
+        const isLarge = px >= 24 || px >= 18.66 && Number(style.fontWeight) >= 700;
+        if (ratio < (isLarge ? 3 : 4.5)) poor.add(`${walker.currentNode.data} ${style.color} ${ratio.toFixed(2)}`);
+    }
+    return [...poor];
+})()"""
+"""Text that has less contrast than WCAG 2 asks for at its level AA; what is disabled needn't have it."""
+
+FRAME = "const frame = () => new Promise(done => requestAnimationFrame(() => requestAnimationFrame(done)));"
+DRAW_LONG = """(async () => {
+    FRAME
+    const { Job } = await import(new URL('job.js', document.baseURI));
+    const count = 65000, steps = [], segments = {}, lines = [];
+    for (let i = 0; i < count; i++) {
+        const at = n => [n % 1009 * 30, n % 997 * 30, -(n % 89) * 40];
+        steps.push({ n: i + 1, k: i % 7 ? 'c' : 't', us: 1000, p: [...at(i), ...at(i + 1)] });
+        segments[i + 1] = [i];
+        lines.push(`G1 X${i % 1009} Y${i % 997}`);
+    }
+    ngc.program.show('long.ngc', lines.join('\\n'));
+    ngc.picture.show(new Job(JSON.parse(JSON.stringify({ steps, segments, exact: true, refused: null }))), ngc.travel);
+    await frame();
+})()""".replace("FRAME", FRAME)
+SCROLL_LONG = """(async () => {
+    FRAME
+    const box = document.getElementById('program');
+    box.dispatchEvent(new Event('wheel'));
+    for (let i = 0; i < 60; i++) { box.scrollTop = i / 60 * box.scrollHeight; await frame(); }
+})()""".replace("FRAME", FRAME)
+PAN_LONG = """(async () => {
+    FRAME
+    for (let i = 0; i < 30; i++) { ngc.picture.view.pan(3, 2); ngc.picture.moved(); await frame(); }
+})()""".replace("FRAME", FRAME)
+
+
+@unittest.skipUnless(chromium(), "Chromium isn't installed: tools/tests/install_browser.sh")
+class InBrowser(Served):
+    """One browser for the tests of a class, with the page of a session of its own for each test."""
+
+    browser: Browser
+
+    @classmethod
+    def setUpClass(cls) -> None:
+        """Starts the browser."""
+        super().setUpClass()
+        cls.browser = Browser(chromium() or "")
+        cls.addClassCleanup(cls.browser.close)
+
+    def setUp(self) -> None:
+        """Opens the page."""
+        super().setUp()
+        self.addCleanup(self.browser.open, "about:blank")
+        self.browser.complaints.clear()
+        self.browser.asked.clear()
+        self.browser.size(*SIZES[0])
+        self.browser.open(self.address)
+        self.browser.wait("window.ngc?.state?.yours && ngc.jobId !== null")
+
+    def choose(self, text: str, name: str = "part.ngc") -> None:
+        """Chooses a program, and waits until it is looked at."""
+        Path(name).write_text(text)
+        self.browser.choose_file(self.folder / name)
+        self.browser.wait("document.querySelectorAll('#over .foot button').length > 1")
+
+    def load(self, text: str, count: int) -> None:
+        """Loads a program of so many lines, and waits until it is drawn."""
+        self.choose(text)
+        self.browser.press("Load", "#over button")
+        self.browser.wait(f"ngc.state.program.lines === {count} && ngc.job && !ngc.state.busy")
+
+    def look(self, what: str) -> None:
+        """In each size, dark and light, all is in the window, large enough, whole, and has contrast."""
+        for width, height in SIZES:
+            self.browser.size(width, height)
+            self.assertEqual(self.browser.js(SIGHT), [], (what, width))
+            self.assertEqual(self.browser.js(CUT), [], (what, width))
+        for _ in range(2):
+            self.assertEqual(self.browser.js(CONTRAST), [], what)
+            self.browser.js("document.getElementById('theme').click()")
+        self.browser.size(*SIZES[0])
+
+    def no_complaints(self) -> None:
+        """The page logged nothing, and asked nobody else; a server that is gone may be missed."""
+        missed = [one for one in self.browser.complaints if "ERR_CONNECTION_REFUSED" not in one]
+        self.assertEqual(missed, [])
+        others = [one for one in self.browser.asked if not one.startswith((self.address, "data:"))]
+        self.assertEqual(others, [])
+
+
+class Looks(InBrowser):
+    """How it looks."""
+
+    def test_sizes(self) -> None:
+        """Each tab, findings, a question and a stop: in the window, large enough, whole, with contrast."""
+        browser = self.browser
+        for tab in ("setup", "tools", "log", "program"):
+            browser.js(f"document.querySelector('[data-tab={tab}]').click()")
+            self.look(tab)
+        browser.js("[...document.querySelectorAll('.axis output')].forEach(one => { one.textContent = '\u22121000.000'; });"
+                   "document.getElementById('axes').style.setProperty('--fit', 7 / 9)")
+        for size in SIZES:
+            browser.size(*size)
+            self.assertEqual(browser.js(CUT), [], size)
+            digits = browser.js("parseFloat(getComputedStyle(document.querySelector('.axis output')).fontSize)")
+            self.assertGreater(digits, 36, size)
+        self.choose("G1 X1 Q2 F10\nM0\nX1\n" + "(a very long comment without an end)" * 6 + "\n")
+        self.look("findings")
+        browser.press("Load it all the same", "#over button")
+        browser.wait("ngc.state.question && document.querySelector('#over .asked')")
+        self.look("a question")
+        browser.press("No", "#over button")
+        browser.wait("!ngc.state.question && document.getElementById('over').hidden")
+        self.no_complaints()
+
+    def test_hostile(self) -> None:
+        """What a program, its name and its messages say stays text."""
+        browser = self.browser
+        self.choose(HOSTILE, "<b>&.ngc")
+        self.assertEqual(browser.js("document.querySelector('#over h1').textContent"), "Load <b>&.ngc")
+        browser.press("Load", "#over button")
+        browser.wait("ngc.state.program.lines === 5 && document.querySelectorAll('.row').length === 5")
+        browser.press("Run", "#run")
+        browser.wait("ngc.state.does === 'stopped' && !ngc.state.busy")
+        self.assertEqual(browser.js("document.getElementById('detail').textContent"), "<script>window.hacked=1</script>")
+        self.assertIsNone(browser.js("window.hacked ?? document.querySelector('main img, main b b, main script')"))
+        self.look("a stop")
+        self.no_complaints()
+
+
+
+    def test_long(self) -> None:
+        """A program of a mebibyte is shown within two seconds of processor time, and moves at 30 frames a second."""
+        browser = self.browser
+        browser.call("Performance.enable", timeDomain="threadTicks")
+        self.assertLess(self.seconds(DRAW_LONG), 2)
+        self.assertLess(self.seconds(SCROLL_LONG), 60 / 30)
+        self.assertLess(self.seconds(PAN_LONG), 30 / 30)
+        self.assertGreater(browser.js("Number(document.querySelector('.row span').textContent)"), 30_000)
+        self.no_complaints()
+
+    def seconds(self, does: str) -> float:
+        """The processor time of the page while it does something."""
+        before = self.ticks()
+        self.browser.js(does)
+        return self.ticks() - before
+
+    def ticks(self) -> float:
+        """The processor time that the page took, in seconds."""
+        metrics = self.browser.call("Performance.getMetrics")["metrics"]
+        return next(one["value"] for one in metrics if one["name"] == "TaskDuration")
+
+
+class Work(InBrowser):
+    """What is done by touch."""
+
+    def test_hold(self) -> None:
+        """Hold by the space bar and by the button; jog is there where the machine can; a page that isn't told waits."""
+        browser = self.browser
+        self.load(LONG, 6)
+        browser.press("Run", "#run")
+        browser.wait("ngc.state.line === 3 && ngc.state.half === 'program'")
+        browser.space()
+        browser.wait("ngc.state.does === 'held' && !ngc.state.busy && ngc.holdMs")
+        browser.press("Continue", "#run")
+        browser.wait("ngc.state.does === 'running'")
+        browser.press("Hold", "#hold")
+        browser.wait("ngc.state.does === 'held' && !ngc.state.busy")
+        self.assertEqual(browser.js("document.getElementById('word').textContent"), "Held")
+        self.look("held")
+        self.no_complaints()
+
+    def test_two_pages(self) -> None:
+        """Where another page took over, this one watches, holds, and takes over again."""
+        browser, other = self.browser, self.page(OTHER)
+        self.load(LONG, 6)
+        self.assertEqual(other.post("takeover")[0], 200)
+        browser.wait("!ngc.state.yours && document.getElementById('takeover').checkVisibility()")
+        self.assertEqual(browser.js("[...document.querySelectorAll('footer button:not(:disabled)')].map(one => one.id)"),
+                         ["hold"])
+        self.assertEqual(other.post("run")[0], 200)
+        browser.wait("ngc.state.line === 3")
+        browser.press("Hold", "#hold")
+        browser.wait("ngc.state.does === 'held' && !ngc.state.busy")
+        browser.press("Take over", "#takeover")
+        browser.press("Continue", "#run")
+        browser.wait("ngc.state.does === 'running'")
+        self.no_complaints()
+
+
+class Power(InBrowser):
+    """Power is lost, and comes back."""
+
+    OUT = "out"
+
+    def test_recovery(self) -> None:
+        """The page says that it is lost, begins anew with the new session, and leads through the four steps to the end."""
+        browser = self.browser
+        self.load("M3 S100\n" + LONG, 7)
+        browser.press("Run", "#run")
+        browser.wait("ngc.state.line === 4 && ngc.state.motors[0] > 0.5")
+        before = browser.js("ngc.state.session")
+        self.pull()
+        browser.wait("document.getElementById('lost').checkVisibility()")
+        self.begin_again()
+        browser.wait(f"ngc.state?.session && ngc.state.session !== '{before}'")
+        browser.wait("document.querySelector('#over .facts')?.textContent.includes('It begins at')")
+        self.look("what was stored")
+        browser.press("Next", "#over button")
+        self.assertTrue(browser.js("document.querySelector('#over .foot .go').disabled"))
+        for _ in range(3):
+            browser.press("Confirm", "#over button")
+        self.look("where it stands")
+        browser.press("Next", "#over button")
+        browser.wait("document.querySelector('#over details')")
+        self.assertIn("Back through what was cut", browser.js("document.querySelector('#over h2').textContent"))
+        self.look("a rehearsal")
+        browser.press("Next", "#over button")
+        self.look("the choice")
+        browser.press("Go along the path", "#over button")
+        self.agree_to_all()
+        browser.wait("ngc.state.finished && !document.getElementById('over').checkVisibility()")
+        self.assertEqual(browser.js("ngc.state.motors"), ["1.000000", "0.000000", "-1.000000"])
+        self.no_complaints()
+
+    def begin_again(self) -> None:
+        """Power comes back: the page is served at the same address."""
+        port, key = re.fullmatch(r"http://127\.0\.0\.1:(\d+)/(.*)/", self.address).groups()
+        os.environ["NGC_PAGE_KEY"] = key
+        self.addCleanup(os.environ.pop, "NGC_PAGE_KEY")
+        self.begin_player()
+        self.server = self.start("ngc-page", "mill.dev", "first.toml", self.OUT, "--player", "progress", "--ngc", ngc(),
+                                 "--listen", f"127.0.0.1:{port}")
+        self.assertEqual(self.server.stdout.readline().strip(), self.address)
+
+    def agree_to_all(self) -> None:
+        """Answers each question by a yes, up to the one before which one has to look."""
+        browser, last = self.browser, 0
+        while True:
+            question = browser.wait(f"ngc.state.question?.id > {last} && ngc.state.question")
+            last = question["id"]
+            if question["purpose"] == "look":
+                break
+            browser.press("Yes", "#over .go")
+        browser.wait("document.querySelectorAll('#over .look button').length === 3")
+        self.assertTrue(browser.js("document.querySelector('#over .foot .go').disabled"))
+        self.look("switched on")
+        browser.js("document.querySelectorAll('#over .look button').forEach(one => one.click())")
+        browser.press("Yes", "#over .go")
+
+
+if __name__ == "__main__":
+    unittest.main()
