@@ -150,7 +150,7 @@ static enum end await_lines(struct play *play, bool *is_over) {
 void begin_paced(struct play *play) {
     pace_begin(&pace, &play->machine.limits);
     window_begin(&window, &play->machine.limits, play->machine.window_lines);
-    play->player->most_percent = play->machine.most_percent;
+    play->player->most_percent = (int)play->machine.limits.most_percent;
     atomic_store(&play->player->wants, window_lines(&window));
 }
 

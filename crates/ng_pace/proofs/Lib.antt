@@ -1,5 +1,6 @@
 pub mod CapsLemmas
 pub mod ConeLemmas
+pub mod DueLemmas
 pub mod ExactLemmas
 pub mod FewLemmas
 pub mod FlowLemmas
