@@ -43,7 +43,7 @@ static const struct key keys[KEYS] = {
     {MOTION, "rate_mm_min", 3, 0, 100000, "three whole numbers from 0 to 100000"},
     {MOTION, "start_mm_min", 3, 0, 100000, "three whole numbers from 0 to 100000"},
     {MOTION, "slack_steps", 1, 1, 64, "a whole number from 1 to 64"},
-    {MOTION, "most_percent", 1, 100, 100, "100"},
+    {MOTION, "most_percent", 1, 100, 200, "a whole number from 100 to 200"},
     {WINDOW, "lines", 1, 0, WINDOW_MOST, "a whole number from 0 to 8000"},
     {WAIT, "spindle_s", 1, 0, 3600, "a whole number from 0 to 3600"},
     {INPUTS, "emergency_stop", 1, -1, 15, "a whole number from -1 to 15"},
@@ -232,6 +232,7 @@ static bool read_limits(const char *path, const struct content *content, const i
     }
     limits->half = HALF;
     limits->slack = (uint64_t)number_of(content, SLACK, DEFAULT_SLACK);
+    limits->most_percent = (uint64_t)number_of(content, MOST, DEFAULT_PERCENT);
     return true;
 }
 
@@ -246,6 +247,5 @@ bool machine_read(const char *path, const int64_t step_nm[3], struct machine *ma
     read_home(&content, &machine->home);
     machine->window_lines = (uint64_t)number_of(&content, LINES, 0);
     machine->spindle_ns = number_of(&content, SPINDLE, 0) * NS_PER_S;
-    machine->most_percent = (int)number_of(&content, MOST, DEFAULT_PERCENT);
     return read_limits(path, &content, step_nm, &machine->limits, why);
 }

@@ -15,7 +15,6 @@ struct machine {
     struct pace_limits limits;
     uint64_t window_lines; /* how many lines a player wants in hand; 0 for as many as are needed */
     int64_t spindle_ns;    /* how long the spindle takes to start, to stop or to turn the other way */
-    int most_percent;      /* how much an override may be; 0 where there are no ramps */
     struct inputs inputs;
     struct home home;
 };

@@ -4,9 +4,9 @@
 
 #include "pace_parts.h"
 
-enum { LEAST_START = 128, ALL_PERCENT = 100 }; /* at rest a motor is half a step beyond its pulse */
+enum { LEAST_START = 128 }; /* at rest a motor is half a step beyond its pulse */
 
-#define PULSES_US UINT64_C(256000000) /* pulses a second times 2^8, times the microseconds of each */
+#define PULSES_US UINT64_C(2560000) /* a percent of pulses a second times 2^8, times the microseconds of each */
 
 void pace_begin(struct pace *pace, const struct pace_limits *limits) {
     memset(pace, 0, sizeof *pace);
@@ -25,14 +25,14 @@ bool pace_is_full(const struct pace *pace) {
 }
 
 /* The square at which pulses of so many microseconds come at a rate of so many percent. */
-static uint64_t own_square(uint64_t us, unsigned percent) {
-    uint64_t rate = most_of(PULSES_US / ALL_PERCENT * percent / most_of(us, 1), 1);
+static uint64_t own_square(uint64_t us, uint64_t percent) {
+    uint64_t rate = most_of(PULSES_US * percent / most_of(us, 1), 1);
     return rate * rate;
 }
 
 static void push_pulse(struct pace *pace, const struct line *line) {
     struct pace_line *known = pace_at(pace, pace->known);
-    uint64_t own = own_square(line->us, ALL_PERCENT);
+    uint64_t own = own_square(line->us, pace->limits.most_percent);
     path_turn(pace, line->step);
     known->us = line->us;
     known->full = least_of(own, pace->before);
@@ -64,7 +64,7 @@ void pace_end(struct pace *pace) {
 uint64_t pace_wanted(const struct pace *pace, unsigned percent) {
     uint64_t wanted = UINT64_MAX;
     uint64_t end = least_of(pace->first + 2, pace->final);
-    if (percent >= ALL_PERCENT) {
+    if (percent >= pace->limits.most_percent) {
         return wanted;
     }
     for (uint64_t at = pace->first; at < end; at++) {

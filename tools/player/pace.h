@@ -1,5 +1,6 @@
 /* Ramps: lines of OUT go in, in order, and come out in that order with the time of each, so that no axis gains or loses
- * more speed than its motor can. No line is shorter than OUT says. The crate ng_pace has the same integers.
+ * more speed than its motor can. No line is shorter than OUT says, at `most_percent` of its rates. The crate ng_pace has
+ * the same integers.
  *
  * A square is that of a rate in pulses a second times 2^8. Nothing is allocated. */
 #ifndef PACE_H
@@ -14,11 +15,12 @@ enum { PACE_ROOM = 8192 }; /* lines that may be known; a power of two */
 
 /* What motors allow, by axes. */
 struct pace_limits {
-    uint64_t accel[3]; /* steps a second, each second: 3 to 1,000,000,000 */
-    uint64_t rate[3];  /* steps a second; 0 for as many as are asked for */
-    uint64_t start[3]; /* steps a second: a rate at which a motor can start and stop at once */
-    uint64_t half;     /* most pulses on each side of a corner in which it is taken: at least 1 */
-    uint64_t slack;    /* how many steps a motor may be off its pulses: 1 to 1,000 */
+    uint64_t accel[3];     /* steps a second, each second: 3 to 1,000,000,000 */
+    uint64_t rate[3];      /* steps a second; 0 for as many as are asked for */
+    uint64_t start[3];     /* steps a second: a rate at which a motor can start and stop at once */
+    uint64_t half;         /* most pulses on each side of a corner in which it is taken: at least 1 */
+    uint64_t slack;        /* how many steps a motor may be off its pulses: 1 to 1,000 */
+    uint64_t most_percent; /* the greatest rate that is wanted, in percent of OUT's: 100 to 200 */
 };
 
 /* The slope to where an axis is: steps over pulses, counted from a step back at each pulse, so that none is below 0. */
@@ -92,7 +94,7 @@ void pace_end(struct pace *pace);
  * limits are final. */
 bool pace_next(struct pace *pace, uint64_t wanted, uint64_t *ns);
 
-/* The square that is wanted for `pace_next` at so many percent, 1 to 100, of OUT's rates. */
+/* The square that is wanted for `pace_next` at so many percent, 1 to `most_percent`, of OUT's rates. */
 uint64_t pace_wanted(const struct pace *pace, unsigned percent);
 
 #endif

@@ -74,6 +74,12 @@ static uint64_t time_at(uint64_t least_ns, uint64_t both) {
     return most_of(least_ns, both == 0 ? STANDING_NS : over_up(TWO_SECONDS, both));
 }
 
+/* The least time of a line: a pulse's at the greatest rate that is wanted, rounded up; OUT's for all else. */
+static uint64_t least_ns_of(const struct pace *pace, const struct pace_line *line) {
+    uint64_t percent = line->full != 0 ? pace->limits.most_percent : 100;
+    return plus(times(line->us / percent, 100000), over_up(line->us % percent * 100000, percent));
+}
+
 bool pace_next(struct pace *pace, uint64_t wanted, uint64_t *ns) {
     if (pace->first == pace->final || (pace->square == 0 && wanted == 0)) {
         return false;
@@ -89,7 +95,7 @@ bool pace_next(struct pace *pace, uint64_t wanted, uint64_t *ns) {
     uint64_t to = square_after(line, from, after, wanted);
     uint64_t root_from = from == pace->reached ? pace->root : root_near(from, pace->root);
     uint64_t root_to = to == from ? root_from : root_near(to, root_from);
-    uint64_t least_ns = times(line->us, 1000);
+    uint64_t least_ns = least_ns_of(pace, line);
     *ns = from == to && to == line->full ? least_ns : time_at(least_ns, root_from + root_to);
     pace->square = wanted == 0 && to <= start_square(pace, line) ? 0 : to;
     pace->reached = to;

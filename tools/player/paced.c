@@ -152,7 +152,7 @@ void begin_paced(struct play *play) {
     ended = 0;
     pace_begin(&pace, &play->machine.limits);
     window_begin(&window, &play->machine.limits, play->machine.window_lines);
-    play->player->most_percent = play->machine.most_percent;
+    play->player->most_percent = (int)play->machine.limits.most_percent;
     atomic_store(&play->player->wants, window_lines(&window));
 }
 

@@ -4,7 +4,7 @@
 
 #include "pace_parts.h"
 
-enum { LATENESS = 50 /* parts of a second in which more comes */, SECOND_US = 1000000 };
+enum { LATENESS = 50 /* parts of a second in which more comes */, PERCENT_US = 10000 /* of a second */ };
 
 static struct window_line *at(struct window *window, uint64_t index) {
     return &window->greatest[index % PACE_ROOM];
@@ -28,10 +28,10 @@ static uint64_t accel_of(const struct pace_limits *limits, const int step[3]) {
     return accel;
 }
 
-/* How many lines are wanted for such pulses: a stop from their rate takes v^2 / 2a, to which a fifth is added for
+/* How many lines are wanted for such pulses: a stop from their greatest rate takes v^2 / 2a, to which a fifth is added for
  * a plan that isn't of the last moment. */
 static uint64_t lines_for(const struct window *window, const struct line *line) {
-    uint64_t rate = SECOND_US / most_of(line->us, 1);
+    uint64_t rate = PERCENT_US * window->limits->most_percent / most_of(line->us, 1);
     uint64_t stop = 3 * rate * rate / times(5, accel_of(window->limits, line->step));
     return least_of(stop + rate / LATENESS + least(window), WINDOW_MOST);
 }

@@ -1,6 +1,6 @@
 /* Paces lines as a test says: a line of OUT goes in, `E` ends what is known, `N SQUARE` gives out a line and prints its
  * time, or -; `O PERCENT` does so at so many percent; `W` prints how many lines are wanted in hand. The words are the
- * limits: accel, rate and start by axes, half, slack. */
+ * limits: accel, rate and start by axes, half, slack, most percent. */
 #include <inttypes.h>
 #include <stdio.h>
 #include <stdlib.h>
@@ -43,9 +43,9 @@ static void heed(const char *text, size_t size) {
 
 int main(int count, char **given) {
     struct pace_limits limits;
-    uint64_t words[11];
+    uint64_t words[12];
     char text[256];
-    for (int word = 0; word < 11 && word + 1 < count; word++) {
+    for (int word = 0; word < 12 && word + 1 < count; word++) {
         words[word] = strtoull(given[word + 1], NULL, 10);
     }
     memcpy(&limits, words, sizeof limits);

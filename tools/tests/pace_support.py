@@ -48,7 +48,7 @@ def with_pacer(name: str, *options: str) -> str:
 
 def paced_in_c(limits: Limits, events: Iterable[str]) -> list[str]:
     """What the pacer of tools/player answers to the events of pace_drive.c."""
-    words = (*limits.accel, *limits.rate, *limits.start, limits.half, limits.slack)
+    words = (*limits.accel, *limits.rate, *limits.start, limits.half, limits.slack, limits.most_percent)
     drive = with_pacer("pace_drive.c", *(SANITIZERS if has_sanitizers() else ()))
     command = [drive, *map(str, words)]
     done = subprocess.run(command, input="\n".join(events) + "\n", capture_output=True, text=True)
@@ -121,7 +121,7 @@ def disturbed(chance: random.Random, lines: Iterable[str]) -> Iterator[str]:
         elif what < 0.95:
             yield from [GIVE] * 20
         yield from ["W"] * (what > 0.98)
-        yield from ["N 0"] * (what < 0.03) + [f"O {chance.randint(1, 99)}"] * (what < 0.06)
+        yield from ["N 0"] * (what < 0.03) + [f"O {chance.randint(1, 200)}"] * (what < 0.06)
     yield from ["E", *[GIVE] * 400]
 
 
@@ -131,7 +131,8 @@ def some_limits(chance: random.Random) -> Limits:
         return chance.choice(of), chance.choice(of), chance.choice(of)
 
     return Limits(axes(3, 50, 1000, 20_000, 200_000, 5_000_000, 2**63), axes(0, 0, 500, 15_000),
-                  axes(0, 100, 2000, 2**40), chance.choice((1, 4, 16, 64)), chance.choice((1, 2, 4, 64)))
+                  axes(0, 100, 2000, 2**40), chance.choice((1, 4, 16, 64)), chance.choice((1, 2, 4, 64)),
+                  chance.choice((100, 100, 101, 137, 200)))
 
 
 def timed(lines: Iterable[str], lasting_ns: Iterable[int]) -> Iterator[str]:

@@ -6,11 +6,12 @@ import sys
 import unittest
 from collections import deque
 from collections.abc import Iterator
+from dataclasses import replace
 from pathlib import Path
 
 sys.path.insert(0, str(Path(__file__).resolve().parent))
 
-from pace_support import (PROGRAMS, as_out_says, disturbed, excess, metered, paced, paced_in_c,  # noqa: E402
+from pace_support import (GIVE, PROGRAMS, as_out_says, disturbed, excess, metered, paced, paced_in_c,  # noqa: E402
                           some_limits, straight, stream, timed, with_pacer)
 from session_support import FIRST, TOOLS, InFolder  # noqa: E402
 
@@ -112,6 +113,15 @@ class OfStreams(unittest.TestCase):
         self.assertEqual(set(times[3000:]), {125_000})
         self.assertEqual(sum(ns == 50_000 for ns in times[2000:]), 0)  # from the next line on
 
+    def test_most_percent(self) -> None:
+        """At 150 percent of 20,000 pulses a second it makes 30,000, at 100 percent 20,000. A dwell isn't cut short."""
+        limits = replace(FINE_LIMITS, most_percent=150)
+        events = ["D 7", *["P 1 0 0 50"] * 8000, *[GIVE] * 3000, *["O 150"] * 500, *["O 100"] * 2000]
+        times = paced_in_c(limits, events)
+        self.assertEqual(times[0], "7000")
+        self.assertEqual(set(times[2500:3500]), {"33334"})  # a ramp is 30,000^2 / 400,000 pulses
+        self.assertEqual(set(times[5000:]), {"50000"})
+        self.assertEqual(paced(limits, events), times)
 
     def test_followed_when_disturbed(self) -> None:
         """Motors can follow holds, releases and overrides in the midst of a motion, and a starved reader."""

@@ -24,7 +24,7 @@ greatest Accel = 1_000_000
 greatest Rate = 100_000
 greatest Start = 100_000
 greatest Slack = 64
-greatest Most = 100
+greatest Most = 200
 
 -- whether a name is a key
 unfoldable pub is_key : List ℕ → Bool

@@ -41,6 +41,7 @@ pub record AreLimits (given : Given) (machine : Geometry) (limits : Limits) : Ty
   pub rate : limits.rate ≡ by_axis steps_of_rate given.rate machine
   pub start : limits.start ≡ by_axis steps_of_rate given.start machine
   pub slack : limits.slack ≡ given.slack
+  pub most_percent : limits.most_percent ≡ given.most_percent
   -- half of the pulses over which a corner is taken, at most
   pub half : limits.half ≡ 64
   pub accel_stays : EachStays steps_of_accel given.accel machine

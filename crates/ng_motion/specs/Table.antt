@@ -44,7 +44,7 @@ pub record Gives (table : Members) (given : Given) : Type 0 where
   pub rate : AxesOrZeros table Rate given.rate
   pub start : AxesOrZeros table Start given.start
   pub slack : WholeOr table Slack 2 given.slack
-  pub most : WholeOr table Most 100 100
+  pub most : WholeOr table Most 100 given.most_percent
 
 -- each name is a key, and each key up to this one, in their order, gives what it may
 abbrev pub GivesAccel : Members → Type 0

@@ -15,7 +15,7 @@ cause_text (OutOfRange Accel) = codes " accel_mm_s2: not three whole numbers fro
 cause_text (OutOfRange Rate) = codes " rate_mm_min: not three whole numbers from 0 to 100000"
 cause_text (OutOfRange Start) = codes " start_mm_min: not three whole numbers from 0 to 100000"
 cause_text (OutOfRange Slack) = codes " slack_steps: not a whole number from 1 to 64"
-cause_text (OutOfRange Most) = codes " most_percent: not 100"
+cause_text (OutOfRange Most) = codes " most_percent: not a whole number from 100 to 200"
 cause_text TooSlowToStart = codes " accel_mm_s2: less than a step a second, each second"
 cause_text TooSlow = codes " rate_mm_min: less than a step a second"
 

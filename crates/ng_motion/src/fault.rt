@@ -47,7 +47,9 @@ impl MotionFault {
             MotionFault::OutOfRange(Key::Slack) => {
                 b" slack_steps: not a whole number from 1 to 64"
             }
-            MotionFault::OutOfRange(Key::Most) => b" most_percent: not 100",
+            MotionFault::OutOfRange(Key::Most) => {
+                b" most_percent: not a whole number from 100 to 200"
+            }
             MotionFault::TooSlowToStart => b" accel_mm_s2: less than a step a second, each second",
             MotionFault::TooSlow => b" rate_mm_min: less than a step a second",
         }

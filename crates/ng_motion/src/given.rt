@@ -12,13 +12,14 @@ use crate::name::KeyName;
 use crate::values::{PerAxis, axes_in, whole_in};
 use toml::{Table, Value};
 
-/// What `[motion]` gives, in millimetres.
+/// What `[motion]` gives, in millimetres, steps and percent.
 #[derive(Clone, Copy)]
 pub(crate) struct Given {
     pub(crate) accel: PerAxis,
     pub(crate) rate: PerAxis,
     pub(crate) start: PerAxis,
     pub(crate) slack: u64,
+    pub(crate) most_percent: u64,
 }
 
 /// Whether a name is a key.
@@ -144,11 +145,12 @@ pub(crate) fn read_given(table: &Table) -> Result<Given, MotionFault>
         Err(fault) => return Err(fault),
     };
     match whole_or(table, Key::Most, 100) {
-        Ok(_) => Ok(Given {
+        Ok(most_percent) => Ok(Given {
             accel,
             rate,
             start,
             slack,
+            most_percent,
         }),
         Err(fault) => Err(fault),
     }

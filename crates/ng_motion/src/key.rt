@@ -12,7 +12,7 @@ pub enum Key {
     Start,
     /// How many steps a motor may be off its pulses, 1 to 64. Default 2.
     Slack,
-    /// The most that an operator may ask for, in percent: 100, as long as the pacer has no more. Default 100.
+    /// The most that an operator may ask for, in percent of what OUT says, 100 to 200. Default 100.
     Most,
 }
 
@@ -48,7 +48,7 @@ impl Key {
             Key::Accel => 1_000_000,
             Key::Rate | Key::Start => 100_000,
             Key::Slack => 64,
-            Key::Most => 100,
+            Key::Most => 200,
         }
     }
 }

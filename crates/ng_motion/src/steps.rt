@@ -78,5 +78,6 @@ pub(crate) fn limits_of(given: &Given, machine: &Geometry) -> Result<Limits, Mot
         start: rate_limits(given.start, machine),
         half: HALF,
         slack: given.slack,
+        most_percent: given.most_percent,
     })
 }

@@ -241,4 +241,11 @@ rise-inside slack cone rise steps is straight some at slope ok from up_to =
 
 -- what is reached is reached of what follows
 pub reached-weaker : (P Q : Slope → Type 0) (slopes : Slopes) → ((slope : Slope) → IsSlope slope → P slope → Q slope) → IsReached P slopes → IsReached Q slopes
-reached-weaker P Q slopes f is = record { slope = is.slope; is = is.is; holds = f is.slope is.is is.holds; size = is.size }
+reached-weaker P Q slopes f is = record {
+  slope = is.slope;
+  is = is.is;
+  holds = f is.slope is.is is.holds;
+  size = is.size;
+  from = record { slope = is.from.slope; is = is.from.is; holds = f is.from.slope is.from.is is.from.holds; near = is.from.near };
+  up_to = record { slope = is.up_to.slope; is = is.up_to.is; holds = f is.up_to.slope is.up_to.is is.up_to.holds; near = is.up_to.near };
+}

@@ -166,7 +166,7 @@ rate-spent limits axis known slopes size rate most is reached square limited ful
       omega (arith, a, b, reached.is.some);
 }
 
-alone-spent : (limits : Limits) (axis : ℕ) (known : List Pulse) (slopes : Slopes) (size most : ℕ) → size ≡ size_of slopes
+pub alone-spent : (limits : Limits) (axis : ℕ) (known : List Pulse) (slopes : Slopes) (size most : ℕ) → size ≡ size_of slopes
     → IsReached (λ slope. IsNear limits.slack slope (steps_along axis known)) slopes → IsFullAlone limits axis size 1048576 most
     → (288230376151711744 ≤ most) ⊎ IsRateSpent limits axis known most
 alone-spent limits axis known slopes size most is reached alone = by_case alone.full where

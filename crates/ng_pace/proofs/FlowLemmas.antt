@@ -33,7 +33,7 @@ timed_waiting-push [] w = refl
 timed_waiting-push (x ∷ xs) w = ap (λ t. (record { item = x.item; full = x.feed }) ∷ t) (timed_waiting-push xs w)
 
 pub settles_none : (m : Motion) (w : List Timed) → Settles m m w w
-settles_none m w = record { settled = []; known = sym (append-nil m.known); order = refl; own = tt; square = refl; start = refl; room = refl }
+settles_none m w = record { settled = []; known = sym (append-nil m.known); order = refl; own = tt; square = refl; start = refl; percent = refl; room = refl }
 
 pub settles_on : {a b c : Motion} {u v w : List Timed} → Settles a b u v → Settles b c v w → Settles a c u w
 settles_on {a} {b} {c} {u} {v} {w} first later = record {
@@ -44,6 +44,7 @@ settles_on {a} {b} {c} {u} {v} {w} first later = record {
   own = own-append first.settled later.settled first.own later.own;
   square = later.square ∙ first.square;
   start = later.start ∙ first.start;
+  percent = later.percent ∙ first.percent;
   room = later.room ∙ first.room;
 }
 
@@ -56,6 +57,7 @@ settles_push {a} {b} {u} {v} first w = record {
   own = first.own;
   square = first.square;
   start = first.start;
+  percent = first.percent;
   room = first.room;
 }
 
@@ -80,7 +82,7 @@ length-waiting-push (x ∷ xs) w = omega (arith, length-waiting-push xs w)
 -- a line goes behind those that are known
 pub pushed : (old : Motion) (line : Line) (waits : List Timed) → line.most ≤ line.full
     → Settles old (record old { known = old.known ++ line ∷ [] }) ((record { item = line.item; full = line.full }) ∷ waits) waits
-pushed old line waits own = record { settled = line ∷ []; known = refl; order = refl; own = (own, tt); square = refl; start = refl; room = refl }
+pushed old line waits own = record { settled = line ∷ []; known = refl; order = refl; own = (own, tt); square = refl; start = refl; percent = refl; room = refl }
 
 -- the first item that waits goes behind what is known
 pub moved : (old new : Motion) (w : Waiting) (waited rest : List Waiting) (line : Line) → new ≡ record old { known = old.known ++ line ∷ [] }
@@ -152,10 +154,10 @@ settled_items {old} {new} {waited} {waits} s =
     ∙ append_assoc (items_of old.known) (items_of s.settled) (items_waiting waits) ∙ ap (λ t. items_of old.known ++ t) settled
 
 pub put_items : (old mid : Flow) (item : Item) → Settles old.motion mid.motion
-    (old.waiting ++ (record { item = item; full = full_of old.before item }) ∷ []) mid.waiting → all_items mid ≡ all_items old ++ item ∷ []
+    (old.waiting ++ (record { item = item; full = full_of old.limits.most_percent old.before item }) ∷ []) mid.waiting → all_items mid ≡ all_items old ++ item ∷ []
 put_items old mid item p =
     settled_items p ∙ ap (λ t. items_of old.motion.known ++ t) (items_waiting-append old.waiting
-    ((record { item = item; full = full_of old.before item }) ∷ []))
+    ((record { item = item; full = full_of old.limits.most_percent old.before item }) ∷ []))
     ∙ sym (append_assoc (items_of old.motion.known) (items_waiting old.waiting) (item ∷ []))
 
 pub end_items : (old mid : Flow) → Settles old.motion mid.motion old.waiting [] → mid.waiting ≡ [] → all_items mid ≡ all_items old

@@ -1,6 +1,9 @@
 pub mod CapsLemmas
 pub mod ConeLemmas
+pub mod CornerLemmas
+pub mod DueLemmas
 pub mod ExactLemmas
+pub mod FeedLemmas
 pub mod FewLemmas
 pub mod FlowLemmas
 pub mod MakingLemmas

@@ -3,7 +3,7 @@ use Rattle.std.proofs.Common.{arith, ℕ, ◌+◌, ◌-◌, ◌*◌, ◌/◌, �
 use Rattle.std.proofs.Math.ListN.{get_or-append}
 use Rattle.std.proofs.Math.Seq.{get_or-append_right}
 use Rattle.std.proofs.lemmas.Bool.{cases_lt}
-use Rattle.std.proofs.lemmas.List.{take-append-le, drop_at, length-append, length-map, map-append, take-append-drop, length-take-le}
+use Rattle.std.proofs.lemmas.List.{get_or-take, get_or-drop, take-append-le, drop_at, length-append, length-map, map-append, take-append-drop, length-take-le}
 use Rattle.std.proofs.lemmas.List.Elements.{All-append, All-weaker, All-take, All-drop}
 use Rattle.std.proofs.Math.Nat.{mul-le-mul_left}
 use Rattle.ng_canon.specs.declared.item.AxisStep.{AxisStep}
@@ -13,7 +13,7 @@ use Rattle.ng_pace.specs.declared.line.Line.{Line}
 use Rattle.ng_pace.specs.declared.slopes.Slopes.{Slopes}
 use Rattle.ng_pace.specs.Axes.{IsCorner}
 use Rattle.ng_pace.specs.Chords.{Slope, IsSlope, IsNear}
-use Rattle.ng_pace.specs.Legs.{Leg, IsLeg, IsChord, IsFarthest, IsFullAt, IsPaced, IsBehind, IsCornered, IsOnChord, IsOnCorner, IsTurning, step_of, steps_along, slope_along}
+use Rattle.ng_pace.specs.Legs.{Leg, IsLeg, IsChord, IsFarthest, IsFullAt, IsFullAtCorner, IsLongest, IsPaced, IsBehind, IsCornered, IsOnChord, IsOnCorner, IsTurning, step_of, steps_along, slope_along}
 use Rattle.ng_pace.specs.Making.{IsWithin}
 use Rattle.ng_pace.specs.Passing.{AllowAlong, TakesCorner}
 use Rattle.ng_pace.specs.Underway.{AreSlopes}
@@ -131,6 +131,13 @@ behind-more limits stop leg made (before ∷ rest) behind = record {
   begun = omega (arith, length-append leg.lines made, behind.begun);
   leaves = behind.leaves;
   enters = rw (take-append-le ((behind.pulses + 1) / 2) leg.lines made behind.begun) behind.enters;
+  known = behind.known;
+  others = behind.others;
+  all = behind.all;
+  enough = behind.enough;
+  longest = behind.longest;
+  leaves_full = behind.leaves_full;
+  enters_full = λ k d short more. rw (get_or-append leg.lines made d k (omega (arith, short, behind.begun))) (behind.enters_full k d short more);
 }
 
 full-append : (limits : Limits) (pulses : List Pulse) (lines made : List Line)
@@ -175,12 +182,15 @@ pub corner-paced : (limits : Limits) (stop : ℕ) (slopes next : List Slopes) (c
     → pulses ≤ 2 * limits.half
     → ((k : ℕ) (d : Line) → k < length first → length before.lines + k + limits.half < length before.pulses
     → IsFullAt limits before.pulses (length before.lines + k) (slice_index_or first k d))
+    → (known others : List Pulse) → chord ≡ known ++ others → (others ≡ []) ⊎ (4 * limits.half ≤ length known) → 0 < length known
+    → IsLongest limits before.pulses known pulses
+    → ((k : ℕ) (d : Line) → k < length second → k + 1 < pulses / 2 + length known → IsFullAtCorner limits before.pulses known pulses (slice_index_or second k d))
     → IsPaced limits stop (record {
       pulses = chord;
       lines = drop (pulses / 2) second;
     } ∷ (record { pulses = before.pulses; lines = (before.lines ++ first) ++ take (pulses / 2) second } ∷ rest))
 corner-paced limits stop slopes next chord before rest first second pulses most ramp most' ramp' paced straight some some' are are' farthest long_enough takes allowed
-    each each' len len' few half full =
+    each each' len len' few half full known_pulses others all enough some_known longest full' =
     (leg, (cornered, before_paced))
   where
     on : All (IsOnCorner limits stop before.pulses chord pulses) second
@@ -216,6 +226,14 @@ corner-paced limits stop slopes next chord before rest first second pulses most 
       full = λ k d short from to. absurd (omega (arith, back, half, short, from));
     }
 
+    within : (k : ℕ) → k < (pulses + 1) / 2 → k + 1 < length chord → (others ≡ []) ⊎ (4 * limits.half ≤ length known_pulses) → k + 1 < length known_pulses
+    within k short more (inl none) = omega (arith, more, ap length all, length-append known_pulses others, ap length none)
+    within k short more (inr long) = omega (arith, short, long, half, long_enough)
+
+    leaving : All (IsFullAtCorner limits before.pulses known_pulses pulses) (take (pulses / 2) second)
+    leaving = λ k d short. rw (get_or-take (pulses / 2) second k d (omega (arith, front, short)))
+        (full' k d (omega (arith, front, len', short)) (omega (arith, front, short, some_known)))
+
     cornered : IsCornered limits stop (record { pulses = before.pulses; lines = (before.lines ++ first) ++ take (pulses / 2) second })
         (record { pulses = chord; lines = drop (pulses / 2) second })
     cornered = record {
@@ -235,4 +253,14 @@ corner-paced limits stop slopes next chord before rest first second pulses most 
           rw cut (All-take (IsOnCorner limits stop before.pulses chord pulses) (pulses / 2) second on);
       enters = All-take (IsOnCorner limits stop before.pulses chord pulses) ((pulses + 1) / 2) (drop (pulses / 2) second)
           (All-drop (IsOnCorner limits stop before.pulses chord pulses) (pulses / 2) second on);
+      known = known_pulses;
+      others = others;
+      all = all;
+      enough = enough;
+      longest = longest;
+      leaves_full =
+          let cut : drop (length before.pulses - pulses / 2) ((before.lines ++ first) ++ take (pulses / 2) second) ≡ take (pulses / 2) second
+          = drop_at (before.lines ++ first) (take (pulses / 2) second) (length before.pulses - pulses / 2) known in
+          rw cut leaving;
+      enters_full = λ k d short more. rw (get_or-drop (pulses / 2) second k d) (full' (pulses / 2 + k) d (omega (arith, len', short)) (omega (arith, within k short more enough)));
     }

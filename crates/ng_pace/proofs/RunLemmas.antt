@@ -19,7 +19,7 @@ left_of line to start wanted = chosen ((wanted == 0) && nat_le to (start_square 
   chosen true is = inr (refl, grind (arith, nat_tests, is))
   chosen false is = inl refl
 
-passed_of : (old new : Motion) (wanted : ℕ) (given : Given) → IsGiven old new wanted given → IsPassed old.start old.square given new.square
+passed_of : (old new : Motion) (wanted : ℕ) (given : Given) → IsGiven old new wanted given → IsPassed old.start old.percent old.square given new.square
 passed_of old new wanted given g = record {
   least = g.least;
   time = g.time;
@@ -36,17 +36,17 @@ paced old [] new run = record { order = append-nil (all_items old) ∙ sym (ap a
 paced old (put item ∷ rest) new run =
     let later : IsPacedBeginning run.0 rest new = paced run.0 rest new run.1.1 in record {
       order = sym (append_assoc (all_items old) (item ∷ []) (items_put rest)) ∙ sym (ap (λ t. t ++ items_put rest) run.1.0.items) ∙ later.order;
-      passed = rw (run.1.0.settles.start, run.1.0.settles.square) at later.passed;
+      passed = rw (run.1.0.settles.start, run.1.0.settles.percent, run.1.0.settles.square) at later.passed;
     }
 paced old (end ∷ rest) new run =
     let later : IsPacedBeginning run.0 rest new = paced run.0 rest new run.1.1 in record {
       order = sym (ap (λ t. t ++ items_put rest) run.1.0.items) ∙ later.order;
-      passed = rw (run.1.0.settles.start, run.1.0.settles.square) at later.passed;
+      passed = rw (run.1.0.settles.start, run.1.0.settles.percent, run.1.0.settles.square) at later.passed;
     }
 paced old (ask wanted (Some given) ∷ rest) new run =
     let later : IsPacedBeginning run.0 rest new = paced run.0 rest new run.1.1 in record {
       order = ap (λ t. t ++ items_put rest) run.1.0.items ∙ ap (λ t. given.line.item ∷ t) later.order;
-      passed = (run.0.motion.square, (passed_of old.motion run.0.motion wanted given run.1.0.given_out, rw run.1.0.given_out.start at later.passed));
+      passed = (run.0.motion.square, (passed_of old.motion run.0.motion wanted given run.1.0.given_out, rw (run.1.0.given_out.start, run.1.0.given_out.percent) at later.passed));
     }
 paced old (ask wanted None ∷ rest) new run =
     let later : IsPacedBeginning old rest new = paced old rest new run.1 in record { order = later.order; passed = later.passed }

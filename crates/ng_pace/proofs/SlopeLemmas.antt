@@ -6,7 +6,7 @@ use Rattle.std.specs.Int.{abs_diff}
 use Rattle.ng_pace.specs.declared.slopes.Rise.{Rise}
 use Rattle.ng_pace.specs.declared.slopes.Slopes.{Slopes}
 use Rattle.ng_pace.specs.Chords.{Slope, IsSlope}
-use Rattle.ng_pace.specs.Cones.{IsFrom, IsUpTo, IsReached, size_of}
+use Rattle.ng_pace.specs.Cones.{IsFrom, IsUpTo, IsReached, IsReachedFrom, IsReachedUpTo, size_of}
 
 -- a slope from the greater of two is from the smaller
 pub from_greater : (r o r' o' over down w : ℕ) → 0 < o' → r * o' ≤ r' * o → r' * over + down * o' ≤ w * o' → r * over + down * o ≤ w * o
@@ -120,6 +120,32 @@ reached low high slopes slope some some' least least-next greatest greatest-next
           let b : high.steps * 1048576 * low.pulses ≤ slopes.greatest * high.pulses * low.pulses = mul-le-mul_right low.pulses greatest in
           omega (arith, order)
 
+    from_end : IsReachedFrom (λ s. IsFrom low s × IsUpTo high s) slopes.least
+    from_end = record {
+      slope = record { up = low.steps; down = low.pulses; over = low.pulses };
+      is = record { some = some; up = omega (arith, flat); down = omega arith };
+      holds = (omega arith, omega (arith, order));
+      near = omega (arith, least-next);
+    }
+
+    up_to_end : IsReachedUpTo (λ s. IsFrom low s × IsUpTo high s) (min slopes.greatest 2097152)
+    up_to_end = chosen (cases_lt (2 * high.pulses) high.steps) where
+      chosen : (2 * high.pulses < high.steps) ⊎ (high.steps ≤ 2 * high.pulses) → IsReachedUpTo (λ s. IsFrom low s × IsUpTo high s) (min slopes.greatest 2097152)
+      chosen (inl steep) = record {
+        slope = record { up = 1; down = 0; over = 1 };
+        is = record { some = omega arith; up = omega arith; down = omega arith };
+        holds = (omega (arith, flat), omega arith);
+        near = omega arith;
+      }
+      chosen (inr gentle) = record {
+        slope = record { up = high.steps; down = high.pulses; over = high.pulses };
+        is = record { some = some'; up = omega arith; down = omega arith };
+        holds = (omega (arith, order), omega arith);
+        near =
+            let less : min slopes.greatest 2097152 * high.pulses ≤ slopes.greatest * high.pulses = mul-le-mul_right high.pulses (omega arith) in
+            omega (arith, less, greatest-next);
+      }
+
     lower : slopes.least ≤ 1048576 → size_of slopes ≤ 1048576 - slopes.least → IsReached (λ s. IsFrom low s × IsUpTo high s) slopes
     lower below small = record {
       slope = record { up = low.steps; down = low.pulses; over = low.pulses };
@@ -129,6 +155,8 @@ reached low high slopes slope some some' least least-next greatest greatest-next
           let more : size_of slopes * low.pulses ≤ (1048576 - slopes.least) * low.pulses = mul-le-mul_right low.pulses small in
           let apart : (1048576 - slopes.least + slopes.least) * low.pulses ≤ 1048576 * low.pulses = mul-le-mul_right low.pulses (omega arith) in
           omega arith;
+      from = from_end;
+      up_to = up_to_end;
     }
 
     upper : 1048576 ≤ slopes.greatest → size_of slopes ≤ slopes.greatest - 1048576 → IsReached (λ s. IsFrom low s × IsUpTo high s) slopes
@@ -139,6 +167,8 @@ reached low high slopes slope some some' least least-next greatest greatest-next
         is = record { some = omega arith; up = omega arith; down = omega arith };
         holds = (omega (arith, flat), omega arith);
         size = omega arith;
+        from = from_end;
+        up_to = up_to_end;
       }
       chosen (inr gentle) = record {
         slope = record { up = high.steps; down = high.pulses; over = high.pulses };
@@ -148,6 +178,8 @@ reached low high slopes slope some some' least least-next greatest greatest-next
             let more : size_of slopes * high.pulses ≤ (slopes.greatest - 1048576) * high.pulses = mul-le-mul_right high.pulses small in
             let apart : (slopes.greatest - 1048576 + 1048576) * high.pulses ≤ slopes.greatest * high.pulses = mul-le-mul_right high.pulses (omega arith) in
             omega arith;
+        from = from_end;
+        up_to = up_to_end;
       }
 
     by_case : (1048576 < slopes.least) ⊎ (slopes.least ≤ 1048576)

@@ -1,5 +1,5 @@
 -- How far a path comes with each step of the code.
-use Rattle.std.proofs.Common.{arith, ℕ, ◌+◌, ◌-◌, ◌*◌, ◌/◌, ◌<◌, ◌≤◌, ◌≡◌, ◌∙◌, inl, inr, min, max, refl, ap, sym, subst, List, [], ◌∷◌, ◌++◌, length, slice_index_or, take, drop, All, append-nil, append_assoc, true, false, IsTrue, IsFalse}
+use Rattle.std.proofs.Common.{arith, ℕ, ◌+◌, ◌-◌, ◌*◌, ◌/◌, ◌<◌, ◌≤◌, ◌≡◌, ◌∙◌, ◌⊎◌, inl, inr, min, max, refl, ap, sym, subst, List, [], ◌∷◌, ◌++◌, length, slice_index_or, take, drop, All, append-nil, append_assoc, true, false, IsTrue, IsFalse}
 use Rattle.std.proofs.lemmas.List.{length-append, take-append-drop, length-take-le}
 use Rattle.std.proofs.lemmas.List.Elements.{All-weaker, All-nil}
 use Rattle.ng_canon.specs.declared.item.AxisStep.{AxisStep}
@@ -13,12 +13,13 @@ use Rattle.ng_pace.specs.Motion.{Motion}
 use Rattle.ng_pace.specs.Axes.{EachAxis}
 use Rattle.ng_pace.specs.Chords.{Slope, IsSlope, IsNear, IsStraight, slope_of}
 use Rattle.ng_pace.specs.Cones.{AreBetween}
-use Rattle.ng_pace.specs.Legs.{Leg, IsChord, IsFarthest, IsFullAt, IsPaced, IsBehind, IsAllowed, IsOnChord, IsOnCorner, steps_along, slope_along, pulses_of, lines_of}
+use Rattle.ng_pace.specs.Legs.{Leg, IsChord, IsFarthest, IsFullAt, IsFullAtCorner, IsPaced, IsBehind, IsAllowed, IsOnChord, IsOnCorner, steps_along, slope_along, pulses_of, lines_of}
 use Rattle.ng_pace.specs.Making.{IsWithin}
 use Rattle.ng_pace.specs.Putting.{KeepSoFar}
 use Rattle.ng_pace.specs.Passing.{PassesAlong, PassesCorner}
 use Rattle.ng_pace.specs.Underway.{AreCones, AreReached, AreSlopes, IsOpen, IsGoing, IsPending, IsJoined, IsPath, IsClosed, Advances, Reaches, Turns, Finishes, IsBegun, IsBehindFarthest, longer, kept_of}
 use Rattle.ng_pace.proofs.ConeLemmas.{near-push}
+use Rattle.ng_pace.proofs.CornerLemmas.{full-at-corner, longest}
 use Rattle.ng_pace.proofs.ExactLemmas.{full-on}
 use Rattle.ng_pace.proofs.PathLemmas.{slope-some, chord-front, on-chord, paced-more, corner-paced}
 
@@ -117,7 +118,8 @@ joined-corner limits stop chord waits leg (before ∷ rest) joined = joined.pend
 -- the lines up to the end of a corner, for one way that the chord goes on
 corner-lines : (limits : Limits) (stop : ℕ) (chord : Chord) (old new : Motion) (waited waits : List Waiting) (leg before : Leg) (rest : List Leg)
     (next : List Slopes) (pulses : List Pulse)
-    → IsPending limits stop chord (length waited) leg before rest → IsChord limits.slack pulses → length leg.pulses ≤ length pulses → 0 < length leg.pulses
+    → IsPending limits stop chord (length waited) leg before rest → IsChord limits.slack pulses → (others : List Pulse) → pulses ≡ leg.pulses ++ others
+    → (others ≡ []) ⊎ (4 * limits.half ≤ length leg.pulses) → AreReached limits.slack next leg.pulses → 0 < length leg.pulses
     → 0 < limits.half → IsFarthest limits.slack before.pulses pulses → AreSlopes next pulses
     → (p : PassesCorner limits chord.before next chord.before_pulses chord.pulses stop old new waited waits)
     → AreCounts (length before.lines) (length p.first.made) (length p.then.made) (length waits) (length leg.pulses) (length before.pulses) limits.half p.pulses
@@ -128,11 +130,22 @@ corner-lines : (limits : Limits) (stop : ℕ) (chord : Chord) (old new : Motion)
       pulses = before.pulses;
       lines = (before.lines ++ p.first.made) ++ take (p.pulses / 2) p.then.made;
     } ∷ rest))
-corner-lines limits stop chord old new waited waits leg before rest next pulses pending straight longer_is some half farthest are p count =
+corner-lines limits stop chord old new waited waits leg before rest next pulses pending straight others all enough reached some half farthest are p count =
     corner-paced limits stop chord.before next pulses before rest p.first.made p.then.made p.pulses p.before_most p.before_ramp p.most p.ramp pending.paced
     straight pending.some (omega (arith, some, longer_is))
     pending.before_is are farthest p.some p.takes p.before_allowed p.first.each p.then.each count.meets count.all (omega (arith, count.few, longer_is))
-    (omega (arith, p.half, half)) full where
+    (omega (arith, p.half, half)) full leg.pulses others all enough some
+    (longest limits before.pulses leg.pulses chord.before next chord.before_pulses chord.pulses p.pulses p.feed p.most p.ramp pending.before_reached reached p.full
+    pending.before_count pending.opened.count) full' where
+      longer_is : length leg.pulses ≤ length pulses
+      longer_is = omega (arith, ap length all, length-append leg.pulses others)
+
+      full' : (k : ℕ) (d : Line) → k < length p.then.made → k + 1 < p.pulses / 2 + length leg.pulses
+          → IsFullAtCorner limits before.pulses leg.pulses p.pulses (slice_index_or p.then.made k d)
+      full' k d short to = full-at-corner limits before.pulses leg.pulses chord.before next chord.before_pulses chord.pulses p.pulses p.feed p.most p.ramp
+          pending.before_reached reached p.full (slice_index_or p.then.made k d)
+          (p.then.full k d short (omega (arith, p.then.rest, count.all, count.left, to))) (p.feeds k d short)
+
       full : (k : ℕ) (d : Line) → k < length p.first.made → length before.lines + k + limits.half < length before.pulses
           → IsFullAt limits before.pulses (length before.lines + k) (slice_index_or p.first.made k d)
       full k d short to = record {
@@ -178,9 +191,10 @@ back-length k s few = omega (arith, ap length (take-append-drop k s), length-app
 pub corner-path : (limits : Limits) (stop : ℕ) (chord chord' : Chord) (old new : Motion) (waited waits : List Waiting) (leg before : Leg) (rest : List Leg)
     (next : List Slopes)
     → IsPending limits stop chord (length waited) leg before rest → 0 < length leg.pulses → 0 < limits.half → AreAhead limits.slack next leg.pulses
+    → AreReached limits.slack next leg.pulses → 4 * limits.half ≤ chord.pulses
     → PassesCorner limits chord.before next chord.before_pulses chord.pulses stop old new waited waits → chord' ≡ record chord { has_corner = false }
     → Advances limits stop old new chord' (length waits) (pulses_of (leg ∷ (before ∷ rest))) (lines_of (leg ∷ (before ∷ rest)))
-corner-path limits stop chord chord' old new waited waits leg before rest next pending some half ahead p e =
+corner-path limits stop chord chord' old new waited waits leg before rest next pending some half ahead reached long p e =
     let count : AreCounts (length before.lines) (length p.first.made) (length p.then.made) (length waits) (length leg.pulses) (length before.pulses)
     limits.half p.pulses
     = corner-counts limits stop chord old new waited waits leg before rest next pending some half p in
@@ -197,7 +211,7 @@ corner-path limits stop chord chord' old new waited waits leg before rest next p
         opened = opened-decided limits chord chord' leg.pulses e pending.opened;
         decided = ap (λ t. t.has_corner) e;
         paced = λ more straight. corner-lines limits stop chord old new waited waits leg before rest next (leg.pulses ++ more) pending straight
-            (omega (arith, length-append leg.pulses more)) some half (farthest-more limits.slack before.pulses leg.pulses more some pending.farthest)
+            more refl (inr (omega (arith, long, pending.opened.count))) reached some half (farthest-more limits.slack before.pulses leg.pulses more some pending.farthest)
             (slopes-ahead limits.slack next leg.pulses more some ahead straight) p count;
         waits_are = omega (arith, back, count.all, count.left);
         kept = omega (arith, back, count.all, count.kept);
@@ -209,10 +223,10 @@ corner-path limits stop chord chord' old new waited waits leg before rest next p
 pub corner-reach : (limits : Limits) (stop : ℕ) (chord : Chord) (old new : Motion) (waited waits : List Waiting) (leg before : Leg) (rest : List Leg)
     (next : List Slopes)
     → IsPending limits stop chord (length waited) leg before rest → 0 < length leg.pulses → 0 < limits.half → AreSlopes next leg.pulses
-    → PassesCorner limits chord.before next chord.before_pulses chord.pulses stop old new waited waits
+    → AreReached limits.slack next leg.pulses → PassesCorner limits chord.before next chord.before_pulses chord.pulses stop old new waited waits
     → Reaches limits stop old new (length waits) leg.pulses (pulses_of (leg ∷ (before ∷ rest))) (lines_of (leg ∷ (before ∷ rest)))
     × (kept_of limits.half (length leg.pulses) ≤ length waits)
-corner-reach limits stop chord old new waited waits leg before rest next pending some half are p =
+corner-reach limits stop chord old new waited waits leg before rest next pending some half are reached p =
     let count : AreCounts (length before.lines) (length p.first.made) (length p.then.made) (length waits) (length leg.pulses) (length before.pulses)
     limits.half p.pulses
     = corner-counts limits stop chord old new waited waits leg before rest next pending some half p in
@@ -225,7 +239,8 @@ corner-reach limits stop chord old new waited waits leg before rest next pending
         rest = record { pulses = before.pulses; lines = (before.lines ++ p.first.made) ++ take (p.pulses / 2) p.then.made } ∷ rest;
         pulses_are = refl;
         lines_are = corner-split leg before rest p.first.made p.then.made (p.pulses / 2) pending.none;
-        paced = corner-lines limits stop chord old new waited waits leg before rest next leg.pulses pending pending.opened.straight (omega arith) some half pending.farthest are p
+        paced = corner-lines limits stop chord old new waited waits leg before rest next leg.pulses pending pending.opened.straight []
+            (sym (append-nil leg.pulses)) (inl refl) reached some half pending.farthest are p
             count;
         waits_are = omega (arith, back, count.all, count.left);
       },
@@ -271,24 +286,25 @@ path-stays limits stop chord m waits leg rest path some = record {
 pub decide-path : (limits : Limits) (stop : ℕ) (chord chord' : Chord) (old new : Motion) (waited waits : List Waiting) (leg : Leg) (rest : List Leg)
     (next : List Slopes)
     → IsPath limits stop chord (length waited) (leg ∷ rest) → IsTrue chord.has_corner → 0 < length leg.pulses → 0 < limits.half
-    → (IsOpen limits chord leg.pulses → AreAhead limits.slack next leg.pulses)
+    → (IsOpen limits chord leg.pulses → AreAhead limits.slack next leg.pulses) → (IsOpen limits chord leg.pulses → AreReached limits.slack next leg.pulses)
+    → (IsOpen limits chord leg.pulses → 4 * limits.half ≤ chord.pulses)
     → PassesCorner limits chord.before next chord.before_pulses chord.pulses stop old new waited waits → chord' ≡ record chord { has_corner = false }
     → Advances limits stop old new chord' (length waits) (pulses_of (leg ∷ rest)) (lines_of (leg ∷ rest))
-decide-path limits stop chord chord' old new waited waits leg rest next (inl going) has some half ahead p e = absurd (cc (going.decided, has))
-decide-path limits stop chord chord' old new waited waits leg [] next (inr joined) has some half ahead p e = absurd joined
-decide-path limits stop chord chord' old new waited waits leg (before ∷ rest) next (inr pending) has some half ahead p e =
-    corner-path limits stop chord chord' old new waited waits leg before rest next pending some half (ahead pending.opened) p e
+decide-path limits stop chord chord' old new waited waits leg rest next (inl going) has some half ahead reached long p e = absurd (cc (going.decided, has))
+decide-path limits stop chord chord' old new waited waits leg [] next (inr joined) has some half ahead reached long p e = absurd joined
+decide-path limits stop chord chord' old new waited waits leg (before ∷ rest) next (inr pending) has some half ahead reached long p e =
+    corner-path limits stop chord chord' old new waited waits leg before rest next pending some half (ahead pending.opened) (reached pending.opened) (long pending.opened) p e
 
 pub reach-path : (limits : Limits) (stop : ℕ) (chord : Chord) (old new : Motion) (waited waits : List Waiting) (leg : Leg) (rest : List Leg)
     (next : List Slopes)
     → IsPath limits stop chord (length waited) (leg ∷ rest) → IsTrue chord.has_corner → 0 < length leg.pulses → 0 < limits.half → AreSlopes next leg.pulses
-    → PassesCorner limits chord.before next chord.before_pulses chord.pulses stop old new waited waits
+    → AreReached limits.slack next leg.pulses → PassesCorner limits chord.before next chord.before_pulses chord.pulses stop old new waited waits
     → Reaches limits stop old new (length waits) leg.pulses (pulses_of (leg ∷ rest)) (lines_of (leg ∷ rest))
     × (kept_of limits.half (length leg.pulses) ≤ length waits)
-reach-path limits stop chord old new waited waits leg rest next (inl going) has some half are p = absurd (cc (going.decided, has))
-reach-path limits stop chord old new waited waits leg [] next (inr joined) has some half are p = absurd joined
-reach-path limits stop chord old new waited waits leg (before ∷ rest) next (inr pending) has some half are p
-    = corner-reach limits stop chord old new waited waits leg before rest next pending some half are p
+reach-path limits stop chord old new waited waits leg rest next (inl going) has some half are reached p = absurd (cc (going.decided, has))
+reach-path limits stop chord old new waited waits leg [] next (inr joined) has some half are reached p = absurd joined
+reach-path limits stop chord old new waited waits leg (before ∷ rest) next (inr pending) has some half are reached p
+    = corner-reach limits stop chord old new waited waits leg before rest next pending some half are reached p
 
 pub reached-path : (limits : Limits) (stop : ℕ) (chord : Chord) (m : Motion) (waited : List Waiting) (leg : Leg) (rest : List Leg)
     → IsPath limits stop chord (length waited) (leg ∷ rest) → IsFalse chord.has_corner
@@ -429,6 +445,13 @@ behind-stop limits stop leg (before ∷ rest) behind = record {
       (λ line on. allowed-stop _ stop line on) _ behind.leaves;
   enters = All-weaker (IsOnCorner limits 0 before.pulses leg.pulses behind.pulses) (IsOnCorner limits stop before.pulses leg.pulses behind.pulses)
       (λ line on. allowed-stop _ stop line on) _ behind.enters;
+  known = behind.known;
+  others = behind.others;
+  all = behind.all;
+  enough = behind.enough;
+  longest = behind.longest;
+  leaves_full = behind.leaves_full;
+  enters_full = behind.enters_full;
 }
 
 pub paced-stop : (limits : Limits) (stop : ℕ) (legs : List Leg) → IsPaced limits 0 legs → IsPaced limits stop legs

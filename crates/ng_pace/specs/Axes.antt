@@ -2,6 +2,7 @@
 -- by at most `ramp` from one pulse to the next. A slope is that of an axis: steps over pulses, without a sign.
 use Rattle.std.specs.Prelude.{ℕ, ◌+◌, ◌*◌, ◌/◌, ◌^◌, ◌<◌, ◌≤◌, ◌⊎◌, List, slice_index}
 use Rattle.ng_pace.specs.declared.limits.Limits.{Limits}
+use Rattle.ng_pace.specs.Due.{IsPercent}
 
 -- what holds of each axis, by its number
 pub record EachAxis (P : ℕ → Type 0) : Type 0 where
@@ -41,6 +42,7 @@ pub record AreLimits (limits : Limits) : Type 0 where
   pub half : 0 < limits.half
   pub slack : 0 < limits.slack
   pub slack_at_most : limits.slack ≤ 1000
+  pub percent : IsPercent limits.most_percent
 
 -- along a slope the rate of an axis is the slope times that of the pulses: its acceleration is the slope times half the
 -- ramp

@@ -19,6 +19,7 @@ pub record IsEmpty (flow : Flow) (limits : Limits) (room : ℕ) : Type 0 where
   pub before : flow.before ≡ no_pulse
   pub start : flow.motion.start ≡ start_of limits
   pub stops : IsStop limits flow.motion.start
+  pub percent : flow.motion.percent ≡ limits.most_percent
   pub room_is : flow.motion.room ≡ room
   pub limits_are : flow.limits ≡ limits
   pub can_be_kept : AreLimits limits
@@ -27,9 +28,9 @@ pub record IsEmpty (flow : Flow) (limits : Limits) (room : ℕ) : Type 0 where
 -- an item is put in, behind all that are known
 pub record IsPut (old new : Flow) (item : Item) : Type 0 where
   pub items : all_items new ≡ all_items old ++ item ∷ []
-  pub settles : Settles old.motion new.motion (old.waiting ++ (record { item = item; full = full_of old.before item }) ∷ []) new.waiting
+  pub settles : Settles old.motion new.motion (old.waiting ++ (record { item = item; full = full_of old.limits.most_percent old.before item }) ∷ []) new.waiting
   pub stands : StandsAt new.motion.known new.waiting item
-  pub before : new.before ≡ square_behind item
+  pub before : new.before ≡ square_behind old.limits.most_percent item
   pub rests : CanRest new.motion.square new.motion.known
   pub limits : new.limits ≡ old.limits
   -- few items wait

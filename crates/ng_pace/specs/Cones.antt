@@ -1,5 +1,5 @@
 -- What the code keeps of slopes. There a slope is counted from a step back at each pulse, so that none is below 0.
-use Rattle.std.specs.Prelude.{ℕ, ◌≡◌, ◌+◌, ◌*◌, ◌^◌, ◌<◌, ◌≤◌, min, max, List, length, slice_index_or}
+use Rattle.std.specs.Prelude.{ℕ, ◌≡◌, ◌+◌, ◌-◌, ◌*◌, ◌^◌, ◌<◌, ◌≤◌, min, max, List, length, slice_index_or}
 use Rattle.std.specs.Int.{abs_diff}
 use Rattle.ng_canon.specs.declared.item.AxisStep.{AxisStep}
 use Rattle.ng_pace.specs.declared.slopes.Rise.{Rise}
@@ -23,12 +23,33 @@ pub record IsBetween (slopes : Slopes) (slope : Slope) : Type 0 where
 abbrev pub size_of : Slopes → ℕ
 size_of slopes = min (max (abs_diff slopes.least (2 ^ 20)) (abs_diff slopes.greatest (2 ^ 20))) (2 ^ 20)
 
--- it is that of a slope of which something holds, but for one part of 2^20
+-- the greatest change from one of some slopes to one of others, in parts of 2^20; no slope is more than a step a pulse
+abbrev pub turn_of : Slopes → Slopes → ℕ
+turn_of before after = max (min after.greatest (2 ^ 21) - before.least) (min before.greatest (2 ^ 21) - after.least)
+
+-- a slope of which something holds is this one, or less, but for one part of 2^20
+pub record IsReachedFrom (Holds : Slope → Type 0) (least : ℕ) : Type 0 where
+  pub slope : Slope
+  pub is : IsSlope slope
+  pub holds : Holds slope
+  pub near : (slope.up + slope.over) * 2 ^ 20 ≤ least * slope.over + slope.down * 2 ^ 20 + slope.over
+
+-- or this one, or greater
+pub record IsReachedUpTo (Holds : Slope → Type 0) (greatest : ℕ) : Type 0 where
+  pub slope : Slope
+  pub is : IsSlope slope
+  pub holds : Holds slope
+  pub near : greatest * slope.over + slope.down * 2 ^ 20 ≤ (slope.up + slope.over) * 2 ^ 20 + slope.over
+
+-- the greatest, the least and the one without its sign are those of slopes of which something holds, but for one part
+-- of 2^20
 pub record IsReached (Holds : Slope → Type 0) (slopes : Slopes) : Type 0 where
   pub slope : Slope
   pub is : IsSlope slope
   pub holds : Holds slope
   pub size : size_of slopes * slope.over ≤ abs_diff slope.up slope.down * 2 ^ 20 + slope.over
+  pub from : IsReachedFrom Holds slopes.least
+  pub up_to : IsReachedUpTo Holds (min slopes.greatest (2 ^ 21))
 
 -- the same of an axis, by its number
 abbrev pub AreBetween : List Slopes → ℕ → Slope → Type 0

@@ -1,23 +1,30 @@
 -- The own time of an item.
-use Rattle.std.specs.Prelude.{ℕ, ◌-◌, ◌*◌, ◌/◌, ◌^◌, ◌==◌, min, max, if◌then◌else◌}
+use Rattle.std.specs.Prelude.{ℕ, ◌+◌, ◌-◌, ◌*◌, ◌/◌, ◌^◌, ◌<◌, ◌≤◌, ◌⊎◌, min, max}
 use Rattle.ng_canon.specs.declared.item.Item.{Item}
 use Rattle.ng_canon.specs.declared.item.Item.TheVariants.{Pulse, Dwell, Switch}
 
--- in microseconds, as the controller says
-abbrev pub due_us : Item → ℕ
-due_us (Pulse pulse) = pulse.period_us
-due_us (Dwell us) = us
-due_us (Switch outputs) = 0
+-- the rates that are taken, in percent of those that the controller says: from them to twice as much
+abbrev pub IsPercent : ℕ → Type 0
+IsPercent percent = (100 ≤ percent) × (percent ≤ 200)
 
--- in nanoseconds; 584 years, if it is longer
-abbrev pub least_ns : Item → ℕ
-least_ns item = min (due_us item * 1000) (2 ^ 64 - 1)
+abbrev pub IsNoPercent : ℕ → Type 0
+IsNoPercent percent = (percent < 100) ⊎ (200 < percent)
 
--- the rate of pulses of so many microseconds, in pulses a second times 2^8: rounded down, but not to 0; pulses of none
--- come as those of 1
-abbrev pub own_rate : ℕ → ℕ
-own_rate us = if us == 0 then 256000000 else max (256000000 / us) 1
+-- in nanoseconds: a pulse at so many percent of its rate, rounded up; a dwell as long as the controller says
+abbrev pub due_ns : ℕ → Item → ℕ
+due_ns percent (Pulse pulse) = (pulse.period_us * 100000 + (percent - 1)) / percent
+due_ns percent (Dwell us) = us * 1000
+due_ns percent (Switch outputs) = 0
+
+-- 584 years, if it is longer
+abbrev pub least_ns : ℕ → Item → ℕ
+least_ns percent item = min (due_ns percent item) (2 ^ 64 - 1)
+
+-- the rate of pulses of so many microseconds, at so many percent, in pulses a second times 2^8: rounded down, but not to
+-- 0; pulses of none come as those of 1
+abbrev pub own_rate : ℕ → ℕ → ℕ
+own_rate percent us = max (2560000 * percent / max us 1) 1
 
 -- its square
-abbrev pub own_square : ℕ → ℕ
-own_square us = own_rate us * own_rate us
+abbrev pub own_square : ℕ → ℕ → ℕ
+own_square percent us = own_rate percent us * own_rate percent us

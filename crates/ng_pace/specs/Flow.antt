@@ -43,15 +43,15 @@ abbrev pub no_pulse : ℕ
 no_pulse = 2 ^ 58
 
 -- between two pulses the rate is no more than either's own; at all else everything stands still
-abbrev pub full_of : ℕ → Item → ℕ
-full_of before (Pulse pulse) = min (own_square pulse.period_us) before
-full_of before (Dwell us) = 0
-full_of before (Switch outputs) = 0
+abbrev pub full_of : ℕ → ℕ → Item → ℕ
+full_of percent before (Pulse pulse) = min (own_square percent pulse.period_us) before
+full_of percent before (Dwell us) = 0
+full_of percent before (Switch outputs) = 0
 
-abbrev pub square_behind : Item → ℕ
-square_behind (Pulse pulse) = own_square pulse.period_us
-square_behind (Dwell us) = no_pulse
-square_behind (Switch outputs) = no_pulse
+abbrev pub square_behind : ℕ → Item → ℕ
+square_behind percent (Pulse pulse) = own_square percent pulse.period_us
+square_behind percent (Dwell us) = no_pulse
+square_behind percent (Switch outputs) = no_pulse
 
 abbrev pub timed_lines : List Line → List Timed
 timed_lines [] = []
@@ -75,6 +75,7 @@ pub record Settles (old new : Motion) (waited waits : List Timed) : Type 0 where
   pub own : AreOwn settled
   pub square : new.square ≡ old.square
   pub start : new.start ≡ old.start
+  pub percent : new.percent ≡ old.percent
   pub room : new.room ≡ old.room
 
 -- the line of an item at which everything stands still

@@ -17,10 +17,11 @@ time_at least both = if both == 0 then max least 1000000000 else max ((512000000
 abbrev pub is_at_full_rate : Line → ℕ → ℕ → Bool
 is_at_full_rate line from to = (from == to) && (to == line.full)
 
--- the time of a line whose square goes from one to another: its own at its own rate, otherwise that of the mean rate
-pub record IsTimeOf (line : Line) (from to ns : ℕ) : Type 0 where
+-- the time of a line whose square goes from one to another, where own times are at so many percent: its own at its own
+-- rate, otherwise that of the mean rate
+pub record IsTimeOf (percent : ℕ) (line : Line) (from to ns : ℕ) : Type 0 where
   pub root_from : ℕ
   pub root_to : ℕ
   pub is_root_from : IsRoot from root_from
   pub is_root_to : IsRoot to root_to
-  pub time : ns ≡ (if is_at_full_rate line from to then least_ns line.item else time_at (least_ns line.item) (root_from + root_to))
+  pub time : ns ≡ (if is_at_full_rate line from to then least_ns percent line.item else time_at (least_ns percent line.item) (root_from + root_to))

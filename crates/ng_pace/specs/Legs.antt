@@ -95,6 +95,56 @@ pub record IsFullAt (limits : Limits) (chord : List Pulse) (k : ℕ) (line : Lin
   pub its : k < length known
   pub full : IsFullOn limits known line
 
+-- at a corner an axis turns as fast as may be: along slopes that it may get on both sides, near the pulses before it and
+-- those that are known behind it, three quarters of its acceleration are no more than this square takes, but for less
+-- than 3 squares of a pulse a second, and 2 steps in 2^20 pulses
+pub record IsTurnSpent (limits : Limits) (axis : ℕ) (before known : List Pulse) (pulses most : ℕ) : Type 0 where
+  pub slope : Slope
+  pub next : Slope
+  pub is : IsSlope slope
+  pub is_next : IsSlope next
+  pub near : IsNear limits.slack slope (steps_along axis before)
+  pub near_next : IsNear limits.slack next (steps_along axis known)
+  pub full : 3 * slice_index limits.accel axis * pulses * (slope.over * next.over) * 2 ^ 20
+      < 4 * (turn_between slope next * 2 ^ 20 + 2 * (slope.over * next.over)) * (most / 2 ^ 16 + 3)
+
+-- and with this ramp it has a quarter of its acceleration, at least, along one of them
+pub record IsQuarterSpent (limits : Limits) (axis : ℕ) (known : List Pulse) (ramp : ℕ) : Type 0 where
+  pub slope : Slope
+  pub is : IsSlope slope
+  pub near : IsNear limits.slack slope (steps_along axis known)
+  pub full : 2 * (slice_index limits.accel axis / 4) * slope.over * 2 ^ 20
+      < (abs_diff slope.up slope.down * 2 ^ 20 + slope.over) * (ramp / 2 ^ 16 + 1)
+
+-- a line has the greatest square that the axes have at a corner: that of its own rate, that of a chord, or that at which
+-- some axis turns as fast as may be. Its ramp is no less than a quarter of the acceleration of some axis allows
+pub record IsFullAtCorner (limits : Limits) (before known : List Pulse) (pulses : ℕ) (line : Line) : Type 0 where
+  pub most : ℕ
+  pub ramp : ℕ
+  pub most_is : line.most ≡ min most line.full
+  pub ramp_is : line.ramp ≡ min ramp (2 ^ 58)
+  pub square : (line.full ≤ most) ⊎ ((2 ^ 58 ≤ most) ⊎ SomeAxis
+      (λ axis. IsRateSpent limits axis before most ⊎ (IsRateSpent limits axis known most ⊎ IsTurnSpent limits axis before known pulses most)))
+  pub quarter : (2 ^ 58 ≤ ramp) ⊎ SomeAxis (λ axis. IsQuarterSpent limits axis before ramp ⊎ IsQuarterSpent limits axis known ramp)
+
+-- over so many pulses an axis leaves its chords too far, along slopes that it may get, but for 2 steps in 2^20 pulses
+pub record IsTooFar (limits : Limits) (axis : ℕ) (before known : List Pulse) (pulses : ℕ) : Type 0 where
+  pub slope : Slope
+  pub next : Slope
+  pub is : IsSlope slope
+  pub is_next : IsSlope next
+  pub near : IsNear limits.slack slope (steps_along axis before)
+  pub near_next : IsNear limits.slack next (steps_along axis known)
+  pub by_slack : 8 * limits.slack * (slope.over * next.over) * 2 ^ 20 < (turn_between slope next * 2 ^ 20 + 2 * (slope.over * next.over)) * pulses
+  pub by_start : slice_index limits.start axis * slice_index limits.start axis * (slope.over * next.over) * 2 ^ 20
+      < ((turn_between slope next * 2 ^ 20 + 2 * (slope.over * next.over)) * pulses + slope.over * next.over * 2 ^ 20) * slice_index limits.accel axis
+
+-- a corner is taken over as many pulses as may be: more would be more than half of a corner on a side, than the chord
+-- before it has, than are known behind it, or too far for some axis; or it is as many as no chord has
+abbrev pub IsLongest : Limits → List Pulse → List Pulse → ℕ → Type 0
+IsLongest limits before known pulses = (2 ^ 32 ≤ pulses) ⊎ ((2 * limits.half ≤ pulses) ⊎ ((length before ≤ pulses) ⊎ ((length known ≤ pulses) ⊎
+    SomeAxis (λ axis. IsTooFar limits axis before known (pulses + 1)))))
+
 -- a chord, and the lines that were made of its first pulses
 pub record Leg : Type 0 where
   pub pulses : List Pulse
@@ -120,6 +170,16 @@ pub record IsCornered (limits : Limits) (stop : ℕ) (before after : Leg) : Type
   pub begun : (pulses + 1) / 2 ≤ length after.lines
   pub leaves : All (IsOnCorner limits stop before.pulses after.pulses pulses) (drop (length before.pulses - pulses / 2) before.lines)
   pub enters : All (IsOnCorner limits stop before.pulses after.pulses pulses) (take ((pulses + 1) / 2) after.lines)
+  -- it is decided by the first pulses of the chord behind it, 4 times `half`, or by all
+  pub known : List Pulse
+  pub others : List Pulse
+  pub all : after.pulses ≡ known ++ others
+  pub enough : (others ≡ []) ⊎ (4 * limits.half ≤ length known)
+  -- it is taken over as many pulses as may be, and its lines have the greatest squares: all but the last of a path
+  pub longest : IsLongest limits before.pulses known pulses
+  pub leaves_full : All (IsFullAtCorner limits before.pulses known pulses) (drop (length before.pulses - pulses / 2) before.lines)
+  pub enters_full : (k : ℕ) (d : Line) → k < (pulses + 1) / 2 → k + 1 < length after.pulses
+      → IsFullAtCorner limits before.pulses known pulses (slice_index_or after.lines k d)
 
 abbrev pub IsBehind : Limits → ℕ → Leg → List Leg → Type 0
 IsBehind limits stop leg [] = Unit {0}

@@ -19,8 +19,8 @@ pub record IsGiven (old new : Motion) (wanted : ℕ) (given : Given) : Type 0 wh
   -- from rest a line is given out only if some motion is wanted
   pub moves : (0 < old.square) ⊎ (0 < wanted)
   -- never sooner than its own time, and at the time of its squares
-  pub least : least_ns given.line.item ≤ given.ns
-  pub time : IsTimeOf given.line given.from given.to given.ns
+  pub least : least_ns old.percent given.line.item ≤ given.ns
+  pub time : IsTimeOf old.percent given.line given.from given.to given.ns
   -- the square goes on from what was left of it, and is none that the line doesn't allow
   pub goes_on : 0 < old.square → given.from ≡ old.square
   pub within : given.from ≤ given.line.most
@@ -30,6 +30,7 @@ pub record IsGiven (old new : Motion) (wanted : ℕ) (given : Given) : Type 0 wh
   -- a rest can be reached, whatever comes
   pub rests : CanRest new.square new.known
   pub start : new.start ≡ old.start
+  pub percent : new.percent ≡ old.percent
   pub room : new.room ≡ old.room
 
 -- nothing is to be given out: no line is known, or it is at rest and is to be

@@ -2,12 +2,13 @@
 use Rattle.std.specs.Prelude.{ℕ, ◌-◌, ◌*◌, ◌/◌, ◌^◌, ◌<◌, ◌≤◌, ◌≡◌, max, List, length, slice_index, slice_index_or}
 use Rattle.std.specs.Int.{abs_diff}
 use Rattle.ng_pace.specs.declared.limits.Limits.{Limits}
+use Rattle.ng_pace.specs.declared.line.Line.{Line}
 use Rattle.ng_pace.specs.declared.slopes.Slopes.{Slopes}
 use Rattle.ng_pace.specs.declared.chord.Waiting.{Waiting}
 use Rattle.ng_pace.specs.Motion.{Motion}
-use Rattle.ng_pace.specs.Axes.{EachAxis, IsAlong, IsFullRamp, IsFullRate, IsNearCorner}
+use Rattle.ng_pace.specs.Axes.{AreMostPulses, EachAxis, IsAlong, IsFullCorner, IsFullRamp, IsFullRate, IsNearCorner, IsQuarterRamp}
 use Rattle.ng_pace.specs.Chords.{Slope, IsSlope}
-use Rattle.ng_pace.specs.Cones.{AreBetween, size_of}
+use Rattle.ng_pace.specs.Cones.{AreBetween, size_of, turn_of}
 use Rattle.ng_pace.specs.Legs.{IsTurning, turn_between}
 use Rattle.ng_pace.specs.Making.{Makes}
 
@@ -38,6 +39,17 @@ pub record TakesCorner (limits : Limits) (before after : List Slopes) (pulses mo
   pub turning : EachAxis (λ axis. (slope : Slope) (next : Slope) → IsSlope slope → IsSlope next → AreBetween before axis slope → AreBetween after axis next
       → IsTurning limits axis slope next pulses most ramp)
 
+-- over no more pulses, and no faster, some axis can turn from one of these slopes to one of the others; no item at the
+-- corner is faster than `feed` in its own time
+pub record TurnAll (limits : Limits) (before after : List Slopes) (count count' pulses feed most ramp : ℕ) : Type 0 where
+  pub sizes : List ℕ
+  pub turns : List ℕ
+  pub sizes_are : EachAxis (λ axis. (d : Slopes) → slice_index sizes axis ≡ max (size_of (slice_index_or before axis d)) (size_of (slice_index_or after axis d)))
+  pub turns_are : EachAxis (λ axis. (d : Slopes) → slice_index turns axis ≡ turn_of (slice_index_or before axis d) (slice_index_or after axis d))
+  pub longest : AreMostPulses limits turns (2 ^ 20) count count' pulses
+  pub square : IsFullCorner limits sizes turns (2 ^ 20) pulses feed most
+  pub quarter : IsQuarterRamp limits sizes (2 ^ 20) ramp
+
 -- lines are made up to the end of a corner, behind which so many pulses wait: along the chord before it, and then at
 -- the corner
 pub record PassesCorner (limits : Limits) (before after : List Slopes) (count count' stop : ℕ) (old new : Motion) (waited waits : List Waiting) : Type 0 where
@@ -57,3 +69,6 @@ pub record PassesCorner (limits : Limits) (before after : List Slopes) (count co
   pub ramp : ℕ
   pub takes : TakesCorner limits before after pulses most ramp
   pub then : Makes mid new left waits most ramp stop pulses
+  pub feed : ℕ
+  pub feeds : (k : ℕ) (d : Line) → k < length then.made → (slice_index_or then.made k d).full ≤ feed
+  pub full : TurnAll limits before after count count' pulses feed most ramp

@@ -45,10 +45,10 @@ items_given [] = []
 items_given (given ∷ rest) = given.line.item ∷ items_given rest
 
 -- a line is passed, and the square goes on from what was left of it to what is left then
-pub record IsPassed (start square : ℕ) (given : Given) (left : ℕ) : Type 0 where
+pub record IsPassed (start percent square : ℕ) (given : Given) (left : ℕ) : Type 0 where
   -- never sooner than in its own time, and in the time of its squares
-  pub least : least_ns given.line.item ≤ given.ns
-  pub time : IsTimeOf given.line given.from given.to given.ns
+  pub least : least_ns percent given.line.item ≤ given.ns
+  pub time : IsTimeOf percent given.line given.from given.to given.ns
   pub goes_on : 0 < square → given.from ≡ square
   pub starts : square ≡ 0 → given.from ≤ start_square given.line start
   pub within : given.from ≤ given.line.most
@@ -58,14 +58,15 @@ pub record IsPassed (start square : ℕ) (given : Given) (left : ℕ) : Type 0 w
   pub stops : (left ≡ given.to) ⊎ ((left ≡ 0) × (given.to ≤ start_square given.line start))
 
 -- one line after another is passed so, from a square to another
-abbrev pub ArePassed : ℕ → ℕ → List Given → ℕ → Type 0
-ArePassed start square [] left = left ≡ square
-ArePassed start square (given ∷ rest) left = (next : ℕ) × (IsPassed start square given next × ArePassed start next rest left)
+abbrev pub ArePassed : ℕ → ℕ → ℕ → List Given → ℕ → Type 0
+ArePassed start percent square [] left = left ≡ square
+ArePassed start percent square (given ∷ rest) left
+    = (next : ℕ) × (IsPassed start percent square given next × ArePassed start percent next rest left)
 
 -- each line once, in order, and each is passed so, whatever was wanted and whenever lines came
 pub record IsPacedBeginning (old : Flow) (events : List Event) (new : Flow) : Type 0 where
   pub order : all_items old ++ items_put events ≡ items_given (lines_given events) ++ all_items new
-  pub passed : ArePassed old.motion.start old.motion.square (lines_given events) new.motion.square
+  pub passed : ArePassed old.motion.start old.motion.percent old.motion.square (lines_given events) new.motion.square
 
 -- lines are asked for, and nothing else happens; some motion is wanted each time
 abbrev pub AsksOnly : List Event → Type 0

@@ -1,7 +1,8 @@
 //! Corners between two chords.
-ghost use Rattle.std.specs.Prelude.{◌≤◌, ◌<◌, ◌+◌, ◌*◌, ◌/◌, ◌^◌, ◌⊎◌, max, slice_index};
+ghost use Rattle.std.specs.Prelude.{◌≡◌, ◌≤◌, ◌<◌, ◌+◌, ◌*◌, ◌/◌, ◌^◌, ◌⊎◌, max, slice_index, slice_index_or};
 ghost use Rattle.ng_pace.specs.Chords.{Slope, IsSlope};
-ghost use Rattle.ng_pace.specs.Cones.{AreBetween, IsBetween, IsTurn};
+ghost use Rattle.ng_pace.specs.Cones.{AreBetween, IsBetween, IsTurn, size_of, turn_of};
+ghost use Rattle.ng_pace.specs.declared.slopes.Slopes.{Slopes};
 ghost use Rattle.ng_pace.specs.Axes.{AreLimits, AreMostPulses, EachAxis, IsCorner, IsFarFromCorner};
 ghost use Rattle.ng_pace.specs.Axes.{IsFullCorner, IsNearCorner, IsQuarterRamp};
 
@@ -20,6 +21,7 @@ pub(crate) struct Turn {
 fn axis_turn(before: &Slopes, after: &Slopes) -> (u64, u64)
     ensures size { result.0 ≤ STEP }
     ensures turn { result.1 ≤ 2 * STEP }
+    ensures exact { (result.0 ≡ max (size_of before.now) (size_of after.now)) × (result.1 ≡ turn_of before.now after.now) }
     ensures most { (slope : Slope) (next : Slope) → IsSlope slope → IsSlope next → IsBetween before.now slope
         → IsBetween after.now next
         → IsTurn result.0 result.1 slope next }
@@ -32,6 +34,10 @@ impl Turn {
     pub(crate) fn between(before: &[Slopes; 3], after: &[Slopes; 3]) -> Turn
         ensures size { EachAxis (λ i. slice_index result.slope i ≤ STEP) }
         ensures turn { EachAxis (λ i. slice_index result.turn i ≤ 2 * STEP) }
+        ensures sizes { EachAxis (λ i. (d : Slopes) → slice_index result.slope i
+            ≡ max (size_of (slice_index_or before.now i d)) (size_of (slice_index_or after.now i d))) }
+        ensures turns { EachAxis (λ i. (d : Slopes) → slice_index result.turn i
+            ≡ turn_of (slice_index_or before.now i d) (slice_index_or after.now i d)) }
         ensures most { EachAxis (λ i. (slope : Slope) (next : Slope) → IsSlope slope → IsSlope next
             → AreBetween before.now i slope → AreBetween after.now i next
             → IsTurn (slice_index result.slope i) (slice_index result.turn i) slope next) }

@@ -15,6 +15,8 @@ pub enum PaceFault {
     NoSlack,
     /// A motor may be off its pulses by more than 1,000 steps.
     SlackTooGreat,
+    /// The most that is wanted isn't 100 to 200 percent.
+    NoPercent,
     /// There is no room for a line.
     NoRoom,
     OutOfMemory,

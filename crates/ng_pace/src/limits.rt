@@ -1,6 +1,7 @@
 //! What the motors allow.
 ghost use Rattle.std.specs.Prelude.{◌≡◌, ◌↔◌, ◌<◌, ◌≤◌, Err, IfErr, OnOk, IsTrue, IsFalse, slice_index};
 ghost use Rattle.ng_pace.specs.Axes.{AccelerateTooLittle, AccelerateTooMuch, AreLimits, EachAxis};
+ghost use Rattle.ng_pace.specs.Due.{IsPercent, IsNoPercent};
 ghost use Rattle.ng_pace.specs.Axes.{GoTooFast, HaveAxes, SomeAxis};
 
 use crate::fault::PaceFault;
@@ -33,6 +34,8 @@ pub struct Limits {
     pub half: u64,
     /// How many steps a motor may be off its pulses: 1 to 1,000.
     pub slack: u64,
+    /// The greatest rate that is wanted, in percent of what the controller says: 100 to 200.
+    pub most_percent: u64,
 }
 
 /// What lines may have: the greatest square, and by how much it may change up to the next line.
@@ -40,6 +43,14 @@ pub struct Limits {
 pub(crate) struct Caps {
     pub(crate) most: u64,
     pub(crate) ramp: u64,
+}
+
+/// Whether own times may be at so many percent.
+pub(crate) fn is_percent(percent: u64) -> bool
+    ensures yes { IsTrue result → IsPercent percent }
+    ensures no { IsFalse result → IsNoPercent percent }
+{
+    percent >= 100 && percent <= 200
 }
 
 impl Limits {
@@ -83,6 +94,9 @@ impl Limits {
             ↔ (HaveAxes self.now × (0 < self.now.half) × (self.now.slack ≡ 0)) }
         ensures slack_too_great { (result ≡ Err PaceFault.SlackTooGreat)
             ↔ (HaveAxes self.now × (0 < self.now.half) × (1000 < self.now.slack)) }
+        ensures no_percent { (result ≡ Err PaceFault.NoPercent)
+            ↔ (HaveAxes self.now × (0 < self.now.half) × (0 < self.now.slack) × (self.now.slack ≤ 1000)
+            × IsNoPercent self.now.most_percent) }
         ensures no_other { IfErr result
             (λ fault. (¬ (fault ≡ PaceFault.NoRoom)) × ¬ (fault ≡ PaceFault.StartTooSmall)) }
     {
@@ -103,6 +117,9 @@ impl Limits {
         }
         if self.slack > 1_000 {
             return Err(PaceFault::SlackTooGreat);
+        }
+        if !is_percent(self.most_percent) {
+            return Err(PaceFault::NoPercent);
         }
         Ok(())
     }

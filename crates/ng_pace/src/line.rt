@@ -1,6 +1,6 @@
 //! Lines, and their own times.
-ghost use Rattle.std.specs.Prelude.{◌≡◌};
-ghost use Rattle.ng_pace.specs.Due.{due_us, least_ns, own_square};
+ghost use Rattle.std.specs.Prelude.{◌≡◌, ◌+◌, ◌-◌, ◌*◌, ◌/◌, ◌^◌, min};
+ghost use Rattle.ng_pace.specs.Due.{IsPercent, least_ns, own_square};
 
 use ng_canon::Item;
 
@@ -19,32 +19,32 @@ pub struct Line {
     pub last: bool,
 }
 
-/// How long an item lasts, in microseconds.
-fn due_us(item: &Item) -> u64
-    ensures { result ≡ due_us item.now }
+/// The time of a pulse of so many microseconds, at so many percent of its rate: in nanoseconds, rounded up.
+fn pulse_ns(us: u64, percent: u64) -> u64
+    requires { IsPercent percent }
+    ensures { result ≡ min ((us * 100000 + (percent - 1)) / percent) (2 ^ 64 - 1) }
+{
+    let whole = (us / percent).saturating_mul(100_000);
+    whole.saturating_add((us % percent * 100_000).div_ceil(percent))
+}
+
+/// The least time of an item, in nanoseconds, where pulses come at so many percent of their rates.
+pub(crate) fn least_ns(percent: u64, item: &Item) -> u64
+    requires { IsPercent percent }
+    ensures { result ≡ least_ns percent item.now }
 {
     match item {
-        Item::Pulse(pulse) => pulse.period_us,
-        Item::Dwell { us } => *us,
+        Item::Pulse(pulse) => pulse_ns(pulse.period_us, percent),
+        Item::Dwell { us } => us.saturating_mul(1_000),
         Item::Switch(_) => 0,
     }
 }
 
-/// The least time of an item, in nanoseconds.
-pub(crate) fn least_ns(item: &Item) -> u64
-    ensures { result ≡ least_ns item.now }
+/// The square at which pulses of so many microseconds come, at so many percent of their rate.
+pub(crate) fn own_square(percent: u64, us: u64) -> u64
+    requires { IsPercent percent }
+    ensures { result ≡ own_square percent us }
 {
-    due_us(item).saturating_mul(1_000)
-}
-
-/// The square at which pulses of so many microseconds come.
-pub(crate) fn own_square(us: u64) -> u64
-    ensures { result ≡ own_square us }
-{
-    let rate = if us == 0 {
-        256_000_000
-    } else {
-        (256_000_000 / us).max(1)
-    };
+    let rate = (2_560_000 * percent / us.max(1)).max(1);
     rate * rate
 }

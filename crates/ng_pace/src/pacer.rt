@@ -1,9 +1,11 @@
 //! The pacer: lines in, and out again with their times.
 ghost use Rattle.std.specs.Prelude.{◌≡◌, ◌↔◌, ◌⊎◌, ◌≤◌, ◌<◌, ◌++◌, ◌∷◌, [], length, nat_le};
 ghost use Rattle.std.specs.Prelude.{Err, IfOk, IfErr, IfSome, IfNone};
+ghost use Rattle.ng_pace.specs.Due.{IsPercent, IsNoPercent};
 ghost use Rattle.ng_pace.specs.Paced.{IsGiven, Waits};
 
 use crate::fault::PaceFault;
+use crate::limits::is_percent;
 use crate::line::Line;
 use crate::planning::{Slot, ahead, take};
 use crate::root::root_of;
@@ -18,6 +20,7 @@ pub struct Pacer<A: Allocator> {
     slots: VecDeque<Slot, A>,
     square: u64,
     start: u64,
+    percent: u64,
     /// How many of the lines are planned.
     planned: usize,
     /// The square to which the last line went, and its root. The next line begins at it, as a rule.
@@ -36,10 +39,11 @@ impl<A: Allocator> Model for Pacer<A> {
       known = lines_of p.slots.items;
       square = p.square;
       start = p.start;
+      percent = p.percent;
       room = deque_capacity p.slots;
     } };
 
-    ghost invariant = { λ p. IsSteady p.slots.items p.square p.planned p.reached p.root };
+    ghost invariant = { λ p. IsSteady p.slots.items p.square p.percent p.planned p.reached p.root };
 }
 
 impl<A: Allocator> Pacer<A> {
@@ -48,16 +52,21 @@ impl<A: Allocator> Pacer<A> {
     /// At rest, with no line, and room for so many. Nothing is allocated later. Source: own.
     ///
     /// `start` is the distance over which motors start and stop at once, in parts of 256 of a step: at least 128, since
-    /// a motor at rest is half a step beyond its pulse. Refused: a lesser start, then no room, and what memory refuses.
-    pub fn new(alloc: A, start: u64, room: usize) -> Result<Pacer<A>, PaceFault>
-        ensures made { IfOk result (λ p. p ≡ record { known = []; square = 0; start = start; room = room }) }
+    /// a motor at rest is half a step beyond its pulse. `percent` says at which part of the controller's rates the own
+    /// times are: 100 to 200. Refused: a lesser start, another percentage, no room, and what memory refuses.
+    pub fn new(alloc: A, start: u64, percent: u64, room: usize) -> Result<Pacer<A>, PaceFault>
+        ensures made { IfOk result (λ p. p ≡ record { known = []; square = 0; start = start; percent = percent; room = room }) }
         ensures start_too_small { (result ≡ Err PaceFault.StartTooSmall) ↔ (start < 128) }
-        ensures no_room { (result ≡ Err PaceFault.NoRoom) ↔ ((128 ≤ start) × (room ≡ 0)) }
-        ensures no_other { IfErr result (λ fault. (fault ≡ PaceFault.StartTooSmall)
-            ⊎ ((fault ≡ PaceFault.NoRoom) ⊎ (fault ≡ PaceFault.OutOfMemory))) }
+        ensures no_percent { (result ≡ Err PaceFault.NoPercent) ↔ ((128 ≤ start) × IsNoPercent percent) }
+        ensures no_room { (result ≡ Err PaceFault.NoRoom) ↔ ((128 ≤ start) × IsPercent percent × (room ≡ 0)) }
+        ensures no_other { IfErr result (λ fault. (fault ≡ PaceFault.StartTooSmall) ⊎ ((fault ≡ PaceFault.NoPercent)
+            ⊎ ((fault ≡ PaceFault.NoRoom) ⊎ (fault ≡ PaceFault.OutOfMemory)))) }
     {
         if start < 128 {
             return Err(PaceFault::StartTooSmall);
+        }
+        if !is_percent(percent) {
+            return Err(PaceFault::NoPercent);
         }
         if room == 0 {
             return Err(PaceFault::NoRoom);
@@ -67,6 +76,7 @@ impl<A: Allocator> Pacer<A> {
                 slots,
                 square: 0,
                 start,
+                percent,
                 planned: 0,
                 reached: 0,
                 root: 0,
@@ -122,7 +132,7 @@ impl<A: Allocator> Pacer<A> {
                 let to = square_after(&slot.line, from, ahead(&self.slots), wanted);
                 let root_from = root_of(from, self.reached, self.root);
                 let root_to = root_of(to, from, root_from);
-                let ns = time_of(&slot.line, from, to, root_from, root_to);
+                let ns = time_of(self.percent, &slot.line, from, to, root_from, root_to);
                 self.square = rest_of(&slot.line, to, self.start, wanted);
                 self.reached = to;
                 self.root = root_to;

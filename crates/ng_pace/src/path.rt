@@ -9,7 +9,7 @@ ghost use Rattle.ng_pace.specs.Flow.{Keeps};
 ghost use Rattle.ng_pace.specs.Making.{Marks, stop_of};
 ghost use Rattle.ng_pace.specs.Passing.{PassesAlong, PassesCorner};
 ghost use Rattle.ng_pace.specs.Legs.{IsChord, Leg, lines_of, pulses_of};
-ghost use Rattle.ng_pace.specs.Underway.{Advances, AreSlopes, IsBegun, IsBehindFarthest, IsClosed};
+ghost use Rattle.ng_pace.specs.Underway.{Advances, AreReached, AreSlopes, IsBegun, IsBehindFarthest, IsClosed};
 ghost use Rattle.ng_pace.specs.Underway.{Finishes, IsPath, Reaches, Turns, kept_of};
 
 use crate::caps::along;
@@ -119,7 +119,7 @@ fn decide_at_end<A: Allocator>(
     ensures marks { Marks ending pacer.new.known waiting.old.items waiting.new.items }
     ensures reaches { (leg : Leg) (rest : List Leg)
         → IsPath limits.now (stop_of ending) chord.old (length waiting.old.items) (leg ∷ rest)
-        → 0 < length leg.pulses → AreSlopes slopes.now leg.pulses
+        → 0 < length leg.pulses → AreSlopes slopes.now leg.pulses → AreReached limits.now.slack slopes.now leg.pulses
         → Reaches limits.now (stop_of ending) pacer.old pacer.new (length waiting.new.items) leg.pulses
         (pulses_of (leg ∷ rest)) (lines_of (leg ∷ rest))
         × (kept_of limits.now.half (length leg.pulses) ≤ length waiting.new.items) }

@@ -1,7 +1,7 @@
 //! One line: the square after it, and its time.
 ghost use Rattle.std.specs.Prelude.{ℕ, ◌≡◌, ◌≤◌, ◌<◌, ◌^◌, min};
 ghost use Rattle.ng_pace.specs.Plan.{most_now, FollowsWithin};
-ghost use Rattle.ng_pace.specs.Due.{least_ns};
+ghost use Rattle.ng_pace.specs.Due.{IsPercent, least_ns};
 ghost use Rattle.ng_pace.specs.Squares.{start_square};
 ghost use Rattle.ng_pace.specs.Interval.{IsRoot, time_at, is_at_full_rate, IsTimeOf};
 ghost use Rattle.ng_pace.specs.Paced.{rest_of};
@@ -66,18 +66,27 @@ fn is_at_full_rate(line: &Line, from: u64, to: u64) -> bool
     from == to && to == line.full
 }
 
-/// The time of a line whose square goes from one to another. Their roots are given.
-pub(crate) fn time_of(line: &Line, from: u64, to: u64, root_from: u64, root_to: u64) -> u64
+/// The time of a line whose square goes from one to another. Their roots are given. Its own time is at so many percent.
+pub(crate) fn time_of(
+    percent: u64,
+    line: &Line,
+    from: u64,
+    to: u64,
+    root_from: u64,
+    root_to: u64,
+) -> u64
+    requires percent { IsPercent percent }
     requires from { IsRoot from root_from }
     requires to { IsRoot to root_to }
     requires size { (root_from < 2 ^ 32) × (root_to < 2 ^ 32) }
-    ensures time { IsTimeOf line.now from to result }
-    ensures least { least_ns line.now.item ≤ result }
+    ensures time { IsTimeOf percent line.now from to result }
+    ensures least { least_ns percent line.now.item ≤ result }
 {
+    let least = least_ns(percent, &line.item);
     if is_at_full_rate(line, from, to) {
-        return least_ns(&line.item);
+        return least;
     }
-    time_at(least_ns(&line.item), root_from + root_to)
+    time_at(least, root_from + root_to)
 }
 
 /// The square at a line: what it is, or from rest what motors can start at.

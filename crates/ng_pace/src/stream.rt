@@ -3,7 +3,7 @@ ghost use Rattle.std.specs.Prelude.{◌≡◌, ◌↔◌, ◌≤◌, ◌<◌, �
 ghost use Rattle.std.specs.Prelude.{length, min, nat_le, IsTrue, IsFalse, Err, IfOk, IfSome, IfNone};
 ghost use Rattle.std.specs.VecDeque.{deque_capacity};
 ghost use Rattle.ng_pace.specs.Axes.{AccelerateTooLittle, AccelerateTooMuch, AreLimits, GoTooFast, HaveAxes};
-ghost use Rattle.ng_pace.specs.Due.{own_square};
+ghost use Rattle.ng_pace.specs.Due.{IsNoPercent, own_square};
 ghost use Rattle.ng_pace.specs.Few.{WaitFew, WaitSome};
 ghost use Rattle.ng_pace.specs.Flow.{Keeps, Adds, StandsAt, StandsLast, full_of};
 ghost use Rattle.ng_pace.specs.Flow.{square_behind, no_pulse, still_line, timed_waiting};
@@ -107,7 +107,7 @@ fn push_pulse<A: Allocator>(
     requires limits { AreLimits limits.now }
     requires capacity { deque_capacity waiting.old ≡ pacer.old.room }
     ensures adds { Adds pacer.old pacer.new waiting.old.items waiting.new.items
-        (record { item = item; full = min (own_square pulse.now.period_us) shape.old.before }) }
+        (record { item = item; full = min (own_square limits.now.most_percent pulse.now.period_us) shape.old.before }) }
     ensures capacity { deque_capacity waiting.new ≡ deque_capacity waiting.old }
     ensures advances { (legs : List Leg) → IsPath limits.now 0 shape.old.chord (length waiting.old.items) legs
         → IsBegun legs
@@ -118,9 +118,9 @@ fn push_pulse<A: Allocator>(
     ensures some { WaitSome shape.old.chord (length waiting.old.items)
         → WaitSome shape.new.chord (length waiting.new.items) × (0 < length waiting.new.items) }
     ensures start { shape.new.start ≡ shape.old.start }
-    ensures before { shape.new.before ≡ own_square pulse.now.period_us }
+    ensures before { shape.new.before ≡ own_square limits.now.most_percent pulse.now.period_us }
 {
-    let own = own_square(pulse.period_us);
+    let own = own_square(limits.most_percent, pulse.period_us);
     let feed = own.min(shape.before);
     turn(pacer, waiting, &mut shape.chord, limits, pulse);
     waiting.push_back_reserved(Waiting { item, feed });
@@ -182,7 +182,7 @@ fn push_item<A: Allocator>(
     requires limits { AreLimits limits.now }
     requires capacity { deque_capacity waiting.old ≡ pacer.old.room }
     ensures adds { Adds pacer.old pacer.new waiting.old.items waiting.new.items
-        (record { item = item; full = full_of shape.old.before item }) }
+        (record { item = item; full = full_of limits.now.most_percent shape.old.before item }) }
     ensures capacity { deque_capacity waiting.new ≡ deque_capacity waiting.old }
     ensures stands { StandsAt pacer.new.known (timed_waiting waiting.new.items) item }
     ensures takes { (legs : List Leg) → IsPath limits.now 0 shape.old.chord (length waiting.old.items) legs
@@ -195,7 +195,7 @@ fn push_item<A: Allocator>(
     ensures behind { WaitSome shape.old.chord (length waiting.old.items) → waiting.new.items ≡ []
         → StandsBehind pacer.new.known }
     ensures start { shape.new.start ≡ shape.old.start }
-    ensures before { shape.new.before ≡ square_behind item }
+    ensures before { shape.new.before ≡ square_behind limits.now.most_percent item }
 {
     match item {
         Item::Pulse(pulse) => push_pulse(pacer, waiting, shape, limits, item, &pulse),
@@ -208,8 +208,8 @@ impl<A: Allocator + Copy> Stream<A> {
     /// At rest, with no item, and room for so many. Nothing is allocated later. Source: own.
     ///
     /// Refused, in this order: an axis with less acceleration than 3, with more than 1,000,000,000, or with a greater
-    /// rate than that; corners of no pulse; a slack that isn't 1 to 1,000; no room; and what memory refuses. Nothing is
-    /// made then.
+    /// rate than that; corners of no pulse; a slack that isn't 1 to 1,000; a percentage that isn't 100 to 200; no room;
+    /// and what memory refuses. Nothing is made then.
     pub fn new(alloc: A, limits: Limits, room: usize) -> Result<Stream<A>, PaceFault>
         ensures made { IfOk result (λ s. IsEmpty s limits room) }
         ensures no_acceleration { (result ≡ Err PaceFault.NoAcceleration) ↔ AccelerateTooLittle limits }
@@ -220,12 +220,15 @@ impl<A: Allocator + Copy> Stream<A> {
             ↔ (HaveAxes limits × (0 < limits.half) × (limits.slack ≡ 0)) }
         ensures slack_too_great { (result ≡ Err PaceFault.SlackTooGreat)
             ↔ (HaveAxes limits × (0 < limits.half) × (1000 < limits.slack)) }
+        ensures no_percent { (result ≡ Err PaceFault.NoPercent)
+            ↔ (HaveAxes limits × (0 < limits.half) × (0 < limits.slack) × (limits.slack ≤ 1000)
+            × IsNoPercent limits.most_percent) }
         ensures no_room { (result ≡ Err PaceFault.NoRoom) ↔ (AreLimits limits × (room ≡ 0)) }
         ensures no_other { ¬ (result ≡ Err PaceFault.StartTooSmall) }
     {
         limits.check()?;
         let start = start_of(&limits);
-        let pacer = Pacer::new(alloc, start, room)?;
+        let pacer = Pacer::new(alloc, start, limits.most_percent, room)?;
         match VecDeque::with_capacity(alloc, room) {
             Ok(waiting) => Ok(Stream {
                 pacer,

@@ -30,7 +30,7 @@ IsLast shown timed last = (last ≡ []) ⊎ ((last ≡ end_text shown (span time
 abbrev AllWritten : Shown → List Timed → List ℕ → Option (List ℕ) → Option (List ℕ) → Type 0
 AllWritten shown timed last old new = (written : List ℕ) × Appends old new written × (written ≡ timed_text shown 0 timed ++ last)
 
-all_written : (shown : Shown) (start w v : Option (List ℕ)) (timed : List Timed) (text last left : List ℕ) → HasGiven shown start w timed text
+all_written : {percent : ℕ} (shown : Shown) (start w v : Option (List ℕ)) (timed : List Timed) (text last left : List ℕ) → HasGiven percent shown start w timed text
     → FlushSpec {T = Unit {0}} w v (text ++ last) left (Ok tt) → left ≡ [] → AllWritten shown timed last start v
 all_written shown start w v timed text last left given flushed none = (
   given.out ++ flushed.0,
@@ -39,7 +39,7 @@ all_written shown start w v timed text last left given flushed none = (
 )
 
 -- a beginning of them is written
-broken : (limits : Limits) (shown : Shown) (start w v : Option (List ℕ)) (timed : List Timed) (left : ℕ) (text last whole rest : List ℕ) (fault : ScheduleFault) → ArePaced limits timed left → HasGiven shown start w timed text → IsLast shown timed last
+broken : (limits : Limits) (shown : Shown) (start w v : Option (List ℕ)) (timed : List Timed) (left : ℕ) (text last whole rest : List ℕ) (fault : ScheduleFault) → ArePaced limits timed left → HasGiven limits.most_percent shown start w timed text → IsLast shown timed last
     → whole ≡ lines_of timed ++ rest → Wrote w v (text ++ last) → ScheduleSpec limits shown whole start v (Err fault)
 broken limits shown start w v timed left text last whole rest fault are given is_last lines wrote = (
   given.out ++ wrote.0,

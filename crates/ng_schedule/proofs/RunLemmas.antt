@@ -4,7 +4,7 @@ use Rattle.ng_canon.specs.declared.item.Item.{Item}
 use Rattle.ng_lines.specs.Lines.{item_line}
 use Rattle.ng_pace.specs.declared.limits.Limits.{Limits}
 use Rattle.ng_pace.specs.declared.line.Line.{Line}
-use Rattle.ng_pace.specs.Due.{due_us, least_ns}
+use Rattle.ng_pace.specs.Due.{due_ns, least_ns}
 use Rattle.ng_pace.specs.declared.stepping.Given.{Given}
 use Rattle.ng_pace.specs.Flow.{Flow, all_items}
 use Rattle.ng_pace.specs.Calls.{IsPut, IsEnded, IsFlowGiven}
@@ -30,9 +30,9 @@ span-append : (a b : List Timed) → span (a ++ b) ≡ span a + span b
 span-append [] b = omega arith
 span-append (t ∷ ts) b = omega (arith, span-append ts b)
 
-never_sooner-append : (a b : List Timed) → AreNeverSooner a → AreNeverSooner b → AreNeverSooner (a ++ b)
-never_sooner-append [] b p q = q
-never_sooner-append (t ∷ ts) b p q = (p.0, never_sooner-append ts b p.1 q)
+never_sooner-append : (percent : ℕ) (a b : List Timed) → AreNeverSooner percent a → AreNeverSooner percent b → AreNeverSooner percent (a ++ b)
+never_sooner-append percent [] b p q = q
+never_sooner-append percent (t ∷ ts) b p q = (p.0, never_sooner-append percent ts b p.1 q)
 
 timed_text-append : (shown : Shown) (due : ℕ) (a b : List Timed) → timed_text shown due (a ++ b) ≡ timed_text shown due a ++ timed_text shown (due + span a) b
 timed_text-append shown due [] b = ap (λ k. timed_text shown k b) (omega arith)
@@ -63,7 +63,7 @@ known_with timed item items kept =
 
 -- a line was given
 pub gives : {Z : Type 0} (limits : Limits) (start w v : Option (List ℕ)) (bytes kept : List ℕ) (s t : Schedule Z) (g : Given) → IsUnderWay limits start w bytes kept s
-    → IsFlowGiven s.stream t.stream (2 ^ 64 - 1) g → due_us g.line.item * 1000 ≤ g.ns → t.shown ≡ s.shown → t.due_ns ≡ s.due_ns + g.ns → t.number ≡ s.number + 1
+    → IsFlowGiven s.stream t.stream (2 ^ 64 - 1) g → due_ns s.stream.motion.percent g.line.item ≤ g.ns → t.shown ≡ s.shown → t.due_ns ≡ s.due_ns + g.ns → t.number ≡ s.number + 1
     → FlushSpec {T = Unit {0}} w v (s.text.items ++ due_text s.shown s.due_ns g.line.item) t.text.items (Ok tt) → IsUnderWay limits start v bytes kept t
 gives {Z} limits start w v bytes kept s t g here h least shown_is due_is number_is flushed =
     let item = g.line.item in
@@ -72,8 +72,8 @@ gives {Z} limits start w v bytes kept s t g here h least shown_is due_is number_
     let timed = with_line here.timed item ns in
     record {
       timed = timed;
-      given = subst (λ (sh : Shown). HasGiven sh start v timed t.text.items) (sym shown_is) (record {
-        never_sooner = never_sooner-append here.timed _ here.given.never_sooner (least, tt);
+      given = subst (λ (sh : Shown). HasGiven limits.most_percent sh start v timed t.text.items) (sym shown_is) (record {
+        never_sooner = never_sooner-append limits.most_percent here.timed _ here.given.never_sooner (rw here.streamed.percent at least, tt);
         out = here.given.out ++ flushed.0;
         written = Appends-trans start w v here.given.out flushed.0 here.given.written flushed.1;
         waits = text_with s.shown here.timed item ns ∙ ap₂ (λ (a : List ℕ) (k : ℕ). a ++ due_text s.shown k item) here.given.waits (sym here.due)
@@ -88,7 +88,7 @@ gives {Z} limits start w v bytes kept s t g here h least shown_is due_is number_
 
 -- the next line would be over too late
 pub too_late : {Z : Type 0} (limits : Limits) (start w : Option (List ℕ)) (bytes kept : List ℕ) (s t : Schedule Z) (g : Given) → IsUnderWay limits start w bytes kept s
-    → IsFlowGiven s.stream t.stream (2 ^ 64 - 1) g → least_ns g.line.item ≤ g.ns → 2 ^ 64 - 1 ≤ s.due_ns + g.ns → t.shown ≡ s.shown → t.number ≡ s.number → t.text.items ≡ s.text.items
+    → IsFlowGiven s.stream t.stream (2 ^ 64 - 1) g → least_ns s.stream.motion.percent g.line.item ≤ g.ns → 2 ^ 64 - 1 ≤ s.due_ns + g.ns → t.shown ≡ s.shown → t.number ≡ s.number → t.text.items ≡ s.text.items
     → IsTooLate limits start w bytes t
 too_late {Z} limits start w bytes kept s t g here h least beyond shown_is number_is text_is =
     let item = g.line.item in
@@ -96,9 +96,9 @@ too_late {Z} limits start w bytes kept s t g here h least beyond shown_is number
     let order = h.items in
     record {
       timed = here.timed;
-      given = subst (λ (sh : Shown). HasGiven sh start w here.timed t.text.items) (sym shown_is) (subst (λ (l : List ℕ). HasGiven s.shown start w here.timed l) (sym text_is) here.given);
+      given = subst (λ (sh : Shown). HasGiven limits.most_percent sh start w here.timed t.text.items) (sym shown_is) (subst (λ (l : List ℕ). HasGiven limits.most_percent s.shown start w here.timed l) (sym text_is) here.given);
       late = record { item = item; ns = ns };
-      least = least;
+      least = rw here.streamed.percent at least;
       before = s.stream.motion.square;
       paced = are_paced limits here.timed s.stream here.streamed;
       left = t.stream.motion.square;
@@ -127,7 +127,7 @@ cut {Z} limits start w bytes kept s shown shown_is here =
 
 -- a line was given in part
 pub cut_in_line : {Z : Type 0} (limits : Limits) (start w v : Option (List ℕ)) (bytes kept : List ℕ) (s t : Schedule Z) (g : Given) → IsUnderWay limits start w bytes kept s
-    → IsFlowGiven s.stream t.stream (2 ^ 64 - 1) g → due_us g.line.item * 1000 ≤ g.ns → t.shown ≡ s.shown
+    → IsFlowGiven s.stream t.stream (2 ^ 64 - 1) g → due_ns s.stream.motion.percent g.line.item ≤ g.ns → t.shown ≡ s.shown
     → Wrote w v (s.text.items ++ due_text s.shown s.due_ns g.line.item) → IsCut limits t.shown start v bytes
 cut_in_line {Z} limits start w v bytes kept s t g here h least shown_is wrote =
     let item = g.line.item in
@@ -135,7 +135,7 @@ cut_in_line {Z} limits start w v bytes kept s t g here h least shown_is wrote =
     let order = h.items in
     subst (λ (sh : Shown). IsCut limits sh start v bytes) (sym shown_is) (record {
       timed = with_line here.timed item ns;
-      never_sooner = never_sooner-append here.timed _ here.given.never_sooner (least, tt);
+      never_sooner = never_sooner-append limits.most_percent here.timed _ here.given.never_sooner (rw here.streamed.percent at least, tt);
       left = t.stream.motion.square;
       paced = are_paced limits (with_line here.timed item ns) t.stream (gives_out limits here.timed s.stream t.stream g here.streamed h);
       rest = item_lines (all_items t.stream) ++ kept;
@@ -149,8 +149,8 @@ cut_in_line {Z} limits start w v bytes kept s t g here h least shown_is wrote =
     })
 
 -- a line that is over in time takes no less than it says
-pub long_enough : (item : Item) (due ns : ℕ) → least_ns item ≤ ns → due + ns < 2 ^ 64 - 1 → due_us item * 1000 ≤ ns
-long_enough item due ns least fits = omega (arith, least, fits)
+pub long_enough : (percent : ℕ) (item : Item) (due ns : ℕ) → least_ns percent item ≤ ns → due + ns < 2 ^ 64 - 1 → due_ns percent item ≤ ns
+long_enough percent item due ns least fits = omega (arith, least, fits)
 
 -- nothing more is known to come, and nothing else changed
 pub same_items : {Z : Type 0} (limits : Limits) (start w : Option (List ℕ)) (bytes kept : List ℕ) (s t : Schedule Z) → IsUnderWay limits start w bytes kept s
@@ -158,7 +158,7 @@ pub same_items : {Z : Type 0} (limits : Limits) (start w : Option (List ℕ)) (b
 same_items {Z} limits start w bytes kept s t here ended shown_is due_is number_is text_is =
     record {
       timed = here.timed;
-      given = subst (λ (sh : Shown). HasGiven sh start w here.timed t.text.items) (sym shown_is) (subst (λ (l : List ℕ). HasGiven s.shown start w here.timed l) (sym text_is) here.given);
+      given = subst (λ (sh : Shown). HasGiven limits.most_percent sh start w here.timed t.text.items) (sym shown_is) (subst (λ (l : List ℕ). HasGiven limits.most_percent s.shown start w here.timed l) (sym text_is) here.given);
       streamed = ends limits here.timed s.stream t.stream here.streamed ended;
       lines = here.lines ∙ ap (λ (l : List Item). (lines_of here.timed ++ item_lines l) ++ kept) (sym ended.items);
       due = due_is ∙ here.due;
@@ -175,7 +175,7 @@ takes {Z} limits start w bytes s t item here put shown_is due_is number_is text_
     ap item_lines put.items ∙ item_lines-append (all_items s.stream) (item ∷ []) ∙ ap (λ l. known ++ l) (append-nil (item_line item)) in
     record {
       timed = here.timed;
-      given = subst (λ (sh : Shown). HasGiven sh start w here.timed t.text.items) (sym shown_is) (subst (λ (l : List ℕ). HasGiven s.shown start w here.timed l) (sym text_is) here.given);
+      given = subst (λ (sh : Shown). HasGiven limits.most_percent sh start w here.timed t.text.items) (sym shown_is) (subst (λ (l : List ℕ). HasGiven limits.most_percent s.shown start w here.timed l) (sym text_is) here.given);
       streamed = puts limits here.timed s.stream t.stream item here.streamed put;
       lines = ap (λ l. l ++ item_line item) (here.lines ∙ append-nil (lines_of here.timed ++ known)) ∙ append_assoc (lines_of here.timed) known (item_line item)
           ∙ ap (λ l. lines_of here.timed ++ l) (sym more) ∙ sym (append-nil (lines_of here.timed ++ item_lines (all_items t.stream)));

@@ -43,8 +43,8 @@ times_on (one ∷ given) more = ap (λ l. (record { item = one.line.item; ns = o
 module _ (limits : Limits) where
   -- one more event
   goes_on : (timed times : List Timed) (flow new : Flow) (event : Event) → IsStreamed limits timed flow → IsRun flow (event ∷ []) new → AskForMost (event ∷ []) → times ≡ times_of (lines_given (event ∷ []))
-      → CanRest new.motion.square new.motion.known → IsStreamed limits (timed ++ times) new
-  goes_on timed times flow new event here run most times_are rests =
+      → new.motion.percent ≡ flow.motion.percent → CanRest new.motion.square new.motion.known → IsStreamed limits (timed ++ times) new
+  goes_on timed times flow new event here run most times_are same rests =
       record {
         room = here.room;
         first = here.first;
@@ -54,27 +54,28 @@ module _ (limits : Limits) where
         haste = most_on here.events (event ∷ []) here.haste most;
         times = ap (λ (l : List Timed). l ++ times) here.times ∙ ap (λ (l : List Timed). times_of (lines_given here.events) ++ l) times_are
             ∙ sym (times_on (lines_given here.events) (lines_given (event ∷ []))) ∙ ap times_of (sym (given_on here.events (event ∷ [])));
+        percent = same ∙ here.percent;
         rests = rests;
       }
 
   -- nothing is given out
   goes_quietly : (timed : List Timed) (flow new : Flow) (event : Event) → IsStreamed limits timed flow → IsRun flow (event ∷ []) new → AskForMost (event ∷ []) → [] ≡ times_of (lines_given (event ∷ []))
-      → CanRest new.motion.square new.motion.known → IsStreamed limits timed new
-  goes_quietly timed flow new event here run most none rests = subst (λ (l : List Timed). IsStreamed limits l new) (none_more timed) (goes_on timed [] flow new event here run most none rests)
+      → new.motion.percent ≡ flow.motion.percent → CanRest new.motion.square new.motion.known → IsStreamed limits timed new
+  goes_quietly timed flow new event here run most none same rests = subst (λ (l : List Timed). IsStreamed limits l new) (none_more timed) (goes_on timed [] flow new event here run most none same rests)
     where
       none_more : (l : List Timed) → l ++ [] ≡ l
       none_more [] = refl
       none_more (t ∷ ts) = ap (λ (l : List Timed). t ∷ l) (none_more ts)
 
   pub puts : (timed : List Timed) (flow new : Flow) (item : Item) → IsStreamed limits timed flow → IsPut flow new item → IsStreamed limits timed new
-  puts timed flow new item here h = goes_quietly timed flow new (put item) here (new, (h, refl)) tt refl h.rests
+  puts timed flow new item here h = goes_quietly timed flow new (put item) here (new, (h, refl)) tt refl h.settles.percent h.rests
 
   pub ends : (timed : List Timed) (flow new : Flow) → IsStreamed limits timed flow → IsEnded flow new → IsStreamed limits timed new
-  ends timed flow new here h = goes_quietly timed flow new end here (new, (h, refl)) tt refl h.rests
+  ends timed flow new here h = goes_quietly timed flow new end here (new, (h, refl)) tt refl h.settles.percent h.rests
 
   pub gives_out : (timed : List Timed) (flow new : Flow) (given : Given) → IsStreamed limits timed flow → IsFlowGiven flow new (2 ^ 64 - 1) given
       → IsStreamed limits (timed ++ (record { item = given.line.item; ns = given.ns }) ∷ []) new
-  gives_out timed flow new given here h = goes_on timed _ flow new (ask (2 ^ 64 - 1) (Some given)) here (new, (h, refl)) (refl, tt) refl h.given_out.rests
+  gives_out timed flow new given here h = goes_on timed _ flow new (ask (2 ^ 64 - 1) (Some given)) here (new, (h, refl)) (refl, tt) refl h.given_out.percent h.given_out.rests
 
   -- before the first line
   pub begins : (flow : Flow) (room : ℕ) → IsEmpty flow limits room → IsStreamed limits [] flow
@@ -87,6 +88,7 @@ module _ (limits : Limits) where
         run = refl;
         haste = tt;
         times = refl;
+        percent = empty.percent;
         rests = subst (λ (known : List Line). CanRest flow.motion.square known) (sym empty.known) empty.rest;
       }
 
@@ -103,8 +105,9 @@ module _ (limits : Limits) where
         run = here.run;
         haste = here.haste;
         times = here.times;
-        squares = subst (λ (square : ℕ). ArePassed (start_of limits) square (lines_given here.events) flow.motion.square) here.empty.rest
-            (subst (λ (start : ℕ). ArePassed start here.first.motion.square (lines_given here.events) flow.motion.square) here.empty.start passed);
+        squares = subst (λ (square : ℕ). ArePassed (start_of limits) limits.most_percent square (lines_given here.events) flow.motion.square) here.empty.rest
+            (subst (λ (percent : ℕ). ArePassed (start_of limits) percent here.first.motion.square (lines_given here.events) flow.motion.square) here.empty.percent
+            (subst (λ (start : ℕ). ArePassed start here.first.motion.percent here.first.motion.square (lines_given here.events) flow.motion.square) here.empty.start passed));
         axes = keeps-to-paths here.first limits here.room here.events flow here.empty here.run;
       }
 

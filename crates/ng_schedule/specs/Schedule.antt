@@ -5,7 +5,7 @@ use Rattle.std.specs.Io.KnownBytes.{Appends}
 use Rattle.ng_canon.specs.declared.item.Item.{Item}
 use Rattle.ng_lines.specs.Lines.{IsItem, item_line}
 use Rattle.ng_pace.specs.Calls.{IsEmpty}
-use Rattle.ng_pace.specs.Due.{due_us, least_ns}
+use Rattle.ng_pace.specs.Due.{due_ns, least_ns}
 use Rattle.ng_pace.specs.Flow.{Flow}
 use Rattle.ng_pace.specs.Paths.{KeepsToPaths}
 use Rattle.ng_pace.specs.Run.{ArePassed, Event, put, end, ask, IsRun, lines_given}
@@ -33,10 +33,10 @@ abbrev pub span : List Timed → ℕ
 span [] = 0
 span (t ∷ ts) = t.ns + span ts
 
--- no line is over sooner than OUT says
-abbrev pub AreNeverSooner : List Timed → Type 0
-AreNeverSooner [] = Unit {0}
-AreNeverSooner (t ∷ ts) = (due_us t.item * 1000 ≤ t.ns) × AreNeverSooner ts
+-- no line is over sooner than OUT says, at so many percent of its rates
+abbrev pub AreNeverSooner : ℕ → List Timed → Type 0
+AreNeverSooner percent [] = Unit {0}
+AreNeverSooner percent (t ∷ ts) = (due_ns percent t.item ≤ t.ns) × AreNeverSooner percent ts
 
 -- lines that a stream gave out, with the times that it gave them
 abbrev pub times_of : List Given → List Timed
@@ -62,7 +62,7 @@ pub record ArePaced (limits : Limits) (timed : List Timed) (left : ℕ) : Type 0
   pub haste : AskForMost events
   pub times : timed ≡ times_of (lines_given events)
   -- from rest, the square goes from line to line within the ramp of each, and each takes the time of its squares
-  pub squares : ArePassed (start_of limits) 0 (lines_given events) left
+  pub squares : ArePassed (start_of limits) limits.most_percent 0 (lines_given events) left
   -- no axis is asked for more than its acceleration and its greatest rate
   pub axes : KeepsToPaths limits (start_of limits) events last
 
@@ -94,7 +94,7 @@ BeginsNoLine bytes = (item : Item) (after : List ℕ) → IsItem item → bytes 
 -- all is lines, and everything stands still at their end
 pub record IsWhole (limits : Limits) (shown : Shown) (text : List ℕ) (written : List ℕ) : Type 0 where
   pub timed : List Timed
-  pub never_sooner : AreNeverSooner timed
+  pub never_sooner : AreNeverSooner limits.most_percent timed
   pub paced : ArePaced limits timed 0
   pub lines : text ≡ lines_of timed
   pub writes : written ≡ timed_text shown 0 timed ++ end_text shown (span timed)
@@ -102,7 +102,7 @@ pub record IsWhole (limits : Limits) (shown : Shown) (text : List ℕ) (written 
 -- what follows the lines before this number isn't a line; everything stands still at their end
 pub record StopsAtOther (limits : Limits) (shown : Shown) (text : List ℕ) (number : ℕ) (written : List ℕ) : Type 0 where
   pub timed : List Timed
-  pub never_sooner : AreNeverSooner timed
+  pub never_sooner : AreNeverSooner limits.most_percent timed
   pub paced : ArePaced limits timed 0
   pub rest : List ℕ
   pub lines : text ≡ lines_of timed ++ rest
@@ -114,9 +114,9 @@ pub record StopsAtOther (limits : Limits) (shown : Shown) (text : List ℕ) (num
 -- the line of this number would be over after more than 584 years
 pub record StopsTooLate (limits : Limits) (shown : Shown) (text : List ℕ) (number : ℕ) (written : List ℕ) : Type 0 where
   pub timed : List Timed
-  pub never_sooner : AreNeverSooner timed
+  pub never_sooner : AreNeverSooner limits.most_percent timed
   pub late : Timed
-  pub least : least_ns late.item ≤ late.ns
+  pub least : least_ns limits.most_percent late.item ≤ late.ns
   pub left : ℕ
   pub paced : ArePaced limits (timed ++ late ∷ []) left
   pub rest : List ℕ
@@ -128,7 +128,7 @@ pub record StopsTooLate (limits : Limits) (shown : Shown) (text : List ℕ) (num
 -- a beginning of such a text
 pub record IsBroken (limits : Limits) (shown : Shown) (text : List ℕ) (written : List ℕ) : Type 0 where
   pub timed : List Timed
-  pub never_sooner : AreNeverSooner timed
+  pub never_sooner : AreNeverSooner limits.most_percent timed
   pub paced : (timed ≡ []) ⊎ ((left : ℕ) × ArePaced limits timed left)
   pub rest : List ℕ
   pub lines : text ≡ lines_of timed ++ rest

@@ -12,6 +12,7 @@ const LIMITS: Limits = Limits {
     start: [0; 3],
     half: 64,
     slack: 2,
+    most_percent: 100,
 };
 
 /// What was given out, one line after another.

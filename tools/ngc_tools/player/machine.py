@@ -13,7 +13,7 @@ from ngc_tools.player.pace_path import Axes, Limits
 _RANGES = {
     ("motion", "accel_mm_s2"): range(1, 1_000_001), ("motion", "rate_mm_min"): range(100_001),
     ("motion", "start_mm_min"): range(100_001), ("motion", "slack_steps"): range(1, 65),
-    ("motion", "most_percent"): range(100, 101), ("window", "lines"): range(window.MOST + 1),
+    ("motion", "most_percent"): range(100, 201), ("window", "lines"): range(window.MOST + 1),
     ("wait", "spindle_s"): range(3601),
 }
 _PER_AXIS = ("accel_mm_s2", "rate_mm_min", "start_mm_min")
@@ -28,12 +28,11 @@ class BadMachine(Failure):
 @dataclass(frozen=True, slots=True)
 class Machine:
     """What the motors allow; how many lines a player wants in hand, 0 for as many as are needed; how long the spindle
-    takes to start, to stop or to turn the other way; how much an override may be."""
+    takes to start, to stop or to turn the other way."""
 
     limits: Limits
     window_lines: int = 0
     spindle_s: int = 0
-    most_percent: int = 100
 
 
 def read_machine(path: str | Path, step_nm: Axes) -> Machine:
@@ -44,7 +43,7 @@ def read_machine(path: str | Path, step_nm: Axes) -> Machine:
     motion = tables["motion"]
     lines = tables.get("window", {}).get("lines", 0)
     spindle_s = tables.get("wait", {}).get("spindle_s", 0)
-    return Machine(_limits(path, motion, step_nm), lines, spindle_s, motion.get("most_percent", 100))
+    return Machine(_limits(path, motion, step_nm), lines, spindle_s)
 
 
 def read_limits(path: str | Path, step_nm: Axes) -> Limits:
@@ -70,8 +69,6 @@ def _check(path: str | Path, tables: Mapping[str, Mapping[str, Any]]) -> None:
 def _takes(name: str, key: str) -> str:
     """What a key takes, for people."""
     least, most = _RANGES[name, key][0], _RANGES[name, key][-1]
-    if least == most:
-        return str(most)
     return f"{'three whole numbers' if key in _PER_AXIS else 'a whole number'} from {least} to {most}"
 
 
@@ -95,7 +92,7 @@ def _limits(path: str | Path, motion: Mapping[str, Any], step_nm: Axes) -> Limit
     if any(mm and not steps for mm, steps in zip(rates_mm, rate)):
         raise BadMachine(f"{path}: motion: rate_mm_min is less than a step a second")
     start = _steps(motion.get("start_mm_min", [0, 0, 0]), step_nm, 60)
-    return Limits(accel, rate, start, slack=motion.get("slack_steps", 2))
+    return Limits(accel, rate, start, slack=motion.get("slack_steps", 2), most_percent=motion.get("most_percent", 100))
 
 
 def _steps(per_axis: list[int], step_nm: Axes, seconds: int) -> Axes:

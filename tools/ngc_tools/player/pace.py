@@ -1,6 +1,6 @@
 """Ramps: lines of OUT go in, in order, and come out in that order with the time of each, so that no axis gains or loses
-more speed than its motor can. No line is shorter than OUT says. The crate ng_pace and tools/player have the same
-integers.
+more speed than its motor can. No line is shorter than OUT says, at the greatest override. The crate ng_pace and
+tools/player have the same integers.
 
 A square is that of a rate in pulses a second times 2^8."""
 from dataclasses import dataclass
@@ -13,7 +13,7 @@ ROOM = 8192  # lines that may be known
 FULL = 2**64 - 1  # the square that is wanted where nothing is to be slower
 _LOOKS_EACH = 16  # after so many pulses it looks what became final: at each one that would be too slow
 _LEAST_START = 128  # at rest a motor is half a step beyond its pulse
-_PULSES_US = 256_000_000  # pulses a second times 2^8, times the microseconds of each
+_PULSES_US = 2_560_000  # a percent of pulses a second times 2^8, times the microseconds of each
 _TWO_SECONDS = 512_000_000_000  # in nanoseconds, times 2^8
 _STANDING_NS = 1_000_000_000  # the least time of a line before and after which everything stands still
 
@@ -80,15 +80,16 @@ class Pace:
         self.square = 0 if wanted == 0 and after <= start else after
         self.first += 1
         self._planned = max(self._planned, self.first)
-        least_ns = capped(line.us * 1000)
+        percent = self.limits.most_percent if line.full else 100
+        least_ns = capped(-(-line.us * 100_000 // percent))
         if square == after == line.full:
             return least_ns
         both = isqrt(square) + isqrt(after)
         return max(least_ns, -(-_TWO_SECONDS // both) if both else _STANDING_NS)
 
     def wanted(self, percent: int) -> int:
-        """The square that is wanted for `next` at so many percent, 1 to 100, of OUT's rates."""
-        if percent >= 100:
+        """The square that is wanted for `next` at so many percent, 1 to the greatest override, of OUT's rates."""
+        if percent >= self.limits.most_percent:
             return FULL
         lines = (self._lines[at % ROOM] for at in range(self.first, min(self.first + 2, self.final)))
         return min((_own_square(line.us, percent) for line in lines if line.full), default=FULL)
@@ -96,7 +97,7 @@ class Pace:
     # what is final
 
     def _push_pulse(self, step: Axes, lasts_us: int) -> None:
-        own = _own_square(lasts_us, 100)
+        own = _own_square(lasts_us, self.limits.most_percent)
         self._turn(step)
         self._lines[self.known % ROOM] = _Known(lasts_us, min(own, self._before))
         self.known += 1
@@ -187,4 +188,4 @@ class Pace:
 
 def _own_square(us: int, percent: int) -> int:
     """The square at which pulses of so many microseconds come at a rate of so many percent."""
-    return max(1, _PULSES_US // 100 * percent // max(us, 1)) ** 2
+    return max(1, _PULSES_US * percent // max(us, 1)) ** 2

@@ -18,13 +18,15 @@ Rise = tuple[int, int]  # so many steps over so many pulses
 class Limits:
     """What motors allow, by axes, in steps and seconds: accelerations of 3 to 1,000,000,000, rates of which 0 is any,
     and rates at which a motor can start and stop at once. A corner is taken in at most `half` pulses on each side, and
-    a motor may be `slack` steps off its pulses, 1 to 1,000."""
+    a motor may be `slack` steps off its pulses, 1 to 1,000. An override is at most `most_percent` of OUT's rates, 100
+    to 200."""
 
     accel: Axes
     rate: Axes = (0, 0, 0)
     start: Axes = (0, 0, 0)
     half: int = 64
     slack: int = 2
+    most_percent: int = 100
 
 
 def capped(number: int) -> int:

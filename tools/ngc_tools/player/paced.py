@@ -25,7 +25,7 @@ class PacedPlayer(Player):
         super().__init__(source, position, begun, pins, manner)
         self.schedule.makes_up = False
         self._limits = machine.limits
-        self._most_percent = machine.most_percent
+        self._most_percent = machine.limits.most_percent
         self._last = -1  # after so many bytes of OUT no more come for now, as was said
         self._pace = Pace(machine.limits)
         self._window = Window(machine.limits, machine.window_lines)

@@ -7,13 +7,13 @@ from ngc_tools.player.pace_path import Axes, Limits
 
 MOST = 8000  # what a pacer has room for, less a margin
 _LATENESS = 50  # parts of a second in which more comes
-_SECOND_US = 1_000_000
+_PERCENT_US = 10_000  # of a second
 
 
 def lines_for(limits: Limits, period_us: int, step: Axes) -> int:
-    """How many lines are wanted in hand for pulses of this period, with the axes that step in one: a stop from that
-    rate takes v^2 / 2a, to which a fifth is added for a plan that isn't of the last moment."""
-    rate = _SECOND_US // max(period_us, 1)
+    """How many lines are wanted in hand for pulses of this period, with the axes that step in one: a stop from
+    their greatest rate takes v^2 / 2a, to which a fifth is added for a plan that isn't of the last moment."""
+    rate = _PERCENT_US * limits.most_percent // max(period_us, 1)
     accel = min(accel for accel, moves in zip(limits.accel, step) if moves or not any(step))
     return min(3 * rate * rate // (5 * accel) + rate // _LATENESS + least(limits), MOST)
 

@@ -31,11 +31,12 @@ pub record IsStreamed (limits : Limits) (timed : List Timed) (flow : Flow) : Typ
   pub run : IsRun first events flow
   pub haste : AskForMost events
   pub times : timed ≡ times_of (lines_given events)
+  pub percent : flow.motion.percent ≡ limits.most_percent
   pub rests : CanRest flow.motion.square flow.motion.known
 
 -- lines were given, of which a part is written and the rest waits
-pub record HasGiven (shown : Shown) (old new : Option (List ℕ)) (timed : List Timed) (text : List ℕ) : Type 0 where
-  pub never_sooner : AreNeverSooner timed
+pub record HasGiven (percent : ℕ) (shown : Shown) (old new : Option (List ℕ)) (timed : List Timed) (text : List ℕ) : Type 0 where
+  pub never_sooner : AreNeverSooner percent timed
   pub out : List ℕ
   pub written : Appends old new out
   pub waits : timed_text shown 0 timed ≡ out ++ text
@@ -43,7 +44,7 @@ pub record HasGiven (shown : Shown) (old new : Option (List ℕ)) (timed : List 
 -- of the bytes so far: those that are given, those that are known, and the beginning of a line
 pub record IsUnderWay {Z : Type 0} (limits : Limits) (old new : Option (List ℕ)) (bytes kept : List ℕ) (s : Schedule Z) : Type 0 where
   pub timed : List Timed
-  pub given : HasGiven s.shown old new timed s.text.items
+  pub given : HasGiven limits.most_percent s.shown old new timed s.text.items
   pub streamed : IsStreamed limits timed s.stream
   pub lines : bytes ≡ (lines_of timed ++ item_lines (all_items s.stream)) ++ kept
   pub due : s.due_ns ≡ span timed
@@ -61,9 +62,9 @@ pub record IsStopped {Z : Type 0} (limits : Limits) (old new : Option (List ℕ)
 -- the next line would be over too late
 pub record IsTooLate {Z : Type 0} (limits : Limits) (old new : Option (List ℕ)) (bytes : List ℕ) (s : Schedule Z) : Type 0 where
   pub timed : List Timed
-  pub given : HasGiven s.shown old new timed s.text.items
+  pub given : HasGiven limits.most_percent s.shown old new timed s.text.items
   pub late : Timed
-  pub least : least_ns late.item ≤ late.ns
+  pub least : least_ns limits.most_percent late.item ≤ late.ns
   pub before : ℕ
   pub paced : ArePaced limits timed before
   pub left : ℕ
@@ -76,7 +77,7 @@ pub record IsTooLate {Z : Type 0} (limits : Limits) (old new : Option (List ℕ)
 -- a beginning was written
 pub record IsCut (limits : Limits) (shown : Shown) (old new : Option (List ℕ)) (bytes : List ℕ) : Type 0 where
   pub timed : List Timed
-  pub never_sooner : AreNeverSooner timed
+  pub never_sooner : AreNeverSooner limits.most_percent timed
   pub left : ℕ
   pub paced : ArePaced limits timed left
   pub rest : List ℕ

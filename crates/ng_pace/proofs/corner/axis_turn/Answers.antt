@@ -10,3 +10,6 @@ returns-clause-most c = λ slope next is is' between between'. record {
       omega (arith, c.size-2.ensures.most next is' between');
   change = c.turn_to.ensures.most slope next is is' between between';
 }
+
+pub returns-clause-exact : goal.returns-clause-exact
+returns-clause-exact c = (cc (c.max.ensures, c.size.ensures.exact, c.size-2.ensures.exact), c.turn_to.ensures.exact)

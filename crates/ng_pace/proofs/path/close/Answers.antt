@@ -8,11 +8,12 @@ pub returns-clause-closes : goal.returns-clause-closes
 returns-clause-closes g c = λ leg rest path some small.
     let opened = path-opened c.args.limits.now (stop_of c.args.ending) c.args.chord.now (length c.args.waiting.now.items) leg rest path in
     let are = c.slopes-slopes.ensures.are c.args.limits.now.slack leg.pulses opened.cones opened.count some in
-    let reached = c.decide_at_end.ensures.reaches leg rest path some are in
+    let greatest = c.slopes-slopes.ensures.reached c.args.limits.now.slack leg.pulses opened.cones opened.count some opened.straight in
+    let reached = c.decide_at_end.ensures.reaches leg rest path some are greatest in
     let both = along-reach c.args.limits.now (stop_of c.args.ending) c.args.pacer.now c.decide_at_end.new.pacer c.pass_along.new.pacer
     c.decide_at_end.new.waiting.items c.pass_along.new.waiting.items
     leg.pulses (pulses_of (leg ∷ rest)) (lines_of (leg ∷ rest)) c.slopes-slopes.result c.args.kept reached.0 are
-    (c.slopes-slopes.ensures.reached c.args.limits.now.slack leg.pulses opened.cones opened.count some opened.straight) c.requires.limits.half some
+    greatest c.requires.limits.half some
     c.pass_along.ensures.passes
     (omega (arith, small, reached.1)) in (
       both.0,

@@ -1,5 +1,6 @@
 use Rattle.std.proofs.Common.{arith, rules, ◌≡◌, ◌-◌, ◌/◌, length, deque_len}
 use Rattle.ng_pace.proofs.ExactLemmas.{allow-along, takes-corner}
+use Rattle.ng_pace.proofs.FeedLemmas.{made-feeds}
 use Rattle.ng_pace.proofs.FlowLemmas.{marks_on}
 use Rattle.ng_pace.proofs.path.pass_corner.Goals as goal
 
@@ -33,6 +34,20 @@ returns-clause-passes g c =
           c.corner_pulses-pulses.result c.corner_caps-caps.result.most c.corner_caps-caps.result.ramp
           c.between-turn.ensures.most c.corner_pulses-pulses.ensures.near c.corner_caps-caps.ensures.allowed;
       then = c.settle-2.ensures.makes;
+      feed = c.greatest_feed-feed.result;
+      feeds = λ k d short. made-feeds c.args.pacer.now c.settle.new.pacer c.settle-2.new.pacer c.args.waiting.now.items c.settle.new.waiting.items
+          c.settle-2.new.waiting.items _ _ _ _ _ _ c.saturating_sub-count.result c.corner_pulses-pulses.result c.saturating_add.result c.greatest_feed-feed.result
+          c.settle.ensures.keeps c.settle.ensures.makes c.settle-2.ensures.keeps c.settle-2.ensures.makes c.saturating_add.ensures
+          (omega (arith, c.len.ensures, len)) c.greatest_feed-feed.ensures k d short;
+      full = record {
+        sizes = c.between-turn.result.slope;
+        turns = c.between-turn.result.turn;
+        sizes_are = c.between-turn.ensures.sizes;
+        turns_are = c.between-turn.ensures.turns;
+        longest = c.corner_pulses-pulses.ensures.most;
+        square = c.corner_caps-caps.ensures.most;
+        quarter = c.corner_caps-caps.ensures.ramp;
+      };
     }
 
 pub returns-clause-marks : goal.returns-clause-marks

@@ -35,5 +35,6 @@ returns-in-Some-clause-given g c =
       rests = rest_all c.take.new.planned slots c.in-Some.ensures.taken.plan c.rest_of-self-inside.result
           (rw c.rest_of-self-inside.ensures (rest_less line c.square_after-to.result c.self.inside.start c.args.wanted (ahead slots) passed.follows.within));
       start = refl;
+      percent = refl;
       room = search rules;
     })

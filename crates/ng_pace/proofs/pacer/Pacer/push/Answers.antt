@@ -10,6 +10,7 @@ pub invariant_of-self : goal.invariant_of-self
 invariant_of-self g c = rw c.push_back_reserved.ensures.items (record {
   plan = plan-push c.self.inside.planned c.self.inside.slots.items c.args.line c.self.invariant.plan;
   within = omega (arith, c.self.invariant.within, ahead-push c.self.inside.slots.items c.args.line);
+  is_percent = c.self.invariant.is_percent;
   is_root = c.self.invariant.is_root;
   size = c.self.invariant.size;
 })

@@ -13,6 +13,7 @@ returns-in-Ok-clause-made g c =
       before = refl;
       start = start ∙ c.start_of-start.ensures.start;
       stops = subst (λ t. IsStop c.args.limits t) (sym start) c.start_of-start.ensures.stops;
+      percent = ap (λ t. t.percent) c.in_ok-pacer.ensures.made;
       room_is = ap (λ t. t.room) c.in_ok-pacer.ensures.made;
       limits_are = refl;
       can_be_kept = c.in_ok-check.ensures.limits;
