@@ -8,6 +8,7 @@ use Rattle.ng_num.specs.declared.fault.Fault.TheVariants.{DeviceFailed, NotForma
 use Rattle.ng_rig.specs.Device.{Device}
 use Rattle.ng_rig.specs.Calls.{IfHonest}
 use Rattle.ng_file.specs.FileRig.{device_of}
+use Rattle.ng_file.specs.Promise.{Promise, no_promise}
 use Rattle.ng_file.specs.declared.device.NoDevice.{NoDevice}
 use Rattle.ng_file.specs.declared.rig.FileRig.{FileRig}
 use Rattle.ng_layout.specs.Areas.{is_large_size}
@@ -31,13 +32,13 @@ pub record FormatsRig {R : Type 0} (large : Bool) (seen : R → Device) (rig_old
 
 -- The same for the device in a file; or its bytes can't be made a device, since their number can't be read, or there is
 -- no memory.
-abbrev pub FormatsDevice : {S : Type 0} → (S → Option (List ℕ)) → Bool → S → Option (List ℕ) → Option (List ℕ) → ℕ → Type 0
-FormatsDevice {S} content large file old new status =
-    ((rig : FileRig S Sink Global) × (left : FileRig S Sink Global) × (out : Sink) × IsOver content file out rig
-    × FormatsRig large device_of rig left old new status)
+abbrev pub FormatsDevice : {S : Type 0} → (S → Option (List ℕ)) → (S → Promise) → Bool → S → Option (List ℕ) → Option (List ℕ) → ℕ → Type 0
+FormatsDevice {S} content promise large file old new status =
+    ((rig : FileRig S Sink Global) × (left : FileRig S Sink Global) × (out : Sink) × IsOver content promise file out rig
+    × FormatsRig large (device_of content promise) rig left old new status)
     ⊎ ((error : Error) × RefusesStorage error old new status)
 
 -- The same for a file as it was opened.
-abbrev pub FormatsOpened : {S : Type 0} → (S → Option (List ℕ)) → Bool → Result S NoDevice → Option (List ℕ) → Option (List ℕ) → ℕ → Type 0
-FormatsOpened content large (Ok file) old new status = FormatsDevice content large file old new status
-FormatsOpened content large (Err why) old new status = RefusesDevice why old new status
+abbrev pub FormatsOpened : {S : Type 0} → (S → Option (List ℕ)) → (S → Promise) → Bool → Result S NoDevice → Option (List ℕ) → Option (List ℕ) → ℕ → Type 0
+FormatsOpened content promise large (Ok file) old new status = FormatsDevice content promise large file old new status
+FormatsOpened content promise large (Err why) old new status = RefusesDevice why old new status

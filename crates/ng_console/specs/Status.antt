@@ -12,6 +12,7 @@ use Rattle.ng_dry.specs.declared.ending.DryFault.{DryFault}
 use Rattle.ng_file.specs.declared.device.NoDevice.{NoDevice}
 use Rattle.ng_file.specs.declared.opened.OpenedFile.{OpenedFile}
 use Rattle.ng_console.specs.Chosen.{GivesChoice}
+use Rattle.ng_file.specs.Promise.{no_promise}
 use Rattle.ng_console.specs.Formatting.{FormatsOpened}
 use Rattle.ng_console.specs.Growing.{GrowsOpened}
 use Rattle.ng_console.specs.Operating.{Operates}
@@ -56,7 +57,7 @@ module _ {F : Type 0} (bytes_of : F → Option (List ℕ)) where
   JobSpec (Dry program settings block_delete) text old new status =
       (settings_file : Option (Result F Error)) × (program_file : Result F Error) × (is_some settings_file ≡ is_some settings)
       × ((chosen : Result Settings NoSettings) × GivesChoice bytes_of settings_file chosen × RunsChosen chosen block_delete program_file old new status)
-  JobSpec (Format device large) text old new status = (opened : Result (OpenedFile F) NoDevice) × FormatsOpened (λ (file : OpenedFile F). None) large opened old new status
+  JobSpec (Format device large) text old new status = (opened : Result (OpenedFile F) NoDevice) × FormatsOpened (λ (file : OpenedFile F). None) (λ (file : OpenedFile F). no_promise) large opened old new status
   JobSpec (Grow device) text old new status =
       (opened : Result (OpenedFile F) NoDevice) × GrowsOpened (λ (file : OpenedFile F). None) (λ (file : OpenedFile F). None) opened old new status
   JobSpec (Run device settings out) text old new status = Operates bytes_of text old new status

@@ -30,7 +30,7 @@ pub(crate) fn format_opened<S: Storage + Drop, W: Write>(
     large: bool,
     writer: &mut W,
 ) -> io::Result<u8>
-    ensures run { IfOk result (FormatsOpened S.content large opened (W.contents writer.old) (W.contents writer.new)) }
+    ensures run { IfOk result (FormatsOpened S.content S.promise large opened (W.contents writer.old) (W.contents writer.new)) }
     ensures range { IfOk result (λ status. status ≤ 2) }
 {
     match opened {
@@ -61,7 +61,7 @@ fn format_storage<S: Storage + Drop, W: Write>(
     large: bool,
     writer: &mut W,
 ) -> io::Result<u8>
-    ensures run { IfOk result (FormatsDevice S.content large file (W.contents writer.old) (W.contents writer.new)) }
+    ensures run { IfOk result (FormatsDevice S.content S.promise large file (W.contents writer.old) (W.contents writer.new)) }
     ensures range { IfOk result (λ status. status ≤ 2) }
 {
     match FileRig::over(alloc, file, io::sink()) {

@@ -90,6 +90,7 @@ fn lengthen_device<S: Append>(file: &mut S) -> Result<(), Fault>
 pub(crate) fn is_device<S: Storage>(file: &mut S) -> io::Result<bool>
     ensures value { IfOk result (λ truth. IfSome (S.content file.old) (λ held. truth ≡ is_device held)) }
     ensures stays { S.content file.new ≡ S.content file.old }
+    ensures honest { (S.promise file.old).honest → (S.promise file.new).honest }
 {
     let length = file.length()?;
     if length < LEAST_BYTES {
@@ -108,6 +109,7 @@ fn read_header<S: Storage>(file: &mut S, is_large: bool, sector: u64) -> io::Res
         (λ header. IfSome (S.content file.old) (λ held. header ≡ header_in is_large sector
         (sector_of sector held))) }
     ensures stays { S.content file.new ≡ S.content file.old }
+    ensures honest { (S.promise file.old).honest → (S.promise file.new).honest }
 {
     let mut bytes = [0; SECTOR_BYTES];
     file.read_at(sector * SECTOR_BYTES as u64, &mut bytes)?;

@@ -2,6 +2,7 @@
 ghost use Rattle.std.specs.Prelude.{◌≡◌, ◌≤◌, Result, Some, IfOk, IfSome, OnOk};
 ghost use Rattle.ng_file.specs.declared.device.NoDevice.{NoDevice};
 ghost use Rattle.ng_file.specs.declared.opened.OpenedFile.{OpenedFile};
+ghost use Rattle.ng_file.specs.Promise.{IsDurable};
 ghost use Rattle.ng_console.specs.Operating.{OperatesChosen, OperatesDevice, OperatesOpened};
 
 use crate::format::{refuse_device, refuse_storage};
@@ -101,7 +102,7 @@ pub fn operate_device<S: Storage + Drop, O: Write + Drop, I: Read, W: Write>(
     writer: &mut W,
 ) -> io::Result<u8>
     ensures run { IfOk result
-        (OperatesDevice S.content S.lasting settings device out (I.remaining reader.old) (W.contents writer.old)
+        (OperatesDevice S.content S.lasting S.promise settings device out (I.remaining reader.old) (W.contents writer.old)
         (W.contents writer.new)) }
     ensures range { IfOk result (λ status. status ≤ 2) }
 {
@@ -136,6 +137,8 @@ pub fn operate_device<S: Storage + Drop, O: Write + Drop, I: Read, W: Write>(
 fn settle<S: Storage>(device: &mut S) -> io::Result<()>
     ensures same { IfSome (S.content device.old) (λ held. S.content device.new ≡ Some held) }
     ensures lasts { OnOk result (IfSome (S.lasting device.new) (λ kept. S.content device.new ≡ Some kept)) }
+    ensures honest { (S.promise device.old).honest → (S.promise device.new).honest }
+    ensures durable { (S.promise device.old).honest → OnOk result (IsDurable (S.content device.new) (S.promise device.new)) }
 {
     if is_device(device)? {
         rewrite(device)?;

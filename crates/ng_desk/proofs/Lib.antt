@@ -1,3 +1,2 @@
 pub mod Rising
 pub mod Histories
-pub mod OneField

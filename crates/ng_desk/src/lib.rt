@@ -19,7 +19,6 @@ mod desk;
 mod disagreeing;
 mod moments;
 mod origin;
-mod past;
 mod seat;
 
 pub use book::Book;

@@ -1,8 +1,8 @@
 //! The moments at which events were answered, for proofs only.
 ghost use Rattle.std.specs.Prelude.{◌≡◌, ◌++◌, [], ◌∷◌};
 
-use crate::past::Past;
 use ng_core::Controller;
+use ng_past::Past;
 use ng_rig::Rig;
 use std::alloc::Allocator;
 use std::marker::Model;

@@ -1,2 +1,4 @@
 pub mod Bytes
 pub mod FileRig
+pub mod Promise
+pub mod Sectors

@@ -6,20 +6,23 @@
 //! hand-out appends. They also say that each failure is counted. `lengthen` is for such a file while it isn't in use:
 //! it appends zeros, and changes no byte.
 //!
-//! Some things are trusted, and no contract states them: that a file of the system returns the bytes that were put at a
-//! place; that after a sync (`fdatasync`; `fsync` where the length changed) a loss of power leaves what a read returns;
-//! that a write of 512 bytes at a multiple of 512 is kept whole or not at all; that the file for hand-outs keeps the
-//! lines in the order in which they were appended; and that no other program writes to either file. So to the prover a
-//! `FileRig` is never honest, and what is proved of honest devices holds of it only as far as the files keep this.
+//! Where a storage does what it promises (`specs/Promise.antt`), and all of it is durable when the device is made, the
+//! device is honest: what is proved of honest devices holds of it. A file of the system promises nothing to the prover.
+//! So this is trusted of it, the clauses of `Storage`: a read returns the bytes that were put at a place; a write of 512
+//! bytes at a multiple of 512 is kept whole or not at all, also where it fails; after a sync (`fdatasync`; `fsync` where
+//! the length changed) a loss of power leaves what a read returns; and no other program writes to it. Of the file for
+//! hand-outs it is trusted that it keeps the lines in the order in which they were appended.
 #![tactic(auto)]
 
 mod device;
+mod done;
 mod hold;
 mod lengthening;
 mod opened;
 mod rewriting;
 mod rig;
 mod same;
+mod sectors;
 mod storage;
 mod writing;
 

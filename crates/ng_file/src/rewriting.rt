@@ -10,7 +10,8 @@ use std::io;
 /// What a sync couldn't write a system may take for written, so that a read returns it and the next sync succeeds, and
 /// the disk has it not. What is written again is written by the next sync, though, or that fails too.
 pub fn rewrite<S: Storage>(file: &mut S) -> io::Result<()>
-    ensures { IfSome (S.content file.old) (λ held. S.content file.new ≡ Some held) }
+    ensures same { IfSome (S.content file.old) (λ held. S.content file.new ≡ Some held) }
+    ensures honest { (S.promise file.old).honest → (S.promise file.new).honest }
 {
     let sectors = file.length()? / SECTOR as u64;
     rewrite_sector(file, 0)?;
@@ -21,7 +22,8 @@ pub fn rewrite<S: Storage>(file: &mut S) -> io::Result<()>
 /// Writes a sector again as it is read. No byte changes, also where it fails.
 pub(crate) fn rewrite_sector<S: Storage>(file: &mut S, sector: u64) -> io::Result<()>
     requires { 512 * sector + 512 < 2 ^ 64 }
-    ensures { IfSome (S.content file.old) (λ held. S.content file.new ≡ Some held) }
+    ensures same { IfSome (S.content file.old) (λ held. S.content file.new ≡ Some held) }
+    ensures honest { (S.promise file.old).honest → (S.promise file.new).honest }
 {
     let mut bytes = [0; SECTOR];
     let place = sector * SECTOR as u64;

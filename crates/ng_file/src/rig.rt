@@ -1,7 +1,6 @@
 //! A device whose sectors are those of a file.
-ghost use Rattle.std.specs.Prelude.{◌*◌, ◌<◌, ◌^◌, ℕ};
-
-use crate::storage::{SECTOR, Storage};
+use crate::sectors::Sectors;
+use crate::storage::Storage;
 use crate::writing::write_out;
 use ng_canon::Item;
 use ng_lines::push_item;
@@ -18,13 +17,11 @@ const LINE: usize = 64;
 /// Its size is the number of whole sectors that the file had when the device was made. A call fails if the file or the
 /// writer fails; a read or a write also fails if the file has become too short for its sector.
 #[derive(Drop)]
-pub struct FileRig<S, W, A: Allocator> {
-    file: S,
+pub struct FileRig<S: Storage, W, A: Allocator> {
+    sectors: Sectors<S>,
     out: W,
     line: Vec<u8, A>,
-    sectors: usize,
     failures: u64,
-    ghost fits: { 512 * sectors < 2 ^ 64 },
 }
 
 impl<S: Storage + Drop, W: Write + Drop, A: Allocator + Copy + Drop> FileRig<S, W, A> {
@@ -32,24 +29,28 @@ impl<S: Storage + Drop, W: Write + Drop, A: Allocator + Copy + Drop> FileRig<S, 
     ghost use Rattle.ng_rig.specs.Calls.{FailureCountSpec};
     ghost use Rattle.std.specs.Io.KnownBytes.{Appends};
     ghost use Rattle.ng_file.specs.Bytes.{AppendsBeginning, Put, PutInPart};
+    ghost use Rattle.ng_rig.specs.Trace.{Began};
     ghost use Rattle.ng_file.specs.FileRig.{failure_count, outlet, sector_count, storage};
+    ghost use Rattle.ng_file.specs.Promise.{IsDurable};
+    ghost use Rattle.ng_file.specs.Sectors.{AreHonest, image_of, trace_of};
     ghost use Rattle.ng_lines.specs.Lines.{item_line};
 
     /// The device in a file, which hands out to a writer. Fails if the file's length can't be read, or if there is no
     /// memory for a line.
-    pub fn over(alloc: A, mut file: S, out: W) -> io::Result<Self>
+    pub fn over(alloc: A, file: S, out: W) -> io::Result<Self>
         ensures size { IfOk result (λ rig. IfSome (S.content file) (λ held. sector_count rig ≡ length held / 512)) }
         ensures bytes { IfOk result (λ rig. S.content (storage rig) ≡ S.content file) }
         ensures out { IfOk result (λ rig. outlet rig ≡ out) }
         ensures failures { IfOk result (λ rig. failure_count rig ≡ 0) }
+        ensures trace { IfOk result (λ rig. trace_of S.content rig.sectors ≡ Began (image_of (sector_count rig) (S.content file))) }
+        ensures honest { IfOk result (λ rig. (S.promise file).honest → IsDurable (S.content file) (S.promise file) → AreHonest S.content S.promise rig.sectors) }
     {
         let line = Vec::with_capacity(alloc, LINE)?;
-        let sectors = (file.length()? / SECTOR as u64) as usize;
+        let sectors = Sectors::over(file)?;
         Ok(FileRig {
-            file,
+            sectors,
             out,
             line,
-            sectors,
             failures: 0,
         })
     }
@@ -59,37 +60,19 @@ impl<S: Storage + Drop, W: Write + Drop, A: Allocator + Copy + Drop> FileRig<S, 
         ensures { (result.0 ≡ storage self) × (result.1 ≡ outlet self) }
     {
         let FileRig {
-            file,
+            sectors,
             out,
             line: _,
-            sectors: _,
             failures: _,
         } = self;
-        (file, out)
-    }
-
-    /// Writes a sector's bytes to the file, if the file is long enough to have the sector.
-    fn put(&mut self, sector: usize, bytes: &[u8; 512]) -> io::Result<()>
-        requires { sector < sector_count self.old }
-        ensures ok { OnOk result (IfSome (S.content (storage self.old)) (λ held. 512 * sector + 512 ≤ length held)) }
-        ensures put { OnOk result (Put (512 * sector) bytes.now (S.content (storage self.old)) (S.content (storage self.new))) }
-        ensures part { OnErr result (PutInPart (512 * sector) bytes.now (S.content (storage self.old)) (S.content (storage self.new))) }
-        ensures others { (outlet self.new ≡ outlet self.old) × (sector_count self.new ≡ sector_count self.old)
-            × (failure_count self.new ≡ failure_count self.old) }
-    {
-        let place = sector as u64 * SECTOR as u64;
-        if self.file.length()? < place + SECTOR as u64 {
-            return Err(io::Error::from(io::ErrorKind::UnexpectedEof));
-        }
-        self.file.write_at(place, bytes)
+        (sectors.into_file(), out)
     }
 
     /// Appends the line of an item to the writer.
     fn put_line(&mut self, item: Item) -> io::Result<()>
         ensures line { OnOk result (Appends (W.contents (outlet self.old)) (W.contents (outlet self.new)) (item_line item)) }
         ensures part { OnErr result (AppendsBeginning (W.contents (outlet self.old)) (W.contents (outlet self.new)) (item_line item)) }
-        ensures others { (storage self.new ≡ storage self.old) × (sector_count self.new ≡ sector_count self.old)
-            × (failure_count self.new ≡ failure_count self.old) }
+        ensures others { (self.new.sectors ≡ self.old.sectors) × (failure_count self.new ≡ failure_count self.old) }
     {
         self.line.clear();
         push_item(&mut self.line, item)?;
@@ -101,8 +84,7 @@ impl<S: Storage + Drop, W: Write + Drop, A: Allocator + Copy + Drop> FileRig<S, 
     fn counted(&mut self, outcome: io::Result<()>) -> Result<(), Failed>
         ensures same { is_ok result ≡ is_ok outcome }
         ensures failures { FailureCountSpec result (failure_count self.old) (failure_count self.new) }
-        ensures others { (storage self.new ≡ storage self.old) × (outlet self.new ≡ outlet self.old)
-            × (sector_count self.new ≡ sector_count self.old) }
+        ensures others { (self.new.sectors ≡ self.old.sectors) × (outlet self.new ≡ outlet self.old) }
     {
         match outcome {
             Ok(()) => Ok(()),
@@ -117,15 +99,17 @@ impl<S: Storage + Drop, W: Write + Drop, A: Allocator + Copy + Drop> FileRig<S, 
 impl<S: Storage + Drop, W: Write + Drop, A: Allocator + Copy + Drop> Rig for FileRig<S, W, A> {
     ghost use Rattle.std.specs.Prelude.{◌≡◌, ◌+◌, ◌*◌, ◌<◌, ◌≤◌, IfSome, OnOk, OnErr, Some, length};
     ghost use Rattle.std.specs.Io.KnownBytes.{Appends};
-    ghost use Rattle.ng_rig.specs.Calls.{IsCall};
+    ghost use Rattle.ng_rig.specs.Calls.{HandOutSpec, IfHonest, IsCall, SyncSpec, WriteSpec};
+    ghost use Rattle.ng_rig.specs.Trace.{reads};
     ghost use Rattle.ng_file.specs.Bytes.{AppendsBeginning, Put, PutInPart, sector_of};
     ghost use Rattle.ng_file.specs.FileRig.{device_of, outlet, sector_count, storage};
+    ghost use Rattle.ng_file.specs.Sectors.{trace_of};
     ghost use Rattle.ng_lines.specs.Lines.{item_line};
 
-    ghost seen = { device_of };
+    ghost seen = { device_of S.content S.promise };
 
     fn size(&self) -> usize {
-        self.sectors
+        self.sectors.count()
     }
 
     fn failures(&self) -> u64 {
@@ -136,10 +120,12 @@ impl<S: Storage + Drop, W: Write + Drop, A: Allocator + Copy + Drop> Rig for Fil
     fn read(&mut self, sector: usize, into: &mut [u8; 512]) -> Result<(), Failed>
         requires { sector < sector_count self.old }
         ensures value { OnOk result (IfSome (S.content (storage self.old)) (λ held. into.new ≡ sector_of sector held)) }
+        ensures bytes { (device_of S.content S.promise self.old).honest → OnOk result (into.new ≡ reads (trace_of S.content self.old.sectors) sector) }
+        ensures trace { IfHonest (device_of S.content S.promise self.old) (device_of S.content S.promise self.new) (trace_of S.content self.new.sectors ≡ trace_of S.content self.old.sectors) }
         ensures stays { (S.content (storage self.new) ≡ S.content (storage self.old)) × (outlet self.new ≡ outlet self.old) }
-        ensures call { IsCall result (device_of self.old) (device_of self.new) }
+        ensures call { IsCall result (device_of S.content S.promise self.old) (device_of S.content S.promise self.new) }
     {
-        let read = self.file.read_at(sector as u64 * SECTOR as u64, into);
+        let read = self.sectors.read(sector, into);
         self.counted(read)
     }
 
@@ -149,10 +135,12 @@ impl<S: Storage + Drop, W: Write + Drop, A: Allocator + Copy + Drop> Rig for Fil
         ensures whole { OnOk result (IfSome (S.content (storage self.old)) (λ held. 512 * sector + 512 ≤ length held)) }
         ensures put { OnOk result (Put (512 * sector) bytes.now (S.content (storage self.old)) (S.content (storage self.new))) }
         ensures part { OnErr result (PutInPart (512 * sector) bytes.now (S.content (storage self.old)) (S.content (storage self.new))) }
+        ensures trace { IfHonest (device_of S.content S.promise self.old) (device_of S.content S.promise self.new)
+            (WriteSpec result sector bytes.now (trace_of S.content self.old.sectors) (trace_of S.content self.new.sectors)) }
         ensures stays { outlet self.new ≡ outlet self.old }
-        ensures call { IsCall result (device_of self.old) (device_of self.new) }
+        ensures call { IsCall result (device_of S.content S.promise self.old) (device_of S.content S.promise self.new) }
     {
-        let put = self.put(sector, bytes);
+        let put = self.sectors.write(sector, bytes);
         self.counted(put)
     }
 
@@ -160,9 +148,11 @@ impl<S: Storage + Drop, W: Write + Drop, A: Allocator + Copy + Drop> Rig for Fil
     fn sync(&mut self) -> Result<(), Failed>
         ensures lasts { OnOk result (IfSome (S.lasting (storage self.new)) (λ kept. S.content (storage self.new) ≡ Some kept)) }
         ensures stays { (S.content (storage self.new) ≡ S.content (storage self.old)) × (outlet self.new ≡ outlet self.old) }
-        ensures call { IsCall result (device_of self.old) (device_of self.new) }
+        ensures trace { IfHonest (device_of S.content S.promise self.old) (device_of S.content S.promise self.new)
+            (SyncSpec result (trace_of S.content self.old.sectors) (trace_of S.content self.new.sectors)) }
+        ensures call { IsCall result (device_of S.content S.promise self.old) (device_of S.content S.promise self.new) }
     {
-        let synced = self.file.sync();
+        let synced = self.sectors.sync();
         self.counted(synced)
     }
 
@@ -171,10 +161,15 @@ impl<S: Storage + Drop, W: Write + Drop, A: Allocator + Copy + Drop> Rig for Fil
     fn hand_out(&mut self, item: Item) -> Result<(), Failed>
         ensures line { OnOk result (Appends (W.contents (outlet self.old)) (W.contents (outlet self.new)) (item_line item)) }
         ensures part { OnErr result (AppendsBeginning (W.contents (outlet self.old)) (W.contents (outlet self.new)) (item_line item)) }
+        ensures trace { IfHonest (device_of S.content S.promise self.old) (device_of S.content S.promise self.new)
+            (HandOutSpec result item (trace_of S.content self.old.sectors) (trace_of S.content self.new.sectors)) }
         ensures stays { storage self.new ≡ storage self.old }
-        ensures call { IsCall result (device_of self.old) (device_of self.new) }
+        ensures call { IsCall result (device_of S.content S.promise self.old) (device_of S.content S.promise self.new) }
     {
         let put = self.put_line(item);
+        if put.is_ok() {
+            self.sectors.hand(&item);
+        }
         self.counted(put)
     }
 }

@@ -7,7 +7,7 @@ use std::marker::{Model, PhantomData};
 /// Values as they were, in order (own). Only proofs read them, as `values`. It doesn't allocate, and its methods do
 /// nothing at run time.
 #[derive(Drop)]
-pub(crate) struct Past<T> {
+pub struct Past<T> {
     of: PhantomData<T>,
     pub ghost values: { List T },
 }
@@ -21,14 +21,14 @@ unsafe impl<T> Send for Past<T> {}
 
 impl<T> Past<T> {
     /// No value yet.
-    pub(crate) fn new() -> Past<T>
+    pub fn new() -> Past<T>
         ensures { result.values ≡ [] }
     {
         Past { of: PhantomData }
     }
 
     /// These values, followed by this one as it is now.
-    pub(crate) fn and(&self, value: &T) -> Past<T>
+    pub fn and(&self, value: &T) -> Past<T>
         ensures { result.values ≡ self.now.values ++ value.now ∷ [] }
     {
         Past { of: PhantomData }

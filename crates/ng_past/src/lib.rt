@@ -1,0 +1,6 @@
+//! Values of the past, which proofs alone read.
+#![tactic(auto)]
+
+mod past;
+
+pub use past::Past;
