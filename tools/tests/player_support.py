@@ -8,6 +8,7 @@ import subprocess
 import sys
 import tempfile
 import unittest
+from concurrent.futures import ThreadPoolExecutor
 from functools import cache
 from pathlib import Path
 
@@ -25,14 +26,26 @@ SANITIZERS = ("-O0", "-g", "-fsanitize=address,undefined", "-fno-sanitize-recove
 @cache
 def built(*options: str, compiler: str = "cc", pins: Path | None = None, sources: tuple[Path, ...] = ()) -> str:
     """The path of a player in C, or of what else these sources are, built without a warning."""
+    sources = sources or [path for path in SOURCES if not pins or path.name != "pins.c"] + ([pins] if pins else [])
+    with ThreadPoolExecutor(os.cpu_count()) as several:
+        objects = list(several.map(lambda path: compiled(path, compiler, *options), sources))
+    return made("player", compiler, *STANDARD, *options, *objects, "-lm")
+
+
+@cache
+def compiled(source: Path, compiler: str, *options: str) -> str:
+    """The path of a source's object, compiled without a warning."""
+    return made("object.o", compiler, *STANDARD, *options, "-I", str(TOOLS / "player"), "-c", str(source))
+
+
+def made(name: str, *command: str) -> str:
+    """The path of what a compiler makes, in a folder of its own."""
     folder = tempfile.mkdtemp(prefix="ngc-player-")
     atexit.register(shutil.rmtree, folder)
-    sources = sources or [path for path in SOURCES if not pins or path.name != "pins.c"] + ([pins] if pins else [])
-    command = [compiler, *STANDARD, *options, *sources, "-I", TOOLS / "player", "-lm", "-o", f"{folder}/player"]
-    done = subprocess.run(command, capture_output=True, text=True)
+    done = subprocess.run([*command, "-o", f"{folder}/{name}"], capture_output=True, text=True)
     if done.returncode:
         raise AssertionError("tools/player isn't built:\n" + done.stderr)
-    return f"{folder}/player"
+    return f"{folder}/{name}"
 
 
 def sector(*lines: str) -> bytes:
@@ -102,20 +115,26 @@ class PlayerTest(InFolder):
         return done.stderr.partition(": ")[2].removesuffix("\n")
 
 
+def played(*words: str) -> tuple[int, str, str]:
+    """The status, standard output and standard error of ngc-player within the process of the tests, which is quicker.
+    Signals are heeded as before then."""
+    numbers = (signal.SIGINT, signal.SIGTERM, signal.SIGHUP, signal.SIGQUIT)
+    heeded = {number: signal.getsignal(number) for number in numbers}
+    try:
+        return told(player.main, *words)
+    finally:
+        for number, handler in heeded.items():
+            signal.signal(number, handler)
+
+
 class InProcess:
-    """ngc-player within the process of the tests, which is quicker."""
+    """ngc-player within the process of the tests."""
 
     def run_player(self, *words: str, **how: object) -> subprocess.CompletedProcess[str]:
         """Runs it to its end."""
         if how:
             return super().run_player(*words, **how)
-        numbers = (signal.SIGINT, signal.SIGTERM, signal.SIGHUP, signal.SIGQUIT)
-        heeded = {number: signal.getsignal(number) for number in numbers}
-        try:
-            return subprocess.CompletedProcess(words, *told(player.main, *words))
-        finally:
-            for number, handler in heeded.items():
-                signal.signal(number, handler)
+        return subprocess.CompletedProcess(words, *played(*words))
 
 
 class InC:

@@ -10,6 +10,7 @@ by chance. All that the pins got is followed: a line that is carried out is put 
 way back takes the last one away, whose steps it has to have, reversed. What is left at the end has to be the uncut run,
 line by line."""
 import argparse
+import gc
 import os
 import random
 import signal
@@ -273,6 +274,7 @@ class Session:
             quiet = [(os.POSIX_SPAWN_OPEN, 1, os.devnull, os.O_WRONLY, 0),
                      (os.POSIX_SPAWN_OPEN, 2, said, os.O_WRONLY | os.O_CREAT | os.O_APPEND, 0o600)]
             return os.posix_spawn(self.options.player, [self.options.player, *given], os.environ, file_actions=quiet)
+        gc.freeze()  # what is there isn't looked through, and so not copied, in the child
         child = os.fork()
         if child == 0:
             try:

@@ -10,6 +10,7 @@ segment of it begins, uncut. Then it is run over a named pipe by a player that k
 again, until it is at its end. After each cut the new session says which segment comes next: what lies between the last
 line that the pins got and that segment's first line was handed out, and is never carried out."""
 import argparse
+import gc
 import os
 import random
 import signal
@@ -258,6 +259,7 @@ class Session:
             return os.posix_spawn(command[0], command, os.environ, file_actions=quiet)
         given = [*words, "--no-ask-tool", "--pipe", self.options.pipe, "--progress", self.socket, "--pins", self.log,
                  *ramps]
+        gc.freeze()  # what is there isn't looked through, and so not copied, in the child
         child = os.fork()
         if child == 0:
             try:

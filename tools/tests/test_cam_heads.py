@@ -11,6 +11,8 @@ from test_examples import COARSE  # noqa: E402
 from ngc_tools.formats.canonical import MOTIONS, read_commands  # noqa: E402
 from ngc_tools.formats.position import millimetres  # noqa: E402
 from ngc_tools.ngc.run import dry  # noqa: E402
+from ngc_tools.cli.check import main as check  # noqa: E402
+from ngc_tools.cli.plot import main as plot  # noqa: E402
 from ngc_tools.cli.split import main as split  # noqa: E402
 
 CAM = Path(__file__).resolve().parent / "cam"
@@ -38,9 +40,9 @@ class Headers(InFolder):
     def test_headers(self) -> None:
         """What is refused and marked, and what is warned of."""
         for name, (refused, warned) in SAID.items():
-            done = self.tool("ngc-check", str(CAM / name), "--ngc", ngc())
-            self.assertEqual((done.stderr, done.returncode), ("", 1 if refused else 0))
-            lines = done.stdout.replace(f"{CAM / name}:", ":").splitlines()
+            status, said, error = told(check, str(CAM / name), "--ngc", ngc())
+            self.assertEqual((error, status), ("", 1 if refused else 0))
+            lines = said.replace(f"{CAM / name}:", ":").splitlines()
             found, warnings = [], []
             for number, line in enumerate(lines):
                 if match := re.fullmatch(r":([0-9]+): ([A-Z][0-9]+) \w+", line):
@@ -61,8 +63,11 @@ class Headers(InFolder):
             path = str(CAM / f"{name}.expected")
             self.assertRegex(told(split, path, "--ngc", ngc())[1], r": \d+ bytes: ngc run takes it as it is\n$")
             text = dry(ngc(), Path(path))[1].decode()
-            drawn = self.tool("ngc-plot", "--ngc", ngc(), "--settings", "coarse.toml", text=text)
-            self.assertEqual((drawn.returncode, drawn.stderr, drawn.stdout[:5]), (0, "", "<svg "), name)
+            Path("part.txt").write_text(text)
+            words = ("part.txt", "--ngc", ngc(), "--settings", "coarse.toml", "--output", "part.svg", "--force")
+            status, _, error = told(plot, *words)
+            self.assertEqual((status, error, Path("part.svg").read_text()[:5]), (0, "", "<svg "), name)
+            Path("part.svg").unlink()
             self.device()
             typed = f"tool 1 50\nload {path}\n" + "run\n" * 4 + "quit\n"
             done = self.tool("ngc-operate", "--ngc", ngc(), "mill.dev", "coarse.toml", "out", text=typed)

@@ -7,6 +7,7 @@ from pathlib import Path
 
 sys.path.insert(0, str(Path(__file__).resolve().parent))
 
+from player_support import played  # noqa: E402
 from session_support import FIRST, TOOLS, InFolder, ngc, told  # noqa: E402
 
 from ngc_tools.cli.adapt import main as adapt  # noqa: E402
@@ -87,14 +88,16 @@ class Examples(InFolder):
         for name in NAMES:
             with self.subTest(name):
                 delete = "delete on\n" if name == "percent" else ""
-                self.operate(f"tool 1 50\ntool 2 62.5\ntool 3 0\nload {EXAMPLES / name}.ngc\nquit\n")
+                text = (EXAMPLES / f"{name}.ngc").read_text()
+                self.run_ngc(f"tool 1 50\ntool 2 62.5\ntool 3 0\nload {len(text)}\n{text}quit\n")
                 self.rehearsed(name)
                 x, y, z = moves(name)[-1].args[:3]
                 shown = self.operate(delete + "run\n" * 3 + "quit\n")
                 ends = " ".join(f"{axis} {millimetres(nm)}" for axis, nm in zip("XYZ", (x, y, z), strict=True))
                 self.assertIn(f"idle; {ends}; next line ", shown)
-                said = self.said("ngc-player", "--untimed", "--no-ask-tool", "--at", "0", "0", "0", "out",
-                                 "coarse.toml", "position")
+                status, said, error = played("--untimed", "--no-ask-tool", "--at", "0", "0", "0", "out", "coarse.toml",
+                                             "position")
+                self.assertEqual((status, error), (0, ""))
                 self.assertEqual(said.splitlines()[-1], Position(STEP_NM, (x, y, z)).reference())
                 for path in ("out", "position", "mill.dev"):
                     Path(path).unlink()

@@ -2,6 +2,7 @@
 time, with a status of its page, and without a traceback.
 
 A tool runs in a fork of this process, which has loaded it already: that takes some milliseconds."""
+import gc
 import os
 import shutil
 import signal
@@ -63,10 +64,12 @@ class Ended:
 
 def begin(name: str, words: Iterable[str], before: Callable[[], object]) -> int:
     """Starts a tool in a fork with a process group of its own, its outputs in files; `before` is done in it first."""
+    gc.freeze()
     child = os.fork()
     if child:
         return child
     try:
+        gc.disable()  # a page that nobody touches isn't copied
         os.setpgid(0, 0)
         signal.signal(signal.SIGINT, signal.SIG_DFL)  # as the scripts begin
         for number, path in ((0, "/dev/null"), (1, "tool.out"), (2, "tool.err")):

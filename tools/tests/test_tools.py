@@ -7,11 +7,13 @@ import subprocess
 import sys
 import tomllib
 import unittest
+from importlib import import_module
 from pathlib import Path
+from unittest.mock import patch
 
 sys.path.insert(0, str(Path(__file__).resolve().parent))
 
-from session_support import TOOLS, InFolder, ngc  # noqa: E402
+from session_support import TOOLS, InFolder, ngc, told  # noqa: E402
 
 NAMES = sorted(path.name for path in TOOLS.glob("ngc-*"))
 NOT_FOUND = "ngc: neither beside this tool nor on PATH; name it with --ngc PATH\n"
@@ -76,15 +78,17 @@ class Tools(InFolder):
         Path("part.txt").write_text("PROGRAM_END()\n")
         os.mkdir("bin")
         os.symlink(ngc(), "bin/ngc")
-        shutil.copytree(TOOLS, "tools", ignore=shutil.ignore_patterns("tests", "__pycache__"))
+        shutil.copytree(TOOLS, "tools", ignore=shutil.ignore_patterns("tests"))
         os.symlink(ngc(), "tools/ngc")
         for name, words in WORDS.items():
-            self.assertEqual(self.run_tool(name, *words), (2, "", f"{name}: {NOT_FOUND}"), name)
+            main = import_module(f"ngc_tools.cli.{name.removeprefix('ngc-')}").main
+            with patch.dict(os.environ, PATH=""):
+                self.assertEqual(told(main, *words), (2, "", f"{name}: {NOT_FOUND}"))
+            self.assertEqual(told(main, *words, "--ngc", "first.toml"),
+                             (2, "", f"{name}: first.toml: not a program that can be run\n"))
             on_path = self.run_tool(name, *words, path=str(self.folder / "bin"))
             self.assertEqual(on_path[0], 0, on_path)
             self.assertEqual(self.run_tool(name, *words, tools=self.folder / "tools"), on_path, name)
-            self.assertEqual(self.run_tool(name, *words, "--ngc", "first.toml"),
-                             (2, "", f"{name}: first.toml: not a program that can be run\n"), name)
 
     def test_imports(self) -> None:
         """Python's standard library alone."""
