@@ -75,7 +75,8 @@ static void begin_alarm(struct play *play, uint32_t hits) {
     bool is_stop = input_is_on(hits, inputs->emergency_stop);
     char what[32] = "the emergency stop";
     if (!is_stop) {
-        snprintf(what, sizeof what, "the limit %s", inputs_limit_name(inputs, hits));
+        const char *limit = inputs_limit_name(inputs, hits);
+        snprintf(what, sizeof what, limit[0] != '\0' ? "the limit %s" : "a limit", limit);
     }
     switch_off(play);
     player_lock(player);

@@ -80,10 +80,13 @@ void inputs_print(const struct inputs *inputs, uint32_t on, char *text, size_t r
 }
 
 const char *inputs_limit_name(const struct inputs *inputs, uint32_t on) {
+    const char *name = "";
+    int count = 0;
     for (int at = 0; at < 2 * 3; at++) {
         if (input_is_on(on, inputs->limits[at % 2][at / 2])) {
-            return limit_names[at % 2][at / 2];
+            name = limit_names[at % 2][at / 2];
+            count++;
         }
     }
-    return "";
+    return count == 1 ? name : "";
 }

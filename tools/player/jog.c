@@ -127,7 +127,7 @@ enum end do_manual(struct play *play) {
     enum end end = wish.kind == HOMES ? home_axes_now(play, wish.axes, &how) : go(play, &wish, &how);
     play->is_moving = false;
     if (end != AT_OUTS_END) {
-        because(&how, "%s", play->why.text);
+        because(&how, "%.*s", (int)strcspn(play->why.text, ";"), play->why.text);
     }
     note_end(play, &wish, &how);
     schedule_pause(&play->schedule);
