@@ -57,6 +57,7 @@ bool sink_has_to_stop(struct sink *sink) {
 
 /* The FIFO is empty, and its last word has lasted: the motors stand. */
 static void run_out(struct sink *sink) {
+    sink->square = 0;
     sink->lasted = STOOD;
     sink->state = SINK_STANDS;
 }
@@ -104,7 +105,7 @@ static uint32_t greatest_square(struct sink *sink, uint32_t slope) {
 
 /* How many ticks a word lasts. A division and a root where it is made longer, else neither. */
 static uint32_t lasting(const struct sink *sink, uint32_t ticks) {
-    if (sink->square == 0 || is_within(ticks, sink->square)) {
+    if (is_within(ticks, sink->square)) {
         return ticks;
     }
     uint32_t root = root_of(sink->square);
@@ -124,13 +125,14 @@ static void make_output(struct sink *sink, uint32_t value, uint8_t bits) {
 }
 
 /* Makes a step. The motors may stand then if the time since the step before was no shorter than that of one slope. They
- * do at the last word in hand, whatever it says: what comes behind it begins from rest, with one slope. */
+ * do at the last word in hand: what comes behind it begins from rest, with one slope. */
 static void make_step(struct sink *sink, uint32_t value, uint8_t bits) {
     uint32_t slope = wire_slope(value);
     sink_port_pins(bits & WORD_STEPS, (uint8_t)((bits & WORD_DOWN) >> 3), NULL);
     sink->rises_made += slope;
-    sink->square = greatest_square(sink, slope);
-    sink->dry = (uint16_t)(sink->dry + (sink->square == 0));
+    uint32_t square = greatest_square(sink, slope);
+    sink->dry = (uint16_t)(sink->dry + (square == 0));
+    sink->square = square == 0 ? slope : square;
     sink->is_still = is_within(sink->lasted, slope);
     sink->left = lasting(sink, wire_ticks(value));
     sink->lasted = sink->left;
