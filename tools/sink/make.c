@@ -58,6 +58,7 @@ bool sink_has_to_stop(struct sink *sink) {
 /* The FIFO is empty, and its last word has lasted: the motors stand. */
 static void run_out(struct sink *sink) {
     sink->square = 0;
+    sink->is_slowed = !sink->is_rest;
     sink->lasted = STOOD;
     sink->state = SINK_STANDS;
 }
@@ -84,14 +85,15 @@ static uint32_t square_of(uint32_t ticks) {
     return rate * rate;
 }
 
-/* The greatest square of the word at the FIFO's front: one slope more than that of the one before, and no more than
- * what is behind it in the FIFO lets it lose, unless that has a rest. Where it is to stop, one slope less. */
+/* The greatest square of the word at the FIFO's front: no more than what is behind it in the FIFO lets it lose, unless
+ * that has a rest, and where the word before was slowed down one slope more than that one's. Where it is to stop, one
+ * slope less. */
 static uint32_t greatest_square(struct sink *sink, uint32_t slope) {
     const volatile struct sink_taken *taken = sink_taken(sink);
     uint32_t behind = taken->rises - sink->rises_made;
     bool has_rest = taken->rest - sink->made - 1 < WIRE_FIFO;
     uint32_t most = has_rest ? MOST_SQUARE : behind;
-    uint32_t square = sink->is_rest ? MOST_SQUARE : sink->square + slope;
+    uint32_t square = sink->is_slowed ? sink->square + slope : MOST_SQUARE;
     if (sink_asked(sink) != FAULT_NONE) {
         uint32_t now = sink->square;
         if (!sink->is_braking && square_of(sink->lasted) < now) {
@@ -135,6 +137,7 @@ static void make_step(struct sink *sink, uint32_t value, uint8_t bits) {
     sink->square = square == 0 ? slope : square;
     sink->is_still = is_within(sink->lasted, slope);
     sink->left = lasting(sink, wire_ticks(value));
+    sink->is_slowed = square == 0 || sink->left > wire_ticks(value);
     sink->lasted = sink->left;
 }
 
@@ -148,8 +151,11 @@ static void make_word(struct sink *sink) {
         make_step(sink, value, bits);
     }
     sink->is_rest = (bits & WORD_REST) != 0;
-    sink->is_still = sink->is_still || sink->is_rest;
-    sink->lasted = sink->is_rest ? STOOD : sink->lasted;
+    if (sink->is_rest) {
+        sink->is_still = true;
+        sink->is_slowed = false;
+        sink->lasted = STOOD;
+    }
     sink->made = sink->made + 1;
 }
 

@@ -240,5 +240,5 @@ const char *sender_why(const struct sender *sender) {
     if (sender->state == SENDER_RESET) {
         return "the sink's chip started again";
     }
-    return sender->is_deaf ? "no answer from the sink for half a second" : faults[sender->sink.fault];
+    return sender->is_deaf ? "no answer from the sink for two seconds" : faults[sender->sink.fault];
 }

@@ -19,7 +19,7 @@ enum {
     SENDER_ROOM = WIRE_FIFO, /* words given and not known to be made */
     SENDER_BEGINS_MS = 20,   /* a session's beginning is asked for again after so long */
     SENDER_SPEAKS_MS = 5,    /* with no words to send it says after so long how many it sent */
-    SENDER_DEAF_MS = 500     /* as long as the sink goes on without it */
+    SENDER_DEAF_MS = 2000    /* without an answer it says that it is deaf after so long */
 };
 
 enum sender_state {

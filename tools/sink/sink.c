@@ -81,6 +81,7 @@ static void begin_session(struct sink *sink, const uint8_t *body) {
     set_taken(sink, (struct sink_taken){sink->made, sink->rises_made, sink->made});
     sink->is_rest = true;
     sink->is_still = true;
+    sink->is_slowed = false;
     sink->is_braking = false;
     sink->is_touched = false;
     sink->touched = 0;

@@ -16,9 +16,9 @@
  *
  * Why it always comes to rest by the slopes. A word's slope says how much the square of the rate may change from it to
  * the next. So long as no rest is in the FIFO no word is faster than the slopes of those behind it in the FIFO allow,
- * added up: then they are enough for a stop. Each word that is made takes one slope from that sum, and each that comes
- * adds to it; it is heeded one slope a word. The lesser of two rates of which neither changes by more than the slopes
- * doesn't either: so what is made longer is what the motors can follow, as what was sent was. */
+ * added up: then they are enough for a stop. Each word that is made takes one slope from that sum, so a word that is
+ * made longer for it loses one slope; and behind one that was made longer no word gains more than one. What isn't made
+ * longer changes as it was sent. So the motors can follow what is made, if they can follow what was sent. */
 #ifndef SINK_H
 #define SINK_H
 
@@ -65,6 +65,7 @@ struct sink {
     uint32_t speed_low;  /* of the next switches */
     bool is_rest;        /* it ends at rest .. */
     bool is_still;       /* .. or is so slow that the motors may stand */
+    bool is_slowed;      /* it was made longer than it was given */
     bool is_braking;
     struct sink_outputs outputs;
     /* The main loop's half. */
