@@ -11,8 +11,8 @@
 #include "play.h"
 #include "way.h"
 
-/* So many lines may be known ahead of the next one, and no more: then a stop has room in the sink's FIFO, behind what is
- * sent ahead against lateness. */
+/* So many lines may be known ahead of the next one, and no more: then a stop has room in the sink's FIFO, behind what
+ * is sent ahead against lateness. */
 enum { LINK_LINES = 1200 };
 
 /* What the sink said last. */

@@ -26,7 +26,7 @@
 #include "sink.h"
 #include "sink_port.h"
 
-enum { POLL_TICKS = WIRE_TICKS_A_MS, ROOM = 65536, WATCHDOG_MS = 100, HEARS_MS = 100 };
+enum { POLL_TICKS = WIRE_TICKS_A_MS, ROOM = 65536, WATCHDOG_MS = 100, HEARS_MS = 100, HAS_MS = 12 };
 
 static struct sink sink;
 static int terminal;
@@ -153,22 +153,24 @@ static void run(uint64_t ticks) {
     now = until;
 }
 
-/* Whether the words of the next millisecond can be made in their times, if nothing comes before. */
+/* Whether the words of the next two milliseconds can be made in their times, if nothing comes before; and whether there
+ * are words for HAS_MS, or the sender has just spoken and had no more. */
 static bool is_in_time(void) {
     const volatile struct sink_taken *taken = sink_taken(&sink);
     uint32_t behind = taken->rises - sink.rises_made;
     uint64_t ticks = sink.left;
-    bool is_right = sink.state != SINK_RUNS || sink.made != taken->words || sink.is_rest;
-    for (uint32_t at = sink.made; at != taken->words && ticks < 2 * POLL_TICKS && is_right; at++) {
+    uint32_t silent = (uint32_t)now - sink.heard_at;
+    bool is_right = sink.made != taken->words || sink.is_rest;
+    for (uint32_t at = sink.made; at != taken->words && ticks < HAS_MS * WIRE_TICKS_A_MS && is_right; at++) {
         uint32_t value = sink.values[at % WIRE_FIFO];
         bool is_output = (sink.bits[at % WIRE_FIFO] & WORD_OUTPUT) != 0;
         uint64_t lasts = is_output ? WIRE_LEAST_TICKS : wire_ticks(value);
         behind -= is_output ? 0 : wire_slope(value);
         bool has_rest = taken->rest - at - 1 < WIRE_FIFO;
-        is_right = has_rest || (double)lasts * (double)lasts * behind >= 4398046511104.0;
+        is_right = has_rest || ticks > 2 * POLL_TICKS || (double)lasts * (double)lasts * behind >= 4398046511104.0;
         ticks += lasts;
     }
-    return is_right;
+    return is_right && silent < (ticks < HAS_MS * WIRE_TICKS_A_MS ? 1 : HEARS_MS) * WIRE_TICKS_A_MS;
 }
 
 static uint64_t real_ms(void) {
@@ -211,8 +213,7 @@ static void serve(void) {
         if (begin != end) {
             sink_poll(&sink, (uint32_t)now);
         }
-        bool is_heard = (uint32_t)now - sink.heard_at < HEARS_MS * WIRE_TICKS_A_MS;
-        bool goes_on = (sink.state == SINK_RUNS && is_heard && is_in_time())
+        bool goes_on = (sink.state == SINK_RUNS && is_in_time())
             || real_ms() - waited >= (sink.state == SINK_RUNS ? serves_ms : 1);
         if (goes_on) {
             run(POLL_TICKS);

@@ -1,7 +1,7 @@
 /* The sender's half of tools/sink, driven by lines.
  *
  *     begin TOKEN STOPS HALTS LOW TICKS    seeks the sink anew
- *     give VALUE BITS VALUE BITS ..        gives words, up to the first for which there is no room, or that isn't wanted
+ *     give VALUE BITS VALUE BITS ..        gives words, up to the first that isn't wanted
  *     force VALUE BITS VALUE BITS ..       gives words, wanted or not
  *     switch SPINDLE SPEED MIST FLOOD SELECTED SLOT
  *     step MS HEX                          takes these bytes of the line, then prints each frame that is to be sent

@@ -458,7 +458,8 @@ static void ask_to_stop(bool is_at_once) {
 
 /* A frame that isn't damaged holds a word that isn't one. */
 static void send_bad_word(void) {
-    static const struct word bad[] = {{39, 1}, {40 | 144u << 24, 1}, {40, WORD_OUTPUT}, {3, WORD_OUTPUT | WORD_REST | 1}};
+    static const struct word bad[] = {
+        {39, 1}, {40 | 144u << 24, 1}, {40, WORD_OUTPUT}, {3, WORD_OUTPUT | WORD_REST | WORD_SWITCH}};
     const struct word *word = &bad[chance(4)];
     uint8_t body[WIRE_BODY];
     uint8_t bytes[WIRE_LINE];

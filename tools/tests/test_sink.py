@@ -638,7 +638,7 @@ class Faults(SinkTest):
         self.assertEqual(self.sink.last(5, begin_frame(session)).touched, 0)
 
     def test_halts_at_rest(self) -> None:
-        """Where it is on at the beginning nothing is made; where it is only on while its pin is low, it is heeded so."""
+        """Where it is on at the beginning nothing is made; one that is on while its pin is low is heeded so."""
         self.sink.ask("inputs 2")
         session = self.boot()
         self.assertEqual(self.sink.last(6, begin_frame(session, halts=2))[1:5], (0, 0, STOPPED, TOUCHED))
@@ -771,13 +771,13 @@ class Sent(SinkTest):
         session = self.linked()
         for _ in range(120):
             session.step(5, [(MS, 1), (MS, REST)])
-        session.forth.cut_until = session.back.cut_until = session.now + 600
-        for _ in range(48):
-            session.step(10, [])
+        session.forth.cut_until = session.back.cut_until = session.now + 2100
+        for _ in range(39):
+            session.step(50, [])
         self.assertEqual(self.sender.why, "nothing")
-        for _ in range(6):
-            session.step(10, [])
-        self.assertEqual((self.sender.why, session.ends), ("no answer from the sink for half a second", []))
+        for _ in range(3):
+            session.step(50, [])
+        self.assertEqual((self.sender.why, session.ends), ("no answer from the sink for two seconds", []))
         while not session.ends:
             session.step(10, [])
         self.assertEqual(session.ends, ["the sink heard nothing for half a second"])
