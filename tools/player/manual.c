@@ -211,7 +211,7 @@ bool manual_heed(struct player *player, const char *text, size_t size, char *ans
         }
         return true;
     }
-    enum words words = manual_read(text, size, &wish);
+    enum reading words = manual_read(text, size, &wish);
     if (words == OTHER_WORDS || (words == WISH_WORDS && is_repeated(player, &wish))) {
         return words != OTHER_WORDS;
     }

@@ -5,22 +5,28 @@
  *     inputs BITS        sets the inputs
  *     boot BOOT          the chip starts again
  *     stray TICK         its timer calls sink_make while it isn't to
+ *     serve MS           from now on the clock goes on by itself, but where the sink would have to slow down, or hears
+ *                        nothing, no sooner than so many real milliseconds later
+ *     faults SEED RATE   of a thousand frames so many are lost, or damaged, or doubled, each way
+ *     cut MS             nothing comes through for so many milliseconds of the clock
  * What the pins do is printed as `P tick steps down` and `S tick spindle speed mist flood selected slot`; each line is
  * answered by `. bytes` at its end, where so many bytes were sent to the terminal in all. */
 #define _XOPEN_SOURCE 600
 #include <fcntl.h>
 #include <inttypes.h>
+#include <poll.h>
 #include <stdbool.h>
 #include <stdio.h>
 #include <stdlib.h>
 #include <string.h>
 #include <termios.h>
+#include <time.h>
 #include <unistd.h>
 
 #include "sink.h"
 #include "sink_port.h"
 
-enum { POLL_TICKS = WIRE_TICKS_A_MS, ROOM = 65536, WATCHDOG_MS = 100 };
+enum { POLL_TICKS = WIRE_TICKS_A_MS, ROOM = 65536, WATCHDOG_MS = 100, HEARS_MS = 100, HAS_MS = 12 };
 
 static struct sink sink;
 static int terminal;
@@ -35,6 +41,11 @@ static size_t begin;
 static size_t end;
 static unsigned long received;
 static unsigned long sent;
+static unsigned long serves_ms; /* 0 where it doesn't serve */
+static uint32_t random_state;
+static uint32_t fault_rate;
+static uint64_t cut_until;
+static uint64_t waited;         /* real milliseconds since which the clock stands */
 
 static void give_up(const char *what) {
     fprintf(stderr, "sink_posix: %s\n", what);
@@ -70,9 +81,36 @@ int sink_port_read(void) {
     return came[begin - 1];
 }
 
-void sink_port_write(const uint8_t *bytes, size_t size) {
-    ssize_t done = write(terminal, bytes, size);
+/* Whether a fault befalls a frame. */
+static bool is_faulty(void) {
+    random_state = random_state * 1664525 + 1013904223;
+    return (random_state >> 8) % 1000 < fault_rate;
+}
+
+/* What of a frame comes through: all of it, a part, nothing, or it with a byte changed; and whether twice. */
+static size_t pass(uint8_t *bytes, size_t size, bool *is_twice) {
+    *is_twice = is_faulty();
+    if (now < cut_until || is_faulty()) {
+        return 0;
+    }
+    if (is_faulty()) {
+        bytes[(random_state >> 16) % size] ^= (uint8_t)(1 << (random_state >> 8) % 8);
+    }
+    return is_faulty() ? (random_state >> 16) % size : size;
+}
+
+static void send_all(const uint8_t *bytes, size_t size) {
+    ssize_t done = size > 0 ? write(terminal, bytes, size) : 0;
     sent += done > 0 ? (unsigned long)done : 0;
+}
+
+void sink_port_write(const uint8_t *bytes, size_t size) {
+    uint8_t frame[WIRE_LINE];
+    bool is_twice = false;
+    memcpy(frame, bytes, size);
+    size_t passed = pass(frame, size, &is_twice);
+    send_all(frame, passed);
+    send_all(frame, is_twice ? passed : 0);
 }
 
 void sink_port_watchdog(void) {
@@ -115,6 +153,77 @@ static void run(uint64_t ticks) {
     now = until;
 }
 
+/* Whether the words of the next two milliseconds can be made in their times, if nothing comes before; and whether there
+ * are words for HAS_MS, or the sender has just spoken and had no more. */
+static bool is_in_time(void) {
+    const volatile struct sink_taken *taken = sink_taken(&sink);
+    uint32_t behind = taken->rises - sink.rises_made;
+    uint64_t ticks = sink.left;
+    uint32_t silent = (uint32_t)now - sink.heard_at;
+    bool is_right = sink.made != taken->words || sink.is_rest;
+    for (uint32_t at = sink.made; at != taken->words && ticks < HAS_MS * WIRE_TICKS_A_MS && is_right; at++) {
+        uint32_t value = sink.values[at % WIRE_FIFO];
+        bool is_output = (sink.bits[at % WIRE_FIFO] & WORD_OUTPUT) != 0;
+        uint64_t lasts = is_output ? WIRE_LEAST_TICKS : wire_ticks(value);
+        behind -= is_output ? 0 : wire_slope(value);
+        bool has_rest = taken->rest - at - 1 < WIRE_FIFO;
+        is_right = has_rest || ticks > 2 * POLL_TICKS || (double)lasts * (double)lasts * behind >= 4398046511104.0;
+        ticks += lasts;
+    }
+    return is_right && silent < (ticks < HAS_MS * WIRE_TICKS_A_MS ? 1 : HEARS_MS) * WIRE_TICKS_A_MS;
+}
+
+static uint64_t real_ms(void) {
+    struct timespec moment;
+    clock_gettime(CLOCK_MONOTONIC, &moment);
+    return (uint64_t)moment.tv_sec * 1000 + (uint64_t)moment.tv_nsec / 1000000;
+}
+
+/* Takes what has come, frame by frame. */
+static void take_frames(void) {
+    static uint8_t frame[ROOM];
+    static size_t size;
+    uint8_t bytes[4096];
+    memmove(came, came + begin, end - begin);
+    end -= begin;
+    begin = 0;
+    struct pollfd on = {terminal, POLLIN, 0};
+    ssize_t got = poll(&on, 1, 0) > 0 ? read(terminal, bytes, sizeof bytes) : 0;
+    for (ssize_t at = 0; at < got; at++) {
+        frame[size] = bytes[at];
+        size++;
+        if (bytes[at] == 0) {
+            bool is_twice = false;
+            size_t passed = pass(frame, size, &is_twice);
+            for (int times = is_twice ? 2 : 1; times > 0 && end + passed < ROOM; times--) {
+                memcpy(came + end, frame, passed);
+                end += passed;
+            }
+            size = 0;
+        }
+    }
+    received += got > 0 ? (unsigned long)got : 0;
+}
+
+/* Lets the clock go on by itself, until a line of the input comes. */
+static void serve(void) {
+    struct pollfd on[2] = {{STDIN_FILENO, POLLIN, 0}, {terminal, POLLIN, 0}};
+    while (serves_ms > 0 && poll(on, 1, 0) == 0) {
+        take_frames();
+        if (begin != end) {
+            sink_poll(&sink, (uint32_t)now);
+        }
+        bool goes_on = (sink.state == SINK_RUNS && is_in_time())
+            || real_ms() - waited >= (sink.state == SINK_RUNS ? serves_ms : 1);
+        if (goes_on) {
+            run(POLL_TICKS);
+            waited = real_ms();
+        } else {
+            poll(on, 2, 1);
+        }
+    }
+}
+
 /* The chip starts: its pins are off by themselves. */
 static void boot(unsigned long count) {
     is_timed = false;
@@ -135,6 +244,13 @@ static void obey(const char *line) {
         boot(one);
     } else if (got == 2 && strcmp(word, "stray") == 0 && !is_timed) {
         sink_make(&sink);
+    } else if (got == 2 && strcmp(word, "serve") == 0) {
+        serves_ms = one;
+    } else if (got == 3 && strcmp(word, "faults") == 0) {
+        random_state = (uint32_t)one;
+        fault_rate = (uint32_t)other;
+    } else if (got == 2 && strcmp(word, "cut") == 0) {
+        cut_until = now + one * WIRE_TICKS_A_MS;
     } else {
         give_up("what is to be done?");
     }
@@ -173,8 +289,10 @@ int main(int count, char **words) {
     printf("%s\n", open_terminal());
     fflush(stdout);
     boot(strtoul(words[1], NULL, 10));
+    setvbuf(stdin, NULL, _IONBF, 0);
     while (fgets(line, sizeof line, stdin) != NULL) {
         obey(line);
+        serve();
     }
     return 0;
 }
