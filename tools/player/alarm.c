@@ -12,6 +12,8 @@
 #include "inputs.h"
 #include "manual.h"
 #include "play_parts.h"
+#include "sink_link.h"
+#include "sink_play.h"
 #include "waits.h"
 
 static const char *const record_words[] = {"", "emergency", "limit"};
@@ -68,14 +70,18 @@ bool alarm_begin(const struct player *player, const struct options *options, str
                    options->machine);
 }
 
-/* An input stops the motors. */
+/* Inputs stop the motors; none, where the sink knows one that is off again: it counts as the emergency stop. */
 static void begin_alarm(struct play *play, uint32_t hits) {
     struct player *player = play->player;
     const struct inputs *inputs = &play->machine.inputs;
-    bool is_stop = input_is_on(hits, inputs->emergency_stop);
+    bool is_stop = hits == 0 || input_is_on(hits, inputs->emergency_stop);
     char what[32] = "the emergency stop";
     if (!is_stop) {
-        snprintf(what, sizeof what, "the limit %s", inputs_limit_name(inputs, hits));
+        const char *limit = inputs_limit_name(inputs, hits);
+        snprintf(what, sizeof what, limit[0] != '\0' ? "the limit %s" : "a limit", limit);
+    }
+    if (sink_is_moving()) {
+        link_stop(true);
     }
     switch_off(play);
     player_lock(player);
@@ -111,7 +117,7 @@ bool alarm_look(struct play *play) {
     }
     atomic_store(&play->player->on, on);
     look_at_door(play, on);
-    if ((on & play->stops_at) != 0) {
+    if ((on & play->stops_at) != 0 || (play->stops_at != 0 && sink_is_stopped_by_input())) {
         begin_alarm(play, on & play->stops_at);
         return true;
     }

@@ -62,40 +62,13 @@ bool answers_open(struct player *player, const char *path, struct cause *why) {
     return true;
 }
 
-/* What the player does, in a word or two. */
-static void print_doing(struct player *player, char *text, size_t room) {
-    int tool = atomic_load(&player->tool);
-    player_lock(player);
-    bool is_alarm = player->alarm != NO_ALARM;
-    bool is_broken = player->is_broken;
-    bool moves = player->manual.is_there;
-    player_unlock(player);
-    const char *word = "works";
-    if (is_alarm) {
-        word = "alarm";
-    } else if (moves) {
-        word = "moves";
-    } else if (is_broken) {
-        word = "broken";
-    } else if (atomic_load(&player->stands_held)) {
-        word = "held";
-    } else if (atomic_load(&player->waits_spindle)) {
-        word = "waits spindle";
-    }
-    if (tool != NO_TOOL) {
-        snprintf(text, room, "waits tool %d", tool);
-    } else {
-        snprintf(text, room, "%s", word);
-    }
-}
-
 /* How far the player is, with the lines that stand in OUT now. */
 static void report(struct player *player, char *text, size_t room, const char *question) {
     char place[PLACE_ROOM];
     char outputs[OUTPUTS_ROOM];
     char does[32];
     int64_t nm[3];
-    print_doing(player, does, sizeof does);
+    player_doing(player, does, sizeof does);
     player_lock(player);
     bool took = source_take_all(&player->source);
     uint64_t lines = player->lines;

@@ -114,7 +114,7 @@ bool player_begin(struct player *player, const struct options *options, struct s
         return because(why, "%s: %s", options->out, strerror(errno));
     }
     if (!begin_record(player, options, why) || !alarm_take_over(player, options, why)
-        || !pins_begin(options->pins, others, why) || !alarm_begin(player, options, why)
+        || !pins_begin(options->pins, others, why)
         || (options->socket != NULL && !answers_open(player, options->socket, why))
         || (options->times != NULL && !times_begin(options->times, why))) {
         return false;

@@ -6,6 +6,7 @@
 #include "home.h"
 #include "inputs.h"
 #include "jog.h"
+#include "sink_play.h"
 #include "travel.h"
 
 enum { NM_PER_UM = 1000, NM_PER_MM = 1000000, BACKS_OFF = 10 /* times the pull-off, until the switch is off */ };
@@ -75,7 +76,17 @@ static enum end go(struct play *play, struct course *course, int sign, int64_t s
     }
     heed(play, course);
     course->is_met = false;
-    return travel(play, &way);
+    uint32_t halts = is_blind ? 0 : input_bit(course->input);
+    if (!sink_begin_anew(play, play->stops_at, halts, course->waits_on ? 0 : halts)) {
+        return STOPPED;
+    }
+    enum end end = travel(play, &way);
+    int64_t touched[3];
+    if (!is_blind && sink_is_touched(touched)) {
+        course->is_met = true;
+        course->at = touched[course->axis];
+    }
+    return end;
 }
 
 static bool is_well(const struct course *course) {
@@ -235,6 +246,9 @@ enum end home_axes_now(struct play *play, unsigned axes, struct cause *how) {
         }
     }
     play->stops_at = inputs_stops(&play->machine.inputs);
+    if (end == AT_OUTS_END && !sink_begin_anew(play, play->stops_at, 0, 0)) {
+        return STOPPED;
+    }
     if (end == AT_OUTS_END && is_well(&course)) {
         end_alarm(player);
         because(how, "done");

@@ -4,6 +4,8 @@
 #include <string.h>
 
 #include "pins.h"
+#include "sink_link.h"
+#include "sink_play.h"
 
 static const char *const limit_words[AXIS_ENDS][3] = {
     {"limit_x_low", "limit_y_low", "limit_z_low"},
@@ -21,6 +23,10 @@ bool input_is_on(uint32_t on, int input) {
 
 int inputs_read(const struct inputs *inputs, uint32_t *on) {
     uint32_t levels = 0;
+    if (link_is_there()) {
+        *on = sink_inputs_on(inputs);
+        return 0;
+    }
     int error = pins_inputs(&levels);
     *on = error == 0 ? (levels ^ inputs->low) & ((UINT32_C(1) << MOST_INPUTS) - 1) : 0;
     return error;
@@ -80,10 +86,13 @@ void inputs_print(const struct inputs *inputs, uint32_t on, char *text, size_t r
 }
 
 const char *inputs_limit_name(const struct inputs *inputs, uint32_t on) {
+    const char *name = "";
+    int count = 0;
     for (int at = 0; at < 2 * 3; at++) {
         if (input_is_on(on, inputs->limits[at % 2][at / 2])) {
-            return limit_names[at % 2][at / 2];
+            name = limit_names[at % 2][at / 2];
+            count++;
         }
     }
-    return "";
+    return count == 1 ? name : "";
 }

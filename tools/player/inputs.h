@@ -42,7 +42,7 @@ uint32_t inputs_stops(const struct inputs *inputs);
 /* Writes the names of those that are on, with a comma between, or `none`. The room is INPUTS_ROOM at least. */
 void inputs_print(const struct inputs *inputs, uint32_t on, char *text, size_t room);
 
-/* The name of a limit that is among those that are on, as "X-"; "" if none is. */
+/* The name of the limit that is among those that are on, as "X-"; "" unless it is one alone. */
 const char *inputs_limit_name(const struct inputs *inputs, uint32_t on);
 
 #endif

@@ -6,6 +6,7 @@
 #include <string.h>
 
 #include "inputs.h"
+#include "sink_play.h"
 #include "travel.h"
 #include "waits.h"
 
@@ -71,6 +72,23 @@ static bool goes_on(struct play *play, void *context) {
     return manual_goes_on(play, course->how) && (!course->seeks || looks_for_probe(play));
 }
 
+/* Goes, and notes where a sink was halted by the probe. */
+static enum end travel_until_probe(struct play *play, const struct travel *way) {
+    struct player *player = play->player;
+    int64_t touched[3];
+    if (!sink_begin_anew(play, play->stops_at, input_bit(play->machine.inputs.probe), 0)) {
+        return STOPPED;
+    }
+    enum end end = travel(play, way);
+    if (sink_is_touched(touched)) {
+        player_lock(player);
+        memcpy(player->manual.touched, touched, sizeof touched);
+        player->manual.has_touched = true;
+        player_unlock(player);
+    }
+    return end == AT_OUTS_END && !sink_begin_anew(play, play->stops_at, 0, 0) ? STOPPED : end;
+}
+
 /* Why a travel ended that went to its end. */
 static void say_end(struct play *play, const struct manual_wish *wish, struct cause *how) {
     char length[PLACE_ROOM];
@@ -99,7 +117,7 @@ static enum end go(struct play *play, const struct manual_wish *wish, struct cau
         .context = &course,
     };
     how->text[0] = '\0';
-    enum end end = travel(play, &way);
+    enum end end = course.seeks ? travel_until_probe(play, &way) : travel(play, &way);
     if (end == AT_OUTS_END && how->text[0] == '\0') {
         because(how, "done");
         say_end(play, wish, how);
@@ -127,7 +145,7 @@ enum end do_manual(struct play *play) {
     enum end end = wish.kind == HOMES ? home_axes_now(play, wish.axes, &how) : go(play, &wish, &how);
     play->is_moving = false;
     if (end != AT_OUTS_END) {
-        because(&how, "%s", play->why.text);
+        because(&how, "%.*s", (int)strcspn(play->why.text, ";"), play->why.text);
     }
     note_end(play, &wish, &how);
     schedule_pause(&play->schedule);

@@ -247,5 +247,6 @@ bool machine_read(const char *path, const int64_t step_nm[3], struct machine *ma
     machine->window_lines = (uint64_t)number_of(&content, LINES, 0);
     machine->spindle_ns = number_of(&content, SPINDLE, 0) * NS_PER_S;
     machine->most_percent = (int)number_of(&content, MOST, DEFAULT_PERCENT);
-    return read_limits(path, &content, step_nm, &machine->limits, why);
+    return read_limits(path, &content, step_nm, &machine->limits, why)
+        && sink_settings_read(path, &machine->sink, why);
 }

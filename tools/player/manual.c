@@ -45,6 +45,9 @@ void manual_say_end(const struct player *player, int axis, int sign, struct caus
 /* What keeps a home from being taken. */
 static bool may_home(const struct player *player, const struct manual_wish *wish, struct cause *why) {
     unsigned axes = home_axes(&player->machine->home);
+    if (outputs_are_on(&player->outputs)) {
+        return because(why, "the spindle or the coolant is on");
+    }
     if (axes == 0) {
         return because(why, "the machine's file has no [home]");
     }
@@ -65,6 +68,9 @@ static bool may_go(const struct player *player, const struct manual_wish *wish, 
     }
     if (wish->kind == SEEKS && inputs->probe == NO_INPUT) {
         return because(why, "no input is the probe");
+    }
+    if (wish->kind == SEEKS && outputs_are_on(&player->outputs)) {
+        return because(why, "the spindle or the coolant is on");
     }
     if (wish->kind == SEEKS && input_is_on(atomic_load(&player->on), inputs->probe)) {
         return because(why, "the probe is on already");
@@ -205,7 +211,7 @@ bool manual_heed(struct player *player, const char *text, size_t size, char *ans
         }
         return true;
     }
-    enum words words = manual_read(text, size, &wish);
+    enum reading words = manual_read(text, size, &wish);
     if (words == OTHER_WORDS || (words == WISH_WORDS && is_repeated(player, &wish))) {
         return words != OTHER_WORDS;
     }

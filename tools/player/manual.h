@@ -53,10 +53,10 @@ int64_t manual_room(const struct player *player, int axis, int sign);
 void manual_say_end(const struct player *player, int axis, int sign, struct cause *why);
 
 /* manual_words.c: what a datagram says. */
-enum words { OTHER_WORDS, WRONG_WORDS, WISH_WORDS };
+enum reading { OTHER_WORDS, WRONG_WORDS, WISH_WORDS };
 
 /* Reads one that begins a move. Of wrong words of such a one the number is read. */
-enum words manual_read(const char *text, size_t size, struct manual_wish *wish);
+enum reading manual_read(const char *text, size_t size, struct manual_wish *wish);
 
 extern const char *const manual_verbs[];
 

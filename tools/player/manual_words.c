@@ -72,7 +72,7 @@ static bool read_rest(struct scan *scan, struct manual_wish *wish) {
             && scan_is_over(scan));
 }
 
-enum words manual_read(const char *text, size_t size, struct manual_wish *wish) {
+enum reading manual_read(const char *text, size_t size, struct manual_wish *wish) {
     struct scan scan = {text, text + size};
     memset(wish, 0, sizeof *wish);
     int kind = SEEKS;

@@ -9,6 +9,8 @@
 
 #include "pins.h"
 #include "play_parts.h"
+#include "sink_link.h"
+#include "sink_play.h"
 #include "spindle.h"
 #include "times.h"
 #include "waits.h"
@@ -201,7 +203,7 @@ static enum end carry_out_all(struct play *play) {
 
 bool switch_off(struct play *play) {
     struct player *shared = play->player;
-    int error = pins_off();
+    int error = link_is_there() ? sink_switch_off() : pins_off();
     if (error != 0) {
         note_stop(play, "pins");
         say("player: the pins: %s; switch spindle and coolant off by hand", strerror(error));

@@ -38,6 +38,32 @@ void player_record(struct player *player, struct record *record) {
     record->mark = source_mark(&player->source, record->bytes);
 }
 
+void player_doing(struct player *player, char *text, size_t room) {
+    int tool = atomic_load(&player->tool);
+    player_lock(player);
+    bool is_alarm = player->alarm != NO_ALARM;
+    bool is_broken = player->is_broken;
+    bool moves = player->manual.is_there;
+    player_unlock(player);
+    const char *word = "works";
+    if (is_alarm) {
+        word = "alarm";
+    } else if (moves) {
+        word = "moves";
+    } else if (is_broken) {
+        word = "broken";
+    } else if (atomic_load(&player->stands_held)) {
+        word = "held";
+    } else if (atomic_load(&player->waits_spindle)) {
+        word = "waits spindle";
+    }
+    if (tool != NO_TOOL) {
+        snprintf(text, room, "waits tool %d", tool);
+    } else {
+        snprintf(text, room, "%s", word);
+    }
+}
+
 int64_t in_steps(int64_t nm, int64_t step_nm) {
     int64_t size = nm < 0 ? -nm : nm;
     int64_t steps = (2 * size + step_nm) / (2 * step_nm);

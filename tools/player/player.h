@@ -80,6 +80,9 @@ void player_kept(struct player *player, const struct record *record, int error);
 /* Where the machine stands, in nanometres. `lock` is held. */
 void player_place(const struct player *player, int64_t nm[3]);
 
+/* What the player does, in a word or two, as `progress` is answered. */
+void player_doing(struct player *player, char *text, size_t room);
+
 /* A length in whole steps, half a step away from zero. */
 int64_t in_steps(int64_t nm, int64_t step_nm);
 

@@ -56,17 +56,23 @@ static bool wait_at_speed(struct play *play) {
     return goes_on;
 }
 
-bool spindle_wait(struct play *play, const struct outputs *before, const struct outputs *now) {
-    bool turns = now->spindle != before->spindle;
-    bool is_changed = now->spindle != 0 && (turns || now->speed != before->speed);
-    if (turns && !wait_for(play, play->machine.spindle_ns)) {
-        return false;
-    }
-    if (!is_changed || play->machine.inputs.spindle_at_speed == NO_INPUT || !play->machine.inputs.are_there) {
+bool spindle_has_to_speed_up(const struct play *play, const struct outputs *before, const struct outputs *now) {
+    bool is_changed = now->spindle != before->spindle || now->speed != before->speed;
+    const struct inputs *inputs = &play->machine.inputs;
+    return now->spindle != 0 && is_changed && inputs->are_there && inputs->spindle_at_speed != NO_INPUT;
+}
+
+bool spindle_wait_at_speed(struct play *play, const struct outputs *before, const struct outputs *now) {
+    if (!spindle_has_to_speed_up(play, before, now)) {
         return true;
     }
     atomic_store(&play->player->waits_spindle, true);
     bool is_there = wait_at_speed(play);
     atomic_store(&play->player->waits_spindle, false);
     return is_there;
+}
+
+bool spindle_wait(struct play *play, const struct outputs *before, const struct outputs *now) {
+    bool turns = now->spindle != before->spindle;
+    return (!turns || wait_for(play, play->machine.spindle_ns)) && spindle_wait_at_speed(play, before, now);
 }

@@ -328,6 +328,10 @@ class Jogging(Moving):
                                   ("X+", "60", "0"), ("X+", "60", "x"), ("X+", "100001", "")):
             self.assertEqual(self.how(self.link.jog(way, rate, length)), form, way)
         self.assertEqual(self.how(self.link.jog("X+", "60", "0.0001")), "refused: it is less than a step")
+        self.pipe.write(b"S 0 1.000000 0 1 0 0\n")
+        self.wait_for("the coolant is on", lambda: self.link.ask().outputs.flood)
+        self.assertEqual(self.how(self.link.home()), "refused: the spindle or the coolant is on")
+        self.assertEqual(self.how(self.link.seek("X+", "60", "1")), "refused: the spindle or the coolant is on")
         number, _ = self.link.jog("X+", "60", "9")
         self.assertEqual(self.how(self.link.jog("X-", "60", "1")), "refused: a move is under way")
         self.link.stop()
@@ -457,7 +461,8 @@ class Alarms(Moving):
         self.world.set(_AT_PULSE, 5_500)  # X is on its way
         self.world.set(_TURNED, 1 << STOP)
         self.started("--untimed")
-        self.assertRegex(self.how(self.link.home()), "^the emergency stop is on, after line 0: ")
+        self.assertEqual(self.how(self.link.home()),
+                         "the emergency stop is on, after line 0: the motors stopped at once")
         self.assertEqual((self.world.get(_PULSES), self.link.ask().word), (5_500, "alarm"))
         self.kept("stopped emergency")
         self.world.set(_AT_PULSE, 0)
