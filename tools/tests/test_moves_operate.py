@@ -8,12 +8,14 @@ from pathlib import Path
 sys.path.insert(0, str(Path(__file__).resolve().parent))
 
 from machine_support import STEP_NM, MachineLink, SocketMachine  # noqa: E402
-from session_support import TOOLS, InFolder, Terminal  # noqa: E402
+from session_support import TOOLS, InFolder, Terminal, ngc  # noqa: E402
 from test_operate import PROMPT, operate  # noqa: E402
 from test_operator import Core  # noqa: E402
 
 from ngc_tools.cli.keys import TerminalKeys  # noqa: E402
 from ngc_tools.formats.position import Position  # noqa: E402
+from ngc_tools.ngc.carried import CannotTell  # noqa: E402
+from ngc_tools.ngc.handed_out import Finder, Kept  # noqa: E402
 from ngc_tools.operator import jog_keys  # noqa: E402
 
 HOMED = "-298.000000 -198.000000 -2.000000"
@@ -249,6 +251,34 @@ class Alarms(Core):
         self.assertEqual(len(self.out()), count)
         self.assertIn("stays half-done", self.do("quit", answers=("yes",))[0])
         self.assertTrue(self.operator.over)
+
+
+class OffThePath(InFolder):
+    """Where in OUT the open segment begins, once the motors were homed and are nowhere on its path."""
+
+    def test_after_a_stop(self) -> None:
+        """Lines of one kind alone: what was handed out before them tells where they begin, also where the motors were
+        moved at the stop between. After M0 20 of 40 lines of a move in Y, behind 10 in X."""
+        text = "G21 G90\nG0 X0.003\nX0.01\nM0\nG1 Y0.54 F600\nM2\n"
+        for told, begins in (("", (10, 0, 0)), ("reference 0.01 0.5 0\n", (10, 500, 0))):
+            self.device()
+            Path("out").unlink(missing_ok=True)
+            self.run_ngc(f"load {len(text)}\n{text}start\ntick 99\n{told}continue\ntick 22\n")
+            self.assertEqual(Path("out").read_text(), "P 1 0 0 50\n" * 10 + "P 0 1 0 100\n" * 20)
+            finder = Finder(ngc(), "first.toml", Path("mill.dev").read_bytes())
+            for carried in (110, 110 + 12 * 7):
+                found = finder.find("out", Kept(carried, (-300, -200, 0)))
+                self.assertEqual((found.size, found.steps, found.missing, found.is_off), (110, begins, b"", True))
+
+    def test_not_told(self) -> None:
+        """Where nothing tells it, that is said: all lines are alike."""
+        self.device()
+        text = "G21 G90\nG0 X0.01\nM0\nX0.54\nM2\n"
+        self.run_ngc(f"load {len(text)}\n{text}start\ntick 99\nreference 0.5 0 0\ncontinue\ntick 22\n")
+        self.assertEqual(Path("out").read_text(), "P 1 0 0 50\n" * 30)
+        finder = Finder(ngc(), "first.toml", Path("mill.dev").read_bytes())
+        with self.assertRaisesRegex(CannotTell, "out doesn't end with lines of the half-done block"):
+            finder.find("out", Kept(220, (-300, -200, 0)))
 
 
 class ByKeys(InFolder):

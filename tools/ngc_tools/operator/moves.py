@@ -10,6 +10,7 @@ from ngc_tools.operator.face import REFUSED, SAID, WARNING, UnderWay, axes
 from ngc_tools.operator.left import Left
 from ngc_tools.operator.look import Look
 from ngc_tools.operator.modes import trimmed
+from ngc_tools.operator.motors import Motors
 from ngc_tools.operator.numbers import length_of, nanometres_of
 from ngc_tools.operator.recover import Recover
 from ngc_tools.operator.session import ALARM, BROKEN, Session
@@ -41,8 +42,9 @@ Asked = tuple[int, str]
 class Moves:
     """What they do. `do` does a command that is given meanwhile. `touched_nm` is where the probe was touched last."""
 
-    def __init__(self, session: Session, left: Left, recover: Recover, do: Callable[[str], None]) -> None:
-        self.session, self.left, self.recover, self.do = session, left, recover, do
+    def __init__(self, session: Session, motors: Motors, left: Left, recover: Recover,
+                 do: Callable[[str], None]) -> None:
+        self.session, self.motors, self.left, self.recover, self.do = session, motors, left, recover, do
         self.touched_nm: tuple[int, int, int] | None = None
 
     def home(self, rest: str) -> None:
@@ -82,10 +84,12 @@ class Moves:
             self.session.face.say("no player is known: --player SOCKET")
             return False
         status = self.session.console.status()
-        if status.does in ("idle", "stopped") or self.session.is_in(ALARM, BROKEN):
+        if self.session.is_in(ALARM, BROKEN):
             return True
-        self._refuse(busy(self.session, status, word))
-        return False
+        if status.does not in ("idle", "stopped"):
+            self._refuse(busy(self.session, status, word))
+            return False
+        return self.motors.are_free()
 
     def _read(self, word: str, form: re.Pattern[str], rest: str) -> tuple[str, str, str] | None:
         """The way, the rate and the length of a command, as the player takes them; None, which is said, for others."""

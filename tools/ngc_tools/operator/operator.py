@@ -53,7 +53,7 @@ class Operator:
         self.ending = Ending(self.session)
         self.recover = Recover(self.session)
         self.alarm = Alarm(self.session)
-        self.moves = Moves(self.session, self.left, self.recover, self.do)
+        self.moves = Moves(self.session, self.motors, self.left, self.recover, self.do)
         self.touch = Touch(self.session, self.places, self.moves, self._line_done)
         self.keys: Callable[[], AbstractContextManager[Keys]] | None = None
         self.over = False
