@@ -486,7 +486,8 @@ class Jobs(InFolder):
         # 3 mm and 1 mm at 100 mm/s
         self.assertEqual([(step["p"], step["us"]) for step in job["steps"]],
                          [([0, 0, 0, 3000, 0, 0], 150_000), ([3000, 0, 0, 3000, 0, -1000], 50_000)])
-        self.assertEqual((job["segments"], job["exact"]), ({"2": [0], "3": [SWITCH] * 2, "4": [1], "5": [SWITCH]}, True))
+        self.assertEqual(job["segments"], {"2": [0], "3": [SWITCH] * 2, "4": [1], "5": [SWITCH]})
+        self.assertTrue(job["exact"])
         self.assertFalse(json.loads(draw(source).text)["exact"])
 
 
@@ -527,8 +528,9 @@ class Asides(InFolder):
 
     def test_killed(self) -> None:
         """A kill of whoever asked leaves neither the work nor what that started behind."""
-        text = ("import sys, time; sys.path.insert(0, sys.argv[1]); from ngc_tools.page.aside import Aside;"
-                "import subprocess; Aside().call(subprocess.call, ['sh', '-c', 'echo $PPID $$ > pids; exec sleep 1000'])")
+        shell = "echo $PPID $$ > pids; exec sleep 1000"
+        text = ("import subprocess, sys; sys.path.insert(0, sys.argv[1]); from ngc_tools.page.aside import Aside;"
+                f"Aside().call(subprocess.call, ['sh', '-c', '{shell}'])")
         asking = subprocess.Popen([sys.executable, "-c", text, str(TOOLS)])
         self.addCleanup(asking.wait)
         self.wait_for("it works", lambda: Path("pids").exists() and len(Path("pids").read_text().split()) == 2)
