@@ -67,7 +67,8 @@ class Who(Served):
         for body, given, status in ((b"{" * 5000, {}, 413), (b"{}", {"Content_Type": "text/plain"}, 415),
                                     (b"[]", {}, 400), (b"{", {}, 400), (b"{}", {"X_Page": "<b>"}, 400)):
             self.assertEqual(page.post("run", body, **given)[0], status, body[:9])
-        self.assertEqual(page.post("check", b"", Content_Length="1048577")[0], 413)
+        self.assertEqual(page.post("check", b" " * 3_000_000)[0], 413)
+        self.assertEqual(page.post("check", b"", Content_Length="999999999")[0], 413)
         for what in ("__init__", "nothing", "_json", "mdi/..", "RUN"):
             self.assertEqual(page.post(what)[0], 404, what)
         self.assertEqual(page.post("load", {"id": "/etc/passwd"})[0], 410)
@@ -80,6 +81,25 @@ class Who(Served):
                             ("switch", {"name": "delete", "on": "on"}), ("answer", {"question": 1, "text": "a\nb"})):
             self.assertEqual(page.post(what, words)[0], 422, words)
         self.assertEqual((self.server.poll(), [entry["kind"] for entry in page.next()["log"]]), (None, ["said"]))
+
+    def test_raw(self) -> None:
+        """Texts that are no plain request, or could be taken for two: each is answered, and the connection closed."""
+        page = self.page()
+        head = f"POST /{page.key}/hold HTTP/1.1\r\nHost: 127.0.0.1:{page.port}\r\nX-Page: {PAGE}\r\n"
+        for text, status in (("GET / HTTP/1.0\r\n\r\n", 400), ("GET  / HTTP/1.1\r\n\r\n", 400),
+                             ("GET /\x00 HTTP/1.1\r\n\r\n", 400), ("GET / HTTP/1.1\nHost: a\n\n\r\n\r\n", 400),
+                             ("GET / HTTP/1.1\r\nHost: a\r\nHost: a\r\n\r\n", 400),
+                             ("GET / HTTP/1.1\r\nHost: a\r\n b\r\n\r\n", 400), ("GET / HTTP/1.1\r\n\r\n", 421),
+                             ("PUT / HTTP/1.1\r\n\r\n", 501), ("GET /" + "a" * 20_000, 431),
+                             (f"{head}Origin: http://127.0.0.1:{page.port}\r\n\r\n", 411),
+                             (f"{head}Origin: http://127.0.0.1:{page.port}\r\nContent-Length: 2\r\n"
+                              "Transfer-Encoding: chunked\r\n\r\n{}", 501)):
+            with socket.create_connection(("127.0.0.1", page.port), PATIENCE_S) as link:
+                link.sendall(text.encode("latin-1"))
+                answer = b""
+                while part := link.recv(65536):
+                    answer += part
+            self.assertEqual((answer[:13], answer.count(b"HTTP/1.1")), (b"HTTP/1.1 %d " % status, 1), text[:60])
 
     def test_two_pages(self) -> None:
         """The first commands; the other watches, may hold, and takes over; a fifth is one too many."""
