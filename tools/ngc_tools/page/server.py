@@ -153,10 +153,10 @@ class Server:
 
     def job(self) -> bytes:
         """What is drawn of it."""
-        session, settings = self.session, self.session.settings
-        said = {"id": session.job_id, "failed": session.job_failed, "low": [nm // 1000 for nm in settings.low_nm],
+        drawer, settings = self.session.drawer, self.session.settings
+        said = {"id": drawer.count, "failed": drawer.failed, "low": [nm // 1000 for nm in settings.low_nm],
                 "high": [nm // 1000 for nm in settings.high_nm], "traverse": settings.traverse_nm_per_min // 10**6}
-        job = session.drawing.text if session.drawing else b"null"
+        job = drawer.drawing.text if drawer.drawing else b"null"
         return _json(said)[:-1] + b',"job":' + job + b"}"
 
     def state(self, page: str, told: int) -> tuple[bytes, int]:
