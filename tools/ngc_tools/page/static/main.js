@@ -80,14 +80,14 @@ function showControls(s) {
   $('takeover').hidden = s.yours;
   $('load').disabled = !app.isIdle;
   $('quit').disabled = s.busy || !s.yours;
-  $('restart').hidden = !(s.ended && !s.over && s.yours);
+  const canRestart = s.ended || s.player_gone || s.does === 'broken';
+  $('restart').hidden = !(canRestart && !s.over && s.yours);
   for (const one of [$('line'), $('do')]) one.disabled = !(app.isRest && s.does !== 'broken');
   $('hold').disabled = Boolean(s.ended);
   for (const name of ['single', 'optional', 'delete']) {
     $(name).setAttribute('aria-checked', String(Boolean(s[name])));
     $(name).disabled = !s.yours;
   }
-  $('single').hidden = s.single === undefined;
   const [says, isEnabled, does] = running(s);
   text($('run'), says);
   $('run').disabled = !isEnabled;
@@ -100,7 +100,8 @@ function running(s) {
   if (s.waits) return [s.waits_tool ? `Tool ${s.waits_tool} is in` : 'Tool is out', s.yours, () => asks('go')];
   if (s.question) return ['Answer first', false, null];
   if (isHalf) return ['Recover', s.yours && !recovery.isOpen, () => recovery.begin()];
-  if (s.player_gone || s.alarm) return ['Run', false, null];
+  if (s.player_gone) return ['Run', false, null];
+  if (s.alarm) return ['Home all', s.yours && !s.busy, () => asks('home', { axes: '' })];
   if (s.recover?.left && !s.busy && s.half === 'none') return ['Recover', s.yours, takeUpLines];
   if (s.held_motors && s.does !== 'held' && !s.busy) return ['Let go on', s.yours, () => asks('release')];
   if (s.does === 'held') return ['Continue', s.yours && !s.busy, run];
@@ -196,7 +197,8 @@ async function goOn(s, title) {
     : 'The spindle is off, and nothing switches it on by itself: give M3 as a line first, unless it is meant so.';
   const does = what => () => { sheet.close(); asks(what); };
   sheet.open(title, [
-    found.refused && sheet.warning(found.refused, 'bad'), ...(found.differs ?? []).map(one => sheet.warning(one, 'bad')),
+    found.refused && sheet.warning(found.refused, 'bad'),
+    ...(found.differs ?? []).map(one => sheet.warning(one, 'bad')),
     s.restore?.length ? sheet.said(`Restore puts back what your lines left in force: ${s.restore.join(', ')}`) : null,
     sheet.warning(spindle, s.spindle ? 'fine' : ''), sheet.lead(program.line(s.line)),
     sheet.said(`The tool goes on from where it is now: ${point(s.at)}. Look that the way is free.`),
@@ -209,6 +211,7 @@ async function goOn(s, title) {
 
 function hold() {
   app.pressed = performance.now();
+  setup.jog.stop();
   asks('hold');
 }
 

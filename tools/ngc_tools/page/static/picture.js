@@ -1,7 +1,7 @@
 // The path: what is done solid, what is under way bright, what is left pale, traverses dashed, a cross at the motors.
 //
 // What stays the same is painted once, on a layer; what moves comes over it. While somebody moves the picture, the layer
-// is moved and magnified as it is, so that the path of a long program follows the finger; while somebody turns it, points
+// is moved and magnified as it is, so that the path of a long program follows the finger. While it is turned, points
 // that would lie close together are left out.
 import { listen } from './gestures.js';
 import { CUT, TRAVERSE, WAIT } from './job.js';
