@@ -14,8 +14,8 @@ from session_support import PATIENCE_S, InFolder, ngc
 from ngc_tools.player.progress import Link
 
 PAGE, OTHER = "page-number-1", "page-number-2"
-LONG = "G17 G21 G90 G94\nG0 X0 Y0 Z0\nG1 X2 F60\nG1 X0 Z-1\nG1 X1\nM2\n"
-"""Cuts of 2, 2.2 and 1 s."""
+LONG = "G17 G21 G90 G94\nG0 X0 Y0 Z0\nG1 X2 F60\nG1 X0 Z-1\nG1 X1 F600\nM2\n"
+"""Cuts of 2, 2.2 and 0.1 s."""
 
 
 class Page:
@@ -28,7 +28,8 @@ class Page:
             raise AssertionError(f"no address: {address}")
         self.port, self.key, self.name = int(match[1]), match[2], name
         self.log: list[dict] = []
-        self._answered: set[int] = set()
+        self.answered: set[int] = set()
+        self._posted = 0.0
         self._stream = http.client.HTTPConnection("127.0.0.1", self.port, timeout=PATIENCE_S)
         self._stream.request("GET", f"/{self.key}/events?page={name}")
         self._events = self._stream.getresponse()
@@ -45,9 +46,9 @@ class Page:
         raise EOFError
 
     def until(self, what: str, holds: Callable[[dict], object]) -> dict:
-        """The next state of which something holds."""
+        """The next state of which something holds, since what was asked for last."""
         end = time.monotonic() + PATIENCE_S
-        while not holds(state := self.next()):
+        while (state := self.next())["now"] < self._posted or not holds(state):
             if time.monotonic() > end:
                 raise AssertionError(f"waited in vain until {what}: {state}, {self.log}")
         return state
@@ -68,14 +69,14 @@ class Page:
     def asked(self) -> dict:
         """The next state with a question."""
         return self.until("it asks", lambda state: state["question"]
-                          and state["question"]["id"] not in self._answered)
+                          and state["question"]["id"] not in self.answered)
 
     def agree(self, state: dict, text: str = "") -> None:
         """Answers the question of a state with a yes, or with a text."""
         words = {"text": text} if text else {"yes": True}
         if self.post("answer", {"question": state["question"]["id"]} | words) != (200, {"taken": True}):
             raise AssertionError(f"it isn't asked: {state['question']}")
-        self._answered.add(state["question"]["id"])
+        self.answered.add(state["question"]["id"])
 
     def get(self, path: str, **headers: str) -> tuple[int, bytes, dict[str, str]]:
         """One request: status, body and headers."""
@@ -86,6 +87,7 @@ class Page:
         given = {"Origin": f"http://127.0.0.1:{self.port}", "X_Page": self.name, "Content_Type": "application/json"}
         raw = body if isinstance(body, bytes) else json.dumps({} if body is None else body).encode()
         status, text, _ = request(self.port, "POST", f"/{self.key}/{what}", raw, **given | headers)
+        self._posted = time.time()
         return status, json.loads(text)
 
     def said(self) -> str:
@@ -114,6 +116,7 @@ class Served(InFolder):
     """A device, OUT, a player, the server."""
 
     OUT = "axis"
+    MACHINE = ""
 
     def setUp(self) -> None:
         """Starts the player and the server."""
@@ -136,7 +139,10 @@ class Served(InFolder):
 
     def begin_player(self) -> None:
         """Starts the player, and waits until it answers."""
-        words = ("--follow",) if self.OUT != "axis" else ()
+        words = ["--follow"] if self.OUT != "axis" else []
+        if self.MACHINE:
+            Path("motion.toml").write_text(self.MACHINE)
+            words += ["--machine", "motion.toml"]
         self.player = self.start("ngc-player", self.OUT, "first.toml", "position", "--progress", "progress", *words)
         self.wait_for("the player listens", lambda: os.path.exists("progress"))
         link = Link("progress", PATIENCE_S)

@@ -27,6 +27,7 @@ _INLINE = re.compile(r"`((?:tools/|examples/)?(?:ngc-\w+|grep|\w+\.py) [^`]*)`")
 # The chapters with commands; each is tried by a test below.
 CHAPTERS = {
     "TOOLS.md": ("ngc-player: carry out OUT", "ngc-operate: a console for people",
+                 "ngc-page: a page in the browser",
                  "After a loss of power, with these two", "The plug is pulled",
                  "ngc-check: each refused line, and what is dangerous", "ngc-plot: a picture, extents, times",
                  "ngc-rehearse: what a resume would do", "ngc-device: what a device stands for",
@@ -196,6 +197,11 @@ class Tools(Documents):
         self.assertEqual(set(re.findall(r"--[a-z-]+", file)) - set(re.findall(r"--[a-z-]+", self.shell(
             f"{program} --help --ngc x"))), set())
         self.assertIn("2 moments in ", self.shell(f"{program} --ngc {ngc()} --moments 2 --cut"))
+
+    def test_page(self) -> None:
+        """The options of the page; tests/test_page.py has the rest."""
+        text, ((synopsis, _),) = self.chapter("TOOLS.md", "ngc-page")
+        self.same_options("ngc-page", text, synopsis)
 
     def test_check(self) -> None:
         """A refused line, settings, and settings that are refused."""

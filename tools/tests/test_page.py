@@ -243,6 +243,34 @@ class Work(Served):
         self.assertIn("half-done", told_of_device())
 
 
+class Ramps(Served):
+    """A player with ramps: its motors are held, and go slower."""
+
+    MACHINE = "[motion]\naccel_mm_s2 = [500, 500, 300]\n"
+
+    def test_held(self) -> None:
+        """The motors stand with lines in hand; `release` carries them out; `quit` asks about a half-done line."""
+        page = self.page()
+        self.load(page, LONG)
+        page.post("run")
+        page.until("it cuts", lambda state: state["line"] == 3 and state["half"] == "program")
+        self.assertEqual(page.post("percent", {"percent": 50}), (200, {}))
+        page.until("it goes slower", lambda state: state["percent"] == 50)
+        page.post("hold")
+        state = page.until("it is held", lambda state: not state["busy"])
+        self.assertEqual((state["held_motors"], state["does"], state["word"]), (True, "held", "Held"))
+        self.assertEqual(self.link.ask().behind, state["behind"])
+        self.assertGreater(state["behind_mm"], 0)
+        page.post("release")
+        state = page.until("all is carried out", lambda state: not state["busy"] and not state["held_motors"])
+        self.assertEqual((state["behind"], state["does"]), (0, "held"))
+        page.post("quit")
+        state = page.asked()
+        self.assertIn("quit? yes ends", state["question"]["text"])
+        page.agree(state)
+        self.assertTrue(page.last()["over"])
+
+
 class WithRamps(SocketMachine):
     """A player with a machine's file."""
 
@@ -374,17 +402,53 @@ class PowerOfFile(Served):
         recover = page.next()["recover"]
         self.assertEqual((recover["way"]["back"], recover["problem"], recover["at"]),
                          (True, "", ["2.000000", "0.000000", "0.000000"]))
+        said = page.post("rehearse", {"recover": True})[1]
+        stands = [round(1000 * float(number)) for number in recover["stands"]]
+        self.assertEqual((said["along"][0], said["along"][-1], said["approach"]["length"], said["refused"]),
+                         (stands, [2000, 0, 0], "0.000", ""))
         self.assertEqual(page.post("recover")[0], 200)
-        for _ in range(4):  # where it stands, what comes on, whether it goes, and the look
-            state = page.asked()
-            if state["question"]["purpose"] == "look":
-                break
-            self.assertFalse(state["moving"])
-            page.agree(state)
+        state = self.look(page)
         self.assertEqual((state["motors"], state["spindle"]), (["2.000000", "0.000000", "0.000000"], 1))
         page.agree(state)
         state = page.until("it is through", lambda state: state["finished"])
         self.assertEqual(state["motors"], ["1.000000", "0.000000", "-1.000000"])
+
+    def look(self, page: Page) -> dict:
+        """Agrees to all that is asked, up to the look at the machine; the state then, or where nothing more is asked.
+        """
+        while True:
+            state = page.until("it asks, or is through", lambda state: not state["busy"] or state["question"] and
+                               state["question"]["id"] not in page.answered)
+            if not state["question"] or state["question"]["purpose"] == "look":
+                return state
+            self.assertFalse(state["moving"])
+            page.agree(state, "1" if state["question"]["kind"] == "text" else "")
+
+    def test_moments(self) -> None:
+        """Power lost at moments spread over a job of 6,000 lines, so many as NGC_PAGE_MOMENTS says: each time it is
+        recovered, and goes on to its end."""
+        text = "G17 G21 G90 G94\nM3 S100\nG0 X1\nG1 Z-1 F600\nX3\nG2 X1 Y2 I-2 F900\nG1 X0 Y0\nM2\n"
+        moments = int(os.environ.get("NGC_PAGE_MOMENTS", "2"))
+        page = self.page()
+        self.load(page, text)
+        for number in range(moments):
+            page.post("run")
+            begun = self.link.ask().carried
+            until = begun + 6000 * (2 * number + 1) // (2 * moments)
+            self.wait_for("it is there", lambda until=until: self.link.ask().carried >= until)
+            self.pull()
+            self.begin()
+            page = self.page()
+            state = page.next()
+            if state["half"] != "none" or state["recover"]["left"]:
+                self.assertEqual(page.post("recover")[0], 200)
+                if self.look(page)["question"]:
+                    page.agree(page.asked())
+                page.until("it stands", lambda state: not state["busy"])
+            if not (state := page.rested())["finished"]:
+                self.assertEqual(page.post("run")[0], 200)
+                state = page.until("it is through", lambda state: state["finished"] and not state["busy"])
+            self.assertEqual(state["motors"], ["0.000000", "0.000000", "-1.000000"], number)
 
 
 class Jobs(InFolder):
@@ -422,7 +486,8 @@ class Jobs(InFolder):
         # 3 mm and 1 mm at 100 mm/s
         self.assertEqual([(step["p"], step["us"]) for step in job["steps"]],
                          [([0, 0, 0, 3000, 0, 0], 150_000), ([3000, 0, 0, 3000, 0, -1000], 50_000)])
-        self.assertEqual((job["segments"], job["exact"]), ({"2": [0], "3": [SWITCH] * 2, "4": [1], "5": [SWITCH]}, True))
+        self.assertEqual(job["segments"], {"2": [0], "3": [SWITCH] * 2, "4": [1], "5": [SWITCH]})
+        self.assertTrue(job["exact"])
         self.assertFalse(json.loads(draw(source).text)["exact"])
 
 
@@ -461,6 +526,19 @@ class Asides(InFolder):
             aside.call(divmod, 7, 2)
 
 
+    def test_killed(self) -> None:
+        """A kill of whoever asked leaves neither the work nor what that started behind."""
+        shell = "echo $PPID $$ > pids; exec sleep 1000"
+        text = ("import subprocess, sys; sys.path.insert(0, sys.argv[1]); from ngc_tools.page.aside import Aside;"
+                f"Aside().call(subprocess.call, ['sh', '-c', '{shell}'])")
+        asking = subprocess.Popen([sys.executable, "-c", text, str(TOOLS)])
+        self.addCleanup(asking.wait)
+        self.wait_for("it works", lambda: Path("pids").exists() and len(Path("pids").read_text().split()) == 2)
+        pids = Path("pids").read_text().split()
+        asking.kill()
+        self.wait_for("both are gone", lambda: not any(map(is_alive, pids)))
+
+
 class Words(InFolder):
     """The words of the command line."""
 
@@ -481,6 +559,14 @@ class Words(InFolder):
             status, out, error = told(main, *words, "--ngc", ngc())
             self.assertEqual((status, out), (2, ""), words)
             self.assertIn(why, error.splitlines()[-1])
+
+
+def is_alive(pid: str) -> bool:
+    """Whether a process runs."""
+    try:
+        return Path(f"/proc/{pid}/stat").read_text().rpartition(")")[2].split()[0] != "Z"
+    except OSError:
+        return False
 
 
 def told_of_device() -> str:

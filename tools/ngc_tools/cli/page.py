@@ -176,6 +176,7 @@ class Patience:
         if seconds > 2:
             self.face.once("ngc waits until the reader of OUT takes lines; a hold is heeded after that")
             if self.face.is_left:
+                self.face.is_stuck = True
                 raise CannotBegin("ended; a block that was under way is half-done")
 
 
@@ -193,9 +194,10 @@ def serve(session: Session, host: str, file: socket.socket, addresses: list[str]
 
 
 def ended(session: Session) -> int:
-    """Ends what is left of `ngc`, and returns its exit status."""
+    """Ends what is left of `ngc`, as a loss of power would where it doesn't answer, and returns its exit status."""
     operator = session.operator
-    session.leave()
+    if not session.leave():
+        operator.console.kill()
     if operator.console.child.poll() is not None:
         return operator.console.child.returncode
     operator.ending.tell_player()

@@ -183,3 +183,5 @@ DEEDS: dict[str, Callable[[Given], dict | None]] = {
     "quit": lambda given: given.session.quit(),
 }
 """What the page that commands may ask for."""
+WAITING = {"load", "rehearse", "reference", "tool", "switch", "abandon", "go", "percent", "restart"}
+"""Those that wait for what they ask for; the others only give it to the session's thread."""

@@ -55,6 +55,7 @@ class PageFace:
         self.question: Question | None = None
         self.holds = 0  # how often somebody wanted to hold
         self.is_left = False  # nobody is there any more
+        self.is_stuck = False  # nor does `ngc` answer, since nobody reads OUT
         self.has_looked = False  # somebody agreed to go on at one of LOOKS, since the command began
         self._heeded = 0  # the wishes that the command under way began with
         self._asides: deque[str] = deque()

@@ -58,9 +58,9 @@ def rehearse(session: Session, at: list[str] | None, by_recover: bool = False) -
     found = session.operator.recover.found if by_recover else None
     if found is not None and found.recovery.beginning is not None:
         at = list(map(millimetres, found.recovery.at_nm))
-    motors = report.at.split() if report else None
-    return session.aside.call(rehearsed, Asked(console.ngc, console.settings, image, at, session.drawing, motors,
-                                               _along(found) if found else None))
+    motors, along = report.at.split() if report else None, _along(found) if found else None
+    asked = Asked(console.ngc, console.settings, image, at, session.drawer.drawing, motors, along)
+    return session.aside.call(rehearsed, asked)
 
 
 def _along(found: Found) -> Along | None:

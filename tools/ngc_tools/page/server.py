@@ -21,7 +21,7 @@ from typing import Any
 
 from ngc_tools.failure import Failure
 from ngc_tools.formats.device import MOST_LARGE_PROGRAM
-from ngc_tools.page.deeds import DEEDS, BadWords, Given, keep_checked
+from ngc_tools.page.deeds import DEEDS, WAITING, BadWords, Given, keep_checked
 from ngc_tools.page.http import MOST_HEAD, Refused, Request, head_of, read_body, read_request
 from ngc_tools.page.pages import Pages
 from ngc_tools.page.session import Busy, Session
@@ -43,6 +43,7 @@ _REQUEST_S = 20.0  # how long a request may take to come, and an answer to be ta
 _IDLE_S = 120.0  # how long a connection may wait for its next request
 _LOST_S = 3.0  # a page that takes nothing for so long is lost
 _EVERY_S = 1.0  # something is sent to each page at least so often
+_AGAIN = b"retry: 500\n\n"  # a page whose stream breaks opens it again after so many ms
 _APART_S = 0.03  # and not more often than so
 
 
@@ -152,10 +153,10 @@ class Server:
 
     def job(self) -> bytes:
         """What is drawn of it."""
-        session, settings = self.session, self.session.settings
-        said = {"id": session.job_id, "failed": session.job_failed, "low": [nm // 1000 for nm in settings.low_nm],
+        drawer, settings = self.session.drawer, self.session.settings
+        said = {"id": drawer.count, "failed": drawer.failed, "low": [nm // 1000 for nm in settings.low_nm],
                 "high": [nm // 1000 for nm in settings.high_nm], "traverse": settings.traverse_nm_per_min // 10**6}
-        job = session.drawing.text if session.drawing else b"null"
+        job = drawer.drawing.text if drawer.drawing else b"null"
         return _json(said)[:-1] + b',"job":' + job + b"}"
 
     def state(self, page: str, told: int) -> tuple[bytes, int]:
@@ -187,7 +188,8 @@ class Server:
         if name not in DEEDS:
             raise Refused(HTTPStatus.NOT_FOUND)
         given = Given(self.session, self.pages, self._checked, words)
-        return await asyncio.to_thread(DEEDS[name], given) or {}
+        done = await asyncio.to_thread(DEEDS[name], given) if name in WAITING else DEEDS[name](given)
+        return done or {}
 
     async def check(self, name: str, text: bytes) -> dict:
         """What is wrong with a program; it is loaded by the `id` that is answered. Raises Failure, OSError."""
@@ -277,7 +279,7 @@ class _Connection:
             self.writer.get_extra_info("socket").setsockopt(socket.IPPROTO_TCP, socket.TCP_USER_TIMEOUT,
                                                             int(1000 * _LOST_S))
             self.writer.transport.set_write_buffer_limits(0)
-            self.writer.write(head_of(HTTPStatus.OK, _HEADERS, "text/event-stream", None))
+            self.writer.write(head_of(HTTPStatus.OK, _HEADERS, "text/event-stream", None) + _AGAIN)
             await self._tell(page)
         finally:
             self.server.pages.went(page)

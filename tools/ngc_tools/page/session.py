@@ -2,9 +2,11 @@
 
 Whoever asks from another thread sets wishes, which are heeded within a piece of work, or gives one command where none
 is under way."""
+import os
 import secrets
 import threading
 import time
+import traceback
 from collections.abc import Callable
 from contextlib import suppress
 from dataclasses import dataclass, field
@@ -17,8 +19,9 @@ from ngc_tools.ngc.console import Ended, Status
 from ngc_tools.operator.face import REFUSED, SAID, WARNING
 from ngc_tools.operator.operator import Operator
 from ngc_tools.operator.sentences import explained
-from ngc_tools.page.aside import Aside, Child, NotDone
-from ngc_tools.page.drawing import Drawing, Source, as_begun, draw, draw_exactly, setup_of
+from ngc_tools.page.aside import Aside
+from ngc_tools.page.drawer import Drawer
+from ngc_tools.page.drawing import Source, as_begun
 from ngc_tools.page.face import PageFace
 from ngc_tools.page.findings import Check, find
 from ngc_tools.page.jog import HeldJog
@@ -28,6 +31,7 @@ from ngc_tools.player.progress import Link, NoAnswer
 WITHOUT_LINES = {"home", "jog", "seek"}
 MOVES = {"run", "mdi", "resume", "recover", "restore", "release", *WITHOUT_LINES}
 """The commands that move the machine, and those of them that the player makes without lines of OUT."""
+_LEAVE_S = 10.0
 _LOOK_S = 0.15  # how often it looks while nothing runs
 _ASIDES = {"percent", "go", "optional", "delete", "single"}
 
@@ -75,8 +79,8 @@ class Command:
 
 
 class Session:
-    """All that pages may do. `name` is that of the program that was loaded last, `program_id` and `job_id` grow with
-    each program and each drawing. `ended` says why `ngc` has ended, if it has; `over` is set once nothing follows."""
+    """All that pages may do. `name` is that of the program that was loaded last, `program_id` grows with each. `ended`
+    says why `ngc` has ended, if it has; `over` is set once nothing follows."""
 
     def __init__(self, opens: Opens, face: PageFace, machine: str = "") -> None:
         """Begins it. `machine` is the machine's file, nothing for none. Raises what `opens` raises."""
@@ -84,16 +88,13 @@ class Session:
         self.aside, self.jogs = Aside(), HeldJog()
         self.over = threading.Event()
         self.name, self.program_id, self.ended = "", 1, "it isn't begun yet"
-        self.drawing: Drawing | None = None
-        self.job_id, self.job_failed = 0, ""
+        self.drawer = Drawer(self.aside, face.publish)
         self.started = 0.0  # when the program was started in this session, in seconds since 1970
         self.is_finished = False  # it ran to its end, and nothing was begun since
         self._next: Command | None = None
         self.under: Command | None = None
         self._wake = threading.Condition()
         self._restarts = threading.Lock()
-        self._drawn: Child | None = None
-        self._draws = threading.Lock()
         self._begin()
 
     def _begin(self) -> None:
@@ -107,12 +108,10 @@ class Session:
         self.operator, self.ident = operator, secrets.token_hex(8)  # a page that saw another one begins anew
         self.stand, self.kept = Stand(console.status()), Kept(console.device)
         begun = as_begun(self.opened.found) if self.opened.found and self.stand.status.place else None
-        self._source = self._source_of(begun or self.kept.device)
-        self._setup, self._drawn_from = setup_of(self.kept.device), self.kept.device.state.entries
+        self.drawer.begin(self._source_of(begun or self.kept.device))
         self.face.look = self._look
         self._look()
         self.ended = ""
-        self.draw(False)
         self._thread = threading.Thread(target=self._work, name="session")
         self._thread.start()
 
@@ -154,7 +153,7 @@ class Session:
         else:
             self.ask(word, lambda: self.operator.do(line))
         if word == "delete":
-            self.draw(False)
+            self.drawer.leave_out(self.operator.session.delete)
 
     def hold(self) -> None:
         """Holds at once, whatever is under way: the motors, and then `ngc`. It waits for nothing."""
@@ -183,8 +182,8 @@ class Session:
             self.face.message = ""
             if not self.stand.status.place and self.stand.status.does == "idle":
                 self.started = time.time()
-                if self.kept.device.state.entries != self._drawn_from:
-                    self.draw(True)
+                if not self.drawer.is_of(self.kept.device):
+                    self._draw()
             self.operator.do(line)
         self.give("run", does)
 
@@ -195,7 +194,7 @@ class Session:
                 return False
             self.name, self.program_id, self.started = name, self.program_id + 1, 0.0
             self.face.message = ""
-            self.draw(True)
+            self._draw()
             return True
         return bool(self.ask("load", does, 600))
 
@@ -227,14 +226,16 @@ class Session:
             return
         self.give("quit", lambda: self.operator.do("quit"))
 
-    def leave(self) -> None:
-        """Nobody is there any more: holds what is under way, and waits for the end of it, for ten seconds at most."""
+    def leave(self) -> bool:
+        """Nobody is there any more: holds what is under way, and waits for the end of it, for ten seconds at most;
+        whether it ended."""
         self.over.set()
         self.face.leave()
         with self._wake:
             self._wake.notify_all()
-        self._thread.join(10)
+        self._thread.join(_LEAVE_S)
         self.aside.close()
+        return not self._thread.is_alive() and not self.face.is_stuck
 
     # its thread
 
@@ -269,10 +270,19 @@ class Session:
         except (Failure, OSError) as error:
             command.failed = error
             self.face.say(error.said() if isinstance(error, Failure) else str(error), WARNING)
+        except Exception as error:  # one command fails by it, and the session goes on
+            self._tell_bug(command, error)
         if self.operator.over:
             self._quit()
         elif command.word in MOVES | {"load"}:
             self._see_end(command, before)
+
+    def _tell_bug(self, command: Command, error: Exception) -> None:
+        """An error of this program itself."""
+        if os.environ.get("NGC_DEBUG"):
+            traceback.print_exception(error)
+        command.failed = Failure(f"internal error: {type(error).__name__}: {error}")
+        self.face.say(str(command.failed), REFUSED)
 
     def _see_end(self, command: Command, before: Status) -> None:
         """Sees whether the program ran to its end."""
@@ -312,8 +322,8 @@ class Session:
         self.face.report = report
         self.kept.at(status)
         self.stand = Stand(status, report, gone, recovery_of(operator.recover.found), *self._typed(), machine)
-        if status.half == "none" and not status.place and setup_of(self.kept.device) != self._setup:
-            self.draw(True)
+        if status.half == "none" and not status.place and not self.drawer.is_as_drawn(self.kept.device):
+            self._draw()
         if self.stand != before:
             self.face.publish()
 
@@ -326,58 +336,14 @@ class Session:
 
     # what is drawn
 
-    def draw(self, is_begun: bool) -> None:
-        """Draws the stored program aside; `is_begun` says that it begins as the device stands now."""
-        with self._draws:
-            if is_begun:
-                self._source = self._source_of(self.kept.read())
-                self._setup, self._drawn_from = setup_of(self.kept.device), self.kept.device.state.entries
-            self._source = self._source_with(self.operator.session.delete)
-            before, self._drawn = self._drawn, None
-            if before:
-                before.give_up()
-            source = self._source
-        threading.Thread(target=self._drawn_aside, args=[source], daemon=True).start()
+    def _draw(self) -> None:
+        """Draws the program as it would be if it were begun now."""
+        self.drawer.begin(self._source_of(self.kept.read()))
 
     def _source_of(self, device: Device) -> Source:
         """What is drawn where a program is to begin, or began, as a device stands."""
         console, delete = self.operator.console, self.operator.session.delete
         return Source(console.ngc, console.settings, self.machine, device.image, not device.state.place, delete)
-
-    def _source_with(self, delete: bool) -> Source:
-        last = self._source
-        return Source(last.ngc, last.settings, last.machine, last.image, last.is_begun_there, delete)
-
-    def _drawn_aside(self, source: Source) -> None:
-        """Draws with times by length, then with exact ones, until something else is to be drawn."""
-        try:
-            if not self.operator.session.program.text:
-                self._take(source, None)
-                return
-            drawing = self._call(source, draw, source)
-            self._take(source, drawing)
-            if drawing is not None:
-                self._take(source, self._call(source, draw_exactly, source))
-        except (NotDone, OSError) as error:
-            self._take(source, None, str(error))
-
-    def _call(self, source: Source, function: Callable, *given: Any) -> Any:
-        with self._draws:
-            if source is not self._source:
-                return None
-            child = self._drawn = self.aside.begin(function, *given)
-        return self.aside.finish(child)
-
-    def _take(self, source: Source, drawing: Drawing | None, failed: str = "") -> None:
-        """Takes what was drawn, if nothing newer is wanted."""
-        with self._draws:
-            if source is not self._source:
-                return
-            if drawing is not None or not failed or self.drawing is None or not self.drawing.is_exact:
-                self.drawing = drawing if drawing is not None or not failed else self.drawing
-            self.job_failed = failed
-            self.job_id += 1
-        self.face.publish()
 
     def say(self, text: str, kind: str = SAID) -> None:
         """Says something of the pages themselves."""

@@ -41,8 +41,8 @@ class Pictured:
     def number(self) -> int:
         """The line under way, from 1. `ngc` is some lines ahead of a player that waits for a tool."""
         number = self.program.number(self.status.place)
-        if self.report and self.report.waits and self.session.drawing:
-            changes = [line for line in self.session.drawing.tools if line <= number]
+        if self.report and self.report.waits and self.session.drawer.drawing:
+            changes = [line for line in self.session.drawer.drawing.tools if line <= number]
             return max(changes, default=number)
         return number
 
@@ -55,7 +55,8 @@ class Pictured:
                 "entries": status.entries, "line": self.number, "place": status.place, "at": status.at,
                 "own": session.own, "optional": session.optional, "delete": session.delete, "single": session.single,
                 "question": question, "message": face.message, "half_opened": state.opened,
-                "half_text": shown_line(state.half_text) if state.half else "", "busy": self.command is not None, "moving": self._moves(),
+                "half_text": shown_line(state.half_text) if state.half else "",
+                "busy": self.session.is_busy, "moving": self._moves(),
                 "command": self.command and {"word": self.command.word, "since": self.command.since}}
 
     def _motors(self) -> dict:
@@ -92,12 +93,13 @@ class Pictured:
                 **{name: getattr(state, name) for name in _IN_MODES}}
 
     def _session(self) -> dict:
-        session = self.session
+        session, setter_nm = self.session, self.operator.touch.setter_nm
         return {"session": session.ident, "ended": session.ended, "over": session.over.is_set(),
                 "program": {"id": session.program_id, "name": session.name, "lines": self.program.count},
-                "job": session.job_id, "finished": session.is_finished, "started": session.started,
+                "job": session.drawer.count, "finished": session.is_finished, "started": session.started,
                 "left_at": session.opened.left_at, "undo": self.operator.touch.undoes,
-                "setter": self.operator.touch.setter_nm and millimetres(self.operator.touch.setter_nm), "typed": self.stand.typed, "restore": self.stand.restore}
+                "setter": None if setter_nm is None else millimetres(setter_nm),
+                "typed": self.stand.typed, "restore": self.stand.restore}
 
     def _moves(self) -> bool:
         """Whether a command is under way that moves the machine, and nobody has to look or agree first."""

@@ -1,0 +1,85 @@
+"""What is drawn of the stored program, aside: first with times by length, then with exact ones."""
+import threading
+from collections.abc import Callable
+from dataclasses import replace
+from typing import Any
+
+from ngc_tools.formats.device import Device
+from ngc_tools.page.aside import Aside, Child, NotDone
+from ngc_tools.page.drawing import Drawing, Source, draw, draw_exactly, setup_of
+
+
+class Drawer:
+    """`drawing` is what is drawn, None for nothing, `failed` why it can't be, and `count` grows with each change."""
+
+    def __init__(self, aside: Aside, changed: Callable[[], None]) -> None:
+        """`changed` is called in any thread."""
+        self.drawing: Drawing | None = None
+        self.failed = ""
+        self.count = 0
+        self._aside, self._changed = aside, changed
+        self._lock = threading.Lock()
+        self._source: Source | None = None
+        self._child: Child | None = None
+        self._setup: tuple = ()
+        self._entries, self._is_something = -1, False
+
+    def begin(self, source: Source) -> None:
+        """Draws the program of a device, as that stands or stood. Nothing that was begun before is taken any more."""
+        device = Device(source.image)
+        self._setup, self._entries, self._is_something = setup_of(device), device.state.entries, bool(device.program)
+        self._start(source)
+
+    def is_as_drawn(self, device: Device) -> bool:
+        """Whether the program would go where it is drawn if it were begun as a device stands, but for the way to its
+        first point."""
+        return setup_of(device) == self._setup
+
+    def is_of(self, device: Device) -> bool:
+        """Whether it is drawn from how that device stands."""
+        return device.state.entries == self._entries
+
+    def leave_out(self, block_delete: bool) -> None:
+        """Draws it anew, with block delete or without."""
+        if self._source is not None:
+            self._start(replace(self._source, block_delete=block_delete))
+
+    def _start(self, source: Source) -> None:
+        with self._lock:
+            self._source = source
+            before, self._child = self._child, None
+        if before:
+            before.give_up()
+        if self._is_something:
+            threading.Thread(target=self._draw, args=[source], daemon=True).start()
+        else:
+            self._take(source, None)
+
+    def _draw(self, source: Source) -> None:
+        try:
+            for work in (draw, draw_exactly):
+                drawing = self._call(source, work)
+                if drawing is None:
+                    return
+                self._take(source, drawing)
+        except (NotDone, OSError) as error:
+            self._take(source, None, str(error))
+
+    def _call(self, source: Source, work: Callable[[Source], Drawing]) -> Any:
+        """What is drawn aside; None where something else is wanted by now. Raises NotDone, OSError."""
+        with self._lock:
+            if source is not self._source:
+                return None
+            child = self._child = self._aside.begin(work, source)
+        return self._aside.finish(child)
+
+    def _take(self, source: Source, drawing: Drawing | None, failed: str = "") -> None:
+        """Takes what was drawn, if nothing else is wanted. Where exact times failed, the others stay."""
+        with self._lock:
+            if source is not self._source:
+                return
+            is_kept = bool(failed) and self.drawing is not None and self.drawing.source is source
+            self.drawing = self.drawing if is_kept else drawing
+            self.failed = failed
+            self.count += 1
+        self._changed()
