@@ -344,6 +344,9 @@ class Power(InBrowser):
         self.assertTrue(browser.js("document.querySelector('#over .foot .go').disabled"))
         self.look("switched on")
         browser.js("document.querySelectorAll('#over .look button').forEach(one => one.click())")
+        seen = browser.js("ngc.state.now")
+        browser.wait(f"ngc.state.now > {seen} + 1")
+        self.assertEqual(browser.js("document.querySelectorAll('#over .look [aria-pressed=true]').length"), 3)
         browser.press("Yes", "#over .go")
 
 

@@ -130,7 +130,7 @@ function progress(s) {
   const ahead = 1000 * (s.behind_mm ?? 2) + 1000;
   const reached = place.now >= 0 ? job.reached(place.now, motors, ahead) : { step: -1, share: 0, part: 1 };
   const done = place.now >= 0 ? reached.step : place.done;
-  picture.origin = s.origin ? micrometres(s.origin) : null;
+  picture.zero(micrometres(s.work).map((number, i) => motors[i] - number)); // with the tool's length in it
   picture.at(done, reached.step, reached.part, motors);
   showTimes(s, done, s.busy || s.does === 'held' ? reached.share : 0);
   return reached;
@@ -228,10 +228,16 @@ document.addEventListener('keyup', event => {
 });
 $('takeover').onclick = () => asks('takeover');
 $('restart').onclick = () => asks('restart');
+let typed = ''; // the last line, for the key that goes up
+$('line').addEventListener('keydown', event => {
+  if (event.key === 'ArrowUp' && typed) $('line').value = typed;
+});
 $('typed').addEventListener('submit', async event => {
   event.preventDefault();
   const line = $('line').value.trim();
-  if (line && await asks('mdi', { line })) $('line').select();
+  if (!line || !await asks('mdi', { line })) return;
+  typed = line;
+  $('line').value = '';
 });
 for (const name of ['single', 'optional', 'delete']) {
   $(name).onclick = () => asks('switch', { name, on: $(name).getAttribute('aria-checked') !== 'true' });
