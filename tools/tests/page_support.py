@@ -14,8 +14,10 @@ from session_support import PATIENCE_S, InFolder, ngc
 from ngc_tools.player.progress import Link
 
 PAGE, OTHER = "page-number-1", "page-number-2"
-LONG = "G17 G21 G90 G94\nG0 X0 Y0 Z0\nG1 X2 F60\nG1 X0 Z-1\nG1 X1 F600\nM2\n"
-"""Cuts of 2, 2.2 and 0.1 s."""
+SLOW = "G17 G21 G90 G94\nG0 X0 Y0 Z0\nG1 X2 F3\nM2\n"
+"""Its line 3 is a cut of 40 s, which no test sees the end of."""
+CUT = "M3 S100\nG17 G21 G90 G94\nG0 X0 Y0 Z0\nG1 X2 F600\nG1 X0 Z-1 F3\nM2\n"
+"""Its line 5 is a cut of 45 s."""
 
 
 class Page:
@@ -160,6 +162,12 @@ class Served(InFolder):
         """Uploads and loads a program."""
         found = page.post("check", text.encode(), X_Name="part.ngc", Content_Type="application/octet-stream")[1]
         self.assertEqual(page.post("load", {"id": found["id"]}), (200, {"taken": True}), page.said())
+
+    def cuts(self, page: Page, line: int = 3) -> dict:
+        """The state once a program is started, and cuts in a line."""
+        self.assertEqual(page.post("run"), (200, {}))
+        return page.until("it cuts", lambda state: state["line"] == line and state["half"] == "program"
+                          and state["behind"])
 
     def pull(self) -> None:
         """Power is lost."""

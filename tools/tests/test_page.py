@@ -12,7 +12,7 @@ from pathlib import Path
 sys.path.insert(0, str(Path(__file__).resolve().parent))
 
 from machine_support import SocketMachine  # noqa: E402
-from page_support import LONG, OTHER, PAGE, Page, Served, request  # noqa: E402
+from page_support import CUT, OTHER, PAGE, SLOW, Page, Served, request  # noqa: E402
 from session_support import PATIENCE_S, TOOLS, InFolder, ngc, told  # noqa: E402
 
 from ngc_tools.cli.page import main  # noqa: E402
@@ -20,6 +20,7 @@ from ngc_tools.ngc.console import Console  # noqa: E402
 from ngc_tools.page import server as server_module  # noqa: E402
 from ngc_tools.page.aside import Aside, NotDone  # noqa: E402
 from ngc_tools.page.drawing import SWITCH, Source, draw, draw_exactly, job_of  # noqa: E402
+from ngc_tools.page.pages import LOST_S  # noqa: E402
 from ngc_tools.page.rehearse import Asked, rehearsed  # noqa: E402
 
 EXAMPLES = TOOLS.parent / "examples"
@@ -66,7 +67,8 @@ class Who(Served):
         for body, given, status in ((b"{" * 5000, {}, 413), (b"{}", {"Content_Type": "text/plain"}, 415),
                                     (b"[]", {}, 400), (b"{", {}, 400), (b"{}", {"X_Page": "<b>"}, 400)):
             self.assertEqual(page.post("run", body, **given)[0], status, body[:9])
-        self.assertEqual(page.post("check", b"", Content_Length="1048577")[0], 413)
+        self.assertEqual(page.post("check", b" " * 3_000_000)[0], 413)
+        self.assertEqual(page.post("check", b"", Content_Length="999999999")[0], 413)
         for what in ("__init__", "nothing", "_json", "mdi/..", "RUN"):
             self.assertEqual(page.post(what)[0], 404, what)
         self.assertEqual(page.post("load", {"id": "/etc/passwd"})[0], 410)
@@ -79,6 +81,25 @@ class Who(Served):
                             ("switch", {"name": "delete", "on": "on"}), ("answer", {"question": 1, "text": "a\nb"})):
             self.assertEqual(page.post(what, words)[0], 422, words)
         self.assertEqual((self.server.poll(), [entry["kind"] for entry in page.next()["log"]]), (None, ["said"]))
+
+    def test_raw(self) -> None:
+        """Texts that are no plain request, or could be taken for two: each is answered, and the connection closed."""
+        page = self.page()
+        head = f"POST /{page.key}/hold HTTP/1.1\r\nHost: 127.0.0.1:{page.port}\r\nX-Page: {PAGE}\r\n"
+        for text, status in (("GET / HTTP/1.0\r\n\r\n", 400), ("GET  / HTTP/1.1\r\n\r\n", 400),
+                             ("GET /\x00 HTTP/1.1\r\n\r\n", 400), ("GET / HTTP/1.1\nHost: a\n\n\r\n\r\n", 400),
+                             ("GET / HTTP/1.1\r\nHost: a\r\nHost: a\r\n\r\n", 400),
+                             ("GET / HTTP/1.1\r\nHost: a\r\n b\r\n\r\n", 400), ("GET / HTTP/1.1\r\n\r\n", 421),
+                             ("PUT / HTTP/1.1\r\n\r\n", 501), ("GET /" + "a" * 20_000, 431),
+                             (f"{head}Origin: http://127.0.0.1:{page.port}\r\n\r\n", 411),
+                             (f"{head}Origin: http://127.0.0.1:{page.port}\r\nContent-Length: 2\r\n"
+                              "Transfer-Encoding: chunked\r\n\r\n{}", 501)):
+            with socket.create_connection(("127.0.0.1", page.port), PATIENCE_S) as link:
+                link.sendall(text.encode("latin-1"))
+                answer = b""
+                while part := link.recv(65536):
+                    answer += part
+            self.assertEqual((answer[:13], answer.count(b"HTTP/1.1")), (b"HTTP/1.1 %d " % status, 1), text[:60])
 
     def test_two_pages(self) -> None:
         """The first commands; the other watches, may hold, and takes over; a fifth is one too many."""
@@ -97,9 +118,8 @@ class Who(Served):
     def test_idle_and_slow(self) -> None:
         """More connections that wait, or come in pieces, than there may be: a wish to hold is taken all the same."""
         page = self.page()
-        self.load(page, LONG)
-        page.post("run")
-        page.until("it runs", lambda state: state["does"] == "running")
+        self.load(page, SLOW)
+        self.cuts(page)
         pieces = (b"", b"GET /", b"POST / HTTP/1.1\r\nHost: a\r\nX: ", b"\r\n\r")
         for number in range(2 * server_module.MOST_CONNECTIONS):
             idle = socket.create_connection(("127.0.0.1", page.port), PATIENCE_S)
@@ -147,34 +167,33 @@ class Work(Served):
     def test_hold(self) -> None:
         """Hold is heeded within a line; what is asked meanwhile is refused; it goes on."""
         page = self.page()
-        self.load(page, LONG)
-        page.post("run")
-        page.until("it cuts", lambda state: state["line"] == 3 and state["half"] == "program")
+        self.load(page, SLOW)
+        self.cuts(page)
         self.assertEqual(page.post("mdi", {"line": "G0 X1"})[0], 409)
         self.assertEqual(page.post("switch", {"name": "delete", "on": True})[0], 200)
         page.post("hold")
         page.until("it is held", lambda state: state["does"] == "held" and not state["busy"])
         state = page.until("the motors stand", lambda state: state["behind"] == 0)
-        self.assertEqual((self.link.ask().at.split(), state["line"]), (state["motors"], 3))
+        self.assertEqual((self.link.ask().at.split(), state["line"], state["delete"]), (state["motors"], 3, True))
         page.post("run")
-        self.assertTrue(page.until("it is through", lambda state: state["finished"])["delete"])
+        page.until("it goes on", lambda later: float(later["motors"][0]) > float(state["motors"][0]))
 
     def test_page_lost(self) -> None:
         """Where the page that commands is lost, what runs is held, or goes on."""
         page, other = self.page(), self.page(OTHER)
-        self.load(page, LONG)
-        page.post("run")
-        page.until("it runs", lambda state: state["does"] == "running")
+        self.load(page, SLOW)
+        self.cuts(page)
         page.close()
         other.until("it is held", lambda state: state["does"] == "held" and not state["busy"])
         self.assertIn("the page that commands is lost: hold", other.said())
         page = self.page()
         other.post("takeover")
         other.post("loss", {"goes": True})
-        other.post("run")
-        page.until("it runs", lambda state: state["does"] == "running" and state["on_loss"] == "go")
+        self.cuts(other)
         other.close()
-        self.assertEqual(page.until("it is through", lambda state: state["finished"])["pages"], 1)
+        gone = page.until("it is gone", lambda state: state["pages"] == 1)
+        state = page.until("it is lost", lambda state: state["now"] > gone["now"] + LOST_S + 1)
+        self.assertEqual((state["does"], state["on_loss"]), ("running", "go"))
 
     def test_hostile_text(self) -> None:
         """What a program says stays text, and nothing of it is obeyed."""
@@ -205,7 +224,7 @@ class Work(Served):
     def test_ngc_fails(self) -> None:
         """`ngc` is started again after it ended; a page sees that it is another session."""
         page = self.page()
-        self.load(page, LONG)
+        self.load(page, SLOW)
         before = page.rested()["session"]
         self.assertEqual(page.post("restart")[0], 409)
         page.post("run")
@@ -225,18 +244,16 @@ class Work(Served):
     def test_player_gone(self) -> None:
         """Without its player nothing more is handed out."""
         page = self.page()
-        self.load(page, LONG)
-        page.post("run")
-        page.until("it runs", lambda state: state["does"] == "running")
+        self.load(page, SLOW)
+        self.cuts(page)
         self.player.kill()
         self.assertEqual(page.until("that is said", lambda state: state["player_gone"])["word"], "Player gone")
 
     def test_signal(self) -> None:
         """A signal holds, and ends the session."""
         page = self.page()
-        self.load(page, LONG)
-        page.post("run")
-        page.until("it runs", lambda state: state["does"] == "running")
+        self.load(page, SLOW)
+        self.cuts(page)
         self.server.send_signal(signal.SIGTERM)
         self.assertEqual(self.server.wait(PATIENCE_S), -signal.SIGTERM)
         self.player.wait(PATIENCE_S)
@@ -251,9 +268,8 @@ class Ramps(Served):
     def test_held(self) -> None:
         """The motors stand with lines in hand; `release` carries them out; `quit` asks about a half-done line."""
         page = self.page()
-        self.load(page, LONG)
-        page.post("run")
-        page.until("it cuts", lambda state: state["line"] == 3 and state["half"] == "program")
+        self.load(page, "G21 G90\nG0 X0\nG1 X40 F60\nM2\n")
+        self.cuts(page)
         self.assertEqual(page.post("percent", {"percent": 50}), (200, {}))
         page.until("it goes slower", lambda state: state["percent"] == 50)
         page.post("hold")
@@ -358,10 +374,8 @@ class Power(Served):
     def test_resume(self) -> None:
         """Rehearsal, reference, resume, which stops after the switch and asks."""
         page = self.page()
-        self.load(page, "M3 S100\n" + LONG)
-        page.post("run")
-        page.until("it cuts", lambda state: state["line"] == 5 and float(state["motors"][0]) < 1.9)
-        session = page.next()["session"]
+        self.load(page, CUT)
+        session = self.cuts(page, 5)["session"]
         self.pull()
         self.begin()
         page = self.page()
@@ -381,8 +395,8 @@ class Power(Served):
         self.assertEqual((state["motors"][2], state["spindle"], state["moving"], state["question"]["purpose"]),
                          ("2.000000", 1, False, "look"))
         page.agree(state)
-        state = page.until("it is through", lambda state: state["finished"])
-        self.assertEqual(state["motors"], ["1.000000", "0.000000", "-1.000000"])
+        state = page.until("it goes on", lambda state: float(state["motors"][0]) < 2 and state["moving"])
+        self.assertEqual((state["line"], state["word"]), (5, "Running"))
 
 
 class PowerOfFile(Served):
@@ -393,9 +407,8 @@ class PowerOfFile(Served):
     def test_recover(self) -> None:
         """What `recover` would do is told before; its questions, its way, the switch, and on to the end."""
         page = self.page()
-        self.load(page, "M3 S100\n" + LONG)
-        page.post("run")
-        page.until("it cuts", lambda state: state["line"] == 5 and float(state["motors"][0]) < 1.9)
+        self.load(page, CUT)
+        self.cuts(page, 5)
         self.pull()
         self.begin()
         page = self.page()
@@ -410,8 +423,8 @@ class PowerOfFile(Served):
         state = self.look(page)
         self.assertEqual((state["motors"], state["spindle"]), (["2.000000", "0.000000", "0.000000"], 1))
         page.agree(state)
-        state = page.until("it is through", lambda state: state["finished"])
-        self.assertEqual(state["motors"], ["1.000000", "0.000000", "-1.000000"])
+        state = page.until("it goes on", lambda state: float(state["motors"][0]) < 2 and state["moving"])
+        self.assertEqual((state["line"], state["word"]), (5, "Running"))
 
     def look(self, page: Page) -> dict:
         """Agrees to all that is asked, up to the look at the machine; the state then, or where nothing more is asked.

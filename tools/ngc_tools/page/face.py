@@ -127,13 +127,14 @@ class PageFace:
             self._answer = None
             self.question = Question(self._count, text.strip(), kind)
         self.publish()
-        while not self._is_answered():
-            self.look()
-        with self._lock:
-            self.question = None
-            answer = self._answer or ""
-        self.publish()
-        return answer
+        try:
+            while not self._is_answered():
+                self.look()
+        finally:
+            with self._lock:
+                self.question = None
+            self.publish()
+        return self._answer or ""
 
     def _is_answered(self) -> bool:
         """Waits for an answer for a while; whether there is one, or none will come."""

@@ -8,6 +8,7 @@ from http import HTTPStatus
 
 MOST_HEAD = 16_384
 """Bytes of a request's first line and headers together."""
+_MOST_PASSED_OVER = 1 << 25
 
 _FIRST = re.compile(rb"(GET|POST|[A-Z]{1,10}) (/[\x21-\x7e]*) HTTP/1\.1")
 _HEADER = re.compile(rb"([A-Za-z0-9-]{1,64}):[ \t]*([\x20-\x7e\x80-\xff\t]*)")
@@ -72,11 +73,19 @@ def _headers(lines: list[bytes]) -> dict[str, str]:
 async def read_body(reader: asyncio.StreamReader, request: Request, most: int) -> bytes:
     """The body of a request. Raises Refused, OSError."""
     if request.length > most:
+        await _pass_over(reader, request.length)
         raise Refused(HTTPStatus.REQUEST_ENTITY_TOO_LARGE, f"at most {most:,} bytes")
     try:
         return await reader.readexactly(request.length)
     except asyncio.IncompleteReadError:
         raise Refused(HTTPStatus.BAD_REQUEST) from None
+
+
+async def _pass_over(reader: asyncio.StreamReader, length: int) -> None:
+    """Reads a body that isn't wanted, if it isn't very long: whoever sends one may not look at an answer before."""
+    left = length if length <= _MOST_PASSED_OVER else 0
+    while left and (piece := await reader.read(min(left, MOST_HEAD))):
+        left -= len(piece)
 
 
 def head_of(status: HTTPStatus, headers: dict[str, str], kind: str, length: int | None) -> bytes:

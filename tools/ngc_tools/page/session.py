@@ -16,7 +16,7 @@ from ngc_tools.failure import Failure
 from ngc_tools.formats.device import Device
 from ngc_tools.formats.settings import Settings
 from ngc_tools.ngc.console import Ended, Status
-from ngc_tools.operator.face import REFUSED, SAID, WARNING
+from ngc_tools.operator.face import REFUSED, WARNING
 from ngc_tools.operator.operator import Operator
 from ngc_tools.operator.sentences import explained
 from ngc_tools.page.aside import Aside
@@ -100,7 +100,17 @@ class Session:
     def _begin(self) -> None:
         """Begins a session of `ngc run`, and its thread."""
         self.opened = self._opens(self.face)
-        operator = self.opened.operator
+        try:
+            self._begin_over(self.opened.operator)
+        except BaseException:
+            self.opened.operator.console.kill()
+            raise
+        self.ended = ""
+        self._thread = threading.Thread(target=self._work, name="session")
+        self._thread.start()
+
+    def _begin_over(self, operator: Operator) -> None:
+        """Says and sees how all stands at first."""
         console = operator.console
         self.settings = Settings.read(console.settings)
         self.face.begin(self.face.holds)
@@ -111,9 +121,6 @@ class Session:
         self.drawer.begin(self._source_of(begun or self.kept.device))
         self.face.look = self._look
         self._look()
-        self.ended = ""
-        self._thread = threading.Thread(target=self._work, name="session")
-        self._thread.start()
 
     # what pages ask for
 
@@ -153,7 +160,7 @@ class Session:
         else:
             self.ask(word, lambda: self.operator.do(line))
         if word == "delete":
-            self.drawer.leave_out(self.operator.session.delete)
+            self.drawer.leave_out(line.endswith(" on"))
 
     def hold(self) -> None:
         """Holds at once, whatever is under way: the motors, and then `ngc`. It waits for nothing."""
@@ -248,10 +255,12 @@ class Session:
             try:
                 if self.under:
                     self._do(self.under)
-                if not self.ended:
+                if not self.ended and not self.face.is_stuck:
                     self._look()
             except Ended as ended:
                 self._tell_end(ended)
+            except (Failure, OSError) as error:
+                self.face.once(str(error))
             finally:
                 command, self.under = self.under, None
                 if command:
@@ -344,7 +353,3 @@ class Session:
         """What is drawn where a program is to begin, or began, as a device stands."""
         console, delete = self.operator.console, self.operator.session.delete
         return Source(console.ngc, console.settings, self.machine, device.image, not device.state.place, delete)
-
-    def say(self, text: str, kind: str = SAID) -> None:
-        """Says something of the pages themselves."""
-        self.face.say(text, kind)
