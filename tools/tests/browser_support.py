@@ -145,9 +145,14 @@ class Browser:
 
     def press(self, says: str, within: str = "button") -> None:
         """Presses the last button of this text that is enabled, once there is one."""
-        x, y = self.wait(_POINT % (json.dumps(within), json.dumps(says)))
+        x, y = self.place(says, within)
         self.down(x, y)
         self.up(x, y)
+
+    def place(self, says: str, within: str = "button") -> tuple[float, float]:
+        """Where the middle of that button is."""
+        x, y = self.wait(_POINT % (json.dumps(within), json.dumps(says)))
+        return x, y
 
     def down(self, x: float, y: float) -> None:
         """A finger, or the mouse's button, comes down."""

@@ -8,6 +8,7 @@ from pathlib import Path
 sys.path.insert(0, str(Path(__file__).resolve().parent))
 
 from browser_support import Browser, chromium  # noqa: E402
+from machine_support import SocketMachine  # noqa: E402
 from page_support import LONG, OTHER, Served  # noqa: E402
 from session_support import ngc  # noqa: E402
 
@@ -18,7 +19,8 @@ SIGHT = """(() => {
     const over = document.getElementById('over');
     return seen.filter(one => over.hidden || over.contains(one) || !one.closest('main')).map(one => {
         const box = one.getBoundingClientRect(), scrolls = one.closest('.tab, .words');
-        const isOut = !scrolls && (box.left < 0 || box.top < 0 || box.right > innerWidth || box.bottom > innerHeight);
+        const isOut = !scrolls && (box.left < 0 || box.top < 0 || box.right > innerWidth + 0.5
+            || box.bottom > innerHeight + 0.5);
         const isSmall = Math.min(box.width, box.height) < 44, isCut = one.scrollWidth > one.clientWidth + 1;
         return isOut || isSmall || isCut ? [one.id, one.textContent, isOut, isSmall, isCut, box.width, box.height] : null;
     }).filter(Boolean);
@@ -237,6 +239,53 @@ class Work(InBrowser):
         self.no_complaints()
 
 
+class WithRamps(SocketMachine):
+    """A player with a machine's file."""
+
+    wants = 340
+
+
+class Moves(InBrowser):
+    """Home, jog, work zero and an alarm, by a player in this process."""
+
+    def begin_player(self) -> None:
+        """A player that makes moves by itself, and a reader of OUT."""
+        pipe = os.open("axis", os.O_RDONLY | os.O_NONBLOCK)
+        self.addCleanup(os.close, pipe)
+        self.machine = WithRamps(os.path.abspath("axis"))
+        self.addCleanup(self.machine.close)
+
+    def jogs(self) -> int:
+        """How often the player was told to jog, or to jog on."""
+        return len([word for word in self.machine.axes.words if " X+ 600" in word])
+
+    def test_setup(self) -> None:
+        """Home, jog for as long as a finger is down, the work's zero there, undo; after an alarm home comes first."""
+        browser = self.browser
+        browser.press("Setup", "nav button")
+        browser.press("Home all", "#tab-setup button")
+        browser.wait("ngc.state.homed === 'XYZ' && !ngc.state.busy")
+        self.look("setup of a machine that homes")
+        x, y = browser.place("X+", ".pad button")
+        browser.down(x, y)
+        self.wait_for("it goes on while the finger is down", lambda: self.jogs() > 3)
+        self.assertEqual(browser.js("[ngc.state.command?.word, ngc.state.busy]"), ["jog", True])
+        browser.up(x, y)
+        browser.wait("!ngc.state.busy && Number(ngc.state.at[0]) > -298")
+        stopped = self.jogs()
+        browser.press("Set XY", "#tab-setup button")
+        browser.wait("ngc.state.work[0] === '0.000000' && ngc.state.work[1] === '0.000000'")
+        browser.press("Undo: G10", "#tab-setup button")
+        browser.wait("ngc.state.work[1] === ngc.state.at[1]")
+        self.assertEqual(self.jogs(), stopped)
+        self.machine.axes.alarm("emergency_stop")
+        browser.wait("ngc.state.word === 'ALARM'")
+        self.look("an alarm")
+        browser.press("Home all", "#run")
+        browser.wait("ngc.state.alarm === '' && ngc.state.word === 'Idle'")
+        self.no_complaints()
+
+
 class Power(InBrowser):
     """Power is lost, and comes back."""
 
@@ -295,6 +344,9 @@ class Power(InBrowser):
         self.assertTrue(browser.js("document.querySelector('#over .foot .go').disabled"))
         self.look("switched on")
         browser.js("document.querySelectorAll('#over .look button').forEach(one => one.click())")
+        seen = browser.js("ngc.state.now")
+        browser.wait(f"ngc.state.now > {seen} + 1")
+        self.assertEqual(browser.js("document.querySelectorAll('#over .look [aria-pressed=true]').length"), 3)
         browser.press("Yes", "#over .go")
 
 

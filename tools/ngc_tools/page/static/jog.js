@@ -3,17 +3,19 @@
 import { el } from './dom.js';
 
 const AGAIN_MS = 100;
-const RATES = [['Slow', 100], ['Medium', 600], ['Fast', 3000]]; // mm a minute
-const LENGTHS = [['Hold', null], ['10', 10], ['1', 1], ['0.1', 0.1], ['0.01', 0.01]]; // mm
+const RATES = [['Slow', '100'], ['Medium', '600'], ['Fast', '3000']]; // mm a minute
+const LENGTHS = [['Hold', null], ['10', '10'], ['1', '1'], ['0.1', '0.1'], ['0.01', '0.01']]; // mm
 const PAD = [['Y', 1, 'up'], ['X', -1, 'left'], ['X', 1, 'right'], ['Y', -1, 'down'], ['Z', 1, 'above'],
   ['Z', -1, 'below']];
 
 export class Jog {
   constructor(asks) {
     this.asks = asks;
-    this.rate = 600;
+    this.rate = '600';
     this.length = null;
     this.timer = 0;
+    this.press = 0;          // grows with each, so that what comes late of one that was let go starts nothing
+    this.isOn = false;
     this.buttons = PAD.map(([axis, sign, where]) => this.button(axis, sign, where));
     this.rates = choices('Rate', RATES, rate => { this.rate = rate; }, this.rate);
     this.lengths = choices('Millimetres', LENGTHS, length => { this.length = length; }, this.length);
@@ -38,22 +40,29 @@ export class Jog {
 
   start(axis, sign) {
     this.stop();
-    const { rate, length } = this, says = () => this.asks('jog', { axis, sign, rate, length });
+    const { rate, length } = this;
+    if (length !== null) {
+      this.asks('jog', { axis, sign, rate, length });
+      return;
+    }
+    this.press += 1;
     this.isOn = true;
-    if (length === null) this.timer = setInterval(() => says().then(done => { if (!done) this.stop(); }), AGAIN_MS);
-    says().then(done => { if (!done) this.stop(); });
+    const wish = { axis, sign, rate, press: this.press };
+    const says = async () => { if (!await this.asks('jog', wish)) this.stop(); };
+    this.timer = setInterval(says, AGAIN_MS);
+    says();
   }
 
-  // The finger is gone.
+  // The finger is gone, or somebody wants to hold.
   stop() {
     clearInterval(this.timer);
-    if (this.isOn && this.length === null) this.asks('jogstop', {});
+    if (this.isOn) this.asks('jogstop', { press: this.press });
     this.isOn = false;
   }
 
   enable(isFree) {
     for (const button of this.buttons) button.disabled = !isFree;
-    if (!isFree && !this.isOn) this.stop();
+    if (!isFree) this.stop();
   }
 }
 

@@ -80,14 +80,14 @@ function showControls(s) {
   $('takeover').hidden = s.yours;
   $('load').disabled = !app.isIdle;
   $('quit').disabled = s.busy || !s.yours;
-  $('restart').hidden = !(s.ended && !s.over && s.yours);
+  const canRestart = s.ended || s.player_gone || s.does === 'broken';
+  $('restart').hidden = !(canRestart && !s.over && s.yours);
   for (const one of [$('line'), $('do')]) one.disabled = !(app.isRest && s.does !== 'broken');
   $('hold').disabled = Boolean(s.ended);
   for (const name of ['single', 'optional', 'delete']) {
     $(name).setAttribute('aria-checked', String(Boolean(s[name])));
     $(name).disabled = !s.yours;
   }
-  $('single').hidden = s.single === undefined;
   const [says, isEnabled, does] = running(s);
   text($('run'), says);
   $('run').disabled = !isEnabled;
@@ -100,7 +100,8 @@ function running(s) {
   if (s.waits) return [s.waits_tool ? `Tool ${s.waits_tool} is in` : 'Tool is out', s.yours, () => asks('go')];
   if (s.question) return ['Answer first', false, null];
   if (isHalf) return ['Recover', s.yours && !recovery.isOpen, () => recovery.begin()];
-  if (s.player_gone || s.alarm) return ['Run', false, null];
+  if (s.player_gone) return ['Run', false, null];
+  if (s.alarm) return ['Home all', s.yours && !s.busy, () => asks('home', { axes: '' })];
   if (s.recover?.left && !s.busy && s.half === 'none') return ['Recover', s.yours, takeUpLines];
   if (s.held_motors && s.does !== 'held' && !s.busy) return ['Let go on', s.yours, () => asks('release')];
   if (s.does === 'held') return ['Continue', s.yours && !s.busy, run];
@@ -129,7 +130,7 @@ function progress(s) {
   const ahead = 1000 * (s.behind_mm ?? 2) + 1000;
   const reached = place.now >= 0 ? job.reached(place.now, motors, ahead) : { step: -1, share: 0, part: 1 };
   const done = place.now >= 0 ? reached.step : place.done;
-  picture.origin = s.origin ? micrometres(s.origin) : null;
+  picture.zero(micrometres(s.work).map((number, i) => motors[i] - number)); // with the tool's length in it
   picture.at(done, reached.step, reached.part, motors);
   showTimes(s, done, s.busy || s.does === 'held' ? reached.share : 0);
   return reached;
@@ -196,7 +197,8 @@ async function goOn(s, title) {
     : 'The spindle is off, and nothing switches it on by itself: give M3 as a line first, unless it is meant so.';
   const does = what => () => { sheet.close(); asks(what); };
   sheet.open(title, [
-    found.refused && sheet.warning(found.refused, 'bad'), ...(found.differs ?? []).map(one => sheet.warning(one, 'bad')),
+    found.refused && sheet.warning(found.refused, 'bad'),
+    ...(found.differs ?? []).map(one => sheet.warning(one, 'bad')),
     s.restore?.length ? sheet.said(`Restore puts back what your lines left in force: ${s.restore.join(', ')}`) : null,
     sheet.warning(spindle, s.spindle ? 'fine' : ''), sheet.lead(program.line(s.line)),
     sheet.said(`The tool goes on from where it is now: ${point(s.at)}. Look that the way is free.`),
@@ -209,6 +211,7 @@ async function goOn(s, title) {
 
 function hold() {
   app.pressed = performance.now();
+  setup.jog.stop();
   asks('hold');
 }
 
@@ -225,10 +228,16 @@ document.addEventListener('keyup', event => {
 });
 $('takeover').onclick = () => asks('takeover');
 $('restart').onclick = () => asks('restart');
+let typed = ''; // the last line, for the key that goes up
+$('line').addEventListener('keydown', event => {
+  if (event.key === 'ArrowUp' && typed) $('line').value = typed;
+});
 $('typed').addEventListener('submit', async event => {
   event.preventDefault();
   const line = $('line').value.trim();
-  if (line && await asks('mdi', { line })) $('line').select();
+  if (!line || !await asks('mdi', { line })) return;
+  typed = line;
+  $('line').value = '';
 });
 for (const name of ['single', 'optional', 'delete']) {
   $(name).onclick = () => asks('switch', { name, on: $(name).getAttribute('aria-checked') !== 'true' });

@@ -43,8 +43,9 @@ export function axes(g, m, [x, y, z], arm, isFlat) {
 
 // An arrow's head at the end of a line of points.
 export function head(g, m, points) {
-  const [a, b] = points.slice(-2).map(point => place(m, ...point));
-  if (Math.hypot(b[0] - a[0], b[1] - a[1]) < 14) return;
+  const b = place(m, ...points.at(-1)), isFar = ([x, y]) => Math.hypot(b[0] - x, b[1] - y) > 14;
+  const a = points.map(point => place(m, ...point)).findLast(isFar);
+  if (!a) return;
   const along = Math.atan2(b[1] - a[1], b[0] - a[0]);
   g.beginPath();
   g.moveTo(...b);

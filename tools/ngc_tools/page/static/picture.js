@@ -1,8 +1,8 @@
 // The path: what is done solid, what is under way bright, what is left pale, traverses dashed, a cross at the motors.
 //
-// What stays the same is painted once, on a layer; what moves comes over it. While somebody moves the picture, the layer
-// is moved and magnified as it is, so that the path of a long program follows the finger; while somebody turns it, points
-// that would lie close together are left out.
+// What stays the same is painted once, on a layer; what moves comes over it. While somebody moves the picture, the
+// layer is moved and magnified as it is, so that the path of a long program follows the finger. While it is turned,
+// points that would lie close together are left out.
 import { listen } from './gestures.js';
 import { CUT, TRAVERSE, WAIT } from './job.js';
 import * as paint from './paint.js';
@@ -43,9 +43,15 @@ export class Picture {
     this.fit();
   }
 
+  // Says where the work's zero is.
+  zero(origin) {
+    if (String(origin) !== String(this.origin)) this.isStale = true;
+    this.origin = origin;
+  }
+
   // Says where the program and the motors are.
   at(done, now, part, motors) {
-    const key = [done, now, part, motors, this.marks.length].join();
+    const key = [done, now, part, motors, this.marks.length, this.isStale].join();
     if (done < this.painted) this.isStale = true;
     Object.assign(this, { done, now, part, motors });
     if (key !== this.key) this.draw();

@@ -86,7 +86,7 @@ export class Readout {
   showRisk(s) {
     const box = $('risk');
     if (s.behind === null || s.behind === undefined) text(box, '');
-    else if (s.keeps) text(box, `A loss of power costs no line: ${grouped(s.behind)} stand in OUT`);
+    else if (s.keeps) text(box, `A loss of power costs no line${s.behind ? `: ${grouped(s.behind)} stand in OUT` : ''}`);
     else if (!s.behind) text(box, 'A loss of power costs nothing now');
     else text(box, `A loss of power costs ${grouped(s.behind)} lines${s.behind_mm ? `, ${mm(s.behind_mm)} mm` : ''}`);
   }
@@ -99,5 +99,5 @@ function fill(box, value, small = '', isOff = false) {
   if (box.dataset.key === key) return;
   box.dataset.key = key;
   box.className = isOff ? 'off' : '';
-  box.replaceChildren(value, small && el('small', {}, ` ${small}`));
+  box.replaceChildren(value, small && el('small', {}, small));
 }

@@ -64,9 +64,15 @@ export class Recovery {
       return;
     }
     this.mark();
-    const key = [s.question?.id, s.busy, s.does, s.yours, s.behind].join();
+    const key = this.shownOf(s);
     if (key !== this.key) this.go(this.step);
     this.key = key;
+  }
+
+  // What of a state decides what is on the sheet: while that stays, what somebody typed or ticked stays too.
+  shownOf(s) {
+    if (this.step < 3) return [this.step, s.yours, s.recover?.left].join();
+    return s.question ? ['question', s.question.id, s.yours].join() : [s.busy, s.does, s.behind, s.yours].join();
   }
 
   go(step) {
@@ -74,6 +80,7 @@ export class Recovery {
     this.steps.replaceChildren(...NAMES.map((name, i) => el('li', { class: i === step ? 'now' : i < step ? 'was' : '' },
       el('b', {}, String(i + 1)), el('span', {}, name))));
     [this.first, this.second, this.third, this.fourth][step].call(this);
+    this.key = this.shownOf(this.app.state);
     this.mark();
   }
 
@@ -119,7 +126,8 @@ export class Recovery {
     picture.ways = this.app.never.map(points => ({ points, colour: 'red', isSolid: true }));
     if (way) picture.ways.push({ points: way, colour: 'violet' });
     const typed = this.at.every(number => typedNumber(number) !== null) ? this.at : null;
-    const here = state.busy ? state.motors ?? state.at : typed;
+    const here = state.busy ? state.motors ?? state.at : typed, motors = micrometres(state.motors ?? state.at);
+    picture.zero(micrometres(state.work).map((number, i) => motors[i] - number));
     picture.at(at.done, at.now, 0, here && micrometres(here));
     picture.draw();
   }

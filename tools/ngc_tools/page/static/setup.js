@@ -1,48 +1,57 @@
-// Setting up: home, jog, work zero, touch-off, and what becomes of a job whose page is lost.
-import { $, AXES, el, systemName, text, typedNumber } from './dom.js';
+// Setting up: home, jog, the probe, work zero, touch-off, and what becomes of a job whose page is lost.
+import { $, AXES, el, mm, point, systemName, text, typedNumber } from './dom.js';
 import { Jog } from './jog.js';
+import { button } from './sheet.js';
+
+const SEEKS = [['X', 1], ['X', -1], ['Y', 1], ['Y', -1], ['Z', -1]];
+const SIGNS = { 1: '+', [-1]: '\u2212' };
+const SEEK_RATE = '60';      // mm a minute
 
 export class Setup {
   constructor(asks) {
     this.asks = asks;
     this.jog = new Jog(asks);
-    this.homed = el('span', { class: 'soft' });
-    this.home = ['XYZ', ...AXES].map(axes => el('button', { onclick: () => asks('home', { axes }) },
-      axes === 'XYZ' ? 'Home all' : axes));
-    this.system = el('span', { class: 'soft' });
-    const label = 'Work coordinate of this place, in mm';
-    this.value = el('input', { value: '0', inputMode: 'decimal', 'aria-label': label });
-    this.zero = [...AXES, 'XY'].map(axes => el('button', { onclick: () => this.sets(axes) }, `Set ${axes}`));
-    this.touch = el('button', { class: 'wide', onclick: () => asks('touch', { slot: this.slot }) });
-    this.undo = el('button', { class: 'wide', onclick: () => asks('undo') });
-    const says = el('span', {}, 'Job goes on if this page is lost');
-    this.loss = el('button', { role: 'switch', class: 'wide' }, el('i'), says);
-    this.loss.onclick = () => asks('loss', { goes: this.loss.getAttribute('aria-checked') !== 'true' });
+    this.homed = el('span');
+    this.home = ['', ...AXES].map(axes => button(axes || 'Home all', () => asks('home', { axes })));
+    this.touched = el('span');
+    this.within = entry('10', 'How far the probe is sought, in mm');
+    this.seeks = SEEKS.map(([axis, sign]) => button(axis + SIGNS[sign], () => this.seek(axis, sign)));
+    this.system = el('span');
+    this.value = entry('0', 'Work coordinate of this place, in mm');
+    this.byProbe = toggle('Where the probe was touched', () => flip(this.byProbe));
+    this.zero = [...AXES, 'XY'].map(axes => button(`Set ${axes}`, () => this.sets(axes)));
+    this.height = entry('', 'Machine Z of the setter, in mm');
+    this.setter = el('label', { class: 'entry-row' }, 'Setter at machine Z', this.height, 'mm');
+    this.touch = button('', () => this.touchOff());
+    this.undo = button('', () => asks('undo', {}));
+    this.loss = toggle('Job goes on if this page is lost', () => asks('loss', { goes: !isOn(this.loss) }));
+    for (const one of [this.touch, this.undo]) one.className = 'wide';
     this.parts = {
       home: part('Home', this.homed, el('div', { class: 'four' }, ...this.home)),
       jog: el('section', { class: 'part' }, this.jog.box),
-      zero: part('Work zero', this.system, el('label', { class: 'this-place' }, 'This place is', this.value, 'mm'),
-        el('div', { class: 'four' }, ...this.zero), this.touch, this.undo),
-      page: part('This page', null, el('div', { class: 'switches' }, this.loss)),
+      zero: part('Work zero', this.system, el('label', { class: 'entry-row' }, 'This place is', this.value, 'mm'),
+        this.byProbe, el('div', { class: 'four' }, ...this.zero), this.undo),
+      probe: part('Seek the probe', this.touched, el('label', { class: 'entry-row' }, 'At most', this.within, 'mm'),
+        el('div', { class: 'five' }, ...this.seeks)),
+      tool: part('Touch off a tool', null, this.setter, this.touch),
+      page: part('This page', null, this.loss),
     };
     $('tab-setup').append(...Object.values(this.parts));
   }
 
   show(s, isIdle) {
-    const can = s.can ?? {};
-    this.parts.home.hidden = !can.home;
-    this.parts.jog.hidden = !can.jog;
-    this.parts.zero.hidden = !can.zero;
+    const hasMoves = s.machine !== null && s.machine !== undefined, isJogging = s.command?.word === 'jog';
+    const isFree = s.yours && !s.ended && !s.player_gone;
+    for (const name of ['home', 'jog', 'probe']) this.parts[name].hidden = !hasMoves;
     text(this.homed, s.homed ? `homed: ${[...s.homed].join(' ')}` : 'not homed');
     text(this.system, systemName(s.system));
-    const isFree = s.yours && !s.busy && !s.ended && !s.player_gone;
-    for (const button of this.home) button.disabled = !(isFree && s.half === 'none');
-    this.jog.enable(s.yours && !s.ended && !s.player_gone && !s.alarm && (!s.busy || s.jogging));
-    for (const one of [...this.zero, this.value]) one.disabled = !isIdle;
-    this.slot = s.slot;
-    this.touch.hidden = !can.touch;
-    this.touch.disabled = !isIdle || !s.slot;
-    text(this.touch, s.slot ? `Touch off tool ${s.slot} at the setter` : 'No tool to touch off');
+    for (const one of this.home) one.disabled = !isFree || s.busy;
+    this.jog.enable(isFree && hasMoves && !s.alarm && (!s.busy || isJogging));
+    for (const one of [...this.seeks, this.within]) one.disabled = !isFree || s.busy || Boolean(s.alarm);
+    for (const one of [...this.zero, this.value, this.byProbe]) one.disabled = !isIdle;
+    text(this.touched, s.touched ? `touched: ${point(s.touched)}` : '');
+    this.byProbe.hidden = !s.touched;
+    this.showTool(s, isIdle);
     this.undo.hidden = !s.undo;
     this.undo.disabled = !isIdle;
     text(this.undo, `Undo: ${s.undo ?? ''}`);
@@ -50,13 +59,50 @@ export class Setup {
     this.loss.disabled = !s.yours;
   }
 
+  showTool(s, isIdle) {
+    this.slot = s.slot;
+    this.needsHeight = s.setter === null || s.setter === undefined;
+    this.setter.hidden = !this.needsHeight;
+    this.height.disabled = !isIdle;
+    this.touch.disabled = !isIdle || !s.slot;
+    const where = this.needsHeight ? '' : `, setter at Z ${mm(s.setter)}`;
+    text(this.touch, s.slot ? `Tool ${s.slot} stands on the setter${where}` : 'No tool is in the spindle');
+  }
+
+  seek(axis, sign) {
+    const within = typed(this.within);
+    if (within !== null) this.asks('seek', { axis, sign, rate: SEEK_RATE, within });
+  }
+
   sets(axes) {
-    const typed = typedNumber(this.value.value);
-    this.value.classList.toggle('wrong', typed === null);
-    if (typed !== null) this.asks('zero', { axes: Object.fromEntries([...axes].map(axis => [axis, typed])) });
+    const value = typed(this.value), probe = !this.byProbe.hidden && isOn(this.byProbe);
+    if (value !== null) this.asks('zero', { axes: Object.fromEntries([...axes].map(axis => [axis, value])), probe });
+  }
+
+  touchOff() {
+    const height = this.needsHeight ? typed(this.height) : undefined;
+    if (height !== null) this.asks('touch', { slot: this.slot, height });
   }
 }
 
 function part(title, beside, ...content) {
-  return el('section', { class: 'part' }, el('h2', {}, title, beside ? ' ' : '', beside), ...content);
+  return el('section', { class: 'part' }, el('h2', {}, title, beside), ...content);
+}
+
+const entry = (value, label) => el('input', { value, inputMode: 'decimal', 'aria-label': label });
+
+function toggle(says, does) {
+  return el('button', { role: 'switch', 'aria-checked': 'false', class: 'wide switch', onclick: does }, el('i'),
+    el('span', {}, says));
+}
+
+const isOn = one => one.getAttribute('aria-checked') === 'true';
+
+const flip = one => one.setAttribute('aria-checked', String(!isOn(one)));
+
+// The number of an entry; null, which is shown, if it is none.
+function typed(input) {
+  const number = typedNumber(input.value);
+  input.classList.toggle('wrong', number === null);
+  return number;
 }

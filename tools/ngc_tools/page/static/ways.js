@@ -39,7 +39,6 @@ function alongOut(recover, plan) {
     : way ? `${how}${length}` : 'By legs: up, over, and down';
   return [sheet.title(title),
     way && !recover.there ? sheet.warning('No line is lost: the tool goes along its very path.', 'fine') : null,
-    sheet.facts([['It goes', recover.words], ['Lowest', way && sheet.code(`Z ${mm(way.lowest)}`)],
-      ['To', sheet.code(point(recover.at))], ['Was on there', plan.comes_on],
+    sheet.facts([['It goes', recover.words], ['To', sheet.code(point(recover.at))], ['Was on there', plan.comes_on],
       ['Then, to the end', lasting(plan.rest_us)]])];
 }
