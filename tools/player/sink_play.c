@@ -15,7 +15,14 @@ bool sink_begin(struct play *play, struct cause *why) {
     if (play->options->pins != NULL) {
         return because(why, "--pins goes without [sink] of %s: the sink has the pins", play->options->machine);
     }
-    return link_open(play, why) && link_begin(&none, why);
+    if (!link_open(play, why) || !link_begin(&none, why)) {
+        return false;
+    }
+    if (link_was_left()) {
+        say("%s: the sink's last player was killed: the motors may be past its record by what was in hand; measure",
+            play->machine.sink.line);
+    }
+    return true;
 }
 
 bool sink_is_moving(void) {
