@@ -88,7 +88,7 @@ int main(int count, char **given) {
         return 2;
     }
     uint64_t accel = strtoull(given[2], NULL, 10);
-    const struct pace_limits limits = {.accel = {accel, accel, accel}, .half = 64, .slack = 2};
+    const struct pace_limits limits = {.accel = {accel, accel, accel}, .half = 64, .slack = 2, .most_percent = 100};
     FILE *file = fopen(given[1], "r");
     if (file == NULL) {
         perror(given[1]);

@@ -87,7 +87,8 @@ static struct pace_limits some_limits(void) {
     static const uint64_t rates[] = {0, 0, 500, 15000};
     static const uint64_t halves[] = {1, 4, 16, 64};
     static const uint64_t slacks[] = {1, 2, 4, 64};
-    struct pace_limits limits = {.half = ONE_OF(halves), .slack = ONE_OF(slacks)};
+    static const uint64_t percents[] = {100, 100, 101, 137, 200};
+    struct pace_limits limits = {.half = ONE_OF(halves), .slack = ONE_OF(slacks), .most_percent = ONE_OF(percents)};
     for (int axis = 0; axis < 3; axis++) {
         limits.accel[axis] = ONE_OF(accels);
         limits.start[axis] = ONE_OF(starts);
@@ -127,9 +128,9 @@ static void need_ramp(const struct pace_line *line, uint64_t before, uint64_t wa
     need(pace.square <= wanted || pace.square <= (begun > line->ramp ? begun - line->ramp : 0), "it is above the wish");
 }
 
-/* The time of a line is that of the mean of its rates at both ends, and no less than OUT says. */
+/* The time of a line is that of the mean of its rates at both ends, and no less than OUT says at the greatest rate that is wanted. */
 static void need_time(const struct pace_line *line, uint64_t before, uint64_t ns) {
-    double least_ns = (double)line->us * 1000;
+    double least_ns = (double)line->us * 100000 / (double)pace.limits.most_percent;
     double begun = sqrt((double)(before != 0 ? before : start_square(line))); /* 2^4 times a rate a second */
     double ended = sqrt((double)pace.reached);
     bool stands = floor(begun) + floor(ended) == 0;
@@ -176,7 +177,7 @@ static void push_some(struct line *lines, uint64_t room, bool *is_over) {
 }
 
 static uint64_t some_wish(bool *is_held) {
-    static const unsigned percents[] = {1, 10, 50, 99, 100, 100, 100};
+    static const unsigned percents[] = {1, 10, 50, 99, 100, 130, 200, 200, 200};
     *is_held = chance(1000) < (*is_held ? 950 : 5);
     return *is_held ? 0 : pace_wanted(&pace, ONE_OF(percents));
 }

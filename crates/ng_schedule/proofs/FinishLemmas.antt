@@ -1,5 +1,5 @@
 -- How runs end.
-use Rattle.std.proofs.Common.{◌≡◌, ◌≢◌, ◌⊎◌, inl, inr, ◌∙◌, ◌+◌, ℕ, List, [], ◌∷◌, ◌++◌, Bool, false, ◌==◌, Option, None, Some, IfSome, Result, Ok, Err, length, take, ap, ap₂, append_assoc, append-nil, refl, subst, sym}
+use Rattle.std.proofs.Common.{◌≡◌, ◌≢◌, ◌⊎◌, inl, inr, ◌∙◌, ◌+◌, ℕ, List, [], ◌∷◌, ◌++◌, Bool, false, true, ◌==◌, Option, None, Some, IfSome, Result, Ok, Err, length, take, ap, ap₂, append_assoc, append-nil, refl, subst, sym}
 use Rattle.std.specs.Io.KnownBytes.{Appends, Consumes, IsAtEnd}
 use Rattle.ng_canon.specs.declared.item.Item.{Item}
 use Rattle.ng_lines.specs.Lines.{item_line}
@@ -8,8 +8,8 @@ use Rattle.ng_pace.specs.Calls.{IsEmpty}
 use Rattle.ng_pace.specs.Flow.{Timed as Waited, all_items, items_of, items_waiting}
 use Rattle.ng_pace.specs.declared.line.Line.{Line}
 use Rattle.ng_schedule.specs.Flush.{FlushSpec, Wrote}
-use Rattle.ng_schedule.specs.Schedule.{ArePaced, BeginsNoLine, ScheduleSpec, Timed, end_text, lines_of, not_a_line_text, span, timed_text, too_late_text}
-use Rattle.ng_schedule.specs.Private.Parts.{HasGiven, IsCut, IsTooLate, IsUnderWay, item_lines}
+use Rattle.ng_schedule.specs.Schedule.{ArePaced, BeginsNoLine, ScheduleSpec, Timed, end_text, lines_of, not_a_line_text, room, span, timed_text, too_late_text}
+use Rattle.ng_schedule.specs.Private.Parts.{HasGiven, IsAt, IsCut, IsTooLate, IsUnderWay, item_lines}
 use Rattle.ng_schedule.specs.declared.ending.Shown.{Shown}
 use Rattle.ng_schedule.specs.declared.ending.Ended.{Ended}
 use Rattle.ng_schedule.specs.declared.ending.Ended.TheVariants.{Done, NotALine, TooLate}
@@ -73,30 +73,30 @@ module _ {Z : Type 0} (limits : Limits) (start w v : Option (List ℕ)) (s : Sch
   late_broken bytes more fault late wrote =
       broken limits s.shown start w v late.timed late.before s.text.items (too_late_text s.number) (bytes ++ more) _ fault late.paced late.given (inr (inr (inr (ap too_late_text late.number)))) (late_lines bytes more late) wrote
 
-  whole_lines : (bytes : List ℕ) (here : IsUnderWay limits start w bytes [] s) → all_items s.stream ≡ [] → bytes ≡ lines_of here.timed
+  whole_lines : (bytes : List ℕ) (here : IsAt true limits start w bytes [] s) → all_items s.stream ≡ [] → bytes ≡ lines_of here.timed
   whole_lines bytes here none =
       here.lines ∙ append-nil (lines_of here.timed ++ item_lines (all_items s.stream)) ∙ ap (λ (l : List Item). lines_of here.timed ++ item_lines l) none ∙ append-nil (lines_of here.timed)
 
   -- all lines are given
-  pub whole_done : (bytes left : List ℕ) → IsUnderWay limits start w bytes [] s → all_items s.stream ≡ [] → FlushSpec {T = Unit {0}} w v (s.text.items ++ end_text s.shown s.due_ns) left (Ok tt) → left ≡ []
+  pub whole_done : (bytes left : List ℕ) → IsAt true limits start w bytes [] s → all_items s.stream ≡ [] → FlushSpec {T = Unit {0}} w v (s.text.items ++ end_text s.shown s.due_ns) left (Ok tt) → left ≡ []
       → ScheduleSpec limits s.shown bytes start v (Ok Done)
   whole_done bytes left here none flushed empty =
       let all = all_written s.shown start w v here.timed s.text.items (end_text s.shown s.due_ns) left here.given flushed empty in
       (all.0, all.1, record { timed = here.timed; never_sooner = here.given.never_sooner; paced = come_to_rest limits here.timed s.stream here.streamed none; lines = whole_lines bytes here none; writes = all.2 ∙ ap (λ k. timed_text s.shown 0 here.timed ++ end_text s.shown k) here.due })
 
-  pub whole_broken : (bytes : List ℕ) (fault : ScheduleFault) → IsUnderWay limits start w bytes [] s → all_items s.stream ≡ [] → Wrote w v (s.text.items ++ end_text s.shown s.due_ns)
+  pub whole_broken : (bytes : List ℕ) (fault : ScheduleFault) → IsAt true limits start w bytes [] s → all_items s.stream ≡ [] → Wrote w v (s.text.items ++ end_text s.shown s.due_ns)
       → ScheduleSpec limits s.shown bytes start v (Err fault)
   whole_broken bytes fault here none wrote =
       broken limits s.shown start w v here.timed _ s.text.items (end_text s.shown s.due_ns) bytes [] fault (are_paced limits here.timed s.stream here.streamed) here.given (inr (inl (ap (end_text s.shown) here.due))) (whole_lines bytes here none ∙ sym (append-nil (lines_of here.timed))) wrote
 
   -- all lines before another are given
-  pub other_done : (bytes rest left : List ℕ) → IsUnderWay limits start w bytes [] s → all_items s.stream ≡ [] → rest ≢ [] → BeginsNoLine rest
+  pub other_done : (bytes rest left : List ℕ) → IsAt true limits start w bytes [] s → all_items s.stream ≡ [] → rest ≢ [] → BeginsNoLine rest
       → FlushSpec {T = Unit {0}} w v (s.text.items ++ not_a_line_text s.number) left (Ok tt) → left ≡ [] → ScheduleSpec limits s.shown (bytes ++ rest) start v (Ok (NotALine s.number))
   other_done bytes rest left here none some other flushed empty =
       let all = all_written s.shown start w v here.timed s.text.items (not_a_line_text s.number) left here.given flushed empty in
       (all.0, all.1, record { timed = here.timed; never_sooner = here.given.never_sooner; paced = come_to_rest limits here.timed s.stream here.streamed none; rest = rest; lines = ap (λ l. l ++ rest) (whole_lines bytes here none); some = some; other = other; counted = here.number; writes = all.2 })
 
-  pub other_broken : (bytes rest : List ℕ) (fault : ScheduleFault) → IsUnderWay limits start w bytes [] s → all_items s.stream ≡ [] → Wrote w v (s.text.items ++ not_a_line_text s.number)
+  pub other_broken : (bytes rest : List ℕ) (fault : ScheduleFault) → IsAt true limits start w bytes [] s → all_items s.stream ≡ [] → Wrote w v (s.text.items ++ not_a_line_text s.number)
       → ScheduleSpec limits s.shown (bytes ++ rest) start v (Err fault)
   other_broken bytes rest fault here none wrote =
       broken limits s.shown start w v here.timed _ s.text.items (not_a_line_text s.number) (bytes ++ rest) rest fault (are_paced limits here.timed s.stream here.streamed) here.given (inr (inr (inl (ap not_a_line_text here.number)))) (ap (λ l. l ++ rest) (whole_lines bytes here none)) wrote
@@ -126,12 +126,12 @@ nothing_written limits shown (Some text) w fault =
     ([], Appends-nil w, record { timed = []; never_sooner = tt; paced = inl refl; rest = text; lines = refl; last = []; ends = inl refl; after = []; begins = refl })
 
 -- before the first line
-pub begun : {Z : Type 0} (limits : Limits) (room : ℕ) (w : Option (List ℕ)) (s : Schedule Z) → IsEmpty s.stream limits room → s.text.items ≡ [] → s.due_ns ≡ 0 → s.number ≡ 1 → IsUnderWay limits w w [] [] s
-begun {Z} limits room w s none empty due number =
+pub begun : {Z : Type 0} (limits : Limits) (w : Option (List ℕ)) (s : Schedule Z) → IsEmpty s.stream limits room → s.text.items ≡ [] → s.due_ns ≡ 0 → s.number ≡ 1 → IsUnderWay limits w w [] [] s
+begun {Z} limits w s none empty due number =
     record {
       timed = [];
       given = record { never_sooner = tt; out = []; written = Appends-nil w; waits = sym empty };
-      streamed = begins limits s.stream room none;
+      streamed = begins limits s.stream none;
       lines = sym (append-nil (item_lines (all_items s.stream)) ∙ ap item_lines (ap₂ (λ (known : List Line) (waiting : List Waited). items_of known ++ items_waiting waiting) none.known none.waiting));
       due = due;
       number = number;

@@ -1,21 +1,20 @@
 -- Runs, line by line.
-use Rattle.std.proofs.Common.{◌≡◌, ◌∙◌, ◌+◌, ◌-◌, ◌*◌, ◌^◌, ◌≤◌, ◌<◌, ℕ, List, [], ◌∷◌, ◌++◌, Option, Ok, length, length-append, ap, ap₂, append_assoc, append-nil, arith, refl, subst, sym}
+use Rattle.std.proofs.Common.{◌≡◌, ◌∙◌, ◌+◌, ◌-◌, ◌^◌, ◌≤◌, ◌<◌, ℕ, List, [], ◌∷◌, ◌++◌, Option, Ok, Bool, true, IsFalse, length-append, ap, ap₂, append_assoc, append-nil, arith, refl, subst, sym}
 use Rattle.ng_canon.specs.declared.item.Item.{Item}
 use Rattle.ng_lines.specs.Lines.{item_line}
 use Rattle.ng_pace.specs.declared.limits.Limits.{Limits}
-use Rattle.ng_pace.specs.declared.line.Line.{Line}
 use Rattle.ng_pace.specs.Due.{due_ns, least_ns}
 use Rattle.ng_pace.specs.declared.stepping.Given.{Given}
-use Rattle.ng_pace.specs.Flow.{Flow, all_items}
+use Rattle.ng_pace.specs.Flow.{all_items}
 use Rattle.ng_pace.specs.Calls.{IsPut, IsEnded, IsFlowGiven}
 use Rattle.ng_schedule.specs.Flush.{FlushSpec, Wrote}
 use Rattle.ng_schedule.specs.Schedule.{AreNeverSooner, Timed, due_text, lines_of, span, timed_text}
-use Rattle.ng_schedule.specs.Private.Parts.{HasGiven, HaltSpec, IsCut, IsTooLate, IsUnderWay, item_lines}
+use Rattle.ng_schedule.specs.Private.Parts.{HasGiven, HaltSpec, IsAt, IsCut, IsFull, IsStreamed, IsTooLate, IsUnderWay, item_lines}
 use Rattle.ng_schedule.specs.declared.ending.Halt.{Halt}
 use Rattle.ng_schedule.specs.declared.ending.Halt.TheVariants as halt
 use Rattle.ng_schedule.specs.declared.ending.Shown.{Shown}
 use Rattle.ng_schedule.specs.declared.giving.Schedule.{Schedule}
-use Rattle.ng_schedule.proofs.StreamLemmas.{are_paced, ends, gives_out, puts}
+use Rattle.ng_schedule.proofs.StreamLemmas.{are_paced, ends, gives_out, puts, tells}
 use Rattle.ng_text.proofs.Streams.{Appends-trans}
 
 lines_of-append : (a b : List Timed) → lines_of (a ++ b) ≡ lines_of a ++ lines_of b
@@ -62,10 +61,10 @@ known_with timed item items kept =
     append_assoc (lines_of timed) (item_line item ++ item_lines items) kept ∙ ap (λ l. lines_of timed ++ l) (append_assoc (item_line item) (item_lines items) kept)
 
 -- a line was given
-pub gives : {Z : Type 0} (limits : Limits) (start w v : Option (List ℕ)) (bytes kept : List ℕ) (s t : Schedule Z) (g : Given) → IsUnderWay limits start w bytes kept s
-    → IsFlowGiven s.stream t.stream (2 ^ 64 - 1) g → due_ns s.stream.motion.percent g.line.item ≤ g.ns → t.shown ≡ s.shown → t.due_ns ≡ s.due_ns + g.ns → t.number ≡ s.number + 1
-    → FlushSpec {T = Unit {0}} w v (s.text.items ++ due_text s.shown s.due_ns g.line.item) t.text.items (Ok tt) → IsUnderWay limits start v bytes kept t
-gives {Z} limits start w v bytes kept s t g here h least shown_is due_is number_is flushed =
+pub gives : {Z : Type 0} {ended : Bool} (limits : Limits) (start w v : Option (List ℕ)) (bytes kept : List ℕ) (s t : Schedule Z) (g : Given) → IsAt ended limits start w bytes kept s
+    → (IsFalse ended → IsFull s) → IsFlowGiven s.stream t.stream (2 ^ 64 - 1) g → due_ns s.stream.motion.percent g.line.item ≤ g.ns → t.shown ≡ s.shown → t.due_ns ≡ s.due_ns + g.ns → t.number ≡ s.number + 1
+    → FlushSpec {T = Unit {0}} w v (s.text.items ++ due_text s.shown s.due_ns g.line.item) t.text.items (Ok tt) → IsAt ended limits start v bytes kept t
+gives {Z} {ended} limits start w v bytes kept s t g here full h least shown_is due_is number_is flushed =
     let item = g.line.item in
     let ns = g.ns in
     let order = h.items in
@@ -79,7 +78,7 @@ gives {Z} limits start w v bytes kept s t g here h least shown_is due_is number_
         waits = text_with s.shown here.timed item ns ∙ ap₂ (λ (a : List ℕ) (k : ℕ). a ++ due_text s.shown k item) here.given.waits (sym here.due)
             ∙ append_assoc here.given.out s.text.items (due_text s.shown s.due_ns item) ∙ ap (λ l. here.given.out ++ l) flushed.2 ∙ sym (append_assoc here.given.out flushed.0 t.text.items);
       });
-      streamed = gives_out limits here.timed s.stream t.stream g here.streamed h;
+      streamed = gives_out limits ended here.timed s.stream t.stream g here.streamed full h;
       lines = here.lines ∙ ap (λ (l : List Item). (lines_of here.timed ++ item_lines l) ++ kept) order ∙ known_with here.timed item (all_items t.stream) kept
           ∙ sym (lines_with here.timed item ns (item_lines (all_items t.stream) ++ kept)) ∙ sym (append_assoc (lines_of timed) (item_lines (all_items t.stream)) kept);
       due = omega (arith, due_is, here.due, span-append here.timed (record { item = item; ns = ns } ∷ []));
@@ -87,10 +86,10 @@ gives {Z} limits start w v bytes kept s t g here h least shown_is due_is number_
     }
 
 -- the next line would be over too late
-pub too_late : {Z : Type 0} (limits : Limits) (start w : Option (List ℕ)) (bytes kept : List ℕ) (s t : Schedule Z) (g : Given) → IsUnderWay limits start w bytes kept s
-    → IsFlowGiven s.stream t.stream (2 ^ 64 - 1) g → least_ns s.stream.motion.percent g.line.item ≤ g.ns → 2 ^ 64 - 1 ≤ s.due_ns + g.ns → t.shown ≡ s.shown → t.number ≡ s.number → t.text.items ≡ s.text.items
+pub too_late : {Z : Type 0} {ended : Bool} (limits : Limits) (start w : Option (List ℕ)) (bytes kept : List ℕ) (s t : Schedule Z) (g : Given) → IsAt ended limits start w bytes kept s
+    → (IsFalse ended → IsFull s) → IsFlowGiven s.stream t.stream (2 ^ 64 - 1) g → least_ns s.stream.motion.percent g.line.item ≤ g.ns → 2 ^ 64 - 1 ≤ s.due_ns + g.ns → t.shown ≡ s.shown → t.number ≡ s.number → t.text.items ≡ s.text.items
     → IsTooLate limits start w bytes t
-too_late {Z} limits start w bytes kept s t g here h least beyond shown_is number_is text_is =
+too_late {Z} {ended} limits start w bytes kept s t g here full h least beyond shown_is number_is text_is =
     let item = g.line.item in
     let ns = g.ns in
     let order = h.items in
@@ -102,7 +101,7 @@ too_late {Z} limits start w bytes kept s t g here h least beyond shown_is number
       before = s.stream.motion.square;
       paced = are_paced limits here.timed s.stream here.streamed;
       left = t.stream.motion.square;
-      paced_late = are_paced limits (with_line here.timed item ns) t.stream (gives_out limits here.timed s.stream t.stream g here.streamed h);
+      paced_late = are_paced limits (with_line here.timed item ns) t.stream (gives_out limits ended here.timed s.stream t.stream g here.streamed full h);
       rest = item_lines (all_items t.stream) ++ kept;
       lines = here.lines ∙ ap (λ (l : List Item). (lines_of here.timed ++ item_lines l) ++ kept) order ∙ known_with here.timed item (all_items t.stream) kept;
       beyond = omega (arith, beyond, here.due);
@@ -110,8 +109,8 @@ too_late {Z} limits start w bytes kept s t g here h least beyond shown_is number
     }
 
 -- nothing more is written
-pub cut : {Z : Type 0} (limits : Limits) (start w : Option (List ℕ)) (bytes kept : List ℕ) (s : Schedule Z) (shown : Shown) → shown ≡ s.shown → IsUnderWay limits start w bytes kept s → IsCut limits shown start w bytes
-cut {Z} limits start w bytes kept s shown shown_is here =
+pub cut : {Z : Type 0} {ended : Bool} (limits : Limits) (start w : Option (List ℕ)) (bytes kept : List ℕ) (s : Schedule Z) (shown : Shown) → shown ≡ s.shown → IsAt ended limits start w bytes kept s → IsCut limits shown start w bytes
+cut {Z} {ended} limits start w bytes kept s shown shown_is here =
     subst (λ (sh : Shown). IsCut limits sh start w bytes) (sym shown_is) (record {
       timed = here.timed;
       never_sooner = here.given.never_sooner;
@@ -126,10 +125,10 @@ cut {Z} limits start w bytes kept s shown shown_is here =
     })
 
 -- a line was given in part
-pub cut_in_line : {Z : Type 0} (limits : Limits) (start w v : Option (List ℕ)) (bytes kept : List ℕ) (s t : Schedule Z) (g : Given) → IsUnderWay limits start w bytes kept s
-    → IsFlowGiven s.stream t.stream (2 ^ 64 - 1) g → due_ns s.stream.motion.percent g.line.item ≤ g.ns → t.shown ≡ s.shown
+pub cut_in_line : {Z : Type 0} {ended : Bool} (limits : Limits) (start w v : Option (List ℕ)) (bytes kept : List ℕ) (s t : Schedule Z) (g : Given) → IsAt ended limits start w bytes kept s
+    → (IsFalse ended → IsFull s) → IsFlowGiven s.stream t.stream (2 ^ 64 - 1) g → due_ns s.stream.motion.percent g.line.item ≤ g.ns → t.shown ≡ s.shown
     → Wrote w v (s.text.items ++ due_text s.shown s.due_ns g.line.item) → IsCut limits t.shown start v bytes
-cut_in_line {Z} limits start w v bytes kept s t g here h least shown_is wrote =
+cut_in_line {Z} {ended} limits start w v bytes kept s t g here full h least shown_is wrote =
     let item = g.line.item in
     let ns = g.ns in
     let order = h.items in
@@ -137,7 +136,7 @@ cut_in_line {Z} limits start w v bytes kept s t g here h least shown_is wrote =
       timed = with_line here.timed item ns;
       never_sooner = never_sooner-append limits.most_percent here.timed _ here.given.never_sooner (rw here.streamed.percent at least, tt);
       left = t.stream.motion.square;
-      paced = are_paced limits (with_line here.timed item ns) t.stream (gives_out limits here.timed s.stream t.stream g here.streamed h);
+      paced = are_paced limits (with_line here.timed item ns) t.stream (gives_out limits ended here.timed s.stream t.stream g here.streamed full h);
       rest = item_lines (all_items t.stream) ++ kept;
       lines = here.lines ∙ ap (λ (l : List Item). (lines_of here.timed ++ item_lines l) ++ kept) order ∙ known_with here.timed item (all_items t.stream) kept
           ∙ sym (lines_with here.timed item ns (item_lines (all_items t.stream) ++ kept));
@@ -152,18 +151,31 @@ cut_in_line {Z} limits start w v bytes kept s t g here h least shown_is wrote =
 pub long_enough : (percent : ℕ) (item : Item) (due ns : ℕ) → least_ns percent item ≤ ns → due + ns < 2 ^ 64 - 1 → due_ns percent item ≤ ns
 long_enough percent item due ns least fits = omega (arith, least, fits)
 
--- nothing more is known to come, and nothing else changed
-pub same_items : {Z : Type 0} (limits : Limits) (start w : Option (List ℕ)) (bytes kept : List ℕ) (s t : Schedule Z) → IsUnderWay limits start w bytes kept s
-    → IsEnded s.stream t.stream → t.shown ≡ s.shown → t.due_ns ≡ s.due_ns → t.number ≡ s.number → t.text.items ≡ s.text.items → IsUnderWay limits start w bytes kept t
-same_items {Z} limits start w bytes kept s t here ended shown_is due_is number_is text_is =
+-- nothing of what is known changed
+unchanged : {Z : Type 0} {ended next : Bool} (limits : Limits) (start w : Option (List ℕ)) (bytes kept : List ℕ) (s t : Schedule Z) → (here : IsAt ended limits start w bytes kept s)
+    → IsStreamed next limits here.timed t.stream → IsEnded s.stream t.stream → t.shown ≡ s.shown → t.due_ns ≡ s.due_ns → t.number ≡ s.number → t.text.items ≡ s.text.items
+    → IsAt next limits start w bytes kept t
+unchanged {Z} limits start w bytes kept s t here streamed ended shown_is due_is number_is text_is =
     record {
       timed = here.timed;
       given = subst (λ (sh : Shown). HasGiven limits.most_percent sh start w here.timed t.text.items) (sym shown_is) (subst (λ (l : List ℕ). HasGiven limits.most_percent s.shown start w here.timed l) (sym text_is) here.given);
-      streamed = ends limits here.timed s.stream t.stream here.streamed ended;
+      streamed = streamed;
       lines = here.lines ∙ ap (λ (l : List Item). (lines_of here.timed ++ item_lines l) ++ kept) (sym ended.items);
       due = due_is ∙ here.due;
       number = number_is ∙ here.number;
     }
+
+-- no line has its limits, and there is no room for more: the end is told, and nothing else changed
+pub told : {Z : Type 0} (limits : Limits) (start w : Option (List ℕ)) (bytes kept : List ℕ) (s t : Schedule Z) → IsUnderWay limits start w bytes kept s → s.stream.motion.known ≡ []
+    → IsFull s → IsEnded s.stream t.stream → t.shown ≡ s.shown → t.due_ns ≡ s.due_ns → t.number ≡ s.number → t.text.items ≡ s.text.items → IsUnderWay limits start w bytes kept t
+told {Z} limits start w bytes kept s t here none full ended shown_is due_is number_is text_is =
+    unchanged limits start w bytes kept s t here (tells limits here.timed s.stream t.stream here.streamed none full ended) ended shown_is due_is number_is text_is
+
+-- no more lines come, and nothing else changed
+pub same_items : {Z : Type 0} (limits : Limits) (start w : Option (List ℕ)) (bytes kept : List ℕ) (s t : Schedule Z) → IsUnderWay limits start w bytes kept s
+    → IsEnded s.stream t.stream → t.shown ≡ s.shown → t.due_ns ≡ s.due_ns → t.number ≡ s.number → t.text.items ≡ s.text.items → IsAt true limits start w bytes kept t
+same_items {Z} limits start w bytes kept s t here ended shown_is due_is number_is text_is =
+    unchanged limits start w bytes kept s t here (ends limits here.timed s.stream t.stream here.streamed ended) ended shown_is due_is number_is text_is
 
 -- one more item is known
 pub takes : {Z : Type 0} (limits : Limits) (start w : Option (List ℕ)) (bytes : List ℕ) (s t : Schedule Z) (item : Item) → IsUnderWay limits start w bytes [] s

@@ -1,5 +1,5 @@
 -- What a run writes, and how it ends (own): the lines in their order, each behind the time at which it is due.
-use Rattle.std.specs.Prelude.{ℕ, ◌+◌, ◌-◌, ◌*◌, ◌^◌, ◌≤◌, ◌≡◌, ◌≢◌, ◌⊎◌, List, [], ◌∷◌, ◌++◌, Option, Result, Ok, Err, length, codes}
+use Rattle.std.specs.Prelude.{ℕ, ◌+◌, ◌-◌, ◌^◌, ◌≤◌, ◌≡◌, ◌≢◌, ◌⊎◌, List, [], ◌∷◌, ◌++◌, Option, Some, None, Result, Ok, Err, Bool, false, true, IsTrue, length, codes}
 use Rattle.std.specs.Fmt.{decimal}
 use Rattle.std.specs.Io.KnownBytes.{Appends}
 use Rattle.ng_canon.specs.declared.item.Item.{Item}
@@ -8,7 +8,7 @@ use Rattle.ng_pace.specs.Calls.{IsEmpty}
 use Rattle.ng_pace.specs.Due.{due_ns, least_ns}
 use Rattle.ng_pace.specs.Flow.{Flow}
 use Rattle.ng_pace.specs.Paths.{KeepsToPaths}
-use Rattle.ng_pace.specs.Run.{ArePassed, Event, put, end, ask, IsRun, lines_given}
+use Rattle.ng_pace.specs.Run.{ArePassed, AsksOnly, Event, put, end, ask, IsRun, lines_given}
 use Rattle.ng_pace.specs.Start.{start_of}
 use Rattle.ng_pace.specs.declared.limits.Limits.{Limits}
 use Rattle.ng_pace.specs.declared.stepping.Given.{Given}
@@ -50,16 +50,41 @@ AskForMost (put item ∷ rest) = AskForMost rest
 AskForMost (end ∷ rest) = AskForMost rest
 AskForMost (ask wanted answer ∷ rest) = (wanted ≡ 2 ^ 64 - 1) × AskForMost rest
 
+-- for so many lines there is room
+abbrev pub room : ℕ
+room = 8192
+
+-- as long as lines come, one is asked for only where there is no room for more; so many are known. And where none has
+-- its limits then, since one was just asked for in vain, the end is told, so that what is known comes to rest
+abbrev pub AskWhereFull : ℕ → Bool → List Event → Type 0
+AskWhereFull known in_vain [] = Unit {0}
+AskWhereFull known in_vain (put item ∷ rest) = AskWhereFull (known + 1) false rest
+AskWhereFull known in_vain (ask wanted (Some given) ∷ rest) = (room ≤ known) × AskWhereFull (known - 1) false rest
+AskWhereFull known in_vain (ask wanted None ∷ rest) = (room ≤ known) × AskWhereFull known true rest
+AskWhereFull known in_vain (end ∷ rest) = IsTrue in_vain × AskWhereFull known false rest
+
+-- once no more lines come, the end is told, and lines are asked for alone
+pub record AskAtEnd (events : List Event) : Type 0 where
+  pub before : List Event
+  pub rest : List Event
+  pub parts : events ≡ before ++ end ∷ rest
+  pub full : AskWhereFull 0 false before
+  pub asks : AsksOnly rest
+
+-- no line is asked for, and no end told, before that has to be
+abbrev pub AskLate : List Event → Type 0
+AskLate events = AskWhereFull 0 false events ⊎ AskAtEnd events
+
 -- these are the times of a stream with these limits that was empty and at rest at first, whatever was put in since, and
 -- as fast as may be; this is the square of the rate that is left
 pub record ArePaced (limits : Limits) (timed : List Timed) (left : ℕ) : Type 0 where
-  pub room : ℕ
   pub first : Flow
   pub events : List Event
   pub last : Flow
   pub empty : IsEmpty first limits room
   pub run : IsRun first events last
   pub haste : AskForMost events
+  pub late : AskLate events
   pub times : timed ≡ times_of (lines_given events)
   -- from rest, the square goes from line to line within the ramp of each, and each takes the time of its squares
   pub squares : ArePassed (start_of limits) limits.most_percent 0 (lines_given events) left

@@ -1,12 +1,12 @@
 //! A run between two lines, and the lines that it gives.
-ghost use Rattle.std.specs.Prelude.{◌≡◌, ◌+◌, ◌<◌, ◌++◌, [], ℕ, List, Option, IfOk, OnOk, IsFalse, IsTrue, length};
+ghost use Rattle.std.specs.Prelude.{◌≡◌, ◌+◌, ◌<◌, ◌++◌, [], ℕ, List, Option, Bool, true, false, IfOk, OnOk, IsFalse, IsTrue, length};
 ghost use Rattle.ng_canon.specs.declared.item.Item.{Item};
 ghost use Rattle.ng_lines.specs.Lines.{IsItem, item_line};
 ghost use Rattle.ng_pace.specs.Flow.{all_items};
 ghost use Rattle.ng_pace.specs.declared.limits.Limits.{Limits};
 ghost use Rattle.ng_schedule.specs.Flush.{FlushSpec};
 ghost use Rattle.ng_schedule.specs.Schedule.{due_text};
-ghost use Rattle.ng_schedule.specs.Private.Parts.{GiveSpec, HasRoom, IsUnderWay};
+ghost use Rattle.ng_schedule.specs.Private.Parts.{GiveSpec, HasRoom, IsAt, IsFull, IsUnderWay};
 
 use crate::ending::{Halt, ScheduleFault, Shown};
 use crate::output::put_due;
@@ -50,9 +50,9 @@ impl<A: Allocator + Copy + Drop> Schedule<A> {
     /// Gives the next line whose limits are final. False if there is none.
     #[inline(always)]
     fn give_next<W: Write>(&mut self, writer: &mut W) -> Result<bool, Halt>
-        ensures step { (limits : Limits) (start : Option (List ℕ)) (bytes kept : List ℕ)
-            → IsUnderWay limits start (W.contents writer.old) bytes kept self.old
-            → GiveSpec limits start (W.contents writer.new) bytes kept self.new result }
+        ensures step { (ended : Bool) (limits : Limits) (start : Option (List ℕ)) (bytes kept : List ℕ)
+            → IsAt ended limits start (W.contents writer.old) bytes kept self.old → (IsFalse ended → IsFull self.old)
+            → GiveSpec ended limits start (W.contents writer.new) bytes kept self.new result }
         ensures one { IfOk result (λ gave. IsTrue gave → length (all_items self.new.stream) + 1 ≡ length (all_items self.old.stream)) }
         ensures none { IfOk result (λ gave. IsFalse gave → self.old.stream.motion.known ≡ []) }
         ensures same { IfOk result (λ gave. IsFalse gave → self.new.stream ≡ self.old.stream) }
@@ -89,8 +89,8 @@ impl<A: Allocator + Copy + Drop> Schedule<A> {
     #[inline(always)]
     fn give_one<W: Write>(&mut self, writer: &mut W) -> Result<(), Halt>
         ensures step { (limits : Limits) (start : Option (List ℕ)) (bytes kept : List ℕ)
-            → IsUnderWay limits start (W.contents writer.old) bytes kept self.old
-            → GiveSpec limits start (W.contents writer.new) bytes kept self.new result }
+            → IsUnderWay limits start (W.contents writer.old) bytes kept self.old → IsFull self.old
+            → GiveSpec false limits start (W.contents writer.new) bytes kept self.new result }
         ensures one { OnOk result (length (all_items self.new.stream) + 1 ≡ length (all_items self.old.stream)) }
         ensures shown { self.new.shown ≡ self.old.shown }
     {
@@ -113,7 +113,7 @@ impl<A: Allocator + Copy + Drop> Schedule<A> {
     fn make_room<W: Write>(&mut self, writer: &mut W) -> Result<(), Halt>
         ensures step { (limits : Limits) (start : Option (List ℕ)) (bytes kept : List ℕ)
             → IsUnderWay limits start (W.contents writer.old) bytes kept self.old
-            → GiveSpec limits start (W.contents writer.new) bytes kept self.new result }
+            → GiveSpec false limits start (W.contents writer.new) bytes kept self.new result }
         ensures room { OnOk result (HasRoom self.new) }
         ensures shown { self.new.shown ≡ self.old.shown }
     {
@@ -131,7 +131,7 @@ impl<A: Allocator + Copy + Drop> Schedule<A> {
     pub(crate) fn take_item<W: Write>(&mut self, writer: &mut W, item: Item) -> Result<(), Halt>
         ensures step { (limits : Limits) (start : Option (List ℕ)) (bytes : List ℕ)
             → IsUnderWay limits start (W.contents writer.old) bytes [] self.old
-            → GiveSpec limits start (W.contents writer.new) (bytes ++ item_line item) [] self.new result }
+            → GiveSpec false limits start (W.contents writer.new) (bytes ++ item_line item) [] self.new result }
         ensures shown { self.new.shown ≡ self.old.shown }
     {
         match self.make_room(writer) {
@@ -147,7 +147,7 @@ impl<A: Allocator + Copy + Drop> Schedule<A> {
     pub(crate) fn give_all<W: Write>(&mut self, writer: &mut W) -> Result<(), Halt>
         ensures step { (limits : Limits) (start : Option (List ℕ)) (bytes kept : List ℕ)
             → IsUnderWay limits start (W.contents writer.old) bytes kept self.old
-            → GiveSpec limits start (W.contents writer.new) bytes kept self.new result }
+            → GiveSpec true limits start (W.contents writer.new) bytes kept self.new result }
         ensures all { OnOk result (all_items self.new.stream ≡ []) }
         ensures shown { self.new.shown ≡ self.old.shown }
     {

@@ -1,5 +1,5 @@
 -- What is known while a run is under way; only for private functions and proofs.
-use Rattle.std.specs.Prelude.{ℕ, ◌+◌, ◌-◌, ◌^◌, ◌≤◌, ◌<◌, ◌≡◌, ◌≢◌, List, [], ◌∷◌, ◌++◌, Option, Result, Ok, Err, length}
+use Rattle.std.specs.Prelude.{ℕ, ◌+◌, ◌-◌, ◌^◌, ◌≤◌, ◌<◌, ◌≡◌, ◌≢◌, List, [], ◌∷◌, ◌++◌, Option, Result, Ok, Err, Bool, false, true, length}
 use Rattle.std.specs.Io.KnownBytes.{Appends}
 use Rattle.ng_canon.specs.declared.item.Item.{Item}
 use Rattle.ng_lines.specs.Lines.{item_line}
@@ -9,7 +9,7 @@ use Rattle.ng_pace.specs.Flow.{Flow, all_items}
 use Rattle.ng_pace.specs.Rest.{CanRest}
 use Rattle.ng_pace.specs.Run.{Event, IsRun, lines_given}
 use Rattle.ng_pace.specs.declared.limits.Limits.{Limits}
-use Rattle.ng_schedule.specs.Schedule.{AreNeverSooner, ArePaced, AskForMost, BeginsNoLine, Timed, lines_of, span, timed_text, times_of}
+use Rattle.ng_schedule.specs.Schedule.{AreNeverSooner, ArePaced, AskAtEnd, AskForMost, AskWhereFull, room, BeginsNoLine, Timed, lines_of, span, timed_text, times_of}
 use Rattle.ng_schedule.specs.declared.ending.Shown.{Shown}
 use Rattle.ng_schedule.specs.declared.ending.Halt.{Halt}
 use Rattle.ng_schedule.specs.declared.ending.Halt.TheVariants as halt
@@ -22,14 +22,20 @@ abbrev pub item_lines : List Item → List ℕ
 item_lines [] = []
 item_lines (item ∷ items) = item_line item ++ item_lines items
 
+-- lines may still come, or the end is told
+abbrev pub AskLateSoFar : Bool → List Event → Type 0
+AskLateSoFar false events = AskWhereFull 0 false events
+AskLateSoFar true events = AskAtEnd events
+
 -- a stream has come from rest to here, and gave out these lines
-pub record IsStreamed (limits : Limits) (timed : List Timed) (flow : Flow) : Type 0 where
-  pub room : ℕ
+pub record IsStreamed (ended : Bool) (limits : Limits) (timed : List Timed) (flow : Flow) : Type 0 where
   pub first : Flow
   pub events : List Event
   pub empty : IsEmpty first limits room
   pub run : IsRun first events flow
   pub haste : AskForMost events
+  pub late : AskLateSoFar ended events
+  pub room_is : flow.motion.room ≡ room
   pub times : timed ≡ times_of (lines_given events)
   pub percent : flow.motion.percent ≡ limits.most_percent
   pub rests : CanRest flow.motion.square flow.motion.known
@@ -42,13 +48,17 @@ pub record HasGiven (percent : ℕ) (shown : Shown) (old new : Option (List ℕ)
   pub waits : timed_text shown 0 timed ≡ out ++ text
 
 -- of the bytes so far: those that are given, those that are known, and the beginning of a line
-pub record IsUnderWay {Z : Type 0} (limits : Limits) (old new : Option (List ℕ)) (bytes kept : List ℕ) (s : Schedule Z) : Type 0 where
+pub record IsAt {Z : Type 0} (ended : Bool) (limits : Limits) (old new : Option (List ℕ)) (bytes kept : List ℕ) (s : Schedule Z) : Type 0 where
   pub timed : List Timed
   pub given : HasGiven limits.most_percent s.shown old new timed s.text.items
-  pub streamed : IsStreamed limits timed s.stream
+  pub streamed : IsStreamed ended limits timed s.stream
   pub lines : bytes ≡ (lines_of timed ++ item_lines (all_items s.stream)) ++ kept
   pub due : s.due_ns ≡ span timed
   pub number : s.number ≡ length timed + 1
+
+-- the same, as long as lines may still come
+abbrev pub IsUnderWay : {Z : Type 0} → Limits → Option (List ℕ) → Option (List ℕ) → List ℕ → List ℕ → Schedule Z → Type 0
+IsUnderWay limits old new bytes kept s = IsAt false limits old new bytes kept s
 
 -- what follows all that is known isn't a line, whatever comes
 pub record IsStopped {Z : Type 0} (limits : Limits) (old new : Option (List ℕ)) (bytes : List ℕ) (s : Schedule Z) : Type 0 where
@@ -98,14 +108,18 @@ StopSpec limits old new bytes s stop.NotALine = IsStopped limits old new bytes s
 StopSpec limits old new bytes s (stop.Halted why) = HaltSpec limits old new bytes s why
 
 -- a step that gave lines, where the beginning of a line is kept
-abbrev pub GiveSpec : {Z T : Type 0} → Limits → Option (List ℕ) → Option (List ℕ) → List ℕ → List ℕ → Schedule Z → Result T Halt → Type 0
-GiveSpec limits old new bytes kept s (Ok x) = IsUnderWay limits old new bytes kept s
-GiveSpec limits old new bytes kept s (Err why) = HaltSpec limits old new bytes s why
+abbrev pub GiveSpec : {Z T : Type 0} → Bool → Limits → Option (List ℕ) → Option (List ℕ) → List ℕ → List ℕ → Schedule Z → Result T Halt → Type 0
+GiveSpec ended limits old new bytes kept s (Ok x) = IsAt ended limits old new bytes kept s
+GiveSpec ended limits old new bytes kept s (Err why) = HaltSpec limits old new bytes s why
 
 -- a step that took bytes, and keeps the beginning of a line
 abbrev pub TakeSpec : {Z T : Type 0} → Limits → Option (List ℕ) → Option (List ℕ) → List ℕ → List ℕ → Schedule Z → Result T Stop → Type 0
 TakeSpec limits old new bytes kept s (Ok x) = IsUnderWay limits old new bytes kept s
 TakeSpec limits old new bytes kept s (Err why) = StopSpec limits old new bytes s why
+
+-- there is no room for one more line
+abbrev pub IsFull : {Z : Type 0} → Schedule Z → Type 0
+IsFull s = s.stream.motion.room ≤ length s.stream.motion.known + length s.stream.waiting
 
 -- there is room for one more line
 abbrev pub HasRoom : {Z : Type 0} → Schedule Z → Type 0

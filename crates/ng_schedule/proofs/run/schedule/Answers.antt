@@ -55,7 +55,7 @@ pub loop-turn-init : goal.loop-turn-init
 loop-turn-init g c =
     let w = g.W.Write.contents c.args.writer.now in
     let made = c.in-Ok.ensures in
-    let nothing = begun c.args.limits 8192 w c.in-Ok.schedule made.empty made.text made.due made.number in (
+    let nothing = begun c.args.limits w c.in-Ok.schedule made.empty made.text made.due made.number in (
       ([], Consumes-nil _, subst (λ (k : List ℕ). IsUnderWay c.args.limits w w [] k c.in-Ok.schedule) (sym c.new-2.ensures) nothing),
       subst HasNoNewline (sym c.new-2.ensures) tt,
       made.shown,

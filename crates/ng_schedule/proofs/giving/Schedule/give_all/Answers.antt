@@ -1,4 +1,4 @@
-use Rattle.std.proofs.Common.{◌∙◌, refl}
+use Rattle.std.proofs.Common.{◌∙◌, refl, true}
 use Rattle.ng_schedule.proofs.RunLemmas.{same_items}
 use Rattle.ng_schedule.proofs.giving.Schedule.give_all.Goals as goal
 
@@ -13,10 +13,10 @@ loop-halt-init g c =
 pub loop-halt-preserved : goal.loop-halt-preserved
 loop-halt-preserved g c =
     let so_far = c.loop-halt.invariant in (
-      λ limits start bytes kept here. c.in-Ok-true.ensures.step limits start bytes kept (so_far.0 limits start bytes kept here),
+      λ limits start bytes kept here. c.in-Ok-true.ensures.step true limits start bytes kept (so_far.0 limits start bytes kept here) (λ no. absurd (cc no)),
       c.give_next.ensures.waiting ∙ so_far.1,
       c.give_next.ensures.shown ∙ so_far.2,
     )
 
 pub returns-in-Err-clause-step : goal.returns-in-Err-clause-step
-returns-in-Err-clause-step g c limits start bytes kept here = c.in-Err.ensures.step limits start bytes kept (c.loop-halt.invariant.0 limits start bytes kept here)
+returns-in-Err-clause-step g c limits start bytes kept here = c.in-Err.ensures.step true limits start bytes kept (c.loop-halt.invariant.0 limits start bytes kept here) (λ no. absurd (cc no))
