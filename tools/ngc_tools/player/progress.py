@@ -62,7 +62,6 @@ PERCENT = re.compile(rb"percent ([1-9][0-9]{0,2})")
 _OTHER = "it is of another version: take a player and a console of one version"
 _LONGEST = 192  # bytes of a datagram to a player
 _KEPT = re.compile(r"lines (\d+) bytes (\d+) age (\d+)")
-_REPORT = re.compile(r"carried (\d+) received (\d+) (works|held|waits tool (\d{1,3})) reference (\S+ \S+ \S+)"
 _WORDS = "works|held|moves|alarm|broken|waits spindle"
 _REPORT = re.compile(rf"carried (\d+) received (\d+) ({_WORDS}|waits tool (\d{{1,3}})) reference (\S+ \S+ \S+)"
                      r" outputs (S \d \S+ \d \d \d+ \d+) percent (\d+) wants (\d+) out (.*)", re.DOTALL)
