@@ -25,7 +25,14 @@ bool sink_begin(struct play *play, struct cause *why) {
         return because(why, "--pins goes without [sink] of %s: the sink has the pins", play->options->machine);
     }
     session = inputs_of(play, inputs_stops(&play->machine.inputs), 0, 0);
-    return link_open(play, why) && link_begin(&session, why);
+    if (!link_open(play, why) || !link_begin(&session, why)) {
+        return false;
+    }
+    if (link_was_left()) {
+        say("%s: the sink's last player was killed: the motors may be past its record by what was in hand; measure",
+            play->machine.sink.line);
+    }
+    return true;
 }
 
 bool sink_begin_anew(struct play *play, uint32_t stops, uint32_t halts, uint32_t turned) {
