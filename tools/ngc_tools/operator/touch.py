@@ -92,6 +92,11 @@ class Touch:
         self.setter_nm: int | None = None
         self._back: Back | None = None
 
+    @property
+    def undoes(self) -> str:
+        """What `undo` would do; nothing where nothing is to be put back."""
+        return self._back.command if self._back else ""
+
     def zero(self, rest: str, anyway: bool) -> None:
         """Makes the point where the machine stands X0, Y0, Z0, or what is typed, of the system in force."""
         self._said_why(lambda: self._zero(rest, anyway))
