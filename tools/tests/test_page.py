@@ -370,7 +370,14 @@ class Moves(Served):
         page.post("run")
         page.until("it is refused", lambda state: "home comes first" in page.said() and not state["busy"])
         state = self.moved(page, "home", {})
-        self.assertEqual((state["word"], state["alarm"]), ("Idle", ""))
+        self.assertEqual((state["word"], state["alarm"], state["broken"]), ("Idle", "", False))
+        self.assertEqual(page.post("restart")[0], 409)
+        self.machine.axes.word = "broken"
+        page.until("that is told", lambda state: state["broken"] and state["word"] == "Broken off")
+        session = page.next()["session"]
+        self.assertEqual(page.post("restart"), (200, {}))
+        self.machine.axes.word = "works"
+        page.until("it is begun anew", lambda state: state["session"] != session and state["word"] == "Idle")
 
 
 class Power(Served):
