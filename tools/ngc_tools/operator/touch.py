@@ -109,11 +109,6 @@ class Touch:
         """Puts back what the last `zero` or `touch` set, once."""
         self._said_why(self._undo)
 
-    @property
-    def undoes(self) -> str:
-        """What `undo` would do; nothing if there is nothing to undo."""
-        return self._back.command if self._back else ""
-
     def _said_why(self, what: Callable[[], None]) -> None:
         try:
             what()

@@ -10,6 +10,7 @@ from ngc_tools.job.figures import millimetres as rounded
 from ngc_tools.ngc.console import Status
 from ngc_tools.operator.display import on_words
 from ngc_tools.operator.recovery import Found, Recovery
+from ngc_tools.operator.session import BROKEN
 from ngc_tools.player.progress import Machine, Report
 
 _OFTEN_S = 0.25
@@ -34,6 +35,13 @@ class Stand:
     def has_ramps(self) -> bool:
         """Whether the motors heed a wish to hold."""
         return self.report is not None and self.report.wants > 0
+
+    @property
+    def is_broken(self) -> bool:
+        """Whether this session comes to nothing any more: the device failed, or the player is gone, or carries nothing
+        out any more."""
+        is_over = self.report is not None and self.report.word == BROKEN
+        return bool(self.gone) or is_over or self.status.does == "broken"
 
 
 class Kept:
