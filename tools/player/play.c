@@ -204,7 +204,10 @@ static enum end carry_out_all(struct play *play) {
 /* Turns spindle and coolant off, and notes it; says so if that fails. */
 static bool switch_off(struct play *play) {
     struct player *shared = play->player;
-    int error = link_is_there() ? sink_switch_off() : pins_off();
+    if (link_is_there()) {
+        return sink_switch_off(play);
+    }
+    int error = pins_off();
     if (error != 0) {
         note_stop(play, "pins");
         say("player: the pins: %s; switch spindle and coolant off by hand", strerror(error));

@@ -26,8 +26,8 @@ bool sink_await_rest(struct play *play);
 enum end sink_carry_out(struct play *play, const struct line *line, const char *text, size_t size, uint64_t ns,
                         uint64_t ramp);
 
-/* Turns spindle and coolant off; 0, or the number of an error. */
-int sink_switch_off(void);
+/* Turns spindle and coolant off, and notes it; says so if that isn't sure. */
+bool sink_switch_off(struct play *play);
 
 /* Says how often the sink ran dry, and ends the link. */
 void sink_end(void);
