@@ -3,6 +3,7 @@ import fcntl
 import os
 import pty
 import select
+import shutil
 import struct
 import subprocess
 import sys
@@ -12,11 +13,14 @@ import time
 import unittest
 from collections.abc import Callable
 from contextlib import redirect_stderr, redirect_stdout
+from functools import cache
 from io import StringIO
 from pathlib import Path
 
 TOOLS = Path(__file__).resolve().parents[1]
 sys.path.insert(0, str(TOOLS))
+
+from ngc_tools.player.source import born_ns  # noqa: E402
 
 FIRST = """step_nm = [1000, 1000, 1000]
 low_nm = [-1000000000, -1000000000, -1000000000]
@@ -47,12 +51,23 @@ def told(main: Callable[[list[str]], int], *words: str) -> tuple[int, str, str]:
     return status, out.getvalue(), error.getvalue()
 
 
+@cache
+def memory() -> str | None:
+    """A folder in memory, in which a sync costs nothing, if it has a GB of room and says when a file was made, as disks
+    do; else None."""
+    path = "/dev/shm"
+    if not os.access(path, os.W_OK) or shutil.disk_usage(path).free < 1 << 30:
+        return None
+    with tempfile.TemporaryFile(dir=path) as file:
+        return path if born_ns(file.fileno()) else None
+
+
 class InFolder(unittest.TestCase):
     """A test in a folder of its own, with settings and a fresh device on demand."""
 
     def setUp(self) -> None:
         """Makes the folder and works in it."""
-        folder = tempfile.TemporaryDirectory(prefix="ngc-tools-")
+        folder = tempfile.TemporaryDirectory(prefix="ngc-tools-", dir=memory())
         self.addCleanup(folder.cleanup)
         self.folder = Path(folder.name).resolve()
         before = os.getcwd()
