@@ -1,13 +1,16 @@
 """Folders and files for a while, which are removed whatever ends the work."""
+import os
+import shutil
 import signal
 import tempfile
 from collections.abc import Iterator
-from contextlib import ExitStack, contextmanager
+from contextlib import contextmanager
 from pathlib import Path
 
 from ngc_tools.files import naming
 
 _MEMORY = "/dev/shm"  # a sync costs nothing there
+_made: set[str] = set()  # what is to be removed
 _ENDINGS = {signal.SIGINT, signal.SIGTERM, signal.SIGHUP}
 
 
@@ -18,24 +21,49 @@ class Scratch(tempfile.TemporaryDirectory):
     def __init__(self, prefix: str) -> None:
         with _waiting():
             super().__init__(prefix=prefix, dir=_MEMORY if Path(_MEMORY).is_dir() else None)
+            _made.add(self.name)
 
     def cleanup(self) -> None:
         """Removes it."""
         with _waiting():
             super().cleanup()
+            _made.discard(self.name)
 
 
 @contextmanager
 def scratch_file(text: bytes | str, stem: str, suffix: str) -> Iterator[str]:
-    """The path of a file with this text, which is removed. Ctrl-C and `kill` wait while it is made. Raises OSError with
-    its path."""
-    with ExitStack() as stack:
+    """The path of a file with this text, which is removed. Ctrl-C and `kill` wait while it is made or removed. Raises
+    OSError with its path."""
+    path = ""
+    try:
         with _waiting():
-            file = stack.enter_context(tempfile.NamedTemporaryFile(prefix=f"ngc-{stem}-", suffix=suffix))
-        with naming(file.name):
+            number, path = tempfile.mkstemp(prefix=f"ngc-{stem}-", suffix=suffix)
+            _made.add(path)
+        with naming(path), os.fdopen(number, "wb") as file:
             file.write(text.encode() if isinstance(text, str) else text)
-            file.flush()
-        yield file.name
+        yield path
+    finally:
+        if path:
+            _remove(path)
+
+
+@contextmanager
+def nothing_left() -> Iterator[None]:
+    """At its end removes each folder and file that wasn't, since a signal came just as it would have been."""
+    try:
+        yield
+    finally:
+        for path in sorted(_made):
+            _remove(path)
+
+
+def _remove(path: str) -> None:
+    with _waiting():
+        if os.path.isdir(path):
+            shutil.rmtree(path, ignore_errors=True)
+        else:
+            Path(path).unlink(missing_ok=True)
+        _made.discard(path)
 
 
 @contextmanager

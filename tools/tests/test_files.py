@@ -17,7 +17,8 @@ from ngc_tools import files  # noqa: E402
 from ngc_tools.files import NotWritten, kind, read, write_new  # noqa: E402
 from ngc_tools.formats.record import Record  # noqa: E402
 from ngc_tools.formats.settings import KEYS  # noqa: E402
-from ngc_tools.scratch import Scratch, scratch_file  # noqa: E402
+from ngc_tools import scratch  # noqa: E402
+from ngc_tools.scratch import Scratch, nothing_left, scratch_file  # noqa: E402
 
 
 class Written(InFolder):
@@ -173,6 +174,18 @@ class Scratched(unittest.TestCase):
         with mock.patch.object(os, "open", interrupted), self.assertRaises(KeyboardInterrupt):
             self.enterContext(scratch_file("M2\n", "test", ".ngc"))
         self.assertEqual((len(made), os.listdir(folder)), (1, []))
+
+    def test_interrupted_at_any_place(self) -> None:
+        """Where Ctrl-C comes just before the removal, whoever ends the work removes it."""
+        folder = self.enterContext(tempfile.TemporaryDirectory())
+        self.enterContext(mock.patch.object(tempfile, "tempdir", folder))
+        with mock.patch.object(scratch, "_remove", side_effect=KeyboardInterrupt), self.assertRaises(KeyboardInterrupt):
+            with scratch_file("M2\n", "test", ".ngc"):
+                pass
+        self.assertEqual(len(os.listdir(folder)), 1)
+        with nothing_left():
+            pass
+        self.assertEqual(os.listdir(folder), [])
 
 
 if __name__ == "__main__":

@@ -16,6 +16,7 @@ from typing import NoReturn
 from ngc_tools.failure import Failure, WrongWords
 from ngc_tools.files import cause
 from ngc_tools.formats.text import shown
+from ngc_tools.scratch import nothing_left
 
 Work = Callable[[argparse.Namespace], int]
 """Does what the words ask for, and returns the exit status."""
@@ -35,7 +36,7 @@ def run(parser: argparse.ArgumentParser, work: Work, arguments: list[str] | None
     _open_streams()
     status = ending = 0
     try:
-        with _heeding(), _raised_after_finalizers(), _told_of_threads(parser.prog):
+        with _heeding(), nothing_left(), _raised_after_finalizers(), _told_of_threads(parser.prog):
             status = _ended(parser, work, arguments)
     except KeyboardInterrupt:
         status = _say(f"{parser.prog}: stopped")
