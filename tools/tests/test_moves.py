@@ -207,6 +207,13 @@ class Homing(Moving):
         self.assertEqual(self.world.place, (-40_000, 0, 4_000))
         self.assertEqual(self.link.machine().homed, "Z")
 
+    def test_way(self) -> None:
+        """Without way_mm it is the travel, a tenth, and a millimetre."""
+        Path("mill.toml").write_text(MACHINE.replace("way_mm = [40, 40, 40]\n", ""))
+        self.world.no_switch(2)
+        self.started("--untimed")
+        self.assertEqual(self.how(self.link.home("Z")), "Z: its switch isn't on within 23.000 mm")
+
     def test_differ(self) -> None:
         """Two touches that are farther apart than agree_um are both told."""
         self.world.switch(2, Z_HIGH, 2, 1, 5_000, drifts=21)
