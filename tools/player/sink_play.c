@@ -25,7 +25,14 @@ bool sink_begin(struct play *play, struct cause *why) {
         return because(why, "--pins goes without [sink] of %s: the sink has the pins", play->options->machine);
     }
     session = inputs_of(play, inputs_stops(&play->machine.inputs), 0, 0);
-    return link_open(play, why) && link_begin(&session, why);
+    if (!link_open(play, why) || !link_begin(&session, why)) {
+        return false;
+    }
+    if (link_was_left()) {
+        say("%s: the sink's last player was killed: the motors may be past its record by what was in hand; measure",
+            play->machine.sink.line);
+    }
+    return true;
 }
 
 bool sink_begin_anew(struct play *play, uint32_t stops, uint32_t halts, uint32_t turned) {
@@ -49,8 +56,11 @@ uint32_t sink_inputs_on(const struct inputs *inputs) {
 }
 
 bool sink_is_touched(int64_t steps[3]) {
+    if (!link_is_there()) {
+        return false;
+    }
     struct link_state state = link_look();
-    if (!link_is_there() || state.state == SINK_RUNS || (state.fault != FAULT_TOUCHED && !state.is_touched)) {
+    if (state.state == SINK_RUNS || (state.fault != FAULT_TOUCHED && !state.is_touched)) {
         return false;
     }
     memcpy(steps, state.touched, sizeof state.touched);
