@@ -1,17 +1,20 @@
 """A whole day at a machine: ngc-operate at a terminal, tools/player, and a step sink whose switches follow its motors.
 
 What is shown is compared with docs/MACHINE.md, "A day"."""
+import os
 import re
+import signal
 import sys
 import unittest
 from pathlib import Path
 
 sys.path.insert(0, str(Path(__file__).resolve().parent))
 
-from player_support import InC, PlayerTest  # noqa: E402
+from player_support import InC, PlayerTest, record  # noqa: E402
 from session_support import PATIENCE_S, TOOLS, Terminal, ngc  # noqa: E402
 from sink_support import ServedSink  # noqa: E402
 from test_documents import blocks, chapters  # noqa: E402
+from test_moves import Moving  # noqa: E402
 
 STOP, X_LOW, Y_LOW, Z_HIGH, DOOR, PROBE = 0, 1, 2, 3, 4, 6  # inputs
 PROMPT, ASKS = "ngc> ", ("ends: ", "off: ", "holds: ", "goes on: ", "doesn't: ")
@@ -199,6 +202,29 @@ class Day(InC, PlayerTest):
         made = [each.step for each in self.sink.end() if each.step]
         place = tuple(sum(step[axis] for step in made) for axis in range(3))
         self.assertEqual(place, (500 + 7_000, -3_500 + 7_000, 8_000 - 8_000))
+
+
+class Keys(Moving):
+    """A jog by keys over tools/player and a simulated machine."""
+
+    def test_killed(self) -> None:
+        """As the console is killed while a key is held, the motors come to rest, and the record is true. The player ends
+        with it."""
+        self.device()
+        player = self.begin("--machine", "mill.toml", "--progress", "progress", "axis", "first.toml", "position")
+        self.link = self.linked()
+        terminal = Terminal(str(TOOLS / "ngc-operate"), "mill.dev", "first.toml", "axis", "--player", "progress",
+                            "--ngc", ngc(), kind="xterm", columns=100)
+        terminal.read_to(PROMPT.encode())
+        terminal.send(b"jog\n")
+        terminal.read_to(b"Z 0.000000")
+        self.wait_for("it goes", lambda: terminal.send(b"\x1b[C" * 3) or self.world.place[0] > 500)
+        os.kill(terminal.pid, signal.SIGKILL)
+        self.assertEqual(terminal.status(), -signal.SIGKILL)
+        player.communicate(timeout=PATIENCE_S)
+        x = self.world.place[0] / 1000
+        self.assertLess(x, 10)
+        self.assertIn(f"\nreference {x:.6f} 0.000000 0.000000\noff\n", record())
 
 
 def _counted(text: str) -> str:
