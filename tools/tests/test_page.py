@@ -1,4 +1,5 @@
 """The page's server, without a browser: who may ask, what is asked, what is told, and a loss of power."""
+import http.client
 import json
 import os
 import signal
@@ -125,6 +126,11 @@ class Who(Served):
         page = self.page()
         self.load(page, SLOW)
         self.cuts(page)
+        kept = http.client.HTTPConnection("127.0.0.1", page.port, timeout=PATIENCE_S)
+        self.addCleanup(kept.close)
+        given = {"Origin": f"http://127.0.0.1:{page.port}", "X-Page": PAGE, "Content-Type": "application/json"}
+        kept.request("GET", f"/{page.key}/program")
+        self.assertIn(b"G1 X2", kept.getresponse().read())
         pieces = (b"", b"GET /", b"POST / HTTP/1.1\r\nHost: a\r\nX: ", b"\r\n\r")
         for number in range(2 * server_module.MOST_CONNECTIONS):
             idle = socket.create_connection(("127.0.0.1", page.port), PATIENCE_S)
@@ -134,9 +140,10 @@ class Who(Served):
         self.addCleanup(slow.close)
         slow.sendall(f"POST /{page.key}/check HTTP/1.1\r\nHost: 127.0.0.1:{page.port}\r\nOrigin: http://127.0.0.1:"
                      f"{page.port}\r\nX-Page: {PAGE}\r\nContent-Length: 1000000\r\n\r\nG0 X".encode())
-        self.assertEqual(page.post("hold"), (200, {}))
+        kept.request("POST", f"/{page.key}/hold", b"{}", given)  # a page's own connection stays
+        self.assertEqual(kept.getresponse().read(), b"{}")
         self.assertEqual(page.until("it is held", lambda state: state["does"] == "held")["word"], "Held")
-        self.assertTrue(page.next()["yours"])
+        self.assertEqual((page.post("hold"), page.next()["yours"]), ((200, {}), True))
 
 
 class Work(Served):
