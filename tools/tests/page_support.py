@@ -92,6 +92,10 @@ class Page:
         self._posted = time.time()
         return status, json.loads(text)
 
+    def job(self) -> dict | None:
+        """What is drawn, None for nothing."""
+        return json.loads(self.get("job")[1])["job"]
+
     def said(self) -> str:
         """The texts of the log."""
         return "\n".join(entry["text"] for entry in self.log)
@@ -133,8 +137,9 @@ class Served(InFolder):
     def begin(self) -> None:
         """Starts both, as after power came back."""
         self.begin_player()
+        words = ["--machine", "motion.toml"] if self.MACHINE else []
         self.server = self.start("ngc-page", "mill.dev", "first.toml", self.OUT, "--player", "progress", "--ngc", ngc(),
-                                 "--listen", "127.0.0.1:0")
+                                 "--listen", "127.0.0.1:0", *words)
         self.address = self.server.stdout.readline().strip()
         if not self.address:
             self.fail(self.server.stderr.read())
