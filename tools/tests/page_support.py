@@ -4,7 +4,6 @@ import json
 import os
 import re
 import signal
-import subprocess
 import time
 from collections.abc import Callable
 from pathlib import Path
@@ -184,6 +183,6 @@ class Served(InFolder):
 
     def children(self) -> list[int]:
         """The processes of `ngc` that the server started."""
-        name = Path(ngc()).name[:15]
-        found = subprocess.run(["pgrep", "-P", str(self.server.pid), "-x", name], capture_output=True, text=True)
-        return list(map(int, found.stdout.split()))
+        lists = Path(f"/proc/{self.server.pid}/task").glob("*/children")
+        pids = [int(pid) for path in lists for pid in path.read_text().split()]
+        return [pid for pid in pids if Path(f"/proc/{pid}/exe").resolve() == Path(ngc()).resolve()]
