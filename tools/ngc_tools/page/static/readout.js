@@ -66,7 +66,7 @@ export class Readout {
   showGauges(s, rate) {
     const { gauges } = this, length = s.tools[s.slot - 1];
     if (rate) fill(gauges.Feed, grouped(Math.round(rate.feed)), rate.isTraverse ? 'mm/min traverse' : 'mm/min');
-    else fill(gauges.Feed, s.feed ? grouped(s.feed) : '\u2013', s.feed ? 'mm/min set' : '', true);
+    else fill(gauges.Feed, s.feed ? grouped(s.feed) : '\u2013', s.feed ? 'set' : '', true);
     fill(gauges.Tool, s.slot ? `T${s.slot}` : 'none', s.slot && length ? `${mm(length)} mm` : '', !s.slot);
     if (s.player_gone) {
       fill(gauges.Spindle, 'not known', '', true);
