@@ -1,6 +1,6 @@
 /* The player for motors: carries out the lines of OUT, each in its time, and keeps what was carried out.
  *
- *     cc -std=c11 -O2 -pthread *.c -o player
+ *     cc -std=c11 -O2 -pthread *.c ../sink/sender.c ../sink/wire.c -o player
  *
  * docs/TOOLS.md says what it does: it is ngc-player, but for --spindle and --live. What drives the motors is
  * pins.c, which a builder replaces. Nothing is allocated once it plays. */
@@ -19,6 +19,8 @@
 #include "beginning.h"
 #include "going.h"
 #include "play.h"
+#include "sink_link.h"
+#include "sink_play.h"
 #include "times.h"
 #include "waits.h"
 
@@ -100,7 +102,7 @@ static bool tell(const struct play *play) {
     printf("%s: %" PRIu64 " lines carried out, %" PRIu64 " pulses, %" PRIu64 " waits, %" PRIu64 " switches\n",
            play->options->out, counts->pulses + counts->waits + counts->switches, counts->pulses, counts->waits,
            counts->switches);
-    if (!play->options->is_untimed) {
+    if (play->schedule.is_timed) {
         const struct schedule *schedule = &play->schedule;
         printf("late at most %" PRId64 " us, slower by %" PRId64 ".%" PRId64 " ms in all\n", schedule->latest / 1000,
                schedule->slower / NS_PER_MS, schedule->slower % NS_PER_MS / 100000);
@@ -152,13 +154,14 @@ static int run(struct play *play, const struct options *options) {
     if (!begin_threads(&keeper, &answers, &why)) {
         return fail(&why);
     }
-    schedule_start(&play->schedule, !options->is_untimed, options->machine == NULL);
+    schedule_start(&play->schedule, !options->is_untimed && !link_is_there(), options->machine == NULL);
     int status = play_out(play);
     atomic_store(&player.over, true);
     pthread_join(keeper, NULL);
     if (player.socket >= 0) {
         pthread_join(answers, NULL);
     }
+    sink_end();
     bool is_kept = keep_last(options->position);
     return end_times(options->times) && is_kept && tell(play) ? status : 2;
 }
@@ -180,7 +183,8 @@ int main(int count, char **given) {
     play.player = &player;
     play.options = &options;
     play.least_us = (uint64_t)settings.period_us;
-    has_begun = has_begun && (!options.goes || going_prepare(&play, &settings, &why))
+    has_begun = has_begun && sink_begin(&play, &why) && alarm_begin(&player, &options, &why)
+        && (!options.goes || going_prepare(&play, &settings, &why))
         && player_keep_first(&player, &why);
     int status = has_begun ? run(&play, &options) : fail(&why);
     if (player.socket >= 0) {

@@ -6,6 +6,8 @@
 
 #include "pace.h"
 #include "play_parts.h"
+#include "sink_link.h"
+#include "sink_play.h"
 #include "waits.h"
 #include "window.h"
 
@@ -63,10 +65,30 @@ static bool read_one(struct play *play) {
     return !is_bad;
 }
 
+/* Whether one more line may be known. */
+static bool has_room(void) {
+    return link_is_there() ? pace.known - pace.first < LINK_LINES : !pace_is_full(&pace);
+}
+
+/* How many lines of OUT have left the pacer: all that are carried out, or were given to a sink. */
+static uint64_t lines_given(const struct play *play) {
+    return link_is_there() ? link_lines() : play->player->lines;
+}
+
+/* How many lines are wanted in hand: those that a sink has come before those of the pacer. */
+static unsigned lines_wanted(const struct play *play) {
+    uint64_t ahead = lines_given(play) - play->player->lines;
+    uint64_t wanted = window_lines(&window);
+    if (link_is_there()) {
+        wanted = (wanted < LINK_LINES ? wanted : LINK_LINES) + ahead;
+    }
+    return (unsigned)(wanted < WINDOW_MOST ? wanted : WINDOW_MOST);
+}
+
 /* Takes up to so many lines. */
 static void read_ahead(struct play *play, int most) {
     bool is_there = true;
-    for (int count = 0; count < most && !is_all && !pace_is_full(&pace) && is_there; count++) {
+    for (int count = 0; count < most && !is_all && has_room() && is_there; count++) {
         is_there = read_one(play);
     }
     bool is_end = !is_there && source_ends(&play->player->source) && !has_errand(play);
@@ -74,11 +96,11 @@ static void read_ahead(struct play *play, int most) {
         is_all = true;
         end_here();
     }
-    if (play->player->lines + (pace.known - pace.first) == atomic_load(&play->player->last)) {
+    if (lines_given(play) + (pace.known - pace.first) == atomic_load(&play->player->last)) {
         end_here();
         is_dry = false;
     }
-    atomic_store(&play->player->wants, window_lines(&window));
+    atomic_store(&play->player->wants, lines_wanted(play));
 }
 
 /* The square that is wanted: 0 where somebody asks for a rest. */
@@ -89,13 +111,21 @@ static uint64_t wanted(struct play *play) {
     return pace_wanted(&pace, (unsigned)atomic_load(&play->player->percent));
 }
 
+/* Waits for what has to be before a line: that the sink stands, and that a tool is in; false where the play has to
+ * stop. */
+static bool is_prepared(struct play *play, const struct line *line) {
+    bool may_ask = line->kind == 'S' && !play->options->asks_no_tool;
+    return (!may_ask || sink_await_rest(play)) && is_tool_in(play, line);
+}
+
 /* Carries out the next line, if one is to be: `is_given` says so. */
 static enum end carry_out_next(struct play *play, bool *is_given) {
     const struct ahead *ahead = line_at(pace.first);
     uint64_t square = wanted(play);
     uint64_t ns = 0;
     *is_given = false;
-    if (pace.first < pace.final && square != 0 && !is_tool_in(play, &ahead->line)) {
+    uint64_t ramp = pace.lines[pace.first % PACE_ROOM].ramp;
+    if (pace.first < pace.final && square != 0 && !is_prepared(play, &ahead->line)) {
         return STOPPED;
     }
     if (!pace_next(&pace, square, &ns)) {
@@ -105,7 +135,8 @@ static enum end carry_out_next(struct play *play, bool *is_given) {
     is_on_path = ahead->line.kind == 'P' && pace.first != ended;
     play->is_moving = pace.square != 0;
     window_leave(&window, pace.first);
-    return carry_out(play, &ahead->line, ahead->text, ahead->size, ns);
+    return link_is_there() ? sink_carry_out(play, &ahead->line, ahead->text, ahead->size, ns, ramp)
+                           : carry_out(play, &ahead->line, ahead->text, ahead->size, ns);
 }
 
 /* Waits a little: in a hold, or for more lines. */
@@ -122,6 +153,10 @@ static void doze(struct play *play, bool is_held) {
 
 /* At rest with nothing to give out: waits for more lines; `is_over` says whether OUT has ended. */
 static enum end await_lines(struct play *play, bool *is_over) {
+    if (sink_is_moving()) {
+        link_await(SLICE_MS / 4);
+        return AT_OUTS_END;
+    }
     bool is_known = pace.first < pace.known;
     bool is_held = wanted(play) == 0;
     atomic_store(&play->player->stands_held, is_held);
@@ -148,10 +183,20 @@ static enum end await_lines(struct play *play, bool *is_over) {
 }
 
 void begin_paced(struct play *play) {
+    is_all = is_bad = is_on_path = is_dry = false;
+    ended = 0;
     pace_begin(&pace, &play->machine.limits);
     window_begin(&window, &play->machine.limits, play->machine.window_lines);
     play->player->most_percent = play->machine.most_percent;
     atomic_store(&play->player->wants, window_lines(&window));
+}
+
+/* Waits until the next line is due, or until a sink wants it; false where the play has to stop before. */
+static bool is_time(struct play *play) {
+    if (link_is_there()) {
+        return sink_await_room(play);
+    }
+    return play->options->is_untimed ? !has_to_stop(play) : wait_until_due(play);
 }
 
 enum end carry_out_paced(struct play *play) {
@@ -159,7 +204,7 @@ enum end carry_out_paced(struct play *play) {
     bool is_given = false;
     enum end end = AT_OUTS_END;
     while (end == AT_OUTS_END && !is_over) {
-        if (play->options->is_untimed ? has_to_stop(play) : !wait_until_due(play)) {
+        if (!is_time(play)) {
             return STOPPED;
         }
         read_ahead(play, play->is_moving ? FEW : PACE_ROOM);

@@ -9,6 +9,9 @@
 #include "pace.h"
 #include "pins.h"
 #include "play_parts.h"
+#include "sink_link.h"
+#include "sink_play.h"
+#include "spindle.h"
 #include "waits.h"
 
 static struct moves moves;
@@ -28,8 +31,7 @@ void legs_look(struct play *play, struct way_sum *sum) {
     }
 }
 
-/* Makes a move now, which lasts so many nanoseconds, and counts it. */
-static enum end make(struct play *play, const struct move *move, uint64_t lasts_ns) {
+enum end make_move(struct play *play, const struct move *move, uint64_t lasts_ns) {
     struct player *player = play->player;
     char text[LONGEST_LINE];
     const int *step = move->line.step;
@@ -55,11 +57,17 @@ static enum end make(struct play *play, const struct move *move, uint64_t lasts_
 }
 
 static bool is_ready(struct play *play) {
+    if (link_is_there()) {
+        return sink_await_room(play);
+    }
     return play->options->is_untimed ? !has_to_stop(play) : wait_until_due(play);
 }
 
 /* At rest, since it is to; false where it has to stop. */
 static bool rest(struct play *play) {
+    if (!sink_await_rest(play)) {
+        return false;
+    }
     atomic_store(&play->player->stands_held, atomic_load(&play->player->is_held));
     poll(NULL, 0, SLICE_MS / 4);
     schedule_pause(&play->schedule);
@@ -80,7 +88,7 @@ static enum end go_unpaced(struct play *play) {
             }
         }
         atomic_store(&play->player->stands_held, false);
-        if (make(play, &move, move.line.us * 1000) == FAILED) {
+        if (make_move(play, &move, move.line.us * 1000) == FAILED) {
             return FAILED;
         }
     }
@@ -124,6 +132,7 @@ static enum end go_paced(struct play *play) {
         }
         const struct move *move = &ahead[first_ahead % PACE_ROOM];
         bool is_held = is_rest_asked(play) || atomic_load(&play->player->is_held);
+        uint64_t ramp = pace.lines[pace.first % PACE_ROOM].ramp;
         uint64_t wanted = is_held ? 0 : pace_wanted(&pace, (unsigned)atomic_load(&play->player->percent));
         if (first_ahead < end_ahead && move->is_done && !pace_next(&pace, wanted, &ns)) {
             play->is_moving = false;
@@ -136,13 +145,26 @@ static enum end go_paced(struct play *play) {
             play->is_moving = pace.square != 0;
             atomic_store(&play->player->stands_held, false);
             first_ahead++;
-            if (make(play, move, ns) == FAILED) {
+            if (link_is_there()) {
+                link_give(move, ns, ramp, !play->is_moving);
+            } else if (make_move(play, move, ns) == FAILED) {
                 return FAILED;
             }
         }
     }
     play->is_moving = false;
-    return AT_OUTS_END;
+    return sink_await_rest(play) ? AT_OUTS_END : STOPPED;
+}
+
+/* Sets outputs over a sink, and waits for the spindle. */
+static enum end switch_sink_on(struct play *play, const struct line *line, const struct outputs *before) {
+    const struct move move = {true, *line, play->player->lines, play->player->bytes};
+    bool turns = line->outputs.spindle != before->spindle;
+    if (!sink_await_room(play)) {
+        return STOPPED;
+    }
+    link_give(&move, turns ? (uint64_t)play->machine.spindle_ns : 0, 0, true);
+    return sink_await_rest(play) && sink_is_at_speed(play, before, &line->outputs) ? AT_OUTS_END : STOPPED;
 }
 
 /* Sets outputs, but for the tool, which stays in the spindle, and waits for the spindle. */
@@ -152,7 +174,10 @@ static enum end switch_on(struct play *play, const struct outputs *outputs) {
     line.outputs.slot = play->player->outputs.slot;
     size_t size = outputs_print(text, sizeof text - 1, &line.outputs);
     text[size] = '\n';
-    bool turns = outputs->spindle != play->player->outputs.spindle;
+    const struct outputs before = play->player->outputs;
+    if (link_is_there()) {
+        return switch_sink_on(play, &line, &before);
+    }
     int error = pins_set(&line, text, size + 1);
     if (error != 0) {
         note_stop(play, "pins");
@@ -162,7 +187,7 @@ static enum end switch_on(struct play *play, const struct outputs *outputs) {
     player_lock(play->player);
     play->player->outputs = line.outputs;
     player_unlock(play->player);
-    bool is_on = wait_for(play, turns ? play->machine.spindle_ns : 0);
+    bool is_on = spindle_wait(play, &before, outputs);
     schedule_pause(&play->schedule);
     return is_on ? AT_OUTS_END : STOPPED;
 }
@@ -173,6 +198,7 @@ static void arrive(struct player *player) {
     if (errand->wish.is_by_legs) {
         player->lines = errand->legs_lines;
         player->bytes = errand->legs_bytes;
+        player->is_off = false;
     }
     if (!player->source.is_pipe) {
         source_go_to(&player->source, player->lines, player->bytes);

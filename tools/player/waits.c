@@ -9,6 +9,7 @@
 
 #include "askers.h"
 #include "person.h"
+#include "sink_play.h"
 
 enum { SLICE_NS = SLICE_MS * 1000000 };
 
@@ -25,7 +26,9 @@ void stop_at_rest(void) {
 
 void note_stop(struct play *play, const char *word) {
     player_lock(play->player);
-    play->player->stopped = word;
+    if (play->player->alarm == NO_ALARM) {
+        play->player->stopped = word;
+    }
     player_unlock(play->player);
 }
 
@@ -35,10 +38,14 @@ bool is_rest_asked(const struct play *play) {
 
 bool has_to_stop(struct play *play) {
     int asked = atomic_load(&stops);
-    if (play->is_moving && asked < 2) {
+    if (alarm_look(play) || sink_has_stopped(play)) {
+        return true;
+    }
+    if ((play->is_moving || sink_is_moving()) && asked < 2) {
         return false;
     }
     if (asked > 0) {
+        sink_stop();
         note_stop(play, "signal");
         return !because(&play->why, "stopped after line %" PRIu64 ";", play->player->lines);
     }

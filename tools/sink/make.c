@@ -1,9 +1,11 @@
-/* The timer's half of a sink: makes words. */
+/* The timer's half of a sink: makes words, each in its time or, so that it can come to rest, in a longer one. */
 #include "sink.h"
 #include "sink_port.h"
 
+enum { MOST_SQUARE = 0xf0000000u, STOOD = WIRE_MOST_TICKS };
+
 uint16_t sink_inputs(const struct sink *sink) {
-    return (uint16_t)(sink_port_inputs() ^ sink->low);
+    return (uint16_t)(sink_port_inputs() ^ sink->inputs.low);
 }
 
 void sink_switch_off(struct sink *sink) {
@@ -14,37 +16,107 @@ void sink_switch_off(struct sink *sink) {
     sink_port_pins(0, 0, &sink->outputs);
 }
 
-/* Stops for a fault. The state comes last: who reads it first sees a count that stays. */
+/* Stops. The state comes last: who reads it first sees a count that stays. */
 static void stop(struct sink *sink, uint8_t fault) {
     sink_switch_off(sink);
     sink->left = 0;
     sink->fault = fault;
-    sink->state = sink->is_rest ? SINK_STOPPED : SINK_BROKEN;
+    sink->state = sink->is_still ? SINK_STOPPED : SINK_BROKEN;
+}
+
+const volatile struct sink_taken *sink_taken(const struct sink *sink) {
+    return &sink->taken[sink->newest];
+}
+
+uint8_t sink_asked(const struct sink *sink) {
+    return sink->is_touched ? FAULT_TOUCHED : sink->asked;
+}
+
+/* Notes an input that brings it to rest. */
+static void touch(struct sink *sink) {
+    sink->touched = sink->made;
+    sink->is_touched = true;
 }
 
 bool sink_has_to_stop(struct sink *sink) {
-    uint8_t asked = sink->asked;
-    if ((sink_inputs(sink) & sink->stops) != 0) {
-        stop(sink, FAULT_INPUT);
+    uint16_t inputs = sink_inputs(sink);
+    if ((inputs & sink->inputs.stops) != 0 || sink->asked == FAULT_DEAD) {
+        stop(sink, sink->asked == FAULT_DEAD ? FAULT_DEAD : FAULT_INPUT);
         return true;
     }
-    if (asked == FAULT_ASKED || (asked != FAULT_NONE && sink->is_rest)) {
+    if ((inputs & sink->inputs.halts) != 0 && !sink->is_touched) {
+        touch(sink);
+    }
+    uint8_t asked = sink_asked(sink);
+    if (asked != FAULT_NONE && sink->is_still) {
         stop(sink, asked);
         return true;
     }
     return false;
 }
 
-/* The FIFO is empty, and its last word has lasted. */
+/* The FIFO is empty, and its last word has lasted: the motors stand. */
 static void run_out(struct sink *sink) {
-    if (sink->is_rest) {
-        sink->state = SINK_STANDS;
-        return;
+    sink->square = 0;
+    sink->is_slowed = !sink->is_rest;
+    sink->lasted = STOOD;
+    sink->state = SINK_STANDS;
+}
+
+/* Whether a word of so many ticks is no faster than a square. */
+static bool is_within(uint32_t ticks, uint32_t square) {
+    bool is_slow = ticks >= 0x10000 && square >= 0x400;
+    return is_slow || (uint64_t)ticks * ticks * square >= UINT64_C(1) << 42;
+}
+
+/* The whole root, bit by bit. */
+static uint32_t root_of(uint32_t square) {
+    uint32_t root = 0;
+    for (uint32_t bit = 0x8000; bit != 0; bit >>= 1) {
+        uint32_t more = root | bit;
+        root = more * more <= square ? more : root;
     }
-    stop(sink, sink->asked != FAULT_NONE ? sink->asked : FAULT_STARVED);
+    return root;
+}
+
+/* The square of a word of so many ticks, rounded up. */
+static uint32_t square_of(uint32_t ticks) {
+    uint32_t rate = (0x200000 + ticks - 1) / ticks;
+    return rate * rate;
+}
+
+/* The greatest square of the word at the FIFO's front: no more than what is behind it in the FIFO lets it lose, unless
+ * that has a rest, and where the word before was slowed down one slope more than that one's. Where it is to stop, one
+ * slope less. */
+static uint32_t greatest_square(struct sink *sink, uint32_t slope) {
+    const volatile struct sink_taken *taken = sink_taken(sink);
+    uint32_t behind = taken->rises - sink->rises_made;
+    bool has_rest = taken->rest - sink->made - 1 < WIRE_FIFO;
+    uint32_t most = has_rest ? MOST_SQUARE : behind;
+    uint32_t square = sink->is_slowed ? sink->square + slope : MOST_SQUARE;
+    if (sink_asked(sink) != FAULT_NONE) {
+        uint32_t now = sink->square;
+        if (!sink->is_braking && square_of(sink->lasted) < now) {
+            now = square_of(sink->lasted);
+        }
+        sink->is_braking = true;
+        square = now > slope + slope / 2 ? now - slope : slope / 2;
+    }
+    return square < most ? square : most;
+}
+
+/* How many ticks a word lasts. A division and a root where it is made longer, else neither. */
+static uint32_t lasting(const struct sink *sink, uint32_t ticks) {
+    if (is_within(ticks, sink->square)) {
+        return ticks;
+    }
+    uint32_t root = root_of(sink->square);
+    uint32_t least = (0x200000 + root - 1) / root;
+    return ticks > least ? ticks : least;
 }
 
 static void make_output(struct sink *sink, uint32_t value, uint8_t bits) {
+    sink->left = WIRE_LEAST_TICKS;
     if ((bits & WORD_SWITCH) == 0) {
         sink->speed_low = value;
         sink_port_pins(0, 0, NULL);
@@ -54,18 +126,36 @@ static void make_output(struct sink *sink, uint32_t value, uint8_t bits) {
     sink_port_pins(0, 0, &sink->outputs);
 }
 
+/* Makes a step. The motors may stand then if the time since the step before was no shorter than that of one slope. They
+ * do at the last word in hand: what comes behind it begins from rest, with one slope. */
+static void make_step(struct sink *sink, uint32_t value, uint8_t bits) {
+    uint32_t slope = wire_slope(value);
+    sink_port_pins(bits & WORD_STEPS, (uint8_t)((bits & WORD_DOWN) >> 3), NULL);
+    sink->rises_made += slope;
+    uint32_t square = greatest_square(sink, slope);
+    sink->dry = (uint16_t)(sink->dry + (square == 0));
+    sink->square = square == 0 ? slope : square;
+    sink->is_still = is_within(sink->lasted, slope);
+    sink->left = lasting(sink, wire_ticks(value));
+    sink->is_slowed = square == 0 || sink->left > wire_ticks(value);
+    sink->lasted = sink->left;
+}
+
 /* Makes the word at the FIFO's front. */
 static void make_word(struct sink *sink) {
-    uint32_t value = sink->ticks[sink->made % WIRE_FIFO];
+    uint32_t value = sink->values[sink->made % WIRE_FIFO];
     uint8_t bits = sink->bits[sink->made % WIRE_FIFO];
     if ((bits & WORD_OUTPUT) != 0) {
         make_output(sink, value, bits);
-        sink->left = WIRE_LEAST_TICKS;
     } else {
-        sink_port_pins(bits & WORD_STEPS, (uint8_t)((bits & WORD_DOWN) >> 3), NULL);
-        sink->left = value;
+        make_step(sink, value, bits);
     }
     sink->is_rest = (bits & WORD_REST) != 0;
+    if (sink->is_rest) {
+        sink->is_still = true;
+        sink->is_slowed = false;
+        sink->lasted = STOOD;
+    }
     sink->made = sink->made + 1;
 }
 
@@ -83,7 +173,7 @@ uint32_t sink_make(struct sink *sink) {
     if (sink->left > 0) {
         return look_again(sink);
     }
-    if (sink->made == sink->taken) {
+    if (sink->made == sink_taken(sink)->words) {
         run_out(sink);
         return 0;
     }

@@ -7,12 +7,15 @@ static bool is_before(uint32_t one, uint32_t other) {
     return one - other >= 0x80000000;
 }
 
-void sender_begin(struct sender *sender, uint32_t token, uint16_t stops, uint16_t low, uint32_t window_ticks) {
+void sender_begin(struct sender *sender, uint32_t token, const struct sink_inputs *inputs, uint32_t window_ticks) {
     memset(sender, 0, sizeof *sender);
     sender->token = token;
-    sender->stops = stops;
-    sender->low = low;
+    sender->inputs = *inputs;
     sender->window_ticks = window_ticks;
+}
+
+static struct sender_word *word_at(struct sender *sender, uint32_t index) {
+    return &sender->words[index % SENDER_ROOM];
 }
 
 /* Whether there is a session, and room for so many words. */
@@ -21,23 +24,62 @@ static bool has_room(const struct sender *sender, uint32_t count) {
     return sender->state == SENDER_LINKED && in_hand <= SENDER_ROOM - count;
 }
 
+/* The square of a word of so many ticks, rounded up. */
+static uint64_t square_of(uint32_t ticks) {
+    uint64_t square = (uint64_t)ticks * ticks;
+    return ((UINT64_C(1) << 42) + square - 1) / square;
+}
+
+static uint64_t greatest(uint64_t one, uint64_t other) {
+    return one > other ? one : other;
+}
+
 static void put(struct sender *sender, uint32_t value, uint8_t bits) {
-    sender->ticks[sender->given % SENDER_ROOM] = value;
-    sender->bits[sender->given % SENDER_ROOM] = bits;
+    bool is_output = (bits & WORD_OUTPUT) != 0;
+    struct sender_word *word = word_at(sender, sender->given);
+    *word = (struct sender_word){value, bits, sender->due, 0};
+    sender->due += is_output ? WIRE_LEAST_TICKS : wire_ticks(value);
+    sender->rises += is_output ? 0 : wire_slope(value);
+    if ((bits & WORD_REST) != 0) {
+        sender->rises = greatest(sender->rises, sender->most_wanted);
+    } else {
+        word->wanted = sender->rises + square_of(wire_ticks(value));
+    }
+    sender->most_wanted = greatest(sender->most_wanted, word->wanted);
     sender->given++;
 }
 
-enum sender_give sender_give(struct sender *sender, uint32_t ticks, uint8_t bits) {
-    uint8_t word[WIRE_WORD];
-    wire_put32(word, ticks);
-    word[4] = bits;
-    if (!wire_is_word(word)) {
+/* Looks at the words up to the end of the window. */
+static void look_ahead(struct sender *sender) {
+    uint32_t made = sender->sink.made;
+    if (is_before(sender->looked, made)) {
+        sender->looked = made;
+    }
+    uint64_t end = (made == sender->given ? sender->due : word_at(sender, made)->due) + sender->window_ticks;
+    while (sender->looked != sender->given && word_at(sender, sender->looked)->due < end) {
+        sender->now_wanted = greatest(sender->now_wanted, word_at(sender, sender->looked)->wanted);
+        sender->looked++;
+    }
+}
+
+bool sender_wants(struct sender *sender) {
+    if (!has_room(sender, 1)) {
+        return false;
+    }
+    look_ahead(sender);
+    return sender->looked == sender->given || sender->rises < sender->now_wanted;
+}
+
+enum sender_give sender_give(struct sender *sender, uint32_t ticks, uint8_t slope, uint8_t bits) {
+    uint32_t value = ticks | (uint32_t)slope << 24;
+    bool is_step = ticks <= WIRE_MOST_TICKS && (bits & WORD_OUTPUT) == 0;
+    if (!is_step || !wire_is_word(value, bits)) {
         return GIVE_REFUSED;
     }
     if (!has_room(sender, 1)) {
         return GIVE_LATER;
     }
-    put(sender, ticks, bits);
+    put(sender, value, bits);
     return GIVE_TAKEN;
 }
 
@@ -47,51 +89,32 @@ static bool are_same(const struct sink_outputs *one, const struct sink_outputs *
 }
 
 enum sender_give sender_switch(struct sender *sender, const struct sink_outputs *outputs) {
-    uint8_t word[WIRE_WORD];
     uint32_t low = 0;
     uint32_t switches = 0;
     struct sink_outputs understood;
     wire_put_outputs(&low, &switches, outputs);
     wire_get_outputs(low, switches, &understood);
-    wire_put32(word, switches);
-    word[4] = WORD_OUTPUT | WORD_SWITCH | WORD_REST;
-    if (!are_same(outputs, &understood) || !wire_is_word(word)) {
+    if (!are_same(outputs, &understood) || !wire_is_word(switches, WORD_OUTPUT | WORD_SWITCH | WORD_REST)) {
         return GIVE_REFUSED;
     }
     if (!has_room(sender, 2)) {
         return GIVE_LATER;
     }
     put(sender, low, WORD_OUTPUT | WORD_REST);
-    put(sender, switches, word[4]);
+    put(sender, switches, WORD_OUTPUT | WORD_SWITCH | WORD_REST);
     return GIVE_TAKEN;
 }
 
-static uint32_t lasts(const struct sender *sender, uint32_t index) {
-    bool is_output = (sender->bits[index % SENDER_ROOM] & WORD_OUTPUT) != 0;
-    return is_output ? WIRE_LEAST_TICKS : sender->ticks[index % SENDER_ROOM];
-}
-
-/* How long the words last that were sent and aren't known to be made. */
-static uint64_t ticks_ahead(const struct sender *sender) {
-    uint64_t ticks = 0;
-    for (uint32_t at = sender->sink.made; at != sender->sent; at++) {
-        ticks += lasts(sender, at);
-    }
-    return ticks;
-}
-
-/* Puts words into a frame, as many as there are and the window lets; returns the frame's size. */
+/* Puts the next words into a frame; returns its size. */
 static size_t put_words(struct sender *sender, uint8_t *body) {
     size_t size = WIRE_HEAD;
-    uint64_t ahead = ticks_ahead(sender);
     body[0] = KIND_WORDS;
     wire_put32(body + 1, sender->session);
     wire_put32(body + 5, sender->sent);
-    while (sender->sent != sender->given && sender->sent - sender->sink.made < WIRE_FIFO && ahead < sender->window_ticks
-           && size < WIRE_HEAD + WIRE_WORDS * WIRE_WORD) {
-        wire_put32(body + size, sender->ticks[sender->sent % SENDER_ROOM]);
-        body[size + 4] = sender->bits[sender->sent % SENDER_ROOM];
-        ahead += lasts(sender, sender->sent);
+    while (sender->sent != sender->given && size < WIRE_HEAD + WIRE_WORDS * WIRE_WORD) {
+        const struct sender_word *word = word_at(sender, sender->sent);
+        wire_put32(body + size, word->value);
+        body[size + 4] = word->bits;
         sender->sent++;
         size += WIRE_WORD;
     }
@@ -114,8 +137,9 @@ static size_t put_begin(const struct sender *sender, uint8_t *body) {
     body[0] = KIND_BEGIN;
     wire_put32(body + 1, sender->session);
     wire_put32(body + 5, sender->token);
-    wire_put16(body + 9, sender->stops);
-    wire_put16(body + 11, sender->low);
+    wire_put16(body + 9, sender->inputs.stops);
+    wire_put16(body + 11, sender->inputs.halts);
+    wire_put16(body + 13, sender->inputs.low);
     return WIRE_BEGIN;
 }
 
@@ -136,10 +160,11 @@ size_t sender_write(struct sender *sender, uint32_t now, uint8_t *line) {
     return wire_frame(line, body, size);
 }
 
-size_t sender_stop(const struct sender *sender, uint8_t *line) {
+size_t sender_stop(const struct sender *sender, bool is_at_once, uint8_t *line) {
     uint8_t body[WIRE_STOP + WIRE_CRC];
     body[0] = KIND_STOP;
     wire_put32(body + 1, sender->session);
+    body[5] = is_at_once;
     return wire_frame(line, body, WIRE_STOP);
 }
 
@@ -168,6 +193,7 @@ static void link_up(struct sender *sender, const struct sink_answer *answer) {
     sender->given = answer->made;
     sender->sent = answer->made;
     sender->most_sent = answer->made;
+    sender->looked = answer->made;
     sender->sink = *answer;
     bool has_stopped = answer->state == SINK_STOPPED || answer->state == SINK_BROKEN;
     sender->state = has_stopped ? SENDER_ENDED : SENDER_LINKED;
@@ -208,10 +234,11 @@ void sender_read(struct sender *sender, uint8_t byte) {
 
 const char *sender_why(const struct sender *sender) {
     static const char *const faults[] = {
-        "nothing", "the sink ran dry", "the sink heard nothing for half a second", "an input stopped the sink",
-        "the sink was sent a word that isn't one", "the sink was asked to stop at once"};
+        "nothing", "the sink heard nothing for half a second", "the sink was sent a word that isn't one",
+        "the sink was asked to stop", "an input brought the sink to rest", "an input stopped the sink dead",
+        "the sink was asked to stop dead"};
     if (sender->state == SENDER_RESET) {
         return "the sink's chip started again";
     }
-    return sender->is_deaf ? "no answer from the sink for half a second" : faults[sender->sink.fault];
+    return sender->is_deaf ? "no answer from the sink for two seconds" : faults[sender->sink.fault];
 }

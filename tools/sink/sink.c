@@ -8,6 +8,7 @@
 void sink_start(struct sink *sink, uint16_t boot, uint32_t now) {
     memset(sink, 0, sizeof *sink);
     sink->is_rest = true;
+    sink->is_still = true;
     sink->session = (uint32_t)boot << 16;
     sink->heard_at = now;
     sink->answered_at = now;
@@ -15,32 +16,46 @@ void sink_start(struct sink *sink, uint16_t boot, uint32_t now) {
 
 static bool takes_words(const struct sink *sink) {
     uint8_t state = sink->state;
-    return (state == SINK_STANDS || state == SINK_RUNS) && sink->asked == FAULT_NONE;
+    return (state == SINK_STANDS || state == SINK_RUNS) && sink_asked(sink) == FAULT_NONE;
 }
 
 static bool are_words(const uint8_t *words, uint32_t count) {
     for (uint32_t at = 0; at < count; at++) {
-        if (!wire_is_word(words + at * WIRE_WORD)) {
+        if (!wire_is_word(wire_get32(words + at * WIRE_WORD), words[at * WIRE_WORD + 4])) {
             return false;
         }
     }
     return true;
 }
 
-/* Puts words behind those in the FIFO, where there is room. The count grows once all of them are there. */
+/* Puts what is taken now in force. */
+static void set_taken(struct sink *sink, struct sink_taken taken) {
+    uint8_t other = 1 - sink->newest;
+    sink->taken[other].words = taken.words;
+    sink->taken[other].rises = taken.rises;
+    sink->taken[other].rest = taken.rest;
+    sink->newest = other;
+}
+
+/* Puts words behind those in the FIFO, where there is room. They count once all of them are there. */
 static void put_words(struct sink *sink, const uint8_t *words, uint32_t count) {
-    uint32_t taken = sink->taken;
+    struct sink_taken taken = *sink_taken(sink);
     for (uint32_t at = 0; at < count; at++) {
-        sink->ticks[(taken + at) % WIRE_FIFO] = wire_get32(words + at * WIRE_WORD);
-        sink->bits[(taken + at) % WIRE_FIFO] = words[at * WIRE_WORD + 4];
+        uint32_t value = wire_get32(words + at * WIRE_WORD);
+        uint8_t bits = words[at * WIRE_WORD + 4];
+        sink->values[taken.words % WIRE_FIFO] = value;
+        sink->bits[taken.words % WIRE_FIFO] = bits;
+        taken.words++;
+        taken.rises += (bits & WORD_OUTPUT) != 0 ? 0 : wire_slope(value);
+        taken.rest = (bits & WORD_REST) != 0 ? taken.words : taken.rest;
     }
-    sink->taken = taken + count;
+    set_taken(sink, taken);
 }
 
 /* A frame of words: it is put in where it holds those that come next. One that came before says nothing new; where one
  * is missing before it, or there is no room, it counts as lost. */
 static void take_words(struct sink *sink, const uint8_t *body, size_t size) {
-    uint32_t taken = sink->taken;
+    uint32_t taken = sink_taken(sink)->words;
     uint32_t ahead = wire_get32(body + 5) - taken;
     uint32_t count = (uint32_t)(size - WIRE_HEAD) / WIRE_WORD;
     if (!takes_words(sink) || ahead >= 0x80000000) {
@@ -63,16 +78,32 @@ static void begin_session(struct sink *sink, const uint8_t *body) {
         return;
     }
     sink->session++;
-    sink->taken = sink->made;
+    set_taken(sink, (struct sink_taken){sink->made, sink->rises_made, sink->made});
     sink->is_rest = true;
+    sink->is_still = true;
+    sink->is_slowed = false;
+    sink->is_braking = false;
+    sink->is_touched = false;
+    sink->touched = 0;
     sink->asked = FAULT_NONE;
     sink->fault = FAULT_NONE;
     sink->lost = 0;
+    sink->dry = 0;
     sink->token = wire_get32(body + 5);
-    sink->stops = wire_get16(body + 9);
-    sink->low = wire_get16(body + 11);
+    sink->inputs.stops = wire_get16(body + 9);
+    sink->inputs.halts = wire_get16(body + 11);
+    sink->inputs.low = wire_get16(body + 13);
     sink_switch_off(sink);
     sink->state = SINK_STANDS;
+}
+
+/* The sender asks for a stop, by the slopes or at once. */
+static void heed_stop(struct sink *sink, bool is_at_once) {
+    if (is_at_once) {
+        sink->asked = FAULT_DEAD;
+    } else if (sink->asked == FAULT_NONE) {
+        sink->asked = FAULT_ASKED;
+    }
 }
 
 /* A frame that isn't damaged. Of another session it is nothing. */
@@ -86,7 +117,7 @@ static void take_frame(struct sink *sink, const uint8_t *body, size_t size, uint
     } else if (body[0] == KIND_BEGIN && size == WIRE_BEGIN) {
         begin_session(sink, body);
     } else if (body[0] == KIND_STOP && size == WIRE_STOP) {
-        sink->asked = FAULT_ASKED;
+        heed_stop(sink, body[5] != 0);
     }
 }
 
@@ -114,18 +145,16 @@ static void heed_silence(struct sink *sink, uint32_t now) {
 
 /* Whether what is in the FIFO may begin: something in it ends at rest, or it is enough for the next words to come. */
 static bool may_run(const struct sink *sink) {
+    const volatile struct sink_taken *taken = sink_taken(sink);
+    uint32_t count = taken->words - sink->made;
     uint32_t ticks = 0;
-    uint32_t count = sink->taken - sink->made;
-    for (uint32_t at = sink->made; at != sink->taken; at++) {
-        uint8_t bits = sink->bits[at % WIRE_FIFO];
-        uint32_t lasts = (bits & WORD_OUTPUT) != 0 ? WIRE_LEAST_TICKS : sink->ticks[at % WIRE_FIFO];
-        uint32_t room = SINK_BEGINS_MS * WIRE_TICKS_A_MS - ticks;
-        if ((bits & WORD_REST) != 0 || lasts >= room) {
-            return true;
-        }
-        ticks += lasts;
+    if (taken->rest - sink->made - 1 < WIRE_FIFO || count >= SINK_BEGINS_WORDS) {
+        return true;
     }
-    return count >= WIRE_FIFO / 2;
+    for (uint32_t at = sink->made; at != taken->words && ticks < SINK_BEGINS_MS * WIRE_TICKS_A_MS; at++) {
+        ticks += wire_ticks(sink->values[at % WIRE_FIFO]);
+    }
+    return ticks >= SINK_BEGINS_MS * WIRE_TICKS_A_MS;
 }
 
 /* At rest: stops for a fault, or begins to run. */
@@ -142,11 +171,13 @@ static void answer(struct sink *sink) {
     now.state = sink->state;
     now.fault = sink->fault;
     now.made = sink->made;
-    now.taken = sink->taken;
+    now.taken = sink_taken(sink)->words;
     now.session = sink->session;
     now.inputs = sink_inputs(sink);
     now.lost = sink->lost;
     now.token = sink->token;
+    now.touched = sink->touched;
+    now.dry = sink->dry;
     size_t size = wire_put_answer(sink->body, &now);
     sink_port_write(sink->line, wire_frame(sink->line, sink->body, size));
 }

@@ -11,8 +11,14 @@
  * next, and `taken` grows by them. A word is made from the FIFO's front, and `made` grows by one. A session begins
  * where the sender names the last one, while nothing runs: the FIFO is dropped, `taken` is `made`, and the sender gives
  * words from there on, once an answer with its own token has told it; what is still on its way from before names
- * another session or token. Frames that are lost, damaged, doubled, late or out of order do none of the three. A fault
- * leaves `made` as it is: what is in the FIFO isn't made. */
+ * another session or token. Frames that are lost, damaged, doubled, late or out of order do none of the three. What
+ * stops it leaves `made` as it is: what is in the FIFO isn't made.
+ *
+ * Why it always comes to rest by the slopes. A word's slope says how much the square of the rate may change from it to
+ * the next. So long as no rest is in the FIFO no word is faster than the slopes of those behind it in the FIFO allow,
+ * added up: then they are enough for a stop. Each word that is made takes one slope from that sum, so a word that is
+ * made longer for it loses one slope; and behind one that was made longer no word gains more than one. What isn't made
+ * longer changes as it was sent. So the motors can follow what is made, if they can follow what was sent. */
 #ifndef SINK_H
 #define SINK_H
 
@@ -24,28 +30,48 @@
 enum {
     SINK_ANSWERS_MS = 5,
     SINK_SILENCE_MS = 500,
-    SINK_BEGINS_MS = 10, /* of words that don't end at rest are in the FIFO before it runs */
+    SINK_BEGINS_MS = 10,     /* of words that don't end at rest are in the FIFO before it runs .. */
+    SINK_BEGINS_WORDS = 256, /* .. or so many */
     SINK_SLICE = WIRE_TICKS_A_MS / 2 /* inputs and stops are looked at at least each 1 ms while a long word lasts */
 };
 
-/* `made`, `state` and `fault` are written by sink_make while the state is SINK_RUNS, else by sink_poll; `taken` and
- * `asked` by sink_poll alone. What both read is volatile, and loads and stores of 32 bits must be whole. */
+/* What was taken; each number counts on from 2^32 - 1 to 0. */
+struct sink_taken {
+    uint32_t words; /* made, and in the FIFO */
+    uint32_t rises; /* the slopes of all of them, added up */
+    uint32_t rest;  /* words up to the last rest */
+};
+
+/* `made`, `state` and what the timer's half keeps are written by sink_make while the state is SINK_RUNS, else by
+ * sink_poll; `taken`, `newest` and `asked` by sink_poll alone. What both read is volatile, and loads and stores of 32
+ * bits must be whole. */
 struct sink {
-    volatile uint32_t ticks[WIRE_FIFO]; /* the FIFO: word n is at n modulo WIRE_FIFO */
+    volatile uint32_t values[WIRE_FIFO]; /* the FIFO: word n is at n modulo WIRE_FIFO */
     volatile uint8_t bits[WIRE_FIFO];
-    volatile uint32_t taken;
+    volatile struct sink_taken taken[2]; /* one is in force, the other one is written: they change in one store .. */
+    volatile uint8_t newest;             /* .. of this number */
     volatile uint32_t made;
+    volatile uint32_t touched;
     volatile uint8_t state; /* enum sink_state */
     volatile uint8_t fault; /* enum sink_fault */
     volatile uint8_t asked; /* a fault that is to be stopped for */
-    volatile bool is_rest;  /* the last word that was made ends at rest */
-    uint32_t left;          /* ticks of that word that are still to come */
-    uint32_t speed_low;     /* of the next switches */
+    volatile bool is_touched;
+    volatile uint16_t dry;
+    /* The timer's half. */
+    uint32_t rises_made; /* the slopes of all words that were made, added up */
+    uint32_t square;     /* the greatest of the last word */
+    uint32_t lasted;     /* ticks of that word; the most where the motors stood */
+    uint32_t left;       /* ticks of it that are still to come */
+    uint32_t speed_low;  /* of the next switches */
+    bool is_rest;        /* it ends at rest .. */
+    bool is_still;       /* .. or is so slow that the motors may stand */
+    bool is_slowed;      /* it was made longer than it was given */
+    bool is_braking;
     struct sink_outputs outputs;
+    /* The main loop's half. */
     uint32_t session;
     uint32_t token;      /* by which the sender that began it knows its session */
-    uint16_t stops;      /* inputs that stop at once */
-    uint16_t low;        /* inputs that are on while their pin is low */
+    struct sink_inputs inputs;
     uint16_t lost;
     uint32_t heard_at;   /* ticks at which the sender was heard last */
     uint32_t answered_at;
@@ -66,9 +92,15 @@ void sink_poll(struct sink *sink, uint32_t now);
  * never: the state isn't SINK_RUNS then. */
 uint32_t sink_make(struct sink *sink);
 
-/* Stops where it has to: for an input, a stop that was asked for, or at rest for another fault. Called by sink_make
- * while the state is SINK_RUNS, else by sink_poll. */
+/* Stops where it has to: dead for an input of `stops` and where that was asked for, for all else where the motors may
+ * stand. Called by sink_make while the state is SINK_RUNS, else by sink_poll. */
 bool sink_has_to_stop(struct sink *sink);
+
+/* What was taken. */
+const volatile struct sink_taken *sink_taken(const struct sink *sink);
+
+/* The fault for which it is to come to rest. */
+uint8_t sink_asked(const struct sink *sink);
 
 /* The inputs that are on. */
 uint16_t sink_inputs(const struct sink *sink);

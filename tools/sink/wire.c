@@ -103,16 +103,34 @@ static bool are_outputs(const struct sink_outputs *outputs) {
     return outputs->spindle <= MOST_SPINDLE && outputs->selected <= MOST_SLOT && outputs->slot <= MOST_SLOT;
 }
 
-bool wire_is_word(const uint8_t *word) {
-    uint32_t value = wire_get32(word);
-    uint8_t bits = word[4];
+bool wire_is_word(uint32_t value, uint8_t bits) {
     struct sink_outputs outputs;
     if ((bits & WORD_OUTPUT) == 0) {
-        return value >= WIRE_LEAST_TICKS;
+        return wire_ticks(value) >= WIRE_LEAST_TICKS && value >> 24 <= WIRE_MOST_SLOPE;
     }
     wire_get_outputs(0, value, &outputs);
-    bool has_own_bits = (bits & ~(WORD_OUTPUT | WORD_REST | WORD_SWITCH)) == 0;
+    bool has_own_bits = (bits | WORD_SWITCH) == (WORD_OUTPUT | WORD_REST | WORD_SWITCH);
     return has_own_bits && ((bits & WORD_SWITCH) == 0 || are_outputs(&outputs));
+}
+
+uint32_t wire_ticks(uint32_t value) {
+    return value & WIRE_MOST_TICKS;
+}
+
+uint32_t wire_slope(uint32_t value) {
+    return wire_slope_of((uint8_t)(value >> 24));
+}
+
+uint32_t wire_slope_of(uint8_t byte) {
+    return (uint32_t)(8 | (byte & 7)) << (byte >> 3);
+}
+
+uint8_t wire_slope_byte(uint64_t slope) {
+    uint8_t byte = 0;
+    while (byte < WIRE_MOST_SLOPE && wire_slope_of((uint8_t)(byte + 1)) <= slope) {
+        byte++;
+    }
+    return byte;
 }
 
 size_t wire_put_answer(uint8_t *body, const struct sink_answer *answer) {
@@ -125,11 +143,13 @@ size_t wire_put_answer(uint8_t *body, const struct sink_answer *answer) {
     wire_put16(body + 15, answer->inputs);
     wire_put16(body + 17, answer->lost);
     wire_put32(body + 19, answer->token);
+    wire_put32(body + 23, answer->touched);
+    wire_put16(body + 27, answer->dry);
     return WIRE_ANSWER;
 }
 
 bool wire_get_answer(const uint8_t *body, size_t size, struct sink_answer *answer) {
-    if (size != WIRE_ANSWER || body[0] != KIND_ANSWER || body[13] > SINK_BROKEN || body[14] > FAULT_ASKED) {
+    if (size != WIRE_ANSWER || body[0] != KIND_ANSWER || body[13] > SINK_BROKEN || body[14] > FAULT_DEAD) {
         return false;
     }
     answer->session = wire_get32(body + 1);
@@ -140,6 +160,8 @@ bool wire_get_answer(const uint8_t *body, size_t size, struct sink_answer *answe
     answer->inputs = wire_get16(body + 15);
     answer->lost = wire_get16(body + 17);
     answer->token = wire_get32(body + 19);
+    answer->touched = wire_get32(body + 23);
+    answer->dry = wire_get16(body + 27);
     return true;
 }
 

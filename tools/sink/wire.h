@@ -7,18 +7,20 @@
 #include <stdint.h>
 
 enum {
-    WIRE_WORD = 5,   /* bytes of a word: 32 bits of ticks, then the bits below */
+    WIRE_WORD = 5,   /* bytes of a word: 24 bits of ticks, a byte of its slope, then the bits below */
     WIRE_WORDS = 48, /* most words of a frame */
     WIRE_HEAD = 9,   /* bytes before the words: kind, session, the number of the first word */
     WIRE_CRC = 4,
     WIRE_BODY = WIRE_HEAD + WIRE_WORDS * WIRE_WORD + WIRE_CRC, /* most bytes of a frame: 253 */
     WIRE_LINE = WIRE_BODY + 2,                                 /* and as it goes over the line */
-    WIRE_BEGIN = 13,  /* bytes of a frame that begins a session, without its CRC */
-    WIRE_STOP = 5,    /* of one that stops */
-    WIRE_ANSWER = 23, /* of an answer */
-    WIRE_FIFO = 512,  /* words that the sink has room for: 20 ms at 25,600 words a second */
+    WIRE_BEGIN = 15,  /* bytes of a frame that begins a session, without its CRC */
+    WIRE_STOP = 6,    /* of one that stops */
+    WIRE_ANSWER = 29, /* of an answer */
+    WIRE_FIFO = 2048, /* words that the sink has room for: what a stop takes */
     WIRE_TICKS_A_MS = 8000,
-    WIRE_LEAST_TICKS = 40 /* 5 us: no word is shorter; an output word lasts that long */
+    WIRE_LEAST_TICKS = 40,       /* 5 us: no word is shorter; an output word lasts that long */
+    WIRE_MOST_TICKS = 0xffffff,  /* 2 s */
+    WIRE_MOST_SLOPE = 143        /* the byte of the greatest slope: WIRE_FIFO of these add up to less than 2^32 */
 };
 
 /* The last byte of a word. */
@@ -26,7 +28,7 @@ enum {
     WORD_STEPS = 0x07,  /* a step of X (bit 0), Y and Z .. */
     WORD_DOWN = 0x38,   /* .. which counts down: X (bit 3), Y and Z */
     WORD_REST = 0x40,   /* the motors stand once this word's step is made: it may be the last one for any time */
-    WORD_OUTPUT = 0x80, /* not a step: the 32 bits are of the outputs .. */
+    WORD_OUTPUT = 0x80, /* not a step: 32 bits in the place of ticks and slope are of the outputs .. */
     WORD_SWITCH = 0x01  /* .. the switches, which take effect now; else the low bits of the speed for the next ones */
 };
 
@@ -37,17 +39,26 @@ enum sink_state {
     SINK_NEW,     /* power came on, and no session has begun */
     SINK_STANDS,  /* at rest; words are taken */
     SINK_RUNS,    /* it makes words */
-    SINK_STOPPED, /* a fault, at rest: the count is where the motors are */
-    SINK_BROKEN   /* a fault, in motion: the motors were stopped dead, and where they are isn't to be trusted */
+    SINK_STOPPED, /* it has stopped, at rest: the count is where the motors are */
+    SINK_BROKEN   /* it has stopped dead, in motion: where the motors are isn't to be trusted */
 };
 
+/* Why it has stopped. */
 enum sink_fault {
     FAULT_NONE,
-    FAULT_STARVED, /* the last word in hand was made, and it wasn't one that ends at rest */
     FAULT_SILENT,  /* nothing came from the sender for SINK_SILENCE_MS */
-    FAULT_INPUT,   /* an input that stops */
     FAULT_WORD,    /* a frame that isn't damaged holds a word that isn't one */
-    FAULT_ASKED    /* the sender asked for a stop at once */
+    FAULT_ASKED,   /* the sender asked for a stop */
+    FAULT_TOUCHED, /* an input of `halts` was on */
+    FAULT_INPUT,   /* an input of `stops` was on: it stopped dead */
+    FAULT_DEAD     /* the sender asked for a stop at once: it stopped dead */
+};
+
+/* Inputs, by bits. */
+struct sink_inputs {
+    uint16_t stops; /* that stop the sink dead */
+    uint16_t halts; /* that bring it to rest */
+    uint16_t low;   /* that are on while their pin is low */
 };
 
 /* The outputs, as an S line of OUT has them. */
@@ -63,13 +74,15 @@ struct sink_outputs {
 /* What an answer says. */
 struct sink_answer {
     uint32_t session;
-    uint32_t taken;  /* words made, and those in the FIFO */
-    uint32_t made;   /* words made since the chip started; counts on from 2^32 - 1 to 0 */
+    uint32_t taken;   /* words made, and those in the FIFO */
+    uint32_t made;    /* words made since the chip started; counts on from 2^32 - 1 to 0 */
     uint8_t state;
     uint8_t fault;
-    uint16_t inputs; /* 1 where one is on */
-    uint16_t lost;   /* frames that were damaged, or came without the one before them; counts on from 65,535 to 0 */
-    uint32_t token;  /* of the sender that began the session */
+    uint16_t inputs;  /* 1 where one is on */
+    uint16_t lost;    /* frames that were damaged, or came without the one before them; counts on from 65,535 to 0 */
+    uint32_t token;   /* of the sender that began the session */
+    uint32_t touched; /* words that were made when an input of `halts` came on; 0 before */
+    uint16_t dry;     /* how often it came to rest in the midst of a path, as it had no more words; counts on */
 };
 
 /* A frame as it comes, byte by byte. */
@@ -98,8 +111,20 @@ size_t wire_frame(uint8_t *line, uint8_t *body, size_t size);
 /* Takes a byte. At WIRE_FRAME `body` holds a whole frame of `*size` bytes without its CRC, until the next byte. */
 enum wire_taken wire_take(struct wire_reader *reader, uint8_t byte, size_t *size);
 
-/* Whether 5 bytes are a word: of at least WIRE_LEAST_TICKS, or of outputs as an S line may have them. */
-bool wire_is_word(const uint8_t *word);
+/* Whether the 32 bits and the last byte of a word are one: of at least WIRE_LEAST_TICKS and at most WIRE_MOST_SLOPE, or
+ * at rest, of outputs as an S line may have them. */
+bool wire_is_word(uint32_t value, uint8_t bits);
+
+/* The parts of a word of a step. */
+uint32_t wire_ticks(uint32_t value);
+uint32_t wire_slope(uint32_t value);
+
+/* The slope of a byte: the square of the rate may change by so much from one word to the next. A square is 1 where
+ * words come each 2^21 ticks, and 2^42 over the square of the ticks else. */
+uint32_t wire_slope_of(uint8_t byte);
+
+/* The byte of the greatest slope that isn't above one of at least 8; that of 8 for less. */
+uint8_t wire_slope_byte(uint64_t slope);
 
 /* Writes and reads an answer's body; false where it isn't one. */
 size_t wire_put_answer(uint8_t *body, const struct sink_answer *answer);

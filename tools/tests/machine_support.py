@@ -135,6 +135,7 @@ class MachineLink:
             self.outputs = line if isinstance(line, Switch) else self.outputs
             self.carried += 1
         self.axes.at_nm = list(position.nm)
+        self.outputs = OFF if self.axes.word == "alarm" else self.outputs
         return Report(self.carried, len(lines), False, str(position), "out", self.outputs, word=self.axes.word)
 
     def machine(self) -> Machine:

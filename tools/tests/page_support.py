@@ -16,8 +16,8 @@ from ngc_tools.player.progress import Link
 PAGE, OTHER = "page-number-1", "page-number-2"
 SLOW = "G17 G21 G90 G94\nG0 X0 Y0 Z0\nG1 X2 F3\nM2\n"
 """Its line 3 is a cut of 40 s, which no test sees the end of."""
-CUT = "M3 S100\nG17 G21 G90 G94\nG0 X0 Y0 Z0\nG1 X2 F600\nG1 X0 Z-1 F3\nM2\n"
-"""Its line 5 is a cut of 45 s."""
+CUT = "M3 S100\nG17 G21 G90 G94\nG0 X0 Y0 Z0\nG1 X2 F600\nG1 X0 Z-1 F12\nM2\n"
+"""Its line 5 is a cut of 11 s, which is taken back in the same time."""
 
 
 class Page:

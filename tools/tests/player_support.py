@@ -16,7 +16,7 @@ from session_support import PATIENCE_S, TOOLS, InFolder, told
 from ngc_tools.cli import player
 from ngc_tools.player.progress import Link, NoAnswer
 
-SOURCES = sorted((TOOLS / "player").glob("*.c"))
+SOURCES = [*sorted((TOOLS / "player").glob("*.c")), TOOLS / "sink" / "sender.c", TOOLS / "sink" / "wire.c"]
 STANDARD = ("-std=c11", "-Wall", "-Wextra", "-Wconversion", "-Werror", "-pthread")
 NO_RAMPS = "out: no --machine: no ramps, and no motor follows full rates from rest\n"
 SANITIZERS = ("-O0", "-g", "-fsanitize=address,undefined", "-fno-sanitize-recover=all")

@@ -1,10 +1,11 @@
 /* The sender's half of tools/sink, driven by lines.
  *
- *     begin TOKEN STOPS LOW TICKS      seeks the sink anew
- *     give TICKS BITS TICKS BITS ..    gives words, up to the first for which there is no room
+ *     begin TOKEN STOPS HALTS LOW TICKS    seeks the sink anew
+ *     give VALUE BITS VALUE BITS ..        gives words, up to the first that isn't wanted
+ *     force VALUE BITS VALUE BITS ..       gives words, wanted or not
  *     switch SPINDLE SPEED MIST FLOOD SELECTED SLOT
- *     step MS HEX                      takes these bytes of the line, then prints each frame that is to be sent, in hex
- *     stop                             prints the frame that stops the sink
+ *     step MS HEX                          takes these bytes of the line, then prints each frame that is to be sent
+ *     stop AT_ONCE                         prints the frame that stops the sink
  * Each is answered by `. state given made session taken why`, after what it prints; `taken` is what became of what was
  * given last, as an enum sender_give. */
 #define _POSIX_C_SOURCE 200809L
@@ -25,13 +26,28 @@ static void print_frame(const uint8_t *line, size_t size) {
     printf("\n");
 }
 
-static void give(char *words) {
-    char *ticks = strtok(words, " \n");
+/* Gives the outputs of a word, which hold the next word too. */
+static void give_outputs(uint32_t low, char **rest) {
+    struct sink_outputs outputs;
+    uint32_t value = (uint32_t)strtoul(strtok_r(NULL, " \n", rest), NULL, 10);
+    strtok_r(NULL, " \n", rest);
+    wire_get_outputs(low, value, &outputs);
+    taken = sender_switch(&sender, &outputs);
+}
+
+static void give(char *words, bool is_forced) {
+    char *rest = NULL;
+    char *text = strtok_r(words, " \n", &rest);
     taken = GIVE_TAKEN;
-    while (ticks != NULL && taken == GIVE_TAKEN) {
-        char *bits = strtok(NULL, " \n");
-        taken = sender_give(&sender, (uint32_t)strtoul(ticks, NULL, 10), (uint8_t)strtoul(bits, NULL, 10));
-        ticks = strtok(NULL, " \n");
+    while (text != NULL && taken == GIVE_TAKEN && (is_forced || sender_wants(&sender))) {
+        uint32_t value = (uint32_t)strtoul(text, NULL, 10);
+        uint8_t bits = (uint8_t)strtoul(strtok_r(NULL, " \n", &rest), NULL, 10);
+        if ((bits & WORD_OUTPUT) != 0 && !is_forced) {
+            give_outputs(value, &rest);
+        } else {
+            taken = sender_give(&sender, value & 0xffffff, (uint8_t)(value >> 24), bits);
+        }
+        text = strtok_r(NULL, " \n", &rest);
     }
 }
 
@@ -64,11 +80,11 @@ static void step(char *words) {
 
 static void begin(const char *words) {
     uint32_t token = 0;
-    unsigned stops = 0;
-    unsigned low = 0;
+    struct sink_inputs inputs = {0};
     uint32_t ticks = 0;
-    sscanf(words, "%" SCNu32 " %u %u %" SCNu32, &token, &stops, &low, &ticks);
-    sender_begin(&sender, token, (uint16_t)stops, (uint16_t)low, ticks);
+    sscanf(words, "%" SCNu32 " %" SCNu16 " %" SCNu16 " %" SCNu16 " %" SCNu32, &token, &inputs.stops, &inputs.halts,
+           &inputs.low, &ticks);
+    sender_begin(&sender, token, &inputs, ticks);
 }
 
 static void obey(char *line) {
@@ -77,14 +93,14 @@ static void obey(char *line) {
     char what = line[0];
     if (what == 'b') {
         begin(rest);
-    } else if (what == 'g') {
-        give(rest);
+    } else if (what == 'g' || what == 'f') {
+        give(rest, what == 'f');
     } else if (line[1] == 'w') {
         set(rest);
     } else if (line[2] == 'e') {
         step(rest);
     } else {
-        print_frame(frame, sender_stop(&sender, frame));
+        print_frame(frame, sender_stop(&sender, rest[1] == '1', frame));
     }
 }
 

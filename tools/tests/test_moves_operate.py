@@ -8,19 +8,21 @@ from pathlib import Path
 sys.path.insert(0, str(Path(__file__).resolve().parent))
 
 from machine_support import STEP_NM, MachineLink, SocketMachine  # noqa: E402
-from session_support import TOOLS, InFolder, Terminal  # noqa: E402
+from session_support import TOOLS, InFolder, Terminal, ngc  # noqa: E402
 from test_operate import PROMPT, operate  # noqa: E402
 from test_operator import Core  # noqa: E402
 
 from ngc_tools.cli.keys import TerminalKeys  # noqa: E402
 from ngc_tools.formats.position import Position  # noqa: E402
+from ngc_tools.ngc.carried import CannotTell  # noqa: E402
+from ngc_tools.ngc.handed_out import Finder, Kept  # noqa: E402
 from ngc_tools.operator import jog_keys  # noqa: E402
 
 HOMED = "-298.000000 -198.000000 -2.000000"
 MOTORS = "the motors are at X {} Y {} Z {}, 0 lines behind"
 FORMS = {
     "home": "home, or home X Z: these axes alone",
-    "jog": "jog X+ RATE for MM: at a rate in mm a minute, as jog X+ 600 for 10; jog alone goes by keys at a terminal",
+    "jog": "jog X+ RATE for MM: at a rate in mm a minute, as jog X+ 600 for 10; jog alone: by keys, at a terminal",
     "seek": "seek Z- RATE within MM: until the probe is on, as seek Z- 60 within 10",
 }
 
@@ -56,6 +58,15 @@ class Moves(Core):
             "the probe was touched at X 12.500000 Y -25.400000 Z -5.000000",
             "reference 12.500000 -25.400000 -5.020000", "done 3"])
         self.assertEqual(self.axes.words[-1], "seek 3 Z- 60 within 10")
+
+    def test_jog_while(self) -> None:
+        """A jog goes on while it is held."""
+        self.begin(self.link)
+        held = [True] * 4 + [False]
+        self.face.said.clear()
+        self.operator.moves.jog_while("X-", "60", lambda: held.pop(0))
+        self.assertEqual(self.axes.words, ["jog 1 X- 60"] * 5 + ["stop"])
+        self.assertEqual([text for _, text in self.face.said][:2], ["reference -4.000000 0.000000 0.000000", "done 1"])
 
     def test_refused(self) -> None:
         """What isn't understood, and what the player refuses: nothing moves, and `ngc` is told nothing."""
@@ -182,6 +193,24 @@ class Alarms(Core):
         self.assertEqual(self.do("home"), ["home: the emergency stop is on"])
         self.assertEqual(self.do("G0 X1"), [self.NOTHING.replace("EMERGENCY STOP", "LIMIT OF LIMIT X LOW")])
 
+    def test_outputs(self) -> None:
+        """An alarm turns spindle and coolant off, and so does a player that begins: a program that goes on with them is
+        asked about, with a line that switches them on."""
+        self.begin(self.link)
+        self.load("G21 G90\nM3 S1000\nM8\nM0\nG0 X1\nM2\n")
+        self.do("run")
+        self.axes.alarm("emergency_stop")
+        self.axes.home_at = [0, 0, 0]
+        self.do("where", "home")
+        self.assertEqual(self.do("run", answers=("no",)), [
+            "the program goes on with the spindle, clockwise at 1000 and flood, and the player has all of it off: M3"
+            " S1000 first switches it on"])
+        self.assertEqual(self.face.asked, ["go on all the same? yes goes on: "])
+        self.do("M3 S1000", "run")
+        self.assertEqual(len(self.face.asked), 0)
+        self.assertIn("S 1 1000.000000 0 1 0 0", self.out()[3:])
+        self.assertEqual(self.status().at, ("1.000000", "0.000000", "0.000000"))
+
     def test_in_a_move(self) -> None:
         """It ends a jog; `ngc` isn't told a place."""
         self.begin(self.link)
@@ -222,6 +251,34 @@ class Alarms(Core):
         self.assertEqual(len(self.out()), count)
         self.assertIn("stays half-done", self.do("quit", answers=("yes",))[0])
         self.assertTrue(self.operator.over)
+
+
+class OffThePath(InFolder):
+    """Where in OUT the open segment begins, once the motors were homed and are nowhere on its path."""
+
+    def test_after_a_stop(self) -> None:
+        """Lines of one kind alone: what was handed out before them tells where they begin, also where the motors were
+        moved at the stop between. After M0 20 of 40 lines of a move in Y, behind 10 in X."""
+        text = "G21 G90\nG0 X0.003\nX0.01\nM0\nG1 Y0.54 F600\nM2\n"
+        for told, begins in (("", (10, 0, 0)), ("reference 0.01 0.5 0\n", (10, 500, 0))):
+            self.device()
+            Path("out").unlink(missing_ok=True)
+            self.run_ngc(f"load {len(text)}\n{text}start\ntick 99\n{told}continue\ntick 22\n")
+            self.assertEqual(Path("out").read_text(), "P 1 0 0 50\n" * 10 + "P 0 1 0 100\n" * 20)
+            finder = Finder(ngc(), "first.toml", Path("mill.dev").read_bytes())
+            for carried in (110, 110 + 12 * 7):
+                found = finder.find("out", Kept(carried, (-300, -200, 0)))
+                self.assertEqual((found.size, found.steps, found.missing, found.is_off), (110, begins, b"", True))
+
+    def test_not_told(self) -> None:
+        """Where nothing tells it, that is said: all lines are alike."""
+        self.device()
+        text = "G21 G90\nG0 X0.01\nM0\nX0.54\nM2\n"
+        self.run_ngc(f"load {len(text)}\n{text}start\ntick 99\nreference 0.5 0 0\ncontinue\ntick 22\n")
+        self.assertEqual(Path("out").read_text(), "P 1 0 0 50\n" * 30)
+        finder = Finder(ngc(), "first.toml", Path("mill.dev").read_bytes())
+        with self.assertRaisesRegex(CannotTell, "out doesn't end with lines of the half-done block"):
+            finder.find("out", Kept(220, (-300, -200, 0)))
 
 
 class ByKeys(InFolder):

@@ -217,6 +217,12 @@ class Faces(Core):
         for path in (TOOLS / "ngc_tools" / "operator").glob("*.py"):
             self.assertNotRegex(path.read_text(), r"ngc_tools\.cli|\bprint\(|\binput\(|sys\.std", path)
 
+    def test_help(self) -> None:
+        """Each command stands in the help but those that people don't type, and other names."""
+        said = self.begin() and self.do("help")[0]
+        for word in self.operator._doings.keys() - {"mdi", "tick", "?", "exit"}:
+            self.assertRegex(said, rf"(?m)^(\w+, )?{word}\b", word)
+
     def test_kinds(self) -> None:
         """Each thing is said with its kind; a program comes as bytes; how all stands can be asked."""
         operator = self.begin()

@@ -1,4 +1,5 @@
 """The page's server, without a browser: who may ask, what is asked, what is told, and a loss of power."""
+import http.client
 import json
 import os
 import signal
@@ -7,6 +8,7 @@ import subprocess
 import sys
 import time
 import unittest
+from collections.abc import Callable
 from pathlib import Path
 
 sys.path.insert(0, str(Path(__file__).resolve().parent))
@@ -17,11 +19,15 @@ from session_support import PATIENCE_S, TOOLS, InFolder, ngc, told  # noqa: E402
 
 from ngc_tools.cli.page import main  # noqa: E402
 from ngc_tools.ngc.console import Console  # noqa: E402
+from ngc_tools.operator.sentences import SWITCHED  # noqa: E402
 from ngc_tools.page import server as server_module  # noqa: E402
 from ngc_tools.page.aside import Aside, NotDone  # noqa: E402
 from ngc_tools.page.drawing import SWITCH, Source, draw, draw_exactly, job_of  # noqa: E402
+from ngc_tools.page.face import PageFace  # noqa: E402
+from ngc_tools.page.jog import HeldJog  # noqa: E402
 from ngc_tools.page.pages import LOST_S  # noqa: E402
 from ngc_tools.page.rehearse import Asked, rehearsed  # noqa: E402
+from ngc_tools.player.progress import NoAnswer  # noqa: E402
 
 EXAMPLES = TOOLS.parent / "examples"
 COARSE = """step_nm = [100000, 100000, 100000]
@@ -120,6 +126,11 @@ class Who(Served):
         page = self.page()
         self.load(page, SLOW)
         self.cuts(page)
+        kept = http.client.HTTPConnection("127.0.0.1", page.port, timeout=PATIENCE_S)
+        self.addCleanup(kept.close)
+        given = {"Origin": f"http://127.0.0.1:{page.port}", "X-Page": PAGE, "Content-Type": "application/json"}
+        kept.request("GET", f"/{page.key}/program")
+        self.assertIn(b"G1 X2", kept.getresponse().read())
         pieces = (b"", b"GET /", b"POST / HTTP/1.1\r\nHost: a\r\nX: ", b"\r\n\r")
         for number in range(2 * server_module.MOST_CONNECTIONS):
             idle = socket.create_connection(("127.0.0.1", page.port), PATIENCE_S)
@@ -129,9 +140,10 @@ class Who(Served):
         self.addCleanup(slow.close)
         slow.sendall(f"POST /{page.key}/check HTTP/1.1\r\nHost: 127.0.0.1:{page.port}\r\nOrigin: http://127.0.0.1:"
                      f"{page.port}\r\nX-Page: {PAGE}\r\nContent-Length: 1000000\r\n\r\nG0 X".encode())
-        self.assertEqual(page.post("hold"), (200, {}))
+        kept.request("POST", f"/{page.key}/hold", b"{}", given)  # a page's own connection stays
+        self.assertEqual(kept.getresponse().read(), b"{}")
         self.assertEqual(page.until("it is held", lambda state: state["does"] == "held")["word"], "Held")
-        self.assertTrue(page.next()["yours"])
+        self.assertEqual((page.post("hold"), page.next()["yours"]), ((200, {}), True))
 
 
 class Work(Served):
@@ -365,7 +377,14 @@ class Moves(Served):
         page.post("run")
         page.until("it is refused", lambda state: "home comes first" in page.said() and not state["busy"])
         state = self.moved(page, "home", {})
-        self.assertEqual((state["word"], state["alarm"]), ("Idle", ""))
+        self.assertEqual((state["word"], state["alarm"], state["broken"]), ("Idle", "", False))
+        self.assertEqual(page.post("restart")[0], 409)
+        self.machine.axes.word = "broken"
+        page.until("that is told", lambda state: state["broken"] and state["word"] == "Broken off")
+        session = page.next()["session"]
+        self.assertEqual(page.post("restart"), (200, {}))
+        self.machine.axes.word = "works"
+        page.until("it is begun anew", lambda state: state["session"] != session and state["word"] == "Idle")
 
 
 class Power(Served):
@@ -518,6 +537,67 @@ class Jobs(InFolder):
             self.run_ngc(f"start\ntick 9999\n{line}")
             asked = Asked(ngc(), "first.toml", Path("mill.dev").read_bytes(), None, drawing, None)
             self.assertEqual(rehearsed(asked)["differs"], differs)
+
+
+class Faces(unittest.TestCase):
+    """The face that pages see, without a session."""
+
+    def setUp(self) -> None:
+        """A face that does something whenever it looks while a page is asked."""
+        self.face = PageFace()
+        self.looks: list[Callable[[PageFace], object]] = []
+        self.face.look = lambda: self.looks.pop(0)(self.face) if self.looks else None
+
+    def test_answers(self) -> None:
+        """What is typed, a yes, and anything else; a look at the machine is told from other questions."""
+        def answer(text: str) -> Callable[[PageFace], object]:
+            return lambda face: face.answer(face.question.id, text)
+
+        self.face.begin(0)
+        self.looks = [answer("1.5"), answer("yes"), answer("no"), answer("yes")]
+        self.assertEqual((self.face.ask("Up to which Z? "), self.face.agrees("Go? "), self.face.agrees("Go? ")),
+                         ("1.5", True, False))
+        self.assertFalse(self.face.has_looked)
+        self.assertEqual((self.face.agrees(SWITCHED), self.face.has_looked, self.face.question), (True, True, None))
+
+    def test_holds(self) -> None:
+        """A wish to hold is a no, and holds the command that was given before it, though that hadn't begun."""
+        self.face.begin(self.face.holds)
+        self.looks = [lambda face: face.hold()]
+        self.assertEqual((self.face.agrees("Go? "), self.face.interrupted()), (False, True))
+        given = self.face.holds
+        self.face.hold()
+        self.face.begin(given)
+        self.assertTrue(self.face.interrupted())
+        self.face.begin(self.face.holds)
+        self.assertFalse(self.face.interrupted())
+        self.looks = [lambda face: face.leave()]
+        self.assertEqual((self.face.ask("Where? "), self.face.is_gone()), ("", True))
+
+    def test_failing_look(self) -> None:
+        """Where `ngc` ends while a page is asked, nothing is asked any more."""
+        def fail(_: PageFace) -> None:
+            raise NoAnswer("gone")
+
+        self.looks = [fail]
+        with self.assertRaises(NoAnswer):
+            self.face.ask("Where? ")
+        self.assertIsNone(self.face.question)
+        self.assertFalse(self.face.answer(1, "here"))
+
+
+class HeldJogs(unittest.TestCase):
+    """The wish to jog, as pages repeat it."""
+
+    def test_presses(self) -> None:
+        """A press that was let go isn't taken up by a wish that comes late; the next one is."""
+        jog = HeldJog()
+        self.assertEqual((jog.wish("X+", "600", 3), jog.is_wanted()), (True, True))
+        jog.let_go(3)
+        self.assertEqual((jog.is_wanted(), jog.wish("X+", "600", 3), jog.wish("X+", "600", 2)), (False, False, False))
+        self.assertEqual((jog.wish("Y-", "60", 4), jog.is_wanted(), jog.way, jog.rate), (True, True, "Y-", "60"))
+        jog.forget()
+        self.assertEqual((jog.is_wanted(), jog.wish("X+", "600", 0)), (False, True))
 
 
 class Asides(InFolder):

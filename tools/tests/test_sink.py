@@ -1,4 +1,5 @@
 """The step sink: over a pseudo terminal and a clock that goes on as it is told to, with each fault of a line."""
+import math
 import os
 import random
 import shutil
@@ -22,13 +23,14 @@ MS = 8000  # ticks
 LEAST = 40
 TOKEN = 4_000_000_000
 REST, OUTPUT, SWITCH = 0x40, 0x80, 0x01
-FIFO = 512
+FIFO = 2048
+STEEP = 100  # the byte of a slope of 49,152: from 20,000 words a second it takes 559 to stop
 NEW, STANDS, RUNS, STOPPED, BROKEN = range(5)
-NOTHING, STARVED, SILENT, INPUT, WORD, ASKED = range(6)
+NOTHING, SILENT, WORD, ASKED, TOUCHED, INPUT, DEAD = range(7)
 SEEKS, BEGINS, LINKED, ENDED, RESET = range(5)
 TAKEN, LATER, REFUSED = range(3)
 WINDOW = 20 * MS
-RUN_COUNT = int(os.environ.get("NGC_SINK_RUNS", "150"))
+RUN_COUNT = int(os.environ.get("NGC_SINK_RUNS", "40"))
 
 
 def program(*parts: Path) -> str:
@@ -46,9 +48,19 @@ def framed(body: bytes) -> bytes:
     return stuffed(body + struct.pack("<I", zlib.crc32(body)))
 
 
-def word(ticks: int, bits: int) -> bytes:
+def word(value: int, bits: int) -> bytes:
     """A word's five bytes."""
-    return struct.pack("<IB", ticks, bits)
+    return struct.pack("<IB", value, bits)
+
+
+def steep(ticks: int, bits: int) -> tuple[int, int]:
+    """A word with a slope."""
+    return ticks | STEEP << 24, bits
+
+
+def slope_of(value: int) -> int:
+    """How much the square of the rate may change from a word to the next; 2^42 over the square of its ticks."""
+    return (8 | value >> 24 & 7) << (value >> 27)
 
 
 def words_frame(session: int, first: int, *words: tuple[int, int]) -> bytes:
@@ -56,14 +68,14 @@ def words_frame(session: int, first: int, *words: tuple[int, int]) -> bytes:
     return framed(struct.pack("<BII", 1, session, first) + b"".join(word(*each) for each in words))
 
 
-def begin_frame(session: int, stops: int = 0, low: int = 0) -> bytes:
+def begin_frame(session: int, stops: int = 0, low: int = 0, halts: int = 0) -> bytes:
     """A frame that ends a session and begins the next."""
-    return framed(struct.pack("<BIIHH", 2, session, TOKEN, stops, low))
+    return framed(struct.pack("<BIIHHH", 2, session, TOKEN, stops, halts, low))
 
 
-def stop_frame(session: int) -> bytes:
-    """A frame that stops at once."""
-    return framed(struct.pack("<BI", 3, session))
+def stop_frame(session: int, at_once: int = 0) -> bytes:
+    """A frame that stops."""
+    return framed(struct.pack("<BIB", 3, session, at_once))
 
 
 class Answer(NamedTuple):
@@ -77,6 +89,11 @@ class Answer(NamedTuple):
     inputs: int
     lost: int
     token: int
+    touched: int = 0
+    dry: int = 0
+
+
+ANSWER = "<BIIIBBHHIIH"
 
 
 def answers(line: bytes) -> list[Answer]:
@@ -84,7 +101,7 @@ def answers(line: bytes) -> list[Answer]:
     found = []
     for frame in line.split(b"\0")[:-1]:
         body = unstuffed(frame + b"\0")
-        kind, *fields, crc = struct.unpack("<BIIIBBHHII", body)
+        kind, *fields, crc = struct.unpack(ANSWER + "I", body)
         assert kind == 4 and crc == zlib.crc32(body[:-4]), frame
         found.append(Answer(*fields))
     return found
@@ -136,9 +153,9 @@ class Sink(Child):
 
     def run(self, ms: int, line: bytes = b"") -> tuple[list[tuple[int, ...]], bytes]:
         """What the pins did in so many milliseconds, from when these bytes came, and the bytes that it sent."""
-        if line:
-            os.write(self.line, line)
-            self.wrote += len(line)
+        for at in range(0, len(line), 2048):  # a terminal has no room for much more
+            self.wrote += os.write(self.line, line[at:at + 2048])
+            self.ask(f"run 0 {self.wrote}")
         *done, sent = self.ask(f"run {ms * MS} {self.wrote}")
         came = b""
         while self.read + len(came) < int(sent):
@@ -176,11 +193,11 @@ class Sender(Child):
     def begin(self, stops: int = 0) -> None:
         """Seeks the sink."""
         self.token += 1
-        self.tell(f"begin {self.token} {stops} 0 {WINDOW}")
+        self.tell(f"begin {self.token} {stops} 0 0 {WINDOW}")
 
     def give(self, words: list[tuple[int, int]]) -> None:
-        """Gives words, as many as there is room for."""
-        self.tell("give " + " ".join(f"{ticks} {bits}" for ticks, bits in words))
+        """Gives words, as long as they are wanted; outputs are whole."""
+        self.tell("give " + " ".join(f"{value} {bits}" for value, bits in words))
 
     def step(self, now: int, line: bytes) -> list[bytes]:
         """The frames that it sends after these bytes came."""
@@ -194,8 +211,8 @@ def switches(spindle: int, speed: int, mist: int, flood: int, selected: int, slo
 
 
 def lasts(each: tuple[int, int]) -> int:
-    """How many ticks a word lasts."""
-    return LEAST if each[1] & OUTPUT else each[0]
+    """How many ticks a word is given."""
+    return LEAST if each[1] & OUTPUT else each[0] & 0xffffff
 
 
 def pins(each: tuple[int, int], low: int) -> tuple[int, ...]:
@@ -213,19 +230,32 @@ def is_off(event: tuple[int, ...]) -> bool:
     return len(event) == 7 and event[2] == 0
 
 
+def motion(chance: random.Random, count: int, greatest: float) -> Iterator[tuple[int, int]]:
+    """Steps from rest to rest, whose squares change by no more than their slopes and are no greater than this."""
+    slopes = [(STEEP - chance.choice((0, 0, 0, 9))) << 24 for _ in range(count)]
+    rise, squares = 0.0, []
+    for slope in slopes:
+        rise = min(rise + slope_of(slope), greatest)
+        squares.append(rise)
+    fall = 0.0
+    for index in reversed(range(count)):
+        squares[index] = min(squares[index], max(fall, 1))
+        fall += slope_of(slopes[index])
+    for index, (square, slope) in enumerate(zip(squares, slopes)):
+        ticks = max(LEAST, math.ceil(2**21 / math.sqrt(square)))
+        is_last = index == count - 1
+        yield (chance.randint(LEAST, 9000) if is_last else ticks) | slope, chance.getrandbits(6) | REST * is_last
+
+
 def some_words(chance: random.Random, parts: int) -> Iterator[tuple[int, int]]:
     """Motions of steps, each with its end at rest, with waits and switches between."""
     for _ in range(parts):
-        mean = chance.choice((LEAST, 300, 400, 1000, 20_000))
-        most = 240 if mean == LEAST else 600  # faster ones are whole in the FIFO
-        count = chance.choice((1, 2, 40, 100, most)) if mean < 1000 else chance.randint(1, 12)
-        for index in range(count):
-            yield chance.randint(LEAST, 2 * mean), chance.getrandbits(6) | (REST if index == count - 1 else 0)
+        yield from motion(chance, chance.choice((1, 2, 40, 600, 2000)), 10 ** chance.uniform(3, 7.5))
         if chance.random() < 0.3:
             yield from switches(chance.randint(0, 2), chance.randint(1, 9_999_999_999_999), chance.randint(0, 1),
                                 chance.randint(0, 1), chance.randint(0, 128), chance.randint(0, 128))
         if chance.random() < 0.3:
-            yield chance.randint(LEAST, 50 * MS), REST
+            yield chance.randint(LEAST, 25 * MS), REST
 
 
 class Line:
@@ -281,6 +311,7 @@ class Session:
         self.made: list[tuple[int, ...]] = []
         self.begins: set[int] = set()
         self.ends: list[str] = []
+        self.dry = 0
         self.stops = 0
         sender.begin()
 
@@ -322,6 +353,7 @@ class Session:
         if self.sender.state in (ENDED, RESET):
             self._end()
         found = answers(line)
+        self.dry += bool(found) and found[-1].dry
         return found[-1] if found else None
 
     def _end(self) -> None:
@@ -331,16 +363,15 @@ class Session:
         self.ends.append(self.sender.why)
         self.restart()
 
-    def check(self, words: list[tuple[int, int]]) -> None:
-        """Each word that was made is the one that was given, in its time."""
+    def check(self, words: list[tuple[int, int]], is_disturbed: bool = False) -> None:
+        """Each word that was made is the one that was given, and lasts as long; where it `is_disturbed`, longer."""
         low = 0
         for index, (each, event) in enumerate(zip(words, self.made)):
             self.test.assertEqual(event[1:], pins(each, low), index)
             low = each[0]
-            if index + 1 < len(self.made):
+            if index + 1 < len(self.made) and index + 1 not in self.begins:
                 over = self.made[index + 1][0] - event[0] - lasts(each)
-                if index + 1 not in self.begins:
-                    self.test.assertTrue(over == 0 or (over > 0 and each[1] & REST), (index, over))
+                self.test.assertTrue(over == 0 or (over > 0 and (is_disturbed or each[1] & REST)), (index, over))
         self.test.assertLessEqual(len(self.made), len(words))
 
 
@@ -378,14 +409,14 @@ class Bytes(SinkTest):
         """The number of a session that began."""
         session = self.boot() + 1
         answer = self.sink.last(6, begin_frame(session - 1, stops, low))
-        self.assertEqual(answer, (session, 0, 0, STANDS, NOTHING, low, 0, TOKEN))
+        self.assertEqual(answer, (session, 0, 0, STANDS, NOTHING, low, 0, TOKEN, 0, 0))
         return session
 
     def test_worked_frame(self) -> None:
         """The frame of docs/SINK.md, byte by byte."""
         text = (TOOLS.parent / "docs" / "SINK.md").read_text()
         block = text.partition("as it goes over the line:\n\n")[2].partition("\n\n")[0]
-        frame = words_frame(0x00010001, 0, (320, 0x01), (400, 0x4a))
+        frame = words_frame(0x00010001, 0, steep(320, 0x01), steep(400, 0x4a))
         self.assertEqual(bytes.fromhex(block), frame)
         self.sink.ask("boot 1")
         events, _ = self.sink.run(10, begin_frame(0x00010000) + frame)
@@ -403,11 +434,11 @@ class Bytes(SinkTest):
                           (0, 0)])
         gaps = [after[0] - event[0] for event, after in zip(events, events[1:])]
         self.assertEqual(gaps, [320, 41, 40, 2**16 + 7, 100 * MS, 40, 40, 40])
-        self.assertEqual(answers(line)[-1], (session, 9, 9, STANDS, NOTHING, 0, 0, TOKEN))
+        self.assertEqual(answers(line)[-1], (session, 9, 9, STANDS, NOTHING, 0, 0, TOKEN, 0, 0))
 
     def test_answers(self) -> None:
         """Every 5 ms, in motion too, with the count of that moment; and it isn't silent before a session."""
-        self.assertEqual(answers(self.sink.run(20)[1]), [(self.boots << 16, 0, 0, NEW, NOTHING, 0, 0, 0)] * 4)
+        self.assertEqual(answers(self.sink.run(20)[1]), [(self.boots << 16, 0, 0, NEW, NOTHING, 0, 0, 0, 0, 0)] * 4)
         session = self.began()
         found = answers(self.sink.run(30, words_frame(session, 0, *[(MS, 1)] * 24, (MS, REST)))[1])
         self.assertEqual(len(found), 6)
@@ -415,7 +446,7 @@ class Bytes(SinkTest):
         self.assertEqual({answer.state for answer in found[1:5]}, {RUNS})
 
     def test_begins(self) -> None:
-        """It begins with a rest in hand, with 10 ms, or with half a FIFO; not with less."""
+        """It begins with a rest in hand, with 10 ms, or with 256 words; not with less."""
         for words, is_begun in (([(LEAST, 1)] * 200, False), ([(LEAST, 1)] * 255, False), ([(LEAST, 1)] * 256, True),
                                 ([(9999, 1)] * 8, False), ([(10_000, 1)] * 8, True), ([(LEAST, 1 | REST)], True)):
             session = self.began()
@@ -451,19 +482,19 @@ class Bytes(SinkTest):
     def test_room(self) -> None:
         """A frame for which the FIFO has no room is lost, whole."""
         session = self.began()
-        fill = [(30 * MS, REST)] + [(LEAST, 0)] * 500
-        line = b"".join(words_frame(session, at, *fill[at:at + 48]) for at in range(0, 501, 48))
-        answer = self.sink.last(10, line)
-        self.assertEqual((answer.taken, answer.made, answer.lost), (501, 1, 0))
-        answer = self.sink.last(5, words_frame(session, 501, *[(LEAST, 0)] * 13))
-        self.assertEqual((answer.taken, answer.lost), (501, 1))
-        self.assertEqual(self.sink.last(5, words_frame(session, 501, *[(LEAST, 0)] * 12)).taken, 513)
+        fill = [(60 * MS, REST)] + [(LEAST, 0)] * 2035
+        line = b"".join(words_frame(session, at, *fill[at:at + 48]) for at in range(0, 2036, 48))
+        answer = self.sink.last(40, line)
+        self.assertEqual((answer.taken, answer.made, answer.lost), (2036, 1, 0))
+        answer = self.sink.last(5, words_frame(session, 2036, *[(LEAST, 0)] * 14))
+        self.assertEqual((answer.taken, answer.lost), (2036, 1))
+        self.assertEqual(self.sink.last(5, words_frame(session, 2036, *[(LEAST, 0)] * 13)).taken, 2049)
 
     def test_numbers_wrap(self) -> None:
         """Each byte may be any: frames with zeros and without any."""
         session = self.began()
-        for at, ticks in enumerate((0x01010101, 0x00ffff00, 0xffffffff, 256)):
-            self.assertEqual(self.sink.last(5, words_frame(session, at, (ticks, 0x3f | REST))).taken, at + 1)
+        for at, value in enumerate((0x01010101, 0x00ffff00, 0x8fffffff, 256)):
+            self.assertEqual(self.sink.last(5, words_frame(session, at, (value, 0x3f | REST))).taken, at + 1)
 
     def test_sessions(self) -> None:
         """A session ends only by its number, and while nothing runs. The count goes on; old frames are nothing then."""
@@ -501,10 +532,10 @@ class Faults(SinkTest):
         self.assertEqual([event for event in events if is_off(event)], events[-1:])
         return answers(sent)[-1]
 
-    def began(self, stops: int = 0, low: int = 0) -> int:
+    def began(self, stops: int = 0, low: int = 0, halts: int = 0) -> int:
         """The number of a session in which the spindle is on: two words are made."""
         session = self.boot() + 1
-        self.sink.run(5, begin_frame(session - 1, stops, low))
+        self.sink.run(5, begin_frame(session - 1, stops, low, halts))
         answer = self.sink.last(5, words_frame(session, 0, *switches(1, 12_000_000_000, 1, 1, 4, 5)))
         self.assertEqual(answer[:5], (session, 2, 2, STANDS, NOTHING))
         return session
@@ -514,30 +545,68 @@ class Faults(SinkTest):
         session = self.began()
         self.assertEqual(self.after(5, begin_frame(session))[:5], (session + 1, 2, 2, STANDS, NOTHING))
 
-    def test_starved(self) -> None:
-        """The FIFO's end isn't at rest: it stops, in motion, once the last word has lasted."""
+    def test_dry(self) -> None:
+        """The FIFO's end isn't a rest: it comes to rest by the slopes, says so, and goes on by them with what comes."""
         session = self.began()
-        events, _ = self.sink.run(14, words_frame(session, 2, (5 * MS, 1), (10 * MS, 1)))
-        self.assertEqual(len(events), 2)
-        self.stopped(self.after(10, b""), 4, BROKEN, STARVED)
+        words = [steep(2000, 1)] * 200  # a stop takes 23
+        events, line = self.sink.run(80, b"".join(words_frame(session, at + 2, *words[at:at + 40])
+                                                  for at in range(0, 200, 40)))
+        gaps = [after[0] - event[0] for event, after in zip(events, events[1:])]
+        self.assertEqual(gaps[:170], [2000] * 170)
+        # The last n words before a rest last 2^21 over the root of n slopes each.
+        slope = slope_of(STEEP << 24)
+        self.assertEqual(gaps[-22:], [math.ceil(2**21 / math.isqrt(slope * n)) for n in range(22, 0, -1)])
+        self.assertEqual((answers(line)[-1][2:5], answers(line)[-1].dry), ((202, STANDS, NOTHING), 1))
+        more = [steep(2000, 1)] * 40 + [steep(LEAST, REST)]
+        events, line = self.sink.run(60, words_frame(session, 202, *more))
+        gaps = [after[0] - event[0] for event, after in zip(events, events[1:])]
+        self.assertEqual(gaps[:22], [math.ceil(2**21 / math.isqrt(slope * n)) for n in range(1, 23)])
+        self.assertEqual(gaps[22:40], [2000] * 18)
+        self.assertEqual((answers(line)[-1][2:5], answers(line)[-1].dry), ((243, STANDS, NOTHING), 1))
+
+    def test_goes_on_in_time(self) -> None:
+        """It slows down, and more comes: it goes on from the rate that it has, and isn't said to have run dry."""
+        session = self.began()
+        words = [steep(2000, 1)] * 200
+        events, _ = self.sink.run(48, b"".join(words_frame(session, at + 2, *words[at:at + 40])
+                                               for at in range(0, 200, 40)))
+        count = len(events)
+        self.assertGreater(events[-1][0] - events[-2][0], 2000)
+        more, line = self.sink.run(60, words_frame(session, 202, *words[:40], steep(LEAST, REST)))
+        ticks = [after[0] - event[0] for event, after in zip(events + more, (events + more)[1:])]
+        slope = slope_of(STEEP << 24)
+        rates = [2**42 / each**2 for each in ticks[count - 2:-1]]
+        self.assertTrue(all(abs(after - rate) < slope * 1.05 for rate, after in zip(rates, rates[1:])))
+        self.assertEqual(ticks[-2], 2000)
+        self.assertEqual((answers(line)[-1][2:5], answers(line)[-1].dry), ((243, STANDS, NOTHING), 0))
 
     def test_silent(self) -> None:
-        """Nothing is heard for half a second: it stops at rest, also within a long wait."""
+        """Nothing is heard for half a second: it stops at rest, also within a long wait, and where words are slow."""
         session = self.began()
         self.assertEqual(self.sink.last(490).state, STANDS)
         self.stopped(self.after(20, b""), 2, STOPPED, SILENT)
-        session = self.began()
-        self.sink.run(5, words_frame(session, 2, (60_000 * MS, 1 | REST), (LEAST, 1 | REST)))
-        for _ in range(3):
-            self.assertEqual(self.sink.last(400, words_frame(session, 4)).state, RUNS)
-        self.stopped(self.after(200, b""), 3, STOPPED, SILENT)
+        for bits in (REST, 0):
+            session = self.began()
+            self.sink.run(5, words_frame(session, 2, (2000 * MS, 1 | bits), (LEAST, 1 | REST)))
+            for _ in range(3):
+                self.assertEqual(self.sink.last(400, words_frame(session, 4)).state, RUNS)
+            self.stopped(self.after(200, b""), 3, STOPPED, SILENT)
 
     def test_silent_in_motion(self) -> None:
-        """In motion it goes on up to a rest."""
+        """In motion it comes to rest by the slopes, although there are more words."""
         session = self.began()
-        self.sink.run(5, words_frame(session, 2, (700 * MS, 1), (10 * MS, 1 | REST), (LEAST, 1 | REST)))
-        self.assertEqual(self.sink.last(600)[2:5], (3, RUNS, NOTHING))
-        self.stopped(self.after(200, b""), 4, STOPPED, SILENT)
+        words = [steep(4000, 1)] * 1900 + [steep(LEAST, 1 | REST)]  # 950 ms; a stop takes six words
+        line = b"".join(words_frame(session, at + 2, *words[at:at + 48]) for at in range(0, len(words), 48))
+        events, _ = self.sink.run(480, line)
+        events += self.sink.run(60)[0]
+        gaps = [after[0] - event[0] for event, after in zip(events, events[1:])]
+        slope = slope_of(STEEP << 24)
+        left = math.ceil(2**21 / 4000) ** 2
+        braked = [math.ceil(2**21 / math.isqrt(left - n * slope)) for n in range(1, 6)]
+        self.assertEqual((gaps[-7:-1], is_off(events[-1])), ([4000, *braked], True))
+        answer = self.sink.last(5)
+        self.assertEqual(answer.made - 2, len(events) - 1)
+        self.stopped(answer, answer.made, STOPPED, SILENT)
 
     def test_input(self) -> None:
         """An input that stops does so within a millisecond, in motion and at rest; others are told alone."""
@@ -555,6 +624,28 @@ class Faults(SinkTest):
             self.assertLessEqual(answer.made - made, 10)
             self.stopped(answer, answer.made, BROKEN, INPUT)
 
+    def test_halts(self) -> None:
+        """An input that brings it to rest: by the slopes, and it says after how many words it came on."""
+        session = self.began(halts=2)
+        words = [steep(1000, 1)] * 400  # a stop takes 90 words
+        line = b"".join(words_frame(session, at + 2, *words[at:at + 40]) for at in range(0, 400, 40))
+        made = 2 + len(self.sink.run(10, line)[0])
+        self.sink.ask("inputs 2")
+        answer = self.after(200, b"")
+        self.assertEqual(answer[3:6], (STOPPED, TOUCHED, 2))
+        self.assertEqual(answer.touched, made)
+        self.assertAlmostEqual(answer.made - answer.touched, 90, delta=2)
+        self.assertEqual(self.sink.last(5, begin_frame(session)).touched, 0)
+
+    def test_halts_at_rest(self) -> None:
+        """Where it is on at the beginning nothing is made; one that is on while its pin is low is heeded so."""
+        self.sink.ask("inputs 2")
+        session = self.boot()
+        self.assertEqual(self.sink.last(6, begin_frame(session, halts=2))[1:5], (0, 0, STOPPED, TOUCHED))
+        self.assertEqual(self.sink.last(6, begin_frame(session + 1, halts=2, low=2))[1:5], (0, 0, STANDS, NOTHING))
+        self.sink.ask("inputs 0")
+        self.assertEqual(self.sink.last(6)[1:5], (0, 0, STOPPED, TOUCHED))
+
     def test_input_at_rest(self) -> None:
         """At rest too, and within a long wait."""
         self.began(1)
@@ -562,7 +653,7 @@ class Faults(SinkTest):
         self.stopped(self.after(5, b""), 2, STOPPED, INPUT)
         self.sink.ask("inputs 0")
         session = self.began(1)
-        self.sink.run(5, words_frame(session, 2, (60_000 * MS, REST)))
+        self.sink.run(5, words_frame(session, 2, (2000 * MS, REST)))
         self.sink.ask("inputs 1")
         events, line = self.sink.run(5)
         self.assertEqual([event[1:] for event in events], [(0, 0, 0, 0, 4, 5)])
@@ -570,9 +661,10 @@ class Faults(SinkTest):
         self.stopped(answers(line)[-1], 3, STOPPED, INPUT)
 
     def test_word(self) -> None:
-        """A word that isn't one: nothing of its frame is taken, and it stops at the end of what was."""
-        bad = [(39, 1), (0, REST), (LEAST, OUTPUT | 2), (LEAST, OUTPUT | 32), (3, OUTPUT | SWITCH),
-               (129 << 4, OUTPUT | SWITCH), (129 << 12, OUTPUT | SWITCH)]
+        """A word that isn't one: nothing of its frame is taken, and it comes to rest."""
+        bad = [(39, 1), (0, REST), (LEAST | 144 << 24, 1), (LEAST, OUTPUT), (LEAST, OUTPUT | SWITCH),
+               (LEAST, OUTPUT | REST | 2), (LEAST, OUTPUT | REST | 32), (3, OUTPUT | SWITCH | REST),
+               (129 << 4, OUTPUT | SWITCH | REST), (129 << 12, OUTPUT | SWITCH | REST)]
         for each in bad:
             session = self.began()
             line = words_frame(session, 2, (LEAST, 1), (LEAST, REST)) + words_frame(session, 4, (LEAST, 1), each)
@@ -582,15 +674,16 @@ class Faults(SinkTest):
         session = self.began()
         self.sink.run(5, words_frame(session, 2, (15 * MS, 1)))
         cut_short = framed(struct.pack("<BII", 1, session, 3) + word(LEAST, 1)[:4])
-        self.stopped(self.after(20, cut_short), 3, BROKEN, WORD)
+        self.stopped(self.after(20, cut_short), 3, STOPPED, WORD)
 
     def test_asked(self) -> None:
-        """The sender asks for a stop: in motion and at rest."""
-        session = self.began()
-        self.sink.run(5, words_frame(session, 2, *[(MS, 1)] * 20))
-        self.stopped(self.after(10, stop_frame(session)), 7, BROKEN, ASKED)
-        session = self.began()
-        self.stopped(self.after(10, stop_frame(session)), 2, STOPPED, ASKED)
+        """The sender asks for a stop, in motion and at rest: by the slopes, or at once."""
+        for at_once, state, fault, made in ((0, STOPPED, ASKED, 9), (1, BROKEN, DEAD, 7)):
+            session = self.began()
+            self.sink.run(5, words_frame(session, 2, *[steep(MS, 1)] * 20))
+            self.stopped(self.after(10, stop_frame(session, at_once)), made, state, fault)
+            session = self.began()
+            self.stopped(self.after(10, stop_frame(session, at_once)), 2, STOPPED, fault)
 
     def test_boot(self) -> None:
         """The chip starts again: nothing of before is taken, and a new session needs its number."""
@@ -598,7 +691,7 @@ class Faults(SinkTest):
         late = begin_frame(session - 1) + words_frame(session, 0, (LEAST, 1 | REST))
         now = self.boot()
         events, line = self.sink.run(10, late)
-        self.assertEqual((events, answers(line)[-1]), ([], (now, 0, 0, NEW, NOTHING, 0, 0, 0)))
+        self.assertEqual((events, answers(line)[-1]), ([], (now, 0, 0, NEW, NOTHING, 0, 0, 0, 0, 0)))
 
 
 class Sent(SinkTest):
@@ -614,45 +707,51 @@ class Sent(SinkTest):
         """Over a good line all words are made, in one session, each as long after the one before as that lasts."""
         for seed in range(3):
             session, chance = self.session(seed)
-            words = [*some_words(chance, 20), *((300, 1 + index % 7) for index in range(3000)), (LEAST, REST)]
-            words = [each if each[0] < 25 * MS or each[1] & OUTPUT else (25 * MS, each[1]) for each in words]
+            words = [*some_words(chance, 6), *motion(chance, 3000, 2**42 / 400**2)]  # 20,000 steps a second
             while len(session.made) < len(words):
                 session.step(chance.randint(1, 3), words)
             session.check(words)
-            self.assertEqual((session.ends, session.begins), ([], {0}))
-            times = [event[0] for event in session.made[-3001:]]
-            self.assertTrue(all(abs(after - at - 300) <= 1 for at, after in zip(times, times[1:])))
+            self.assertEqual((session.ends, session.begins, session.dry), ([], {0}, 0))
+            times = [event[0] for event in session.made[-1600:-1400]]
+            self.assertTrue(all(after - at == 400 for at, after in zip(times, times[1:])))
 
     def test_resent(self) -> None:
         """Where one frame in thirty is lost, damaged or doubled, steps at 20,000 a second go on in their times."""
         for seed in range(5):
             session, chance = self.session(seed)
             session.forth.rate = 0.01
-            words = [*((400, 1 + index % 7) for index in range(4000)), (LEAST, REST)]
+            words = list(motion(chance, 4000, 2**42 / 400**2))
             while len(session.made) < len(words) and not session.ends:
                 session.step(1, words)
             session.check(words)
-            self.assertEqual((session.ends, session.begins, len(session.made)), ([], {0}, 4001))
+            self.assertEqual((session.ends, session.begins, len(session.made)), ([], {0}, 4000))
 
     def test_holds_no_more(self) -> None:
-        """It sends no more ahead than the window lasts, and than the FIFO has room for."""
-        for ticks, most in ((MS, 25), (LEAST, FIFO)):
+        """It gives no more ahead than the window and a stop take, and than the FIFO has room for."""
+        slope = slope_of(STEEP << 24)
+        for ticks, most in ((MS, 20 + 4), (800, 200 + 140), (LEAST, FIFO)):
             session, _ = self.session(1)
-            words = [(ticks, 1)] * 2000
+            words = [steep(ticks, 1)] * 4000
             while session.sender.state != LINKED:
                 session.step(1, words)
             for _ in range(20):
                 answer = session.step(5, words)
                 self.assertLessEqual(answer.taken - answer.made, most)
-                self.assertEqual(answer.lost, 0)
-            session.check(words)
+                self.assertEqual((answer.lost, answer.dry), (0, 0))
+            last = session.made[-1][0] - session.made[-2][0]
+            fastest = math.isqrt(2**42 // (FIFO * slope))  # from which what the FIFO has room for is enough for a stop
+            self.assertTrue(last == ticks if ticks > LEAST else fastest <= last < 1.3 * fastest, last)
 
     def test_why(self) -> None:
         """What the sink stopped for is said in words."""
         session, _ = self.session(1)
+        while session.sender.state != LINKED:
+            session.step(5, [])
+        for frame in self.sender.tell("stop 0"):
+            session.forth.put(session.now, frame)
         while not session.ends:
-            session.step(5, [(MS, 1)] * 15)
-        self.assertEqual(session.ends, ["the sink ran dry"])
+            session.step(5, [])
+        self.assertEqual(session.ends, ["the sink was asked to stop"])
         while session.sender.state != LINKED:
             session.step(5, [])
         session.boot(1000)
@@ -672,13 +771,13 @@ class Sent(SinkTest):
         session = self.linked()
         for _ in range(120):
             session.step(5, [(MS, 1), (MS, REST)])
-        session.forth.cut_until = session.back.cut_until = session.now + 600
-        for _ in range(48):
-            session.step(10, [])
+        session.forth.cut_until = session.back.cut_until = session.now + 2100
+        for _ in range(39):
+            session.step(50, [])
         self.assertEqual(self.sender.why, "nothing")
-        for _ in range(6):
-            session.step(10, [])
-        self.assertEqual((self.sender.why, session.ends), ("no answer from the sink for half a second", []))
+        for _ in range(3):
+            session.step(50, [])
+        self.assertEqual((self.sender.why, session.ends), ("no answer from the sink for two seconds", []))
         while not session.ends:
             session.step(10, [])
         self.assertEqual(session.ends, ["the sink heard nothing for half a second"])
@@ -692,30 +791,31 @@ class Sent(SinkTest):
             self.sender.tell(line)
             return self.sender.taken, self.sender.given
 
-        self.assertEqual(told("give 39 1 40 1"), (REFUSED, 0))
-        self.assertEqual(told("give 40 64 40 132 40 64"), (REFUSED, 1))
+        self.assertEqual(told("force 39 1 40 1"), (REFUSED, 0))
+        self.assertEqual(told("force 40 64 40 132 40 64"), (REFUSED, 1))
+        self.assertEqual(told(f"force {LEAST | 144 << 24} 64"), (REFUSED, 1))
         self.assertEqual(told("switch 2 9999999999999 1 0 128 3"), (TAKEN, 3))
         for outputs in ("3 1 0 0 0 0", "0 1 0 0 0 129", "0 1 2 0 0 0", f"0 {2**44} 0 0 0 0"):
             self.assertEqual(told(f"switch {outputs}"), (REFUSED, 3))
-        self.assertEqual(told("give " + "80000 64 " * 1020), (TAKEN, 1023))
-        self.assertEqual(told("switch 0 1 0 0 0 0"), (LATER, 1023))
-        self.assertEqual(told("give 40 64 40 64"), (LATER, 1024))
+        self.assertEqual(told("force " + "80000 64 " * 2044), (TAKEN, 2047))
+        self.assertEqual(told("switch 0 1 0 0 0 0"), (LATER, 2047))
+        self.assertEqual(told("force 40 64 40 64"), (LATER, 2048))
         session.step(5, [])
         session.step(20, [])
-        session.check([(LEAST, REST), *switches(2, 9_999_999_999_999, 1, 0, 128, 3), *[(80_000, REST)] * 1020])
+        session.check([(LEAST, REST), *switches(2, 9_999_999_999_999, 1, 0, 128, 3), *[(80_000, REST)] * 2044])
         self.assertGreater(len(session.made), 3)
         session.restart()
-        self.assertEqual(told("give 40 64"), (LATER, 0))
+        self.assertEqual(told("force 40 64"), (LATER, 0))
 
     def test_late_answers(self) -> None:
         """A late answer takes nothing back; what came after all isn't sent again, and what was lost is."""
         session = self.linked()
-        self.sender.give([(LEAST, 1)] * 400)
+        self.sender.tell("force " + "40 1 " * 400)
         self.sender.step(session.now, b"")
 
         def heard(taken: int, made: int, lost: int) -> tuple[int, list[int]]:
             fields = (4, self.sender.session, taken, made, RUNS, 0, 0, lost, self.sender.token)
-            line = framed(struct.pack("<BIIIBBHHI", *fields))
+            line = framed(struct.pack(ANSWER, *fields, 0, 0))
             session.now += 1
             frames = self.sender.step(session.now, line)
             return self.sender.made, [unstuffed(frame)[5] for frame in frames]
@@ -724,11 +824,11 @@ class Sent(SinkTest):
         self.assertEqual(heard(96, 8, 0), (10, []))
         self.assertEqual(heard(300, 20, 1), (20, [300 & 255, 348 & 255, 396 & 255]))
         self.assertEqual(heard(96, 20, 1), (20, []))
-        self.sender.give([(LEAST, 1)] * 400)
+        self.sender.tell("force " + "40 1 " * 400)
         self.assertEqual(heard(396, 390, 2)[1][:2], [396 & 255, 444 & 255])
         self.assertEqual(heard(401, 30, 2), (390, []))
         self.assertEqual(heard(5000, 4999, 2), (390, []))
-        self.sender.step(session.now, framed(struct.pack("<BIIIBBHHI", 4, self.sender.session - 1, *[0] * 7)))
+        self.sender.step(session.now, framed(struct.pack(ANSWER, 4, self.sender.session - 1, *[0] * 9)))
         self.assertEqual(self.sender.state, LINKED)
 
     def test_any_boot(self) -> None:
@@ -744,23 +844,23 @@ class Sent(SinkTest):
     def test_ahead_of_itself(self) -> None:
         """Where it goes back, and then hears that more came, it goes on from there."""
         session = self.linked()
-        self.sender.give([(LEAST, 1)] * 200)
+        self.sender.tell("force " + "40 1 " * 200)
         self.sender.step(session.now, b"")
-        line = b"".join(framed(struct.pack("<BIIIBBHHI", 4, self.sender.session, taken, made, RUNS, 0, 0, 1,
-                                           self.sender.token)) for taken, made in ((48, 40), (144, 140)))
+        line = b"".join(framed(struct.pack(ANSWER, 4, self.sender.session, taken, made, RUNS, 0, 0, 1,
+                                           self.sender.token, 0, 0)) for taken, made in ((48, 40), (144, 140)))
         self.assertEqual([unstuffed(frame)[5] for frame in self.sender.step(session.now, line)], [144, 192])
 
     def test_fifo(self) -> None:
         """No more is sent than the FIFO has room for."""
         session = self.linked()
-        self.sender.give([(LEAST, 1)] * 1024)
+        self.sender.tell("force " + "40 1 " * 3000)
         frames = self.sender.step(session.now, b"")
-        self.assertEqual((self.sender.given, sum((len(unstuffed(frame)) - 13) // 5 for frame in frames)), (1024, FIFO))
+        self.assertEqual((self.sender.given, sum((len(unstuffed(frame)) - 13) // 5 for frame in frames)), (FIFO, FIFO))
 
     def test_takes_over(self) -> None:
         """A sender that follows one that was killed within a long wait waits until the sink has stopped by itself."""
         session = self.linked()
-        words = [(60_000 * MS, 1 | REST), (LEAST, 2 | REST)]
+        words = [(2000 * MS, 1 | REST), (LEAST, 2 | REST)]
         while not session.made:
             session.step(2, words)
         session.restart()
@@ -774,7 +874,7 @@ class Sent(SinkTest):
         """A session that another sender asked for isn't taken for one's own, nor an answer that was late."""
         session = self.linked()
         first = self.boots << 16
-        answered = {number: framed(struct.pack("<BIIIBBHHI", 4, first + number, made, made, STANDS, 0, 0, 0, TOKEN))
+        answered = {number: framed(struct.pack(ANSWER, 4, first + number, made, made, STANDS, 0, 0, 0, TOKEN, 0, 0))
                     for number, made in ((1, 5), (2, 246), (3, 700))}
         session.restart()
         for number, newest in ((1, 1), (2, 2), (1, 2), (3, 3), (2, 3)):
@@ -795,7 +895,7 @@ class Sent(SinkTest):
         elif what < 0.04:
             self.sink.ask("inputs 0")
         elif what < 0.042:
-            for frame in self.sender.tell("stop"):
+            for frame in self.sender.tell(f"stop {chance.getrandbits(1)}"):
                 session.forth.put(session.now, frame)
         elif what < 0.044:
             type(self).boots += 1
@@ -827,7 +927,7 @@ class Sent(SinkTest):
                 self.disturb(session, chance)
             session.step(chance.choice((1, 1, 2, 3, 8)), words)
         self.to_rest(session, words)
-        session.check(words)
+        session.check(words, is_disturbed=True)
         return len(session.made) == len(words), session.ends
 
     def test_by_chance(self) -> None:
@@ -840,6 +940,21 @@ class Sent(SinkTest):
                 faults.update(ends)
         self.assertGreater(whole, RUN_COUNT // 4)
         self.assertGreaterEqual(len(faults), min(4, RUN_COUNT // 30), faults)
+
+
+class ByChance(unittest.TestCase):
+    """Many runs in one process, whose checks stand in sink_chance.c."""
+
+    def test_runs(self) -> None:
+        """No word is made twice or left out; whatever comes, it slows down and comes to rest by the slopes, within the
+        words that they take; its count is what was made. All that may befall it does."""
+        parts = [SINK / name for name in ("sink.c", "make.c", "wire.c", "sender.c")]
+        chance = program(TOOLS / "tests" / "sink_chance.c", *parts)
+        done = subprocess.run([chance, "1", "1000"], capture_output=True, text=True)
+        self.assertEqual((done.returncode, done.stderr), (0, ""), done.stdout)
+        names, counts = done.stdout.split()[::2], done.stdout.split()[1::2]
+        self.assertIn("dry", names)
+        self.assertTrue(all(int(count) > 2 for count in counts), done.stdout)
 
 
 class Built(unittest.TestCase):

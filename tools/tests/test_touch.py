@@ -102,9 +102,11 @@ class Zero(Core):
         nothing = "nothing to undo: it takes back the last zero or touch, once"
         self.assertEqual(self.do("undo"), [nothing])
         self.do("G0 X1", "zero X", "G0 X0.5", "zero X")
+        self.assertEqual(self.operator.touch.undoes, "G10 L2 P1 X1 Y0 Z0")
         self.assertEqual(self.origin()[0], 1_500_000)
         self.assertEqual(self.do("undo")[0], "G10 L2 P1 X1 Y0 Z0")
-        self.assertEqual((self.origin()[0], self.do("undo")), (1_000_000, [nothing]))
+        self.assertEqual((self.origin()[0], self.operator.touch.undoes), (1_000_000, ""))
+        self.assertEqual(self.do("undo"), [nothing])
         self.do("zero Y", "G10 L2 P1 Y5")
         self.assertEqual(self.do("undo"), ["G54 isn't any more what was set: nothing is done. G10 L2 P1 X1 Y0 Z0 puts"
                                            " back what was before"])
@@ -133,8 +135,8 @@ class Zero(Core):
         self.run_ngc("mdi G0 X0.005\ntick 3\nquit\n", "before")
         self.begin()
         self.assertEqual(self.do("zero x"), [
-            "segment 0 of a line of yours is half-done. rehearse says what resume would do; reference X Y Z, then resume"
-            " or abandon, and zero after that"])
+            "segment 0 of a line of yours is half-done. rehearse says what resume would do; reference X Y Z, then"
+            " resume or abandon, and zero after that"])
         self.do("abandon")
         self.assertEqual(self.do("zero x"), ["it isn't known where the machine stands: reference X Y Z"])
         self.assertEqual(self.out(), [])

@@ -171,6 +171,8 @@ class Copy:
                 if holds(status):
                     return before, self.ticks
                 before, said = self.ticks, said + replies
+                if "stopped" in replies or "idle" in replies:
+                    break  # the ticks after it did nothing
             self._after(said)
         return before, before
 

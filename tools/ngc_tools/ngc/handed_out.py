@@ -7,7 +7,7 @@ after a second power on, the segment's own lines and the point at which it begin
 import mmap
 import os
 from collections.abc import Iterator
-from dataclasses import dataclass
+from dataclasses import dataclass, replace
 from pathlib import Path
 
 from ngc_tools.formats.device import Device, State
@@ -15,12 +15,13 @@ from ngc_tools.formats.out import LONGEST_LINE, Pulse, Switch, read_line
 from ngc_tools.formats.position import nanometres, rounded
 from ngc_tools.formats.settings import Settings
 from ngc_tools.ngc.carried import CannotTell, Run, is_within, runs
-from ngc_tools.ngc.console import Status
+from ngc_tools.ngc.console import Ended, Status
 from ngc_tools.ngc.copies import Copy, CommandRefused, first
 
 Steps = tuple[int, int, int]
 _PIECE = 4096  # lines that are looked at, at once
 _HEAD = 1024  # bytes by which a place in OUT is known
+_TAIL = 65536  # the same, of what was handed out before
 
 
 @dataclass(frozen=True, slots=True)
@@ -47,11 +48,13 @@ class Beginning:
 
 @dataclass(frozen=True, slots=True)
 class _Lines:
-    """Lines that were handed out from a point on: those `before` the open segment, and its `own`."""
+    """Lines that were handed out from a point on: those `before` the open segment, and its `own`. `ahead` is the run of
+    the log before them, if there is one."""
 
     start: Steps
     before: bytes
     own: bytes = b""
+    ahead: Run | None = None
 
 
 class _Text(Copy):
@@ -99,7 +102,7 @@ class Finder:
             at = _longest(text, size, whole, lines.start, ends)
             is_off = at is None
             if at is None:
-                at = _only(text, size, whole)
+                at = self._off(text, size, whole, lines)
             if at is not None:
                 return self._beginning(size, lines, at, is_off)
         if not self.device.state.half:
@@ -111,6 +114,23 @@ class Finder:
             raise CannotTell(f"{out} doesn't end with lines of the half-done block: it isn't the OUT of this device, or"
                              " the record isn't that of this OUT")
         return self._beginning(size, own, at, False)
+
+    def _off(self, text: "bytes | mmap.mmap", size: int, whole: bytes, lines: _Lines) -> int | None:
+        """The beginning of the lines with which OUT ends, wherever the motors are; None if there isn't one alone, by
+        itself or behind what was handed out before. Raises OSError."""
+        at = _only(text, size, whole)
+        if at is not None or lines.ahead is None:
+            return at
+        try:
+            return _behind(text, size, whole, self._text(lines.ahead))
+        except (CannotTell, CommandRefused, Ended):
+            return None
+
+    def _text(self, run: Run) -> bytes:
+        """All that a run which is over handed out."""
+        with first(lambda _: _Text(self.ngc, self.settings, run.image, list(run.commands)),
+                   lambda status: _key(status) >= (run.ends, 0)) as copy:
+            return bytes(copy.text)
 
     def _check_end(self, out: str, ends: Steps) -> None:
         """Raises CannotTell if OUT doesn't lead to the point that the device knows."""
@@ -132,7 +152,8 @@ class Finder:
         for device in self._devices():
             try:
                 if parts := list(runs(device, within=True)):
-                    return self._again(device, self._begun(device, parts[-1]))
+                    ahead = parts[-2] if len(parts) > 1 else None
+                    return replace(self._again(device, self._begun(device, parts[-1])), ahead=ahead)
             except (CannotTell, CommandRefused):
                 continue
         return None
@@ -296,4 +317,17 @@ def _only(text: "bytes | mmap.mmap", size: int, whole: bytes) -> int | None:
         counts.add(at + len(tail))
         at = whole.find(tail, at + 1)
     found = [count for count in counts if count <= len(whole) and _is_end(text, size, whole, count)]
+    return found[0] if len(found) == 1 else None
+
+
+def _behind(text: "bytes | mmap.mmap", size: int, whole: bytes, ahead: bytes) -> int | None:
+    """The same behind what was handed out before: moves of one line alone are told apart by that."""
+    tail, begin = ahead[-_TAIL:], size
+    found: list[int] = []
+    while tail and len(found) < 2 and (begin := text.rfind(tail, 0, begin)) >= 0:
+        count = size - begin - len(tail)
+        if count > len(whole):
+            break
+        found += [count] if _is_end(text, size, whole, count) else []
+        begin += len(tail) - 1
     return found[0] if len(found) == 1 else None

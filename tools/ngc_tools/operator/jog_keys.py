@@ -7,7 +7,7 @@ from typing import Protocol
 from ngc_tools.formats.position import millimetres
 from ngc_tools.operator.face import REFUSED, WARNING
 from ngc_tools.operator.modes import trimmed
-from ngc_tools.operator.moves import DONE, Moves
+from ngc_tools.operator.moves import USUAL, Moves
 from ngc_tools.operator.session import ALARM
 from ngc_tools.player.progress import NoAnswer
 
@@ -23,9 +23,8 @@ _CLOSE_S = 0.07  # between two repeats of a held key; a person's taps are farthe
 _HELD = 2  # so many repeats in a row are a held key
 _GONE_S = 0.2  # without a repeat for so long a held key was let go
 _KEEP_S = 0.1  # between two words that a jog goes on
-_USUAL = (DONE, "stopped", "the key isn't held any more")
 _HELP = """\
-arrows: X and Y; page up, page down: Z. A tap goes {step} mm, a held key goes on at {rate} mm a minute until it is let go
+arrows: X and Y; page up, page down: Z. A tap goes {step} mm; a held key goes on, at {rate} mm a minute
 1, 2, 3: taps of 0.01, 0.1, 1 mm; + and -: the rate; Enter ends"""
 
 
@@ -111,7 +110,7 @@ class JogKeys:
         machine = self.link.machine()
         if machine.ended != self._number or machine.does != "stands":
             return
-        if machine.how not in _USUAL:
+        if machine.how not in USUAL:
             self.session.face.once(f"jog: {machine.how}", WARNING)
             self._pressed.forget()
         self._number, self._way = 0, ""

@@ -7,7 +7,7 @@ from ngc_tools.formats.position import millimetres
 
 SYSTEMS = ("G54", "G55", "G56", "G57", "G58", "G59", "G59.1", "G59.2", "G59.3")
 _PATHS = ("G61", "G61.1", "G64")
-_SPINDLE = ("M5", "M3", "M4")
+SPINDLE = ("M5", "M3", "M4")
 _CODES = ("unit", "feed_mode", "plane", "distance", "retract", "system", "path_mode")
 
 
@@ -43,7 +43,7 @@ def words_of(state: State) -> dict[str, str]:
         "origin": f"{SYSTEMS[state.system - 1]} at {point_words(state.origin_nm)}",
         "g92": f"G92 by {point_words(state.g92_nm)}" if any(state.g92_nm) else "no G92",
         "tool_length": length, "feed": f"F{trimmed(state.feed_nm_per_min)} mm/min",
-        "spindle": _SPINDLE[state.spindle], "speed": f"S{trimmed(state.speed)}", "coolant": " ".join(coolant) or "M9",
+        "spindle": SPINDLE[state.spindle], "speed": f"S{trimmed(state.speed)}", "coolant": " ".join(coolant) or "M9",
         "tool": f"tool {state.slot} in the spindle" if state.slot else "no tool in the spindle",
         "selected": f"T{state.selected}", "cycle": _kept(state),
     }
@@ -138,7 +138,7 @@ def _outputs(before: State, names: set[str]) -> Iterator[str]:
     if "speed" in names:
         yield f"S{trimmed(before.speed)}"
     if "spindle" in names:
-        yield _SPINDLE[before.spindle]
+        yield SPINDLE[before.spindle]
     if "coolant" in names:
         yield "M9"
         yield from (code for code, on in (("M7", before.mist), ("M8", before.flood)) if on)

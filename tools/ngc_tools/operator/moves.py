@@ -10,6 +10,7 @@ from ngc_tools.operator.face import REFUSED, SAID, WARNING, UnderWay, axes
 from ngc_tools.operator.left import Left
 from ngc_tools.operator.look import Look
 from ngc_tools.operator.modes import trimmed
+from ngc_tools.operator.motors import Motors
 from ngc_tools.operator.numbers import length_of, nanometres_of
 from ngc_tools.operator.recover import Recover
 from ngc_tools.operator.session import ALARM, BROKEN, Session
@@ -18,6 +19,8 @@ from ngc_tools.player.progress import Link, Machine, NoAnswer
 ASKED_S = 0.05
 """Between two questions: without one for a second the player brings a move to rest."""
 DONE = "done"
+USUAL = (DONE, "stopped", "the key isn't held any more")
+"""How a move ends that goes for as long as it is wanted."""
 
 _WAY = r"\s*([xyz])\s*([-+])\s+(\S+)"
 _JOG = re.compile(_WAY + r"\s+for\s+(\S+)\s*", re.IGNORECASE)
@@ -25,12 +28,12 @@ _SEEK = re.compile(_WAY + r"\s+within\s+(\S+)\s*", re.IGNORECASE)
 _HOME = re.compile(r"[xyz\s]*", re.IGNORECASE)
 _FORMS = {
     "home": "home, or home X Z: these axes alone",
-    "jog": "jog X+ RATE for MM: at a rate in mm a minute, as jog X+ 600 for 10; jog alone goes by keys at a terminal",
+    "jog": "jog X+ RATE for MM: at a rate in mm a minute, as jog X+ 600 for 10; jog alone: by keys, at a terminal",
     "seek": "seek Z- RATE within MM: until the probe is on, as seek Z- 60 within 10",
 }
 _NOT_KNOWN = "home, jog and seek are of tools/player with -m"
-_LATER = ("ngc isn't told where the machine is, since {half} is under way: quit, start the player and this again, and go"
-          " on as after a loss of power")
+_LATER = ("ngc isn't told where the machine is, since {half} is under way: quit, start the player and this again, and"
+          " go on as after a loss of power")
 
 Asked = tuple[int, str]
 """The number of a move, and why it is refused; nothing where it is taken."""
@@ -39,8 +42,9 @@ Asked = tuple[int, str]
 class Moves:
     """What they do. `do` does a command that is given meanwhile. `touched_nm` is where the probe was touched last."""
 
-    def __init__(self, session: Session, left: Left, recover: Recover, do: Callable[[str], None]) -> None:
-        self.session, self.left, self.recover, self.do = session, left, recover, do
+    def __init__(self, session: Session, motors: Motors, left: Left, recover: Recover,
+                 do: Callable[[str], None]) -> None:
+        self.session, self.motors, self.left, self.recover, self.do = session, motors, left, recover, do
         self.touched_nm: tuple[int, int, int] | None = None
 
     def home(self, rest: str) -> None:
@@ -58,6 +62,14 @@ class Moves:
         if words and self.begins("jog"):
             self._go(f"jog {words[0]}", lambda link: link.jog(*words))
 
+    def jog_while(self, way: str, rate: str, is_held: Callable[[], bool]) -> None:
+        """Goes along an axis, as `X+`, for as long as somebody holds on; `is_held` is asked each 50 ms."""
+        words = self._read("jog", _JOG, f"{way} {rate} for 1")
+        if words and self.begins("jog"):
+            link = self.session.meter.link
+            self._go(f"jog {words[0]}", lambda link: link.jog(*words[:2]),
+                     lambda number: link.keep_on(number, *words[:2]) if is_held() else link.stop())
+
     def seek(self, rest: str) -> None:
         """Goes along an axis until the probe is on."""
         words = self._read("seek", _SEEK, re.sub(r"\s+until\s+probe\b", "", rest, flags=re.IGNORECASE))
@@ -72,10 +84,12 @@ class Moves:
             self.session.face.say("no player is known: --player SOCKET")
             return False
         status = self.session.console.status()
-        if status.does in ("idle", "stopped") or self.session.is_in(ALARM, BROKEN):
+        if self.session.is_in(ALARM, BROKEN):
             return True
-        self._refuse(busy(self.session, status, word))
-        return False
+        if status.does not in ("idle", "stopped"):
+            self._refuse(busy(self.session, status, word))
+            return False
+        return self.motors.are_free()
 
     def _read(self, word: str, form: re.Pattern[str], rest: str) -> tuple[str, str, str] | None:
         """The way, the rate and the length of a command, as the player takes them; None, which is said, for others."""
@@ -89,20 +103,21 @@ class Moves:
     def _refuse(self, text: str) -> None:
         self.session.face.say(text, REFUSED)
 
-    def _go(self, name: str, begin: Callable[[Link], Asked]) -> None:
-        """Makes a move, and says how it ended."""
+    def _go(self, name: str, begin: Callable[[Link], Asked], keep: Callable[[int], None] | None = None) -> None:
+        """Makes a move, and says how it ended. `keep` is called with its number as long as it goes."""
         try:
             number, why = begin(self.session.meter.link)
             if why:
                 self._refuse(f"{name}: {why}")
                 return
-            machine = self.ended(number, name)
+            machine = self._ended(number, name, keep)
         except NoAnswer as error:
             self.say_silent(error)
             return
         finally:
             self.session.face.live(None)
-        self._say(name, machine)
+        if keep is None or machine.how not in USUAL:
+            self._say(name, machine)
         self.tell()
 
     def say_silent(self, error: NoAnswer) -> None:
@@ -110,12 +125,14 @@ class Moves:
         is_there = str(error).endswith("doesn't answer")
         self.session.face.say(f"{error}; {_NOT_KNOWN}" if is_there else str(error), WARNING)
 
-    def ended(self, number: int, name: str) -> Machine:
+    def _ended(self, number: int, name: str, keep: Callable[[int], None] | None) -> Machine:
         """Waits until a move is over. Whoever wants to hold ends it. Raises NoAnswer."""
         session, is_told = self.session, False
         status = session.console.status()
         while (machine := session.meter.link.machine()).ended != number or machine.does != "stands":
             self.show(name, status)
+            if keep:
+                keep(number)
             if not is_told and session.face.interrupted():
                 session.meter.link.stop()
                 is_told = True

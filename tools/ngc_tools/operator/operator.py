@@ -23,6 +23,7 @@ from ngc_tools.operator.meter import Meter
 from ngc_tools.operator.motors import Motors
 from ngc_tools.operator.moves import Moves
 from ngc_tools.operator.opening import say_opening
+from ngc_tools.operator.outputs import outputs_agree
 from ngc_tools.operator.places import Places, stops_outputs
 from ngc_tools.operator.recover import Recover
 from ngc_tools.operator.rehearsing import rehearse
@@ -52,7 +53,7 @@ class Operator:
         self.ending = Ending(self.session)
         self.recover = Recover(self.session)
         self.alarm = Alarm(self.session)
-        self.moves = Moves(self.session, self.left, self.recover, self.do)
+        self.moves = Moves(self.session, self.motors, self.left, self.recover, self.do)
         self.touch = Touch(self.session, self.places, self.moves, self._line_done)
         self.keys: Callable[[], AbstractContextManager[Keys]] | None = None
         self.over = False
@@ -150,7 +151,8 @@ class Operator:
         status = self.console.status()
         if self.motors.are_held and self._let_go(command, status):
             return
-        if not typed.anyway and not (self.places.agree(status, f"{typed.word} {ANYWAY}") and self.left.agreed(status)):
+        if not typed.anyway and not (self.places.agree(status, f"{typed.word} {ANYWAY}")
+                                     and outputs_agree(self.session, status) and self.left.agreed(status)):
             return
         timeline = self.loading.timeline(command == "start" and not status.place)
         if refused(self.session, self.console.ask(command)[0], command):
@@ -265,6 +267,8 @@ class Operator:
         if self.console.status().half == "none":
             self.left.keep()
         self.places.reference(typed.rest.lower().split(), typed.anyway)
+        if typed.rest.lower() != "player":
+            self.moves.touched_nm = None
 
     def _recover(self, _: Typed) -> None:
         """Brings the motors to where a half-done segment begins, and takes it up."""

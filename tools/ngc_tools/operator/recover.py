@@ -18,7 +18,7 @@ from ngc_tools.operator.display import on_words
 from ngc_tools.operator.face import REFUSED, WARNING, axes
 from ngc_tools.operator.recovery import Found, Recovery
 from ngc_tools.operator.rehearsing import segment_begins
-from ngc_tools.operator.session import Session
+from ngc_tools.operator.session import ALARM, BROKEN, Session
 from ngc_tools.player.progress import Report
 from ngc_tools.player.retrace import legs_to
 from ngc_tools.player.way import NoWay, count_lines
@@ -236,7 +236,9 @@ class Recover:
         link, face = self.session.meter.link, self.session.face
         link.release()
         while (report := link.ask()).behind:
-            face.moved(report)
+            self.session.take(report)
+            if self.session.is_in(ALARM, BROKEN):
+                return False
             if report.waits and not self._has_tool(report.tool):
                 return False
             if face.interrupted():

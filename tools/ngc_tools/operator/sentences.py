@@ -3,7 +3,7 @@ from ngc_tools.ngc import faults
 
 HELP = """\
 load FILE          try a program by a dry run, and store it
-run                start it, or go on with it
+run, start         start it; run goes on with it too
 G0 X1 ..           a line of G-code of your own
 restore            put back what lines of your own left in force
 home, home X Z     to the switches; then ngc knows where the machine is
@@ -18,7 +18,7 @@ hold               Enter or Ctrl-C while something runs
 release            lets held motors carry out what is in hand
 percent N          go at N % of the rates; - and + are 10 %
                    less and more, 0 is 100 %
-where              machine and work, the line, the times, the motors
+where, status      machine and work, the line, the times, the motors
 continue           go on with what was held or stopped
 reference X Y Z    the machine stands there, in mm
 reference player   the machine stands where the player says

@@ -92,6 +92,11 @@ class Touch:
         self.setter_nm: int | None = None
         self._back: Back | None = None
 
+    @property
+    def undoes(self) -> str:
+        """What `undo` would do; nothing where nothing is to be put back."""
+        return self._back.command if self._back else ""
+
     def zero(self, rest: str, anyway: bool) -> None:
         """Makes the point where the machine stands X0, Y0, Z0, or what is typed, of the system in force."""
         self._said_why(lambda: self._zero(rest, anyway))
@@ -103,11 +108,6 @@ class Touch:
     def undo(self) -> None:
         """Puts back what the last `zero` or `touch` set, once."""
         self._said_why(self._undo)
-
-    @property
-    def undoes(self) -> str:
-        """What `undo` would do; nothing if there is nothing to undo."""
-        return self._back.command if self._back else ""
 
     def _said_why(self, what: Callable[[], None]) -> None:
         try:

@@ -1,15 +1,10 @@
 """A jog that goes on for as long as a page repeats its wish, as a finger stays on a button."""
 import time
 
-from ngc_tools.operator.face import REFUSED, WARNING
-from ngc_tools.operator.moves import DONE, Moves
-from ngc_tools.player.progress import NoAnswer
+from ngc_tools.operator.moves import Moves
 
 SILENCE_S = 0.3
 """A wish that isn't repeated for so long is over."""
-_LOOK_S = 0.02
-_KEEP_S = 0.1  # between two words to the player that it goes on
-_USUAL = (DONE, "stopped", "the key isn't held any more")
 
 
 class HeldJog:
@@ -41,37 +36,7 @@ class HeldJog:
         self._press = self._let_go = -1
 
     def go(self, moves: Moves) -> None:
-        """Jogs until the wish is over, and tells `ngc` where that ended."""
-        if not self.is_wanted() or not moves.begins("jog"):
-            return
+        """Jogs until the wish is over, or is one for another way; `ngc` is told where that ended."""
         way = self.way
-        try:
-            how = self._gone(moves, way)
-        except NoAnswer as error:
-            moves.say_silent(error)
-            return
-        finally:
-            moves.session.face.live(None)
-        if how not in _USUAL:
-            moves.session.face.say(f"jog {way}: {how}", WARNING)
-        moves.tell()
-
-    def _gone(self, moves: Moves, way: str) -> str:
-        """Jogs, and says how it ended. Raises NoAnswer."""
-        face, link, rate = moves.session.face, moves.session.meter.link, self.rate
-        status = moves.session.console.status()
-        number, why = link.jog(way, rate)
-        if why:
-            face.say(f"jog {way}: {why}", REFUSED)
-            return DONE
-        kept = time.monotonic()
-        while self.way == way and self.is_wanted() and not face.interrupted():
-            if link.machine().does == "stands":
-                break
-            if time.monotonic() > kept + _KEEP_S:
-                link.keep_on(number, way, rate)
-                kept = time.monotonic()
-            moves.show(f"jog {way}  {rate} mm/min", status)
-            time.sleep(_LOOK_S)
-        link.stop()
-        return moves.ended(number, f"jog {way}").how
+        if self.is_wanted():
+            moves.jog_while(way, self.rate, lambda: self.way == way and self.is_wanted())

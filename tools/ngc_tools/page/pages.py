@@ -31,6 +31,7 @@ class Pages:
         self._streams[page] = self._streams.get(page, 0) + 1
         if self.commands not in self._streams:
             self.commands = page
+        if self.commands == page:
             self.session.jogs.forget()
         self.session.face.publish()
         return True

@@ -212,9 +212,9 @@ class Session:
         return self.aside.call(find, check, text)
 
     def restart(self) -> None:
-        """Begins a session of `ngc run` anew, after it has ended, its device failed, or its player is gone. Raises
-        Busy, and what `Opens` raises."""
-        if not self.ended and (self.stand.gone or self.stand.status.does == "broken"):
+        """Begins a session of `ngc run` anew, after it has ended, its device failed, or its player is gone or carries
+        nothing out any more. Raises Busy, and what `Opens` raises."""
+        if not self.ended and self.stand.is_broken:
             self.ask("restart", self._give_up)
         if not self.ended or self.over.is_set():
             raise Busy("nothing failed: quit ends the session")

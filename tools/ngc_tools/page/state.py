@@ -14,8 +14,8 @@ from ngc_tools.player.progress import Report
 
 _TROUBLES = {
     ALARM: ("ALARM", "fail", "The motors stood at once, and where the machine is isn't known. Home comes first"),
-    BROKEN: ("Broken off", "fail", "No more line of this session is carried out. Quit, and start the player and this"
-             " again"),
+    BROKEN: ("Broken off", "fail", "No more line of this session is carried out. Start the player again, and begin"
+             " anew"),
 }
 _IN_MODES = ("unit", "distance", "plane", "system", "feed_mode", "motion")
 
@@ -97,7 +97,7 @@ class Pictured:
         return {"session": session.ident, "ended": session.ended, "over": session.over.is_set(),
                 "program": {"id": session.program_id, "name": session.name, "lines": self.program.count},
                 "job": session.drawer.count, "finished": session.is_finished, "started": session.started,
-                "left_at": session.opened.left_at, "undo": self.operator.touch.undoes,
+                "left_at": session.opened.left_at, "broken": self.stand.is_broken, "undo": self.operator.touch.undoes,
                 "setter": None if setter_nm is None else millimetres(setter_nm),
                 "typed": self.stand.typed, "restore": self.stand.restore}
 

@@ -137,7 +137,9 @@ class Machine:
         if match is None:
             raise ValueError(f"not what a player says of its machine: {answer[:80]!r}")
         does, homed, alarm, on, touched = (each if each != "none" else "" for each in match.groups()[:5])
-        return Machine(does, homed, alarm, tuple(on.split(",")) if on else (), touched, int(match[6]), match[7])
+        ended = int(match[6])
+        inputs = tuple(on.split(",")) if on else ()
+        return Machine(does, homed, alarm, inputs, touched, ended, match[7] if ended else "")
 
 
 def _switch(text: str) -> Switch | None:

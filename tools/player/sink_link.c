@@ -1,0 +1,188 @@
+#define _GNU_SOURCE
+#include "sink_link.h"
+
+#include <errno.h>
+#include <string.h>
+#include <sys/eventfd.h>
+#include <time.h>
+#include <unistd.h>
+
+#include "sink_serial.h"
+#include "sink_thread.h"
+
+enum {
+    BEGINS_MS = 5000, /* as long as a sink may take to answer, and to end what another player gave */
+    STOPS_MS = 3000,
+    ASKS_MS = 50 /* a stop is asked for again after so long */
+};
+
+static struct link *const shared = &sink_link;
+static unsigned seen; /* changes that link_await has told of */
+
+bool link_open(struct play *of, struct cause *why) {
+    static const struct sink_inputs none;
+    const struct sink_settings *settings = &of->machine.sink;
+    shared->play = of;
+    shared->path = settings->line;
+    link_make_lock();
+    shared->wake = eventfd(0, EFD_NONBLOCK | EFD_CLOEXEC);
+    shared->line = serial_open(shared->path, settings->baud, why);
+    if (shared->line < 0) {
+        return false;
+    }
+    sender_begin(&shared->sender, 0, &none, LINK_WINDOW_TICKS);
+    shared->sender.state = SENDER_ENDED; /* nothing is sought before a session is to begin */
+    words_begin(&shared->words, shared->play);
+    int error = link_start();
+    return error == 0 || because(why, "no thread: %s", strerror(error));
+}
+
+bool link_is_there(void) {
+    return shared->line >= 0;
+}
+
+/* A number that no other sender has: by the clock, and not 0. */
+static uint32_t new_token(void) {
+    struct timespec moment;
+    clock_gettime(CLOCK_REALTIME, &moment);
+    return ((uint32_t)moment.tv_sec * 1000000 + (uint32_t)(moment.tv_nsec / 1000)) | 1;
+}
+
+/* Waits for a change until a moment; the lock is held. */
+static bool wait_changed(int64_t until) {
+    struct timespec moment = {(time_t)(until / 1000000000), (long)(until % 1000000000)};
+    unsigned before = shared->changes;
+    int error = 0;
+    while (shared->changes == before && error == 0) {
+        error = pthread_cond_timedwait(&shared->changed, &shared->lock, &moment);
+    }
+    return error == 0;
+}
+
+bool link_begin(const struct sink_inputs *inputs, struct cause *why) {
+    int64_t until = schedule_now() + INT64_C(1000000) * BEGINS_MS;
+    pthread_mutex_lock(&shared->lock);
+    sender_begin(&shared->sender, new_token(), inputs, LINK_WINDOW_TICKS);
+    words_begin(&shared->words, shared->play);
+    shared->now = (struct link_state){.dry = shared->now.dry};
+    bool has_begun = false;
+    bool is_in_time = true;
+    while (!has_begun && is_in_time && !shared->is_gone) {
+        is_in_time = wait_changed(until);
+        has_begun = shared->sender.state == SENDER_LINKED || shared->sender.state == SENDER_ENDED;
+    }
+    bool is_heard = shared->sender.is_heard;
+    pthread_mutex_unlock(&shared->lock);
+    if (has_begun) {
+        return true;
+    }
+    return is_heard ? because(why, "%s: the step sink doesn't come to rest", shared->path)
+                    : because(why, "%s: no step sink answers: is it switched on, and is baud that of its port?",
+                              shared->path);
+}
+
+bool link_wants(void) {
+    pthread_mutex_lock(&shared->lock);
+    bool wants = words_have_room(&shared->words, &shared->sender) && sender_wants(&shared->sender);
+    pthread_mutex_unlock(&shared->lock);
+    return wants;
+}
+
+void link_give(const struct move *move, uint64_t ns, uint64_t ramp, bool is_rest) {
+    pthread_mutex_lock(&shared->lock);
+    words_give(&shared->words, &shared->sender, move, ns, ramp, is_rest);
+    shared->now.is_done = false;
+    pthread_mutex_unlock(&shared->lock);
+}
+
+void link_give_line(const struct line *of, size_t size, uint64_t ns, uint64_t ramp, bool is_rest) {
+    struct move move = {true, *of, shared->words.lines + 1, shared->words.bytes + size};
+    link_give(&move, ns, ramp, is_rest);
+}
+
+struct outputs link_outputs(void) {
+    return shared->words.outputs;
+}
+
+uint64_t link_lines(void) {
+    return shared->words.lines;
+}
+
+void link_await(int ms) {
+    eventfd_write(shared->wake, 1);
+    pthread_mutex_lock(&shared->lock);
+    if (shared->changes == seen) {
+        wait_changed(schedule_now() + INT64_C(1000000) * ms);
+    }
+    seen = shared->changes;
+    pthread_mutex_unlock(&shared->lock);
+}
+
+struct link_state link_look(void) {
+    pthread_mutex_lock(&shared->lock);
+    struct link_state state = shared->now;
+    pthread_mutex_unlock(&shared->lock);
+    return state;
+}
+
+bool link_is_over(const char **word, const char **text) {
+    static const char *const of_faults[] = {"sink", "silent", "word", "asked", "touched", "input", "dead"};
+    pthread_mutex_lock(&shared->lock);
+    const struct sender *sender = &shared->sender;
+    bool is_reset = sender->state == SENDER_RESET;
+    bool is_over = shared->is_gone || is_reset || sender->is_deaf || sender->state == SENDER_ENDED;
+    *word = shared->is_gone ? "line" : is_reset ? "reset" : sender->is_deaf ? "deaf" : of_faults[sender->sink.fault];
+    *text = shared->is_gone ? "the line to the sink is gone" : sender_why(sender);
+    pthread_mutex_unlock(&shared->lock);
+    return is_over;
+}
+
+/* Puts a frame that stops behind what is to be sent. */
+static void ask_to_stop(bool is_dead) {
+    if (shared->size_to_send + WIRE_LINE <= LINK_ROOM) {
+        shared->size_to_send += sender_stop(&shared->sender, is_dead, shared->to_send + shared->size_to_send);
+        link_write_waiting();
+    }
+}
+
+void link_stop(bool is_dead) {
+    int64_t until = schedule_now() + INT64_C(1000000) * STOPS_MS;
+    int64_t asks = 0;
+    pthread_mutex_lock(&shared->lock);
+    while (!shared->is_gone && shared->sender.state == SENDER_LINKED && schedule_now() < until) {
+        if (schedule_now() >= asks) {
+            ask_to_stop(is_dead);
+            asks = schedule_now() + INT64_C(1000000) * ASKS_MS;
+        }
+        wait_changed(asks);
+    }
+    pthread_mutex_unlock(&shared->lock);
+}
+
+bool link_switch_off(void) {
+    int64_t until = schedule_now() + INT64_C(1000000) * STOPS_MS;
+    pthread_mutex_lock(&shared->lock);
+    if (shared->sender.state == SENDER_LINKED) {
+        words_switch_off(&shared->words, &shared->sender);
+    }
+    const struct sender *sender = &shared->sender;
+    bool is_in_time = true;
+    while (!shared->is_gone && sender->state == SENDER_LINKED && sender->sink.made != sender->given && is_in_time) {
+        is_in_time = wait_changed(until);
+    }
+    bool is_off = !shared->is_gone && !sender->is_deaf && is_in_time;
+    pthread_mutex_unlock(&shared->lock);
+    return is_off;
+}
+
+void link_close(void) {
+    if (shared->line < 0) {
+        return;
+    }
+    pthread_mutex_lock(&shared->lock);
+    shared->ends = true;
+    pthread_mutex_unlock(&shared->lock);
+    pthread_join(shared->thread, NULL);
+    close(shared->line);
+    shared->line = -1;
+}

@@ -1,0 +1,71 @@
+"""What tests of a player over a step sink share: a sink at the other end of a pseudo terminal, whose clock goes on by
+itself."""
+import subprocess
+import time
+from pathlib import Path
+from typing import NamedTuple
+
+from player_support import SANITIZERS, built, has_sanitizers
+from session_support import PATIENCE_S, TOOLS
+
+SINK = TOOLS / "sink"
+TICK_NS = 125
+PARTS = tuple(SINK / name for name in ("sink_posix.c", "sink.c", "make.c", "wire.c"))
+
+
+class Made(NamedTuple):
+    """What the pins did: a step of axes, which count down, or outputs."""
+
+    tick: int
+    step: tuple[int, int, int] | None
+    outputs: tuple[int, ...] | None
+
+
+def steps_of(axes: int, down: int) -> tuple[int, int, int]:
+    """The steps of X, Y and Z."""
+    x, y, z = ((axes >> axis & 1) * (-1 if down >> axis & 1 else 1) for axis in range(3))
+    return x, y, z
+
+
+def read_made(line: str) -> Made:
+    """A line of what the pins did."""
+    kind, tick, *rest = line.split()
+    numbers = tuple(map(int, rest))
+    return Made(int(tick), steps_of(*numbers) if kind == "P" else None, numbers if kind == "S" else None)
+
+
+class ServedSink:
+    """A sink, whose serial line is `path`. What its pins do is in a file until it ends."""
+
+    def __init__(self, waits_ms: int) -> None:
+        """Starts it: where words are late its clock stands for so many real milliseconds before it goes on."""
+        self._said = Path("sink_events").open("w+", encoding="ascii")
+        program = built("-std=c99", *(SANITIZERS if has_sanitizers() else ("-O2",)), "-I", SINK, sources=PARTS)
+        self.child = subprocess.Popen([program, "1"], stdin=subprocess.PIPE, stdout=self._said, text=True)
+        self.path = self._first_line()
+        self.tell(f"serve {waits_ms}")
+
+    def _first_line(self) -> str:
+        """The line that it says at once."""
+        until = time.monotonic() + PATIENCE_S
+        said = ""
+        while not said.endswith("\n") and time.monotonic() < until:
+            time.sleep(0.002)
+            said = Path("sink_events").read_text(encoding="ascii")
+        return said.strip()
+
+    def tell(self, line: str) -> None:
+        """Has it do a line of its input."""
+        self.child.stdin.write(line + "\n")
+        self.child.stdin.flush()
+
+    def end(self) -> list[Made]:
+        """Lets it come to rest alone, and ends it: all that its pins did."""
+        self.tell("serve 0")
+        self.tell("run 16000000 0")
+        self.child.stdin.close()
+        if self.child.wait(PATIENCE_S):
+            raise AssertionError(f"the sink's status is {self.child.returncode}")
+        self._said.close()
+        lines = Path("sink_events").read_text(encoding="ascii").splitlines()[1:]
+        return [read_made(line) for line in lines if line[0] != "."]

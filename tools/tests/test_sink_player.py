@@ -1,0 +1,268 @@
+"""tools/player over a step sink: what the sink makes, when, and what the record says of it."""
+import random
+import signal
+import sys
+import time
+import unittest
+from collections.abc import Iterator
+from pathlib import Path
+
+sys.path.insert(0, str(Path(__file__).resolve().parent))
+
+from pace_support import excess, straight  # noqa: E402
+from player_support import InC, PlayerTest, Sanitized, record  # noqa: E402
+from session_support import FIRST, PATIENCE_S, TOOLS  # noqa: E402
+from sink_support import TICK_NS, Made, ServedSink  # noqa: E402
+
+EXAMPLES = sorted((TOOLS.parent / "examples").glob("*.ngc"))
+COARSE = (FIRST.replace("[1000, 1000, 1000]", "[50000, 50000, 50000]").replace("[50000000]", "[50000000, 62500000, 0]")
+          .replace("period_us = 50\n", "period_us = 100\n"))
+FINE = FIRST.replace("[1000, 1000, 1000]", "[2500, 2500, 2500]")
+MOTION = "[motion]\naccel_mm_s2 = [500, 500, 500]\n"
+LONG = "P 1 0 0 50\n" * 4000  # 10 mm at 3,000 mm a minute: 20,000 steps a second, from which a stop takes 1,000
+PATIENT_MS, HASTY_MS = 20_000, 2
+RUNS = 24
+
+
+class OverSink(PlayerTest):
+    """A player over a sink."""
+
+    def setUp(self) -> None:
+        """400 steps a mm."""
+        super().setUp()
+        Path("first.toml").write_text(FINE)
+
+    def serve(self, waits_ms: int = PATIENT_MS) -> ServedSink:
+        """A sink that is named in the machine's file."""
+        sink = ServedSink(waits_ms)
+        self.addCleanup(sink.child.kill)
+        Path("motion.toml").write_text(f'{MOTION}[sink]\nline = "{sink.path}"\nbaud = 2000000\n')
+        return sink
+
+    def words(self, *words: str) -> list[str]:
+        """The words of a player over it."""
+        return ["--no-ask-tool", "--machine", "motion.toml", *words, "out", "first.toml", "position"]
+
+    def out(self) -> list[list[str]]:
+        """The lines of OUT."""
+        return [line.split() for line in Path("out").read_text().splitlines()]
+
+    def check_made(self, made: list[Made]) -> list[int]:
+        """What was made is OUT's beginning, each pulse once and in order, and each switch; the ticks of the pulses."""
+        pulses = [each for each in made if each.step and any(each.step)]
+        wanted = [tuple(map(int, words[1:4])) for words in self.out() if words[0] == "P" and words[1:4] != ["0"] * 3]
+        self.assertEqual([each.step for each in pulses], wanted[:len(pulses)])
+        return [each.tick for each in pulses]
+
+    def timed(self, ticks: list[int]) -> Iterator[str]:
+        """The pulses that were made as a file of --times has them."""
+        pulses = (words for words in self.out() if words[0] == "P" and words[1:4] != ["0"] * 3)
+        return (f"{tick * TICK_NS} {' '.join(words)}\n" for tick, words in zip(ticks, pulses))
+
+    def check_record(self, made: list[Made]) -> int:
+        """The record counts what the sink made, and no more; how many lines that is."""
+        said = dict(line.split(" ", 1) for line in record().splitlines())
+        lines = self.out()[:int(said["lines"])]
+        pulses = sum(words[0] == "P" and words[1:4] != ["0"] * 3 for words in lines)
+        self.assertEqual(pulses, len(self.check_made(made)))
+        place = [sum(int(words[axis]) for words in lines if words[0] == "P") for axis in (1, 2, 3)]
+        self.assertEqual(said["reference"], " ".join(f"{steps * 0.0025:.6f}" for steps in place).replace("-0.0000", "0.0"))
+        return len(lines)
+
+
+class Whole(InC, OverSink, unittest.TestCase):
+    """Over a good line."""
+
+    def hand_out(self, program: str) -> None:
+        """Makes `out` of a program, from a fresh device."""
+        for path in ("mill.dev", "out", "times", "position"):
+            Path(path).unlink(missing_ok=True)
+        self.device()
+        self.run_ngc(f"tool 1 50\ntool 2 62.5\ntool 3 0\nload {len(program.encode())}\n{program}start\n"
+                     + "tick 1000000\ncontinue\n" * 3)
+
+    def check_times(self, ticks: list[int], name: str) -> None:
+        """Each pulse is made within a tick of its time from the first; behind a rest it may come later."""
+        times = [line.split() for line in Path("times").read_text().splitlines()]
+        late, is_rest = None, True
+        at = iter(ticks)
+        for words in times:
+            if words[1] != "P" or words[2:5] == ["0"] * 3:
+                is_rest = True
+                continue
+            now = next(at) - int(words[0]) / TICK_NS
+            if late is None or (is_rest and now > late):
+                late = now
+            self.assertLessEqual(abs(now - late), 1, (name, words))
+            is_rest = False
+        self.assertIsNone(next(at, None))
+
+    def test_examples(self) -> None:
+        """Of all examples the sink makes OUT's pulses and switches, each within a tick of the plan's; motors can follow
+        them, and the record counts all lines."""
+        Path("first.toml").write_text(COARSE)
+        for example in EXAMPLES:
+            sink = self.serve()
+            self.hand_out(example.read_text())
+            done = self.run_player(*self.words("--times", "times"))
+            self.assertEqual(done.returncode, 0, (example.name, done.stderr))
+            self.assertNotIn("ran dry", done.stderr + done.stdout)
+            made = sink.end()
+            ticks = self.check_made(made)
+            self.assertEqual(len(ticks), sum(words[0] == "P" and words[1:4] != ["0"] * 3 for words in self.out()))
+            switches = [words for words in self.out() if words[0] == "S"]
+            outputs = [each.outputs for each in made if each.outputs][1:1 + len(switches)]
+            self.assertEqual([str(each[0]) for each in outputs], [words[1] for words in switches])
+            self.check_times(ticks, example.name)
+            self.assertLess(excess(self.timed(ticks), (10_000,) * 3), 4, example.name)
+            self.assertEqual(record().splitlines()[0], f"lines {len(self.out())}")
+
+    def test_fast(self) -> None:
+        """20,000 steps a second, at which a stop takes 1,000 words, with waits and switches between: no word is made
+        longer."""
+        sink = self.serve()
+        Path("out").write_text("S 1 9.000000 0 0 0 0\n" + LONG + "D 20000\nS 2 9.500000 1 0 0 3\nD 3\n" + LONG
+                               + "D 9000000\nP 0 -1 1 3000000\nP 0 -1 0 3000000\nS 0 0.000000 0 0 0 3\n")
+        done = self.run_player(*self.words("--times", "times"))
+        self.assertEqual((done.returncode, done.stderr), (0, ""))
+        made = sink.end()
+        ticks = self.check_made(made)
+        self.assertEqual(len(ticks), 8002)
+        self.check_times(ticks, "fast")
+        self.assertAlmostEqual((ticks[3999] - ticks[0]) * TICK_NS / 1e9, 0.3, delta=0.006)
+        outputs = [each.outputs for each in made if each.outputs]
+        self.assertEqual(outputs[:4], [(0, 0, 0, 0, 0, 0), (1, 9_000_000, 0, 0, 0, 0), (2, 9_500_000, 1, 0, 0, 3),
+                                       (0, 0, 0, 0, 0, 3)])
+        self.check_record(made)
+
+    def test_words(self) -> None:
+        """What the machine's file may say of a sink, and what is refused."""
+        Path("out").write_text(LONG)
+        wrong = {"line = 3\n": 'sink: line takes a path of at most 255 bytes in "quotes", without \\',
+                 "baud = 115200\n": "sink: line is missing: the path of the sink's serial line",
+                 'line = "x"\nbaud = 9600\n': "sink: baud takes one of the rates of a serial line, 115200 to 4000000",
+                 'line = "x"\nrate = 1\n': "sink has a key that isn't line or baud: rate"}
+        for text, said in wrong.items():
+            Path("motion.toml").write_text(f"{MOTION}[sink]\n{text}")
+            self.assertEqual(self.refused(*self.words()), f"motion.toml: {said}", text)
+        Path("motion.toml").write_text(f'{MOTION}[sink]\nline = "nowhere"\n')
+        self.assertEqual(self.refused(*self.words()), "nowhere: No such file or directory")
+        Path("motion.toml").write_text(f'{MOTION}[sink]\nline = "out"\n')
+        self.assertEqual(self.refused(*self.words()), "out: it isn't a serial line")
+        self.assertEqual(self.refused("--pins", "pins", *self.words()),
+                         "--pins goes without [sink] of motion.toml: the sink has the pins")
+        self.assertFalse(Path("position").exists())
+
+
+class Stops(InC, OverSink, unittest.TestCase):
+    """What stops it."""
+
+    def begun(self, sink: ServedSink, text: str) -> object:
+        """A player that moves."""
+        Path("out").write_text(text)
+        child = self.begin(*self.words("--progress", "progress"))
+        link = self.linked()
+        self.wait_for("it moves", lambda: link.ask().carried > 2)
+        return child
+
+    def test_signal(self) -> None:
+        """`kill` brings it to rest by the pacer, and what was given is made; the record counts it."""
+        sink = self.serve()
+        child = self.begun(sink, "P 1 0 0 2000\n" * 100_000)
+        child.send_signal(signal.SIGTERM)
+        _, said = child.communicate(timeout=PATIENCE_S)
+        self.assertEqual(child.returncode, 1)
+        made = sink.end()
+        count = self.check_record(made)
+        self.assertEqual(said, f"out: stopped after line {count}; spindle and coolant off\n")
+        self.assertIn("stopped signal", record())
+
+    def test_silence(self) -> None:
+        """A line that is cut: the sink comes to rest by itself; once it is heard again the record counts what it
+        made."""
+        sink = self.serve(HASTY_MS)
+        child = self.begun(sink, "S 1 9.000000 0 0 0 0\n" + "P 1 0 0 2000\n" * 100_000)
+        sink.tell("cut 700")
+        _, said = child.communicate(timeout=PATIENCE_S)
+        made = sink.end()
+        count = self.check_record(made)
+        self.assertIn(f"the sink heard nothing for half a second, after line {count}; spindle and coolant off\n", said)
+        self.assertIn("stopped silent", record())
+        self.assertEqual(made[-1].outputs[:1], (0,))
+
+    def test_no_answer(self) -> None:
+        """A sink that says nothing at the start."""
+        sink = self.serve()
+        sink.tell("cut 100000000")
+        Path("out").write_text(LONG)
+        self.assertRegex(self.refused(*self.words()), "no step sink answers: is it switched on")
+        self.assertFalse(Path("position").exists())
+
+
+def disturbed_out(chance: random.Random) -> Iterator[str]:
+    """Lines of some motions, waits and switches."""
+    for _ in range(chance.randint(1, 4)):
+        us, count = chance.choice((50, 51, 100, 500)), chance.choice((3, 40, 1500, 4000))
+        yield from straight(chance, count, us)
+        if chance.random() < 0.5:
+            yield chance.choice(("D 0", "D 30000", "S 1 9.000000 0 0 0 0", "S 0 0.000000 0 0 0 0"))
+
+
+class ByChance(InC, OverSink, unittest.TestCase):
+    """Whatever comes: no pulse is made twice or left out, and motors can follow all of them."""
+
+    def play_on(self, chance: random.Random, sink: ServedSink) -> tuple[int, str]:
+        """Plays until it ends, while something befalls it: its status, and what it says."""
+        child = self.begin(*self.words())
+        time.sleep(chance.uniform(0, 0.08))  # nothing depends on what has happened by then
+        what = chance.random()
+        if what < 0.3:
+            sink.tell(f"cut {chance.choice((4, 15, 60, 200, 700))}")
+        elif what < 0.5:
+            child.send_signal(signal.SIGTERM)
+        elif what < 0.6:
+            child.send_signal(signal.SIGTERM)
+            child.send_signal(signal.SIGINT)
+        _, said = child.communicate(timeout=PATIENCE_S)
+        return child.returncode, said
+
+    def run_by_chance(self, seed: int) -> str:
+        """A run: players that follow each other until OUT is done; what they said."""
+        chance = random.Random(seed)
+        Path("position").unlink(missing_ok=True)
+        sink = self.serve(HASTY_MS)
+        sink.tell(f"faults {seed + 1} {chance.choice((0, 0, 5, 30))}")
+        Path("out").write_text("".join(f"{line}\n" for line in disturbed_out(chance)))
+        status, said = self.play_on(chance, sink)
+        for _ in range(30):
+            if status == 0:
+                break
+            status, more = self.play_on(chance, sink)
+            said += more
+        self.assertEqual(status, 0, said)
+        made = sink.end()
+        self.assertEqual(self.check_record(made), len(self.out()), said)
+        self.assertLess(excess(self.timed(self.check_made(made)), (200_000,) * 3), 4, said)
+        return said
+
+    def test_by_chance(self) -> None:
+        """Frames are lost, damaged and doubled, the line is cut, the player is stopped, and starts again."""
+        said = ""
+        for seed in range(RUNS):
+            with self.subTest(seed):
+                said += self.run_by_chance(seed)
+        self.assertIn("stopped after line", said)
+
+
+class SanitizedByChance(Sanitized, ByChance):
+    """The same under the compiler's sanitizers."""
+
+    def test_by_chance(self) -> None:
+        """A few runs."""
+        for seed in range(100, 104):
+            with self.subTest(seed):
+                self.run_by_chance(seed)
+
+
+if __name__ == "__main__":
+    unittest.main()
