@@ -9,7 +9,7 @@ sys.path.insert(0, str(Path(__file__).resolve().parent))
 
 from browser_support import Browser, chromium  # noqa: E402
 from machine_support import SocketMachine  # noqa: E402
-from page_support import LONG, OTHER, Served  # noqa: E402
+from page_support import OTHER, SLOW, Served  # noqa: E402
 from session_support import ngc  # noqa: E402
 
 SIZES = ((1280, 800), (1024, 768), (1920, 1080))
@@ -29,6 +29,12 @@ SIGHT = """(() => {
 CUT = """[...document.querySelectorAll('.axis output, .axis div, #gauges dd, #word, #risk, #left, nav button, h1, h2, dt, dd')]
     .filter(one => one.checkVisibility() && one.scrollWidth > one.clientWidth + 1).map(one => one.textContent)"""
 """What a person reads from afar, and that is cut."""
+FAR = """(() => {
+    document.querySelectorAll('.axis output').forEach(one => { one.textContent = '\\u22121000.000'; });
+    ngc.readout.fit();
+    return %s;
+})()""" % CUT
+"""The same with the longest numbers."""
 CONTRAST = """(() => {
     const canvas = document.createElement('canvas').getContext('2d', { willReadFrequently: true });
     const parts = colour => {
@@ -148,11 +154,9 @@ class Looks(InBrowser):
         for tab in ("setup", "tools", "log", "program"):
             browser.js(f"document.querySelector('[data-tab={tab}]').click()")
             self.look(tab)
-        browser.js("[...document.querySelectorAll('.axis output')].forEach(one => { one.textContent = '\u22121000.000'; });"
-                   "document.getElementById('axes').style.setProperty('--fit', 7 / 9)")
         for size in SIZES:
             browser.size(*size)
-            self.assertEqual(browser.js(CUT), [], size)
+            self.assertEqual(browser.js(FAR), [], size)
             digits = browser.js("parseFloat(getComputedStyle(document.querySelector('.axis output')).fontSize)")
             self.assertGreater(digits, 36, size)
         self.choose("G1 X1 Q2 F10\nM0\nX1\n" + "(a very long comment without an end)" * 6 + "\n")
@@ -206,9 +210,9 @@ class Work(InBrowser):
     """What is done by touch."""
 
     def test_hold(self) -> None:
-        """Hold by the space bar and by the button; jog is there where the machine can; a page that isn't told waits."""
+        """Hold by the space bar, and by the button, and on again."""
         browser = self.browser
-        self.load(LONG, 6)
+        self.load(SLOW, 4)
         browser.press("Run", "#run")
         browser.wait("ngc.state.line === 3 && ngc.state.half === 'program'")
         browser.space()
@@ -224,7 +228,7 @@ class Work(InBrowser):
     def test_two_pages(self) -> None:
         """Where another page took over, this one watches, holds, and takes over again."""
         browser, other = self.browser, self.page(OTHER)
-        self.load(LONG, 6)
+        self.load(SLOW, 4)
         self.assertEqual(other.post("takeover")[0], 200)
         browser.wait("!ngc.state.yours && document.getElementById('takeover').checkVisibility()")
         self.assertEqual(browser.js("[...document.querySelectorAll('footer button:not(:disabled)')].map(one => one.id)"),
@@ -292,11 +296,11 @@ class Power(InBrowser):
     OUT = "out"
 
     def test_recovery(self) -> None:
-        """The page says that it is lost, begins anew with the new session, and leads through the four steps to the end."""
+        """The page says that it is lost, begins anew with the new session, and leads through the four steps to the cut."""
         browser = self.browser
-        self.load("M3 S100\n" + LONG, 7)
+        self.load("M3 S100\n" + SLOW, 5)
         browser.press("Run", "#run")
-        browser.wait("ngc.state.line === 4 && ngc.state.motors[0] > 0.5")
+        browser.wait("ngc.state.line === 4 && ngc.state.motors[0] > 0.02")
         before = browser.js("ngc.state.session")
         self.pull()
         browser.wait("document.getElementById('lost').checkVisibility()")
@@ -317,8 +321,8 @@ class Power(InBrowser):
         self.look("the choice")
         browser.press("Go along the path", "#over button")
         self.agree_to_all()
-        browser.wait("ngc.state.finished && !document.getElementById('over').checkVisibility()")
-        self.assertEqual(browser.js("ngc.state.motors"), ["1.000000", "0.000000", "-1.000000"])
+        browser.wait("ngc.state.does === 'running' && ngc.state.motors[0] > 0.02 && ngc.state.spindle === 1")
+        self.assertFalse(browser.js("document.getElementById('over').checkVisibility()"))
         self.no_complaints()
 
     def begin_again(self) -> None:

@@ -25,7 +25,7 @@ const picture = new Picture($('canvas'), (um, px) => {
   $('scale').style.width = `${px}px`;
 });
 const recovery = new Recovery(app, asks, log);
-Object.assign(app, { picture, program });
+Object.assign(app, { picture, program, readout });
 
 // Asks the server for something. Gives its answer, or null where it isn't done, which is said.
 async function asks(what, body) {
@@ -117,9 +117,9 @@ function showQuestion(s) {
   if (!id) {
     sheet.close();
   } else {
-    const { content, buttons } = question.parts(s.question, s.yours, asks);
     const said = log.since(s.command?.since ?? Infinity, ['said', 'warning', 'refused']);
-    sheet.open('A question', [sheet.lines(said), ...content], [sheet.gap(), ...buttons]);
+    const { content, buttons } = question.parts(s.question, said, s.yours, asks);
+    sheet.open('A question', content, [sheet.gap(), ...buttons]);
   }
   app.asked = id;
 }

@@ -237,10 +237,10 @@ export class Recovery {
   }
 
   questioned(state) {
-    const { content, buttons } = question.parts(state.question, state.yours, this.asks);
     const said = this.log.since(state.command?.since ?? 0, SAID);
+    const { content, buttons } = question.parts(state.question, said, state.yours, this.asks);
     if (state.question.purpose !== 'look') {
-      this.put([sheet.lines(said), ...content], [sheet.gap(AT_ANY_MOMENT), ...buttons]);
+      this.put(content, [sheet.gap(AT_ANY_MOMENT), ...buttons]);
       return;
     }
     this.put([sheet.title('The outputs are switched, and nothing has moved. Look:'), this.looks(state, buttons[1])],
