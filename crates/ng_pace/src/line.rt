@@ -19,11 +19,15 @@ pub struct Line {
     pub last: bool,
 }
 
-/// The time of a pulse of so many microseconds, at so many percent of its rate: in nanoseconds, rounded up.
+/// The time of a pulse of so many microseconds, at so many percent of its rate: in nanoseconds, rounded up. As a rule
+/// it is all of its rate, and nothing is divided.
 fn pulse_ns(us: u64, percent: u64) -> u64
     requires { IsPercent percent }
     ensures { result ≡ min ((us * 100000 + (percent - 1)) / percent) (2 ^ 64 - 1) }
 {
+    if percent == 100 {
+        return us.saturating_mul(1_000);
+    }
     let whole = (us / percent).saturating_mul(100_000);
     whole.saturating_add((us % percent * 100_000).div_ceil(percent))
 }

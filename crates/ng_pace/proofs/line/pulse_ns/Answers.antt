@@ -10,3 +10,6 @@ returns c = omega (
   c.div_ceil.ensures,
   c.saturating_add.ensures,
 )
+
+pub returns-then-percent-eq100 : goal.returns-then-percent-eq100
+returns-then-percent-eq100 c = rw c.if-percent-eq100.true (omega (arith, c.saturating_mul.ensures))
