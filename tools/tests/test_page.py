@@ -1,4 +1,5 @@
 """The page's server, without a browser: who may ask, what is asked, what is told, and a loss of power."""
+import http.client
 import json
 import os
 import signal
@@ -125,6 +126,11 @@ class Who(Served):
         page = self.page()
         self.load(page, SLOW)
         self.cuts(page)
+        kept = http.client.HTTPConnection("127.0.0.1", page.port, timeout=PATIENCE_S)
+        self.addCleanup(kept.close)
+        given = {"Origin": f"http://127.0.0.1:{page.port}", "X-Page": PAGE, "Content-Type": "application/json"}
+        kept.request("GET", f"/{page.key}/program")
+        self.assertIn(b"G1 X2", kept.getresponse().read())
         pieces = (b"", b"GET /", b"POST / HTTP/1.1\r\nHost: a\r\nX: ", b"\r\n\r")
         for number in range(2 * server_module.MOST_CONNECTIONS):
             idle = socket.create_connection(("127.0.0.1", page.port), PATIENCE_S)
@@ -134,9 +140,10 @@ class Who(Served):
         self.addCleanup(slow.close)
         slow.sendall(f"POST /{page.key}/check HTTP/1.1\r\nHost: 127.0.0.1:{page.port}\r\nOrigin: http://127.0.0.1:"
                      f"{page.port}\r\nX-Page: {PAGE}\r\nContent-Length: 1000000\r\n\r\nG0 X".encode())
-        self.assertEqual(page.post("hold"), (200, {}))
+        kept.request("POST", f"/{page.key}/hold", b"{}", given)  # a page's own connection stays
+        self.assertEqual(kept.getresponse().read(), b"{}")
         self.assertEqual(page.until("it is held", lambda state: state["does"] == "held")["word"], "Held")
-        self.assertTrue(page.next()["yours"])
+        self.assertEqual((page.post("hold"), page.next()["yours"]), ((200, {}), True))
 
 
 class Work(Served):
@@ -148,8 +155,8 @@ class Work(Served):
         found = page.post("check", b"G1 X1 Q2 F10\n(<b>)\n", X_Name="..%2F%3Cb%3E", Content_Type="x/y")[1]
         self.assertEqual((found["name"], found["refusals"][0]["carets"]), ("<b>", "      ^^"))
         self.load(page, "(MSG, a <b>)\nG17 G21 G90 G94\nG0 X0.05\nM0\nG1 X0 F60\nM2\n")
-        page.until("it is drawn", lambda state: state["job"] >= 3 and not state["busy"])
-        job = json.loads(page.get("job")[1])["job"]
+        page.until("it is drawn", lambda state: page.job() and page.job()["exact"])
+        job = page.job()
         self.assertEqual([(step["n"], step["k"], step["us"], step["p"]) for step in job["steps"]],
                          [(3, "t", 2500, [0, 0, 0, 50, 0, 0]), (5, "c", 50000, [50, 0, 0, 0, 0, 0])])
         self.assertEqual((job["exact"], job["refused"], json.loads(page.get("program")[1])["name"]),
@@ -274,6 +281,10 @@ class Ramps(Served):
         """The motors stand with lines in hand; `release` carries them out; `quit` asks about a half-done line."""
         page = self.page()
         self.load(page, "G21 G90\nG0 X0\nG1 X40 F60\nM2\n")
+        page.until("its times are exact", lambda state: page.job() and page.job()["exact"])
+        job = page.job()
+        # 1 mm/s at 500 mm/s2 is 2 ms of each slope, of which half is lost
+        self.assertTrue(40_000_000 < job["ramps_us"] < 40_100_000, job)
         self.cuts(page)
         self.assertEqual(page.post("percent", {"percent": 50}), (200, {}))
         page.until("it goes slower", lambda state: state["percent"] == 50)
@@ -395,8 +406,8 @@ class Power(Served):
         self.assertEqual((state["word"], state["line"], state["spindle"], state["known"], state["recover"]),
                          ("Half-done", 5, 0, False, None))
         self.assertNotEqual(state["session"], session)
-        page.until("it is drawn", lambda state: state["job"])
-        self.assertTrue(json.loads(page.get("job")[1])["job"]["known_start"])
+        page.until("it is drawn", lambda state: page.job())
+        self.assertTrue(page.job()["known_start"])
         said = page.post("rehearse", {"at": ["0.5", "0", "2"]})[1]
         self.assertEqual((said["begins"][0], said["approach"]["down"], said["refused"]), ("2.000000", "2.000", ""))
         self.assertIn("DOWN 2.000 mm", said["approach"]["warnings"][0])

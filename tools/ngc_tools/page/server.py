@@ -20,6 +20,7 @@ from pathlib import Path
 from typing import Any
 
 from ngc_tools.failure import Failure
+from ngc_tools.files import cause
 from ngc_tools.formats.device import MOST_LARGE_PROGRAM
 from ngc_tools.page.deeds import DEEDS, WAITING, BadWords, Given, keep_checked
 from ngc_tools.page.http import MOST_HEAD, Refused, Request, head_of, read_body, read_request
@@ -58,7 +59,10 @@ class Server:
         self._static = {str(path.relative_to(STATIC)): (path.read_bytes(), _KINDS[path.suffix])
                         for path in sorted(STATIC.rglob("*")) if path.suffix in _KINDS}
         self._checked: dict[str, tuple[str, bytes]] = {}
-        self._waiting: dict[asyncio.Task, None] = {}  # in the order in which they began to wait
+        # connections that wait for a request, in the order in which they began to: those that never knew the key, and
+        # those of pages
+        self._strangers: dict[asyncio.Task, None] = {}
+        self._waiting: dict[asyncio.Task, None] = {}
         self._all: set[asyncio.Task] = set()
         self._new = asyncio.Event()
         self._uploads = asyncio.Semaphore(2)
@@ -72,6 +76,7 @@ class Server:
         self.port = listening.getsockname()[1]
         self._origins |= {f"http://{name}:{self.port}" for name in (host, "127.0.0.1", "localhost")}
         self._names = {origin.partition("://")[2] for origin in self._origins}
+        self._loop.set_exception_handler(lambda _, context: tell_bug(context.get("exception")))
         self._thread.start()
         self._call(asyncio.start_server(self._connected, sock=listening, limit=MOST_HEAD))
         self.session.face.changed = lambda: self._loop.call_soon_threadsafe(self._new.set)
@@ -98,29 +103,41 @@ class Server:
     async def _connected(self, reader: asyncio.StreamReader, writer: asyncio.StreamWriter) -> None:
         """Serves a connection to its end."""
         task = asyncio.current_task()
-        if len(self._all) >= MOST_CONNECTIONS:
-            if not self._waiting:
-                writer.close()
-                return
-            next(iter(self._waiting)).cancel()
+        if len(self._all) >= MOST_CONNECTIONS and not self._makes_room():
+            writer.close()
+            return
         self._all.add(task)
         try:
             await _Connection(self, reader, writer).serve()
         except (OSError, TimeoutError, asyncio.CancelledError):
             pass  # a connection that breaks is none
+        except Exception as error:
+            tell_bug(error)
         finally:
             self._all.discard(task)
-            self._waiting.pop(task, None)
             writer.close()
 
-    async def next_request(self, reader: asyncio.StreamReader) -> Request | None:
-        """Waits for a connection's next request; None at its end. Raises Refused, OSError, TimeoutError."""
-        task = asyncio.current_task()
-        self._waiting[task] = None
-        async with asyncio.timeout(_IDLE_S):
-            request = await read_request(reader)
-        del self._waiting[task]
-        return request
+    def _makes_room(self) -> bool:
+        """Ends the connection that has been waiting longest, one that never knew the key before others; whether there
+        is one."""
+        waiting = self._strangers or self._waiting
+        if not waiting:
+            return False
+        task = next(iter(waiting))
+        del waiting[task]
+        task.cancel()
+        return True
+
+    async def next_request(self, reader: asyncio.StreamReader, is_known: bool) -> Request | None:
+        """Waits for the next request of a connection, which has shown the key before or not; None at its end. Raises
+        Refused, OSError, TimeoutError."""
+        task, waiting = asyncio.current_task(), self._waiting if is_known else self._strangers
+        waiting[task] = None
+        try:
+            async with asyncio.timeout(_IDLE_S):
+                return await read_request(reader)
+        finally:
+            waiting.pop(task, None)
 
     def checked_path(self, request: Request) -> str:
         """The path after the key. Raises Refused for whoever doesn't know the key, comes by another name, as after DNS
@@ -213,15 +230,17 @@ class _Connection:
     async def serve(self) -> None:
         """Answers its requests. Raises OSError, TimeoutError."""
         self.writer.get_extra_info("socket").setsockopt(socket.IPPROTO_TCP, socket.TCP_NODELAY, 1)
+        is_known = False
         try:
-            while request := await self.server.next_request(self.reader):
+            while request := await self.server.next_request(self.reader, is_known):
                 path = self.server.checked_path(request)
+                is_known = True
                 if request.method == "GET" and path.partition("?")[0] == "events":
                     await self._stream(path)
                     return
                 async with asyncio.timeout(_REQUEST_S):
                     body = await self._body(request, path)
-                await self._answer(request, path, body)
+                await self._send(*await self._answered(request, path, body))
         except Refused as error:
             await self._send(error.status, _json({"why": str(error)}), _JSON, {"Connection": "close"})
 
@@ -229,20 +248,21 @@ class _Connection:
         """The body of a request. Raises Refused."""
         return await read_body(self.reader, request, MOST_LARGE_PROGRAM if path == "check" else _MOST_WORDS)
 
-    async def _answer(self, request: Request, path: str, body: bytes) -> None:
+    async def _answered(self, request: Request, path: str, body: bytes) -> tuple[HTTPStatus, bytes, str]:
+        """The status, the content and its kind."""
         try:
             if request.method == "GET":
-                await self._send(HTTPStatus.OK, *self._got(path))
-            else:
-                said = await self._posted(request, path, body)
-                await self._send(HTTPStatus.OK, _json(said), _JSON)
+                return HTTPStatus.OK, *self._got(path)
+            return HTTPStatus.OK, _json(await self._posted(request, path, body)), _JSON
         except Refused as error:
-            await self._send(error.status, _json({"why": str(error)}), _JSON)
+            status, why = error.status, str(error)
         except Busy as error:
-            await self._send(HTTPStatus.CONFLICT, _json({"why": str(error)}), _JSON)
-        except (Failure, BadWords) as error:
-            said = error.said() if isinstance(error, Failure) else str(error)
-            await self._send(HTTPStatus.UNPROCESSABLE_ENTITY, _json({"why": said}), _JSON)
+            status, why = HTTPStatus.CONFLICT, str(error)
+        except Failure as error:
+            status, why = HTTPStatus.UNPROCESSABLE_ENTITY, error.said()
+        except (BadWords, OSError) as error:
+            status, why = HTTPStatus.UNPROCESSABLE_ENTITY, cause(error) if isinstance(error, OSError) else str(error)
+        return status, _json({"why": why}), _JSON
 
     def _got(self, path: str) -> tuple[bytes, str]:
         name = path.partition("?")[0]
@@ -302,6 +322,12 @@ class _Connection:
         self.writer.write(head_of(status, _HEADERS | (more or {}), kind, len(content)) + content)
         async with asyncio.timeout(_REQUEST_S):
             await self.writer.drain()
+
+
+def tell_bug(error: BaseException | None) -> None:
+    """Tells a fault of this program itself as one in a thread is told."""
+    if error is not None:
+        threading.excepthook(threading.ExceptHookArgs((type(error), error, error.__traceback__, None)))
 
 
 def _json(what: dict) -> bytes:

@@ -12,6 +12,7 @@ from ngc_tools.operator.display import on_words
 from ngc_tools.operator.recovery import Found, Recovery
 from ngc_tools.operator.session import BROKEN
 from ngc_tools.player.progress import Machine, Report
+from ngc_tools.player.way import count_lines
 
 _OFTEN_S = 0.25
 
@@ -74,7 +75,9 @@ def recovery_of(found: Found | None) -> dict | None:
     if found is None:
         return None
     recovery, beginning = found.recovery, found.recovery.beginning
-    return {"left": found.is_left(), "sent": found.is_sent, "lines": recovery.lines, "line": recovery.line,
+    is_left = found.is_left()
+    left = count_lines(found.link.file, recovery.size, found.link.size()) if is_left else 0
+    return {"left": is_left, "left_lines": left, "sent": found.is_sent, "lines": recovery.lines, "line": recovery.line,
             "there": recovery.is_there(), "missing": beginning.missing.count(b"\n") if beginning else 0,
             "problem": recovery.problem, "words": recovery.words(), "on": on_words(recovery.outputs),
             "stands": list(map(millimetres, recovery.stands_nm)), "at": list(map(millimetres, recovery.at_nm)),
