@@ -247,9 +247,6 @@ int play_out(struct play *play) {
         end = STOPPED; /* in the time of the last line */
     }
     if (!switch_off(play)) {
-        if (end == STOPPED) {
-            say("%s: %.*s", play->options->out, (int)strcspn(play->why.text, ";"), play->why.text);
-        }
         return 2;
     }
     if (end == AT_OUTS_END) {

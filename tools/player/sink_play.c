@@ -55,8 +55,11 @@ uint32_t sink_inputs_on(const struct inputs *inputs) {
 }
 
 bool sink_is_touched(int64_t steps[3]) {
+    if (!link_is_there()) {
+        return false;
+    }
     struct link_state state = link_look();
-    if (!link_is_there() || state.state == SINK_RUNS || (state.fault != FAULT_TOUCHED && !state.is_touched)) {
+    if (state.state == SINK_RUNS || (state.fault != FAULT_TOUCHED && !state.is_touched)) {
         return false;
     }
     memcpy(steps, state.touched, sizeof state.touched);
