@@ -8,6 +8,7 @@
 
 #include "cause.h"
 #include "line.h"
+#include "place.h"
 
 enum {
     RECORD_SIZE = 512,  /* a disk writes them whole or not at all */
@@ -45,15 +46,6 @@ void record_print(const struct record *record, char text[RECORD_SIZE]);
 
 /* Reads the bytes of the file `path`. Returns false, with the cause, if they are no record. */
 bool record_read(const char *text, size_t size, const char *path, struct record *record, struct cause *why);
-
-/* Millimetres of at most twelve digits and six decimals, as "7.21", in nanometres. */
-bool nm_read(const char *text, size_t size, int64_t *nm);
-
-/* "X Y Z" in machine millimetres with six decimals. */
-void place_print(char *text, size_t room, const int64_t nm[3]);
-
-/* Reads three millimetres with one blank between them. */
-bool place_read(const char *text, size_t size, int64_t nm[3]);
 
 bool mark_is_same(const struct file_mark *one, const struct file_mark *other);
 
