@@ -13,8 +13,7 @@
 enum {
     RECORD_SIZE = 512,  /* a disk writes them whole or not at all */
     LONGEST_PATH = 255, /* with it the greatest numbers have room */
-    OLDEST_MS = 9999,   /* as an age is written */
-    PLACE_ROOM = 96
+    OLDEST_MS = 9999    /* as an age is written */
 };
 
 /* What tells OUT apart from another file of its name. */
