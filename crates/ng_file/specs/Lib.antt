@@ -1,2 +1,3 @@
 pub mod Bytes
 pub mod FileRig
+pub mod Copies

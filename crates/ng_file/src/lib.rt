@@ -3,8 +3,8 @@
 //!
 //! `FileRig` implements `Rig` over any `Storage`, which is the bytes of a file, and any writer. If the storage and the
 //! writer say what they hold, its contracts say which bytes a read returns, which a write puts and which line a
-//! hand-out appends. They also say that each failure is counted. `lengthen` is for such a file while it isn't in use:
-//! it appends zeros, and changes no byte.
+//! hand-out appends. They also say that each failure is counted. `copied` makes a copy of such a device in memory.
+//! `lengthen` is for such a file while it isn't in use: it appends zeros, and changes no byte.
 //!
 //! Some things are trusted, and no contract states them: that a file of the system returns the bytes that were put at a
 //! place; that after a sync (`fdatasync`; `fsync` where the length changed) a loss of power leaves what a read returns;
@@ -13,6 +13,7 @@
 //! `FileRig` is never honest, and what is proved of honest devices holds of it only as far as the files keep this.
 #![tactic(auto)]
 
+mod copying;
 mod device;
 mod hold;
 mod lengthening;
@@ -23,7 +24,8 @@ mod same;
 mod storage;
 mod writing;
 
-pub use device::{NoDevice, make_device, open_device};
+pub use copying::copied;
+pub use device::{NoDevice, make_device, open_device, open_device_to_read};
 pub use hold::{Hold, NotHeld};
 pub use lengthening::lengthen;
 pub use opened::OpenedFile;
