@@ -3,13 +3,13 @@ use Rattle.std.proofs.Common.{◌≡◌, ◌≢◌, ℕ, List, [], ◌∷◌, �
 use Rattle.std.specs.Str.Lines.{lines}
 use Rattle.std.specs.Io.KnownBytes.{Appends, Consumes, IsAtEnd}
 use Rattle.ng_block.specs.Program.{TermsModel}
-use Rattle.ng_dry.specs.Dry.{Output, onto, DryRunSpec, output_of}
+use Rattle.ng_dry.specs.Dry.{Output, onto, DryRunSpec, output_from}
 use Rattle.ng_dry.specs.Flush.{Wrote}
 use Rattle.ng_dry.specs.Private.Parts.{DryRunModel, begun, outcome_by, due, rest_of, Goes, EndsRun, Breaks}
 use Rattle.ng_text.specs.Newlines.{HasNoNewline}
 use Rattle.ng_dry.specs.declared.ending.Ended.{Ended}
 use Rattle.ng_dry.specs.declared.ending.DryFault.{DryFault}
-use Rattle.ng_state.specs.State.{fresh}
+use Rattle.ng_state.specs.State.{StateModel}
 use Rattle.ng_text.proofs.LineLemmas.{lines-alone}
 use Rattle.ng_dry.proofs.OutcomeLemmas.{outcome_is}
 use Rattle.ng_text.proofs.Streams.{Appends-nil, Appends-trans, Consumes-nil}
@@ -74,6 +74,11 @@ run_goes w0 w1 w2 before bytes out g h p q = record {
       ∙ ap (λ l. record { text = l; ended = (h more).ended }) (sym (append_assoc p.text q.text (h more).text));
 }
 
+-- a run that was never begun
+pub run_none : (r w : Option (List ℕ)) (out : List ℕ → Output) (fault : DryFault) → IfSome r (λ program. DryRunSpec w w (out program) (Err fault))
+run_none None w out fault = tt
+run_none (Some x) w out fault = ([], (out x).text, refl, Appends-nil w)
+
 -- a run that was aborted between two reads
 pub run_stops : (r0 r1 w0 w1 w2 : Option (List ℕ)) (before : List ℕ) (out : List ℕ → Output) (p : DryRunModel) (kept : List ℕ) (fault : DryFault) → Consumes r0 r1 before
     → Goes w0 w1 (λ more. out (before ++ more)) (λ more. rest_of p kept more) → Wrote w1 w2 p.text → IfSome r0 (λ program. DryRunSpec w0 w2 (out program) (Err fault))
@@ -87,11 +92,12 @@ run_stops r0 r1 w0 w1 w2 before out p kept fault read run wrote =
     })
 
 -- a run before the first read
-pub Goes-begun : (a : Option (List ℕ)) (terms : TermsModel) (p : DryRunModel) (kept : List ℕ) → p ≡ begun terms → kept ≡ [] → Goes a a (λ more. output_of terms ([] ++ more)) (λ more. rest_of p kept more)
-Goes-begun a terms p kept e f = record {
+pub Goes-begun : (a : Option (List ℕ)) (terms : TermsModel) (setup : StateModel) (p : DryRunModel) (kept : List ℕ) → p ≡ begun terms setup → kept ≡ []
+    → Goes a a (λ more. output_from terms setup ([] ++ more)) (λ more. rest_of p kept more)
+Goes-begun a terms setup p kept e f = record {
   text = [];
   appends = Appends-nil a;
-  rest = λ more. outcome_is terms [] fresh (lines more) ∙ ap (λ q. onto [] (rest_of q [] more)) (sym e) ∙ ap (λ k. onto [] (rest_of p k more)) (sym f);
+  rest = λ more. outcome_is terms [] setup (lines more) ∙ ap (λ q. onto [] (rest_of q [] more)) (sym e) ∙ ap (λ k. onto [] (rest_of p k more)) (sym f);
 }
 
 -- the last line was executed, and then the text ended

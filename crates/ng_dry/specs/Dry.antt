@@ -1,4 +1,4 @@
--- What a dry run writes, and how it ends (own): the canonical text of the lines, folded from the fresh state.
+-- What a dry run writes, and how it ends (own): the canonical text of the lines, folded from a state.
 use Rattle.std.specs.Prelude.{ℕ, ◌+◌, ◌≡◌, List, [], ◌∷◌, ◌++◌, Option, Result, Ok, Err, length, flat_map, if◌then◌else◌, codes}
 use Rattle.std.specs.Fmt.{decimal}
 use Rattle.std.specs.Str.Lines.{lines}
@@ -46,9 +46,13 @@ outcome terms lines_before setup [] = refused (length lines_before + 1) (missing
 outcome terms lines_before setup (l ∷ ls) =
     after_line (length lines_before + 1) (executed_in_program terms lines_before setup l) (λ after. outcome terms (lines_before ++ l ∷ []) after ls)
 
--- a dry run of a program's bytes
+-- a dry run of a program's bytes from a state
+abbrev pub output_from : TermsModel → StateModel → List ℕ → Output
+output_from terms setup program = outcome terms [] setup (lines program)
+
+-- the same from the fresh state
 abbrev pub output_of : TermsModel → List ℕ → Output
-output_of terms program = outcome terms [] fresh (lines program)
+output_of terms program = output_from terms fresh program
 
 -- a run that has ended wrote the whole text and returns how it ended; one that failed wrote a beginning
 abbrev pub DryRunSpec : Option (List ℕ) → Option (List ℕ) → Output → Result Ended DryFault → Type 0

@@ -1,6 +1,6 @@
 //! The dry run: a program's bytes go in, its canonical text comes out.
 ghost use Rattle.std.specs.Prelude.{IfSome};
-ghost use Rattle.ng_dry.specs.Dry.{DryRunSpec, output_of};
+ghost use Rattle.ng_dry.specs.Dry.{DryRunSpec, output_from, output_of};
 
 use crate::ending::{DryFault, Ended};
 use crate::run::DryRun;
@@ -9,6 +9,7 @@ use arrayvec::ArrayVec;
 use ng_block::Terms;
 use ng_canon::Geometry;
 use ng_offsets::Tools;
+use ng_state::State;
 use std::alloc::Allocator;
 use std::io::{Read, Write};
 
@@ -40,12 +41,32 @@ pub fn dry<R: Read, W: Write, A: Allocator + Copy + Drop>(
         DryRunSpec (W.contents writer.old) (W.contents writer.new)
         (output_of (record { block_delete = block_delete; tools = tools.now; geometry = geometry.now }) program) result) }
 {
+    match State::fresh(alloc) {
+        Ok(state) => dry_from(alloc, state, reader, writer, block_delete, tools, geometry),
+        Err(_) => Err(DryFault::Memory),
+    }
+}
+
+/// Runs a program as `dry` does, but from a state in place of the fresh one.
+pub fn dry_from<R: Read, W: Write, A: Allocator + Copy + Drop>(
+    alloc: A,
+    state: State<A>,
+    reader: &mut R,
+    writer: &mut W,
+    block_delete: bool,
+    tools: &Tools,
+    geometry: &Geometry,
+) -> Result<Ended, DryFault>
+    ensures { IfSome (R.remaining reader.old) (λ program.
+        DryRunSpec (W.contents writer.old) (W.contents writer.new)
+        (output_from (record { block_delete = block_delete; tools = tools.now; geometry = geometry.now }) state program) result) }
+{
     let terms = Terms {
         block_delete,
         tools,
         geometry,
     };
-    let run = match DryRun::new(alloc, terms) {
+    let run = match DryRun::new(alloc, terms, state) {
         Ok(run) => run,
         Err(_) => return Err(DryFault::Memory),
     };

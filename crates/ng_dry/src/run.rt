@@ -48,15 +48,15 @@ fn is_end(stop: ProgramFlow) -> bool
 }
 
 impl<'a, A: Allocator + Copy + Drop> DryRun<'a, A> {
-    /// A run from the fresh state, before the first line, with room for the text that waits, so that no line allocates.
-    /// `AllocError` if there is no memory for the state or for that room.
-    pub fn new(alloc: A, terms: Terms<'a>) -> Result<DryRun<'a, A>, AllocError>
-        ensures { IfOk result (λ r. r ≡ begun terms.entry) }
+    /// A run from a state, before the first line, with room for the text that waits, so that no line allocates.
+    /// `AllocError` if there is no memory for that room.
+    pub fn new(alloc: A, terms: Terms<'a>, state: State<A>) -> Result<DryRun<'a, A>, AllocError>
+        ensures { IfOk result (λ r. r ≡ begun terms.entry state) }
     {
         Ok(DryRun {
             terms,
             first: LineKind::Blank,
-            state: State::fresh(alloc)?,
+            state,
             number: 1,
             text: Vec::with_capacity(alloc, ROOM)?,
             places: Scratch::new(ModalState::fresh()),

@@ -1,4 +1,5 @@
 pub mod Bytes
+pub mod Copies
 pub mod FileRig
 pub mod Promise
 pub mod Sectors

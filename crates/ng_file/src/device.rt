@@ -6,10 +6,11 @@ use crate::hold::Hold;
 use crate::opened::OpenedFile;
 use crate::storage::SECTOR;
 use std::fs::{OpenFile, OpenOptions};
-use std::io;
 use std::io::{ErrorKind, Write};
+use std::os::unix::fs::FileTypeExt;
 use std::path::Path;
 use std::rt::Files;
+use std::{fs, io};
 
 /// Why a device's file wasn't opened.
 #[derive(Clone, Copy, Debug, PartialEq, Eq)]
@@ -36,6 +37,19 @@ where
         return Err(NoDevice::Unopened);
     };
     held(file)
+}
+
+/// Opens the file of a device for reading alone (own). It isn't held, and may be held by another process.
+///
+/// `Unopened` if it doesn't exist or may not be read; `Unusable` if it is a directory or a pipe.
+pub fn open_device_to_read<R: Files>(rt: &R, path: &str) -> Result<OpenedFile<R::File>, NoDevice> {
+    if is_directory(rt, path) || is_pipe(rt, path) {
+        return Err(NoDevice::Unusable);
+    }
+    match fs::open(rt, path) {
+        Ok(file) => Ok(OpenedFile::of(file)),
+        Err(_) => Err(NoDevice::Unopened),
+    }
 }
 
 /// Opens the file of a device and holds it for this process alone. If there is none, makes one with this many sectors,
@@ -115,6 +129,14 @@ fn sync_directory<R: Files>(rt: &R, path: &str) -> io::Result<()> {
 fn is_directory<R: Files>(rt: &R, path: &str) -> bool {
     match rt.metadata(path) {
         Ok(metadata) => metadata.is_dir(),
+        Err(_) => false,
+    }
+}
+
+/// Whether a path names a pipe. Opening one to read it would wait for its writer.
+fn is_pipe<R: Files>(rt: &R, path: &str) -> bool {
+    match rt.metadata(path) {
+        Ok(metadata) => metadata.file_type().is_fifo(),
         Err(_) => false,
     }
 }

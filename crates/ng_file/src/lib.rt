@@ -3,8 +3,8 @@
 //!
 //! `FileRig` implements `Rig` over any `Storage`, which is the bytes of a file, and any writer. If the storage and the
 //! writer say what they hold, its contracts say which bytes a read returns, which a write puts and which line a
-//! hand-out appends. They also say that each failure is counted. `lengthen` is for such a file while it isn't in use:
-//! it appends zeros, and changes no byte.
+//! hand-out appends. They also say that each failure is counted. `copied` makes a copy of such a device in memory.
+//! `lengthen` is for such a file while it isn't in use: it appends zeros, and changes no byte.
 //!
 //! Where a storage does what it promises (`specs/Promise.antt`), and all of it is durable when the device is made, the
 //! device is honest: what is proved of honest devices holds of it. A file of the system promises nothing to the prover.
@@ -14,6 +14,7 @@
 //! hand-outs it is trusted that it keeps the lines in the order in which they were appended.
 #![tactic(auto)]
 
+mod copying;
 mod device;
 mod done;
 mod hold;
@@ -26,7 +27,8 @@ mod sectors;
 mod storage;
 mod writing;
 
-pub use device::{NoDevice, make_device, open_device};
+pub use copying::copied;
+pub use device::{NoDevice, make_device, open_device, open_device_to_read};
 pub use hold::{Hold, NotHeld};
 pub use lengthening::lengthen;
 pub use opened::OpenedFile;

@@ -5,7 +5,7 @@ use Rattle.std.specs.Io.KnownBytes.{Appends}
 use Rattle.ng_words.specs.Kinds.{kind_of}
 use Rattle.ng_words.specs.declared.start.LineKind.{LineKind}
 use Rattle.ng_words.specs.declared.start.LineKind.TheVariants.{Blank}
-use Rattle.ng_state.specs.State.{StateModel, fresh}
+use Rattle.ng_state.specs.State.{StateModel}
 use Rattle.ng_block.specs.Program.{TermsModel, executed_after}
 use Rattle.ng_text.specs.Percent.{kind_before, missing_end}
 use Rattle.ng_dry.specs.Dry.{Output, onto, refused, after_line}
@@ -21,9 +21,9 @@ pub record DryRunModel : Type 0 where
   pub number : ℕ
   pub text : List ℕ
 
--- a run before the first line
-abbrev pub begun : TermsModel → DryRunModel
-begun terms = record { terms = terms; first = Blank; setup = fresh; number = 1; text = [] }
+-- a run from a state, before the first line
+abbrev pub begun : TermsModel → StateModel → DryRunModel
+begun terms setup = record { terms = terms; first = Blank; setup = setup; number = 1; text = [] }
 
 -- the fold over the lines that are left, given the kind of the first line before them that isn't blank
 abbrev pub outcome_by : TermsModel → LineKind → StateModel → ℕ → List (List ℕ) → Output

@@ -1,0 +1,11 @@
+use Rattle.std.proofs.Common.{◌≡◌, ◌≤◌, ℕ, []}
+use Rattle.ng_rig.specs.MemoryRig.{sector_count, trace_of}
+use Rattle.ng_rig.specs.Trace.{reads}
+use Rattle.ng_file.proofs.copying.copied.Given as goal
+
+abbrev pub invariant-loop : goal.invariant-loop
+invariant-loop g l = record {
+  stays : g.S.Storage.content l.file ≡ g.S.Storage.content l.fn.file;
+  size : sector_count l.copy ≡ l.sectors;
+  past : (n : ℕ) → l.sectors ≤ n → reads (trace_of l.copy) n ≡ [];
+}
