@@ -9,3 +9,5 @@ mod console_lines;
 mod dialogue;
 #[cfg(test)]
 mod files;
+#[cfg(test)]
+mod lasting;

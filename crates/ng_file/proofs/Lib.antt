@@ -1,5 +1,5 @@
 mod Promises
-mod SectorLemmas
+pub mod SectorLemmas
 pub mod Again
 pub mod Appending
 pub mod Zeros
