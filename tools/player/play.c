@@ -203,7 +203,10 @@ static enum end carry_out_all(struct play *play) {
 
 bool switch_off(struct play *play) {
     struct player *shared = play->player;
-    int error = link_is_there() ? sink_switch_off() : pins_off();
+    if (link_is_there()) {
+        return sink_switch_off(play);
+    }
+    int error = pins_off();
     if (error != 0) {
         note_stop(play, "pins");
         say("player: the pins: %s; switch spindle and coolant off by hand", strerror(error));
@@ -244,9 +247,6 @@ int play_out(struct play *play) {
         end = STOPPED; /* in the time of the last line */
     }
     if (!switch_off(play)) {
-        if (end == STOPPED) {
-            say("%s: %.*s", play->options->out, (int)strcspn(play->why.text, ";"), play->why.text);
-        }
         return 2;
     }
     if (end == AT_OUTS_END) {

@@ -1,6 +1,5 @@
 #include "sink_play.h"
 
-#include <errno.h>
 #include <inttypes.h>
 #include <string.h>
 
@@ -140,8 +139,16 @@ enum end sink_carry_out(struct play *play, const struct line *line, const char *
     return line->kind != 'S' || sink_is_at_speed(play, &before, &line->outputs) ? AT_OUTS_END : STOPPED;
 }
 
-int sink_switch_off(void) {
-    return link_switch_off() ? 0 : EIO;
+bool sink_switch_off(struct play *play) {
+    bool is_off = link_switch_off();
+    player_lock(play->player);
+    outputs_stop(&play->player->outputs);
+    player_unlock(play->player);
+    if (!is_off) {
+        say("%s: %s the sink doesn't say that spindle and coolant are off: switch them off by hand", play->options->out,
+            play->why.text);
+    }
+    return is_off;
 }
 
 void sink_end(void) {

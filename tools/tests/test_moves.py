@@ -344,6 +344,35 @@ class Jogging(Moving):
         self.link.stop()
         self.assertEqual(self.how((number, "")), "stopped")
 
+    def test_words_by_chance(self) -> None:
+        """Whatever words come, it answers, and its count is where the motors are."""
+        self.world.switch(3, PROBE, 0, 1, 3_000)
+        self.started("--untimed")
+        chance = random.Random(65)
+        tokens = ("home", "jog", "seek", "stop", "machine", "X+", "Y-", "Z+", "X", "XZ", "ZZ", "for", "within", "600",
+                  "0.3", "1e3", "-1", "999999999999.999999", "1000000000000", "18446744073709551615", "0", "", "\0", "\xff")
+        for number in range(1, 400):
+            words = [chance.choice(tokens[:5]), str(number)] if chance.random() < 0.8 else []
+            words += [chance.choice(tokens) for _ in range(chance.randint(0, 5))]
+            if chance.random() < 0.4:
+                words = [f"jog {number} {chance.choice('XYZ')}{chance.choice('+-')} 600 for 0.{chance.randint(0, 999)}"]
+            self.link.socket.send(" ".join(words).encode("latin-1"))
+            self.assertEqual(self.link.ask().carried, 0)
+        self.link.stop()
+        self.wait_for("it stands", lambda: self.link.machine().does == "stands")
+        self.assertIsNone(self.child.poll())
+        if not self.link.machine().homed:
+            self.assertEqual(self.at(), tuple(each / 1000 for each in self.world.place))
+
+    def test_two_who_ask(self) -> None:
+        """A move of another asker is one of its own, also with the first numbers that both give."""
+        self.started("--untimed")
+        other = self.linked()
+        for _ in range(3):
+            self.assertEqual(self.how(self.link.jog("X+", "600", "0.1")), "done")
+            self.assertEqual(self.how(other.jog("X+", "600", "0.1")), "done")
+        self.assertEqual(self.at(), (0.6, 0, 0))
+
     def test_half_done(self) -> None:
         """Lines that the last session left are no lines in hand: the count stays, and along them it doesn't go then."""
         Path("out").write_text("P 1 0 0 50\n" * 30)

@@ -211,6 +211,17 @@ class Stops(InC, OverSink, unittest.TestCase):
         Path("out").write_text(LONG * 100)
         self.assertLess(excess(self.timed(made), (200_000,) * 3), 4)
 
+    def test_gone(self) -> None:
+        """The line is gone: it ends with status 2, and says that the motors and the outputs aren't sure."""
+        sink = self.serve()
+        child = self.begun(sink, "P 1 0 0 2000\n" * 100_000)
+        sink.child.kill()
+        _, said = child.communicate(timeout=PATIENCE_S)
+        self.assertEqual(child.returncode, 2)
+        self.assertRegex(said, "^out: the line to the sink is gone, after line [0-9]+: where the motors are isn't sure;"
+                               " the sink doesn't say that spindle and coolant are off: switch them off by hand\n$")
+        self.assertIn("stopped line", record())
+
     def test_no_answer(self) -> None:
         """A sink that says nothing at the start."""
         sink = self.serve()
