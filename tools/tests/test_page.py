@@ -239,8 +239,7 @@ class Work(Served):
         self.load(page, SLOW)
         before = page.rested()["session"]
         self.assertEqual(page.post("restart")[0], 409)
-        page.post("run")
-        page.until("it cuts", lambda state: state["line"] == 3 and state["half"] == "program")
+        self.cuts(page)
         os.kill(self.children()[0], signal.SIGKILL)
         state = page.until("it has ended", lambda state: state["ended"] and not state["busy"])
         self.assertEqual((state["word"], state["over"]), ("Ended", False))
