@@ -186,6 +186,7 @@ class Session:
     def run(self, line: str) -> None:
         """Starts the program, or goes on with it, by `run` or `run anyway`. Raises Busy."""
         def does() -> None:
+            """Draws it too, where it begins otherwise than it was drawn."""
             self.face.message = ""
             if not self.stand.status.place and self.stand.status.does == "idle":
                 self.started = time.time()
@@ -197,6 +198,7 @@ class Session:
     def load(self, name: str, text: bytes) -> bool:
         """Stores a program that people call `name`; whether it was taken. Raises Busy."""
         def does() -> bool:
+            """Whether it is stored; then it is drawn."""
             if not self.operator.load(name, text):
                 return False
             self.name, self.program_id, self.started = name, self.program_id + 1, 0.0
