@@ -150,7 +150,7 @@ class Session:
 
     def type(self, line: str) -> None:
         """Does a command of the operator's core, as a person types it. Raises Busy."""
-        self.give(line.split()[0], lambda: self.operator.do(line))
+        self.give(line.removeprefix("anyway ").split()[0], lambda: self.operator.do(line))
 
     def tell(self, line: str) -> None:
         """Does a short command, and waits for it; one that may come while something runs is given then. Raises Busy."""
