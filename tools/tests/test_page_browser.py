@@ -10,8 +10,9 @@ sys.path.insert(0, str(Path(__file__).resolve().parent))
 from browser_support import Browser, chromium  # noqa: E402
 from machine_support import SocketMachine  # noqa: E402
 from page_support import OTHER, SLOW, Served  # noqa: E402
-from session_support import ngc  # noqa: E402
+from session_support import TOOLS, ngc  # noqa: E402
 
+DOCS = TOOLS.parent / "docs"
 SIZES = ((1280, 800), (1024, 768), (1920, 1080))
 HOSTILE = "(<img src=x onerror=window.hacked=1>)\n(MSG, <script>window.hacked=1</script>)\nG17 G21 G90 G94\nM0\nM2\n"
 SIGHT = """(() => {
@@ -143,6 +144,17 @@ class InBrowser(Served):
         self.assertEqual(missed, [])
         others = [one for one in self.browser.asked if not one.startswith((self.address, "data:"))]
         self.assertEqual(others, [])
+
+
+class Pictures(unittest.TestCase):
+    """The pictures of docs/PAGE.md."""
+
+    def test_pictures(self) -> None:
+        """Each is there and is shown; together they are below 1.5 MB."""
+        shown = re.findall(r"!\[[^\]]+\]\(page/([a-z]+\.png)\)", (DOCS / "PAGE.md").read_text())
+        found = {path.name: path.stat().st_size for path in (DOCS / "page").iterdir()}
+        self.assertEqual(sorted(shown), sorted(found))
+        self.assertLess(sum(found.values()), 1_500_000)
 
 
 class Looks(InBrowser):
