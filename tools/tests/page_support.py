@@ -4,7 +4,6 @@ import json
 import os
 import re
 import signal
-import subprocess
 import time
 from collections.abc import Callable
 from pathlib import Path
@@ -92,6 +91,10 @@ class Page:
         self._posted = time.time()
         return status, json.loads(text)
 
+    def job(self) -> dict | None:
+        """What is drawn, None for nothing."""
+        return json.loads(self.get("job")[1])["job"]
+
     def said(self) -> str:
         """The texts of the log."""
         return "\n".join(entry["text"] for entry in self.log)
@@ -133,8 +136,9 @@ class Served(InFolder):
     def begin(self) -> None:
         """Starts both, as after power came back."""
         self.begin_player()
+        words = ["--machine", "motion.toml"] if self.MACHINE else []
         self.server = self.start("ngc-page", "mill.dev", "first.toml", self.OUT, "--player", "progress", "--ngc", ngc(),
-                                 "--listen", "127.0.0.1:0")
+                                 "--listen", "127.0.0.1:0", *words)
         self.address = self.server.stdout.readline().strip()
         if not self.address:
             self.fail(self.server.stderr.read())
@@ -179,6 +183,6 @@ class Served(InFolder):
 
     def children(self) -> list[int]:
         """The processes of `ngc` that the server started."""
-        name = Path(ngc()).name[:15]
-        found = subprocess.run(["pgrep", "-P", str(self.server.pid), "-x", name], capture_output=True, text=True)
-        return list(map(int, found.stdout.split()))
+        lists = Path(f"/proc/{self.server.pid}/task").glob("*/children")
+        pids = [int(pid) for path in lists for pid in path.read_text().split()]
+        return [pid for pid in pids if Path(f"/proc/{pid}/exe").resolve() == Path(ngc()).resolve()]

@@ -155,8 +155,8 @@ class Work(Served):
         found = page.post("check", b"G1 X1 Q2 F10\n(<b>)\n", X_Name="..%2F%3Cb%3E", Content_Type="x/y")[1]
         self.assertEqual((found["name"], found["refusals"][0]["carets"]), ("<b>", "      ^^"))
         self.load(page, "(MSG, a <b>)\nG17 G21 G90 G94\nG0 X0.05\nM0\nG1 X0 F60\nM2\n")
-        page.until("it is drawn", lambda state: state["job"] >= 3 and not state["busy"])
-        job = json.loads(page.get("job")[1])["job"]
+        page.until("it is drawn", lambda state: page.job() and page.job()["exact"])
+        job = page.job()
         self.assertEqual([(step["n"], step["k"], step["us"], step["p"]) for step in job["steps"]],
                          [(3, "t", 2500, [0, 0, 0, 50, 0, 0]), (5, "c", 50000, [50, 0, 0, 0, 0, 0])])
         self.assertEqual((job["exact"], job["refused"], json.loads(page.get("program")[1])["name"]),
@@ -281,6 +281,10 @@ class Ramps(Served):
         """The motors stand with lines in hand; `release` carries them out; `quit` asks about a half-done line."""
         page = self.page()
         self.load(page, "G21 G90\nG0 X0\nG1 X40 F60\nM2\n")
+        page.until("its times are exact", lambda state: page.job() and page.job()["exact"])
+        job = page.job()
+        # 1 mm/s at 500 mm/s2 is 2 ms of each slope, of which half is lost
+        self.assertTrue(40_000_000 < job["ramps_us"] < 40_100_000, job)
         self.cuts(page)
         self.assertEqual(page.post("percent", {"percent": 50}), (200, {}))
         page.until("it goes slower", lambda state: state["percent"] == 50)
@@ -402,8 +406,8 @@ class Power(Served):
         self.assertEqual((state["word"], state["line"], state["spindle"], state["known"], state["recover"]),
                          ("Half-done", 5, 0, False, None))
         self.assertNotEqual(state["session"], session)
-        page.until("it is drawn", lambda state: state["job"])
-        self.assertTrue(json.loads(page.get("job")[1])["job"]["known_start"])
+        page.until("it is drawn", lambda state: page.job())
+        self.assertTrue(page.job()["known_start"])
         said = page.post("rehearse", {"at": ["0.5", "0", "2"]})[1]
         self.assertEqual((said["begins"][0], said["approach"]["down"], said["refused"]), ("2.000000", "2.000", ""))
         self.assertIn("DOWN 2.000 mm", said["approach"]["warnings"][0])

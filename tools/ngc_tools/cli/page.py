@@ -54,8 +54,8 @@ def make_parser() -> argparse.ArgumentParser:
     parser.add_argument("settings", metavar="SETTINGS", help="the machine's settings, in TOML")
     parser.add_argument("out", metavar="OUT", help="where pulses go: a named pipe with a player, a file, a serial line")
     parser.add_argument("--player", metavar="SOCKET", help="the socket of ngc-player's --progress")
-    parser.add_argument("--machine", metavar="FILE", help="what the motors allow, as the player takes it: times with"
-                        " ramps")
+    parser.add_argument("--machine", metavar="FILE", help="the machine's file, as the player takes it: times with"
+                        " ramps, and the height of the tool setter")
     parser.add_argument("--ahead", type=int, metavar="N",
                         help="how many lines OUT may be ahead of the player at most (without it as many as the player"
                         f" wants, {LIMIT} of one that doesn't say it)")

@@ -22,13 +22,22 @@ class Drawer:
         self._source: Source | None = None
         self._child: Child | None = None
         self._setup: tuple = ()
-        self._entries, self._is_something = -1, False
+        self._entries, self._program = -1, b""
 
     def begin(self, source: Source) -> None:
         """Draws the program of a device, as that stands or stood. Nothing that was begun before is taken any more."""
         device = Device(source.image)
-        self._setup, self._entries, self._is_something = setup_of(device), device.state.entries, bool(device.program)
+        if device.program != self._program:
+            self._forget()
+        self._setup, self._entries, self._program = setup_of(device), device.state.entries, device.program
         self._start(source)
+
+    def _forget(self) -> None:
+        """Nothing is drawn of a program that is another one now."""
+        with self._lock:
+            self.drawing, self._source = None, None
+            self.count += 1
+        self._changed()
 
     def is_as_drawn(self, device: Device) -> bool:
         """Whether the program would go where it is drawn if it were begun as a device stands, but for the way to its
@@ -50,7 +59,7 @@ class Drawer:
             before, self._child = self._child, None
         if before:
             before.give_up()
-        if self._is_something:
+        if self._program:
             threading.Thread(target=self._draw, args=[source], daemon=True).start()
         else:
             self._take(source, None)
