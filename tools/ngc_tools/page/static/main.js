@@ -292,7 +292,8 @@ function lost(isOver) {
   const s = app.state;
   const running = s?.on_loss === 'go' ? 'The job goes on, as was chosen.'
     : 'The machine holds, unless its power is gone too.';
-  const says = isOver ? 'The session has ended.' : !s ? 'The server doesn\u2019t answer.'
+  const silent = 'The server doesn\u2019t answer, or four pages are open already.';
+  const says = isOver ? 'The session has ended.' : !s ? silent
     : s.busy ? running : 'Nothing was running when it was lost.';
   text($('lost-says'), says);
   $('lost').hidden = false;
