@@ -2,26 +2,35 @@
 
 #include <inttypes.h>
 
+#include "sink_catch_up.h"
 #include "sink_link.h"
 #include "times.h"
 #include "waits.h"
 
-bool sink_begin(struct play *play, struct cause *why) {
-    static const struct sink_inputs none;
-    if (play->machine.sink.line[0] == '\0') {
+bool sink_open(struct play *play, struct cause *why) {
+    struct sink_answer left;
+    const struct sink_settings *settings = &play->machine.sink;
+    if (settings->line[0] == '\0') {
         return true;
     }
     if (play->options->pins != NULL) {
         return because(why, "--pins goes without [sink] of %s: the sink has the pins", play->options->machine);
     }
-    if (!link_open(play, why) || !link_begin(&none, why)) {
+    if (!link_open(play, &left, why)) {
         return false;
     }
-    if (link_was_left()) {
+    bool was_ended = left.state == SINK_NEW || left.fault == FAULT_ASKED;
+    if (!was_ended && !sink_catch_up(play, &left)) {
         say("%s: the sink's last player was killed: the motors may be past its record by what was in hand; measure",
-            play->machine.sink.line);
+            settings->line);
     }
     return true;
+}
+
+bool sink_begin(struct play *play, struct cause *why) {
+    static const struct sink_inputs none;
+    (void)play;
+    return !link_is_there() || link_begin(&none, why);
 }
 
 bool sink_is_moving(void) {
