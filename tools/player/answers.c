@@ -13,6 +13,7 @@
 #include <unistd.h>
 
 #include "askers.h"
+#include "machine.h"
 #include "player.h"
 #include "scan.h"
 #include "schedule.h"
@@ -65,18 +66,14 @@ bool answers_open(struct player *player, const char *path, struct cause *why) {
 static void report(struct player *player, char *text, size_t room, const char *question) {
     char place[PLACE_ROOM];
     char outputs[OUTPUTS_ROOM];
-    char does[32] = "works";
+    char does[32];
     int64_t nm[3];
-    int tool = atomic_load(&player->tool);
-    if (tool != NO_TOOL) {
-        snprintf(does, sizeof does, "waits tool %d", tool);
-    } else if (atomic_load(&player->stands_held)) {
-        snprintf(does, sizeof does, "held");
-    }
+    player_doing(player, does, sizeof does);
     player_lock(player);
     bool took = source_take_all(&player->source);
     uint64_t lines = player->lines;
     uint64_t received = player->errand.is_there ? errand_line(player) : player->source.received;
+    received += player->manual.is_there && received == lines;
     player_place(player, nm);
     outputs_print(outputs, sizeof outputs, &player->outputs);
     player_unlock(player);
@@ -94,7 +91,8 @@ static void report(struct player *player, char *text, size_t room, const char *q
 static void stand_at(struct player *player, const int64_t nm[3]) {
     player_lock(player);
     bool took = source_take_all(&player->source);
-    bool is_behind = player->errand.is_there || player->source.received != player->lines;
+    bool is_behind = player->errand.is_there || player->manual.is_there || player->alarm != NO_ALARM
+        || (player->source.received != player->lines && !player->is_broken);
     for (int axis = 0; axis < 3 && !is_behind; axis++) {
         player->steps[axis] = in_steps(nm[axis], player->step_nm[axis]);
     }
@@ -120,7 +118,8 @@ static void note_last(struct player *player) {
 /* Takes how many bytes of OUT are on the disk. */
 static void take_synced(struct player *player, uint64_t bytes) {
     player_lock(player);
-    bool is_heeded = player->source.follows && !player->errand.is_there;
+    bool is_heeded = player->source.follows && !player->errand.is_there && player->alarm == NO_ALARM
+        && !player->is_broken;
     if (is_heeded) {
         player->source.limit = bytes;
     }
@@ -185,6 +184,14 @@ static int kept(struct player *player, char *text, size_t room, const char *ques
     return size;
 }
 
+/* Goes on after a hold, unless the door is open. */
+static void release(struct player *player) {
+    const struct machine *machine = player->machine;
+    if (machine == NULL || !input_is_on(atomic_load(&player->on), machine->inputs.door)) {
+        atomic_store(&player->is_held, false);
+    }
+}
+
 /* Does what a datagram asks for; others are left alone. */
 static void heed(struct player *player, const char *text, size_t size, const struct sockaddr_un *from,
                  socklen_t named) {
@@ -204,7 +211,7 @@ static void heed(struct player *player, const char *text, size_t size, const str
     } else if (is_word(text, size, "hold")) {
         atomic_store(&player->is_held, true);
     } else if (is_word(text, size, "release")) {
-        atomic_store(&player->is_held, false);
+        release(player);
     } else if (read_percent(text, size, &percent) && percent <= player->most_percent) {
         atomic_store(&player->percent, percent);
     } else if (is_word(text, size, "last")) {
@@ -216,6 +223,10 @@ static void heed(struct player *player, const char *text, size_t size, const str
         sendto(player->socket, answer, (size_t)length, MSG_DONTWAIT, (const struct sockaddr *)from, named);
     } else if (wish_read(text, size, &wish)) {
         send_there(player, &wish);
+    } else if (manual_heed(player, text, size, answer, sizeof answer)) {
+        if (answer[0] != '\0') {
+            sendto(player->socket, answer, strlen(answer), MSG_DONTWAIT, (const struct sockaddr *)from, named);
+        }
     } else if (is_word(text, size, "end")) {
         note_last(player);
         atomic_store(&player->has_ended, true);

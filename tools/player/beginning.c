@@ -65,6 +65,7 @@ static bool begin_record(struct player *player, const struct options *options, s
     }
     player->lines = record.lines;
     player->bytes = record.bytes;
+    player->is_off = goes_on && record.is_off;
     player->outputs = record.outputs;
     outputs_stop(&player->outputs);
     for (int axis = 0; axis < 3; axis++) {
@@ -72,6 +73,20 @@ static bool begin_record(struct player *player, const struct options *options, s
         player->steps[axis] = in_steps(nm, player->step_nm[axis]);
     }
     return true;
+}
+
+/* What a machine's file says, and the settings. */
+static bool read_machine(struct player *player, const struct options *options, const struct settings *settings,
+                         struct machine *machine, struct cause *why) {
+    memcpy(player->step_nm, settings->step_nm, sizeof player->step_nm);
+    memcpy(player->low_nm, settings->low_nm, sizeof player->low_nm);
+    memcpy(player->high_nm, settings->high_nm, sizeof player->high_nm);
+    player->least_us = (uint64_t)settings->period_us;
+    player->traverse_nm_per_min = settings->traverse_nm_per_min;
+    player->machine = options->machine != NULL ? machine : NULL;
+    return options->machine == NULL
+        || (machine_read(options->machine, settings->step_nm, machine, why)
+            && home_check(&machine->home, settings, options->machine, why));
 }
 
 /* Of a file nothing is carried out before a console says so: neither lines that the last session left, nor those that
@@ -91,17 +106,15 @@ bool player_begin(struct player *player, const struct options *options, struct s
                   struct machine *machine, struct cause *why) {
     const char *const others[] = {options->out, options->settings, options->position, NULL};
     if (!settings_read(options->settings, settings, why)
-        || (options->machine != NULL && !machine_read(options->machine, settings->step_nm, machine, why))
+        || !read_machine(player, options, settings, machine, why)
         || !source_open(&player->source, options->out, options->pipe_bytes, options->follows, why)) {
         return false;
     }
-    memcpy(player->step_nm, settings->step_nm, sizeof player->step_nm);
-    player->least_us = (uint64_t)settings->period_us;
-    player->traverse_nm_per_min = settings->traverse_nm_per_min;
     if (realpath(options->out, player->out) == NULL) {
         return because(why, "%s: %s", options->out, strerror(errno));
     }
-    if (!begin_record(player, options, why) || !pins_begin(options->pins, others, why)
+    if (!begin_record(player, options, why) || !alarm_take_over(player, options, why)
+        || !pins_begin(options->pins, others, why)
         || (options->socket != NULL && !answers_open(player, options->socket, why))
         || (options->times != NULL && !times_begin(options->times, why))) {
         return false;

@@ -73,6 +73,12 @@ bool errand_take(struct player *player, const struct wish *wish, struct cause *w
     if (player->errand.is_there || source->received != player->lines) {
         return because(why, "it works: lines are in hand");
     }
+    if (player->manual.is_there || player->alarm != NO_ALARM || player->is_broken) {
+        return because(why, "it was stopped, or moves without lines");
+    }
+    if (player->is_off && !wish->is_by_legs) {
+        return because(why, "the motors were moved off the path of OUT: legs lead back to it");
+    }
     if (source->is_pipe && !wish->is_by_legs) {
         return because(why, "OUT is a pipe, and keeps no lines");
     }

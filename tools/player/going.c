@@ -174,6 +174,10 @@ bool going_prepare(struct play *play, const struct settings *settings, struct ca
         return because(why, "%s: %.*s: where the motors are on the way isn't known", play->options->position,
                        CAUSE_ROOM - 400, whose);
     }
+    if (player->is_off) {
+        return because(why, "%s: the motors were moved off its path: recover in ngc-operate leads back to it by legs",
+                       out);
+    }
     for (int axis = 0; axis < 3; axis++) {
         sum.steps[axis] = in_steps(player->left.nm[axis], player->step_nm[axis]);
         is_off |= sum.steps[axis] != player->steps[axis];

@@ -8,24 +8,31 @@
 #include "window.h"
 
 enum { HALF = 64, LEAST_ACCEL = 3, GREATEST_ACCEL = 1000000000, NM_PER_MM = 1000000, S_PER_MIN = 60 };
-enum { DEFAULT_SLACK = 2, DEFAULT_PERCENT = 100 };
+enum { DEFAULT_SLACK = 2, DEFAULT_PERCENT = 100, DEFAULT_AT_SPEED_S = 10, DEFAULT_AGREE_UM = 20 };
+enum { FARTHEST_UM = 10000000 }; /* from machine 0 */
 
 #define NS_PER_S INT64_C(1000000000)
 
-enum { MOTION, WINDOW, WAIT, TABLES }; /* the numbers of `tables` */
-enum { ACCEL, RATE, START, SLACK, MOST, LINES, SPINDLE, KEYS }; /* the numbers of `keys` */
+enum { MOTION, WINDOW, WAIT, INPUTS, HOME, TABLES }; /* the numbers of `tables` */
+enum { /* the numbers of `keys` */
+    ACCEL, RATE, START, SLACK, MOST, LINES, SPINDLE,
+    STOP, LIMITS_LOW, LIMITS_HIGH, DOOR, AT_SPEED, PROBE, LOW, AT_SPEED_S,
+    ORDER, SWITCH, DIRECTION, FAST, SLOW, PULL_OFF, AT, WAY, AGREE,
+    KEYS
+};
 
 struct table {
     const char *name;
     const char *keys; /* in words */
 };
 
-static const struct table tables[TABLES] = {{"motion", "one of its five"}, {"window", "lines"}, {"wait", "spindle_s"}};
+static const struct table tables[TABLES] = {{"motion", "one of its five"}, {"window", "lines"}, {"wait", "spindle_s"},
+                                            {"inputs", "one of its eight"}, {"home", "one of its nine"}};
 
 struct key {
     int table;
     const char *name;
-    int values; /* 3, one for each axis, or 1 */
+    int values; /* 3, one for each axis, 1, or MOST_INPUTS for up to so many */
     int64_t least;
     int64_t most;
     const char *takes; /* the same in words */
@@ -39,6 +46,23 @@ static const struct key keys[KEYS] = {
     {MOTION, "most_percent", 1, 100, 100, "100"},
     {WINDOW, "lines", 1, 0, WINDOW_MOST, "a whole number from 0 to 8000"},
     {WAIT, "spindle_s", 1, 0, 3600, "a whole number from 0 to 3600"},
+    {INPUTS, "emergency_stop", 1, -1, 15, "a whole number from -1 to 15"},
+    {INPUTS, "limits_low", 3, -1, 15, "three whole numbers from -1 to 15"},
+    {INPUTS, "limits_high", 3, -1, 15, "three whole numbers from -1 to 15"},
+    {INPUTS, "door", 1, -1, 15, "a whole number from -1 to 15"},
+    {INPUTS, "spindle_at_speed", 1, -1, 15, "a whole number from -1 to 15"},
+    {INPUTS, "probe", 1, -1, 15, "a whole number from -1 to 15"},
+    {INPUTS, "on_while_low", MOST_INPUTS, 0, 15, "at most sixteen whole numbers from 0 to 15"},
+    {INPUTS, "at_speed_s", 1, 1, 3600, "a whole number from 1 to 3600"},
+    {HOME, "order", 3, 0, 3, "three whole numbers from 0 to 3"},
+    {HOME, "switch", 3, 0, 15, "three whole numbers from 0 to 15"},
+    {HOME, "direction", 3, -1, 1, "three whole numbers, -1 or 1"},
+    {HOME, "fast_mm_min", 3, 1, 100000, "three whole numbers from 1 to 100000"},
+    {HOME, "slow_mm_min", 3, 1, 100000, "three whole numbers from 1 to 100000"},
+    {HOME, "pull_off_um", 3, 1, 1000000, "three whole numbers from 1 to 1000000"},
+    {HOME, "at_um", 3, -FARTHEST_UM, FARTHEST_UM, "three whole numbers from -10000000 to 10000000"},
+    {HOME, "way_mm", 3, 1, 100000, "three whole numbers from 1 to 100000"},
+    {HOME, "agree_um", 1, 0, 1000000, "a whole number from 0 to 1000000"},
 };
 
 /* What was read. */
@@ -112,20 +136,31 @@ static bool read_tables(struct toml *toml, struct content *content) {
 }
 
 static bool is_in_range(const struct key *key, const struct value *value) {
-    bool is_right = value->count == key->values && value->is_array == (key->values > 1);
+    bool is_right = value->is_array == (key->values > 1)
+        && (value->count == key->values || (key->values == MOST_INPUTS && value->count < MOST_INPUTS));
     for (int at = 0; at < value->count && is_right; at++) {
         is_right = value->numbers[at] >= key->least && value->numbers[at] <= key->most;
     }
     return is_right;
 }
 
-static bool check(const struct toml *toml, const struct content *content) {
+static bool check_missing(const struct toml *toml, const struct content *content) {
     if (!content->is_found[MOTION]) {
         return because(toml->why, "%s: the table [motion] is missing: it says what the motors allow", toml->path);
     }
     if (!content->is_there[ACCEL]) {
         return because(toml->why, "%s: motion: accel_mm_s2 is missing: %s", toml->path, keys[ACCEL].takes);
     }
+    for (int number = ORDER; number <= AT; number++) {
+        if (content->is_found[HOME] && !content->is_there[number]) {
+            return because(toml->why, "%s: home: %s is missing: %s", toml->path, keys[number].name,
+                           keys[number].takes);
+        }
+    }
+    return true;
+}
+
+static bool check_ranges(const struct toml *toml, const struct content *content) {
     for (int number = 0; number < KEYS; number++) {
         const struct key *key = &keys[number];
         if (content->is_there[number] && !is_in_range(key, &content->values[number])) {
@@ -144,6 +179,37 @@ static int64_t number_of(const struct content *content, int key, int64_t otherwi
 /* Steps a second of so many millimetres in so many seconds. */
 static uint64_t in_whole_steps(int64_t mm, int64_t step_nm, int64_t seconds) {
     return (uint64_t)(mm * NM_PER_MM / (seconds * step_nm));
+}
+
+/* The inputs, without their numbers where the file has none. */
+static void read_inputs(const struct content *content, struct inputs *inputs) {
+    const struct value *low = &content->values[LOW];
+    inputs->are_there = content->is_found[INPUTS] || content->is_found[HOME];
+    inputs->emergency_stop = (int)number_of(content, STOP, NO_INPUT);
+    inputs->door = (int)number_of(content, DOOR, NO_INPUT);
+    inputs->spindle_at_speed = (int)number_of(content, AT_SPEED, NO_INPUT);
+    inputs->probe = (int)number_of(content, PROBE, NO_INPUT);
+    inputs->at_speed_ns = number_of(content, AT_SPEED_S, DEFAULT_AT_SPEED_S) * NS_PER_S;
+    for (int axis = 0; axis < 3; axis++) {
+        bool has_low = content->is_there[LIMITS_LOW];
+        bool has_high = content->is_there[LIMITS_HIGH];
+        inputs->limits[LOW_END][axis] = has_low ? (int)content->values[LIMITS_LOW].numbers[axis] : NO_INPUT;
+        inputs->limits[HIGH_END][axis] = has_high ? (int)content->values[LIMITS_HIGH].numbers[axis] : NO_INPUT;
+    }
+    inputs->low = 0;
+    for (int at = 0; at < low->count; at++) {
+        inputs->low |= input_bit((int)low->numbers[at]);
+    }
+}
+
+static void read_home(const struct content *content, struct home *home) {
+    int64_t *const numbers[] = {home->order, home->input, home->direction, home->fast_mm_min, home->slow_mm_min,
+                                home->pull_off_um, home->at_um, home->way_mm};
+    home->is_there = content->is_found[HOME];
+    for (int key = ORDER; key <= WAY; key++) {
+        memcpy(numbers[key - ORDER], content->values[key].numbers, 3 * sizeof(int64_t));
+    }
+    home->agree_um = number_of(content, AGREE, DEFAULT_AGREE_UM);
 }
 
 /* What the motors allow, in steps. */
@@ -172,9 +238,12 @@ static bool read_limits(const char *path, const struct content *content, const i
 bool machine_read(const char *path, const int64_t step_nm[3], struct machine *machine, struct cause *why) {
     static struct content content;
     struct toml toml;
-    if (!toml_open(&toml, path, why) || !read_tables(&toml, &content) || !check(&toml, &content)) {
+    if (!toml_open(&toml, path, why) || !read_tables(&toml, &content) || !check_missing(&toml, &content)
+        || !check_ranges(&toml, &content)) {
         return false;
     }
+    read_inputs(&content, &machine->inputs);
+    read_home(&content, &machine->home);
     machine->window_lines = (uint64_t)number_of(&content, LINES, 0);
     machine->spindle_ns = number_of(&content, SPINDLE, 0) * NS_PER_S;
     machine->most_percent = (int)number_of(&content, MOST, DEFAULT_PERCENT);

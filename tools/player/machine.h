@@ -1,4 +1,5 @@
-/* How a machine moves: what its motors allow, how many lines a player wants in hand, how long its spindle takes. */
+/* How a machine moves: what its motors allow, how many lines a player wants in hand, how long its spindle takes, which
+ * inputs it has, and how it is homed. */
 #ifndef MACHINE_H
 #define MACHINE_H
 
@@ -6,6 +7,8 @@
 #include <stdint.h>
 
 #include "cause.h"
+#include "home.h"
+#include "inputs.h"
 #include "pace.h"
 #include "sink_settings.h"
 
@@ -15,10 +18,13 @@ struct machine {
     int64_t spindle_ns;    /* how long the spindle takes to start, to stop or to turn the other way */
     struct sink_settings sink;
     int most_percent;      /* how much an override may be; 0 where there are no ramps */
+    struct inputs inputs;
+    struct home home;
 };
 
 /* Reads the tables [motion], in millimetres, which it turns into steps, rounded down, so that nothing is exceeded,
- * [window], [wait] and [sink]. Other tables are others'. Returns false, with the cause, which names the key. */
+ * [window], [wait], [sink], [inputs] and [home]. Other tables are others'. Returns false, with the cause, which names
+ * the key. */
 bool machine_read(const char *path, const int64_t step_nm[3], struct machine *machine, struct cause *why);
 
 #endif

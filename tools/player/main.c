@@ -183,7 +183,8 @@ int main(int count, char **given) {
     play.player = &player;
     play.options = &options;
     play.least_us = (uint64_t)settings.period_us;
-    has_begun = has_begun && sink_open(&play, &why) && (!options.goes || going_prepare(&play, &settings, &why))
+    has_begun = has_begun && sink_open(&play, &why) && alarm_begin(&player, &options, &why)
+        && (!options.goes || going_prepare(&play, &settings, &why))
         && player_keep_first(&player, &why) && sink_begin(&play, &why);
     int status = has_begun ? run(&play, &options) : fail(&why);
     if (player.socket >= 0) {

@@ -183,6 +183,8 @@ static enum end await_lines(struct play *play, bool *is_over) {
 }
 
 void begin_paced(struct play *play) {
+    is_all = is_bad = is_on_path = is_dry = false;
+    ended = 0;
     pace_begin(&pace, &play->machine.limits);
     window_begin(&window, &play->machine.limits, play->machine.window_lines);
     play->player->most_percent = play->machine.most_percent;

@@ -1,9 +1,11 @@
-/* What drives the motors. A machine has a pins.c of its own; that of this folder drives nothing. */
+/* What drives the motors. A machine has a pins.c of its own, and an input_pins.c where it has inputs; those of this
+ * folder drive nothing, and have none. */
 #ifndef PINS_H
 #define PINS_H
 
 #include <stdbool.h>
 #include <stddef.h>
+#include <stdint.h>
 
 #include "cause.h"
 #include "line.h"
@@ -23,5 +25,10 @@ int pins_set(const struct line *line, const char *text, size_t size);
 
 /* Turns spindle and coolant off, now. Called before every exit at which they may be on. Returns 0 or an error. */
 int pins_off(void);
+
+/* The inputs as their pins are, in input_pins.c: bit n is 1 while the pin of input n is high. It is called before each
+ * pulse, and doesn't wait. Returns 0, or the number of an error, at which the player stops; ENOTSUP where the pins have
+ * no inputs. */
+int pins_inputs(uint32_t *levels);
 
 #endif

@@ -11,6 +11,7 @@
 #include "play_parts.h"
 #include "sink_link.h"
 #include "sink_play.h"
+#include "spindle.h"
 #include "times.h"
 #include "waits.h"
 
@@ -27,6 +28,7 @@ static void count(struct play *play, const struct line *line, size_t size) {
     }
     play->player->lines++;
     play->player->bytes += size;
+    play->player->is_off = false;
     player_unlock(play->player);
     play->counts.pulses += line->kind == 'P';
     play->counts.waits += line->kind == 'D';
@@ -36,11 +38,6 @@ static void count(struct play *play, const struct line *line, size_t size) {
 bool is_tool_in(struct play *play, const struct line *line) {
     bool changes_tool = line->kind == 'S' && line->outputs.slot != play->player->outputs.slot;
     return !changes_tool || play->options->asks_no_tool || await_tool(play, line->outputs.slot);
-}
-
-/* Waits for the spindle, if a switch starts it, stops it or turns it the other way; false where it has to stop. */
-static bool has_spindle(struct play *play, const struct line *line) {
-    return line->outputs.spindle == play->player->outputs.spindle || wait_for(play, play->machine.spindle_ns);
 }
 
 enum end carry_out(struct play *play, const struct line *line, const char *text, size_t size, uint64_t lasts_ns) {
@@ -54,7 +51,7 @@ enum end carry_out(struct play *play, const struct line *line, const char *text,
         return FAILED;
     }
     if (line->kind == 'S') {
-        if (!has_spindle(play, line)) {
+        if (!spindle_wait(play, &play->player->outputs, &line->outputs)) {
             return STOPPED;
         }
         schedule_pause(schedule); /* as long as the tool and the spindle took */
@@ -108,6 +105,9 @@ enum end await_more(struct play *play, bool *has_ended) {
     }
     if (has_errand(play)) {
         return do_errand(play);
+    }
+    if (manual_is_there(shared)) {
+        return do_manual(play);
     }
     if (on[1].revents & POLLIN) {
         return AT_OUTS_END;
@@ -201,8 +201,7 @@ static enum end carry_out_all(struct play *play) {
     }
 }
 
-/* Turns spindle and coolant off, and notes it; says so if that fails. */
-static bool switch_off(struct play *play) {
+bool switch_off(struct play *play) {
     struct player *shared = play->player;
     if (link_is_there()) {
         return sink_switch_off(play);
@@ -221,12 +220,25 @@ static bool switch_off(struct play *play) {
 
 void play_begin(struct play *play) {
     if (play->options->machine != NULL) {
+        play->stops_at = inputs_stops(&play->machine.inputs);
         begin_paced(play);
     }
 }
 
+/* Carries out lines, and goes on once an alarm is over. */
+static enum end carry_out_lines(struct play *play) {
+    enum end end = STOPPED;
+    bool goes_on = !alarm_stands(play->player) || alarm_wait(play);
+    while (goes_on) {
+        play_begin(play);
+        end = play->options->machine != NULL ? carry_out_paced(play) : carry_out_all(play);
+        goes_on = end == STOPPED && alarm_stands(play->player) && alarm_wait(play);
+    }
+    return end;
+}
+
 int play_out(struct play *play) {
-    enum end end = play->options->machine != NULL ? carry_out_paced(play) : carry_out_all(play);
+    enum end end = carry_out_lines(play);
     bool was_on = outputs_are_on(&play->player->outputs);
     if (end == AT_OUTS_END && !was_on) {
         return 0;

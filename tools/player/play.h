@@ -21,6 +21,7 @@ struct play {
     uint64_t least_us;
     struct machine machine; /* with --machine */
     bool is_moving;         /* by the pacer: it can't stop at once */
+    uint32_t stops_at;      /* inputs at which it does all the same; bit n is input n */
     struct schedule schedule;
     struct counts counts;
     int64_t left_at;  /* since when nobody writes OUT any more; 0 */

@@ -27,6 +27,17 @@ enum end stop_at_line(struct play *play, const struct cause *what);
 /* At OUT's end: a part of a line isn't carried out. */
 enum end end_of_out(struct play *play);
 
+/* Turns spindle and coolant off, and notes it; says so if that fails. */
+bool switch_off(struct play *play);
+
+/* retrace.c: makes a move now, which lasts so many nanoseconds, and counts it; FAILED, with the cause, where the pins
+ * fail. */
+enum end make_move(struct play *play, const struct move *move, uint64_t lasts_ns);
+
+/* jog.c: makes the move without lines that was asked for. STOPPED where the play has to stop, FAILED where the pins
+ * fail. */
+enum end do_manual(struct play *play);
+
 /* retrace.c: whether there is an errand, and does it. */
 bool has_errand(struct play *play);
 enum end do_errand(struct play *play);

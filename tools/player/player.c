@@ -29,9 +29,39 @@ void player_record(struct player *player, struct record *record) {
     record->bytes = player->bytes;
     record->outputs = player->outputs;
     player_place(player, record->nm);
+    for (int axis = 0; axis < 3; axis++) {
+        record->homed[strlen(record->homed)] = player->homed >> axis & 1 ? "XYZ"[axis] : '\0';
+    }
+    record->is_off = player->is_off;
     snprintf(record->stopped, sizeof record->stopped, "%s", player->stopped);
     player_unlock(player);
     record->mark = source_mark(&player->source, record->bytes);
+}
+
+void player_doing(struct player *player, char *text, size_t room) {
+    int tool = atomic_load(&player->tool);
+    player_lock(player);
+    bool is_alarm = player->alarm != NO_ALARM;
+    bool is_broken = player->is_broken;
+    bool moves = player->manual.is_there;
+    player_unlock(player);
+    const char *word = "works";
+    if (is_alarm) {
+        word = "alarm";
+    } else if (moves) {
+        word = "moves";
+    } else if (is_broken) {
+        word = "broken";
+    } else if (atomic_load(&player->stands_held)) {
+        word = "held";
+    } else if (atomic_load(&player->waits_spindle)) {
+        word = "waits spindle";
+    }
+    if (tool != NO_TOOL) {
+        snprintf(text, room, "waits tool %d", tool);
+    } else {
+        snprintf(text, room, "%s", word);
+    }
 }
 
 int64_t in_steps(int64_t nm, int64_t step_nm) {

@@ -8,10 +8,12 @@
 #include <stdbool.h>
 #include <stdint.h>
 
+#include "alarm.h"
 #include "cause.h"
 #include "errand.h"
 #include "keeper.h"
 #include "line.h"
+#include "manual.h"
 #include "record.h"
 #include "source.h"
 
@@ -23,6 +25,9 @@ struct player {
     int64_t step_nm[3];
     uint64_t least_us;
     int64_t traverse_nm_per_min;
+    int64_t low_nm[3]; /* the travel */
+    int64_t high_nm[3];
+    const struct machine *machine; /* NULL without --machine */
     int most_percent; /* how much `percent` may be; 0 where there are no ramps */
     struct keeper keeper;
     int socket; /* -1 where nobody can ask */
@@ -37,6 +42,13 @@ struct player {
     struct outputs outputs;
     const char *stopped; /* what ended it before OUT's end, in a word; "" */
     struct errand errand;
+    struct manual manual;
+    unsigned homed;      /* the axes that were homed since it began and no alarm came; bit 0 is X */
+    bool is_off;         /* the motors left the path of OUT by a move without lines, and no line came since .. */
+    bool knows_left;     /* .. and it is known where .. */
+    int64_t left_at[3];  /* .. in steps */
+    enum alarm alarm;
+    bool is_broken;      /* lines were dropped for an alarm: no more of them are carried out */
     struct record left; /* the record as it was, if it speaks of this OUT */
     bool has_left;
     uint64_t kept_lines; /* by the record on the disk */
@@ -46,6 +58,10 @@ struct player {
     atomic_int record_error;  /* why the record can't be kept any more; 0 */
     atomic_bool is_held;      /* somebody asks for a rest */
     atomic_bool stands_held;  /* it has come to rest for that */
+    atomic_bool waits_spindle; /* a switch waits until the spindle is at its speed */
+    atomic_uint on;           /* the inputs that are on, as they were looked at last */
+    atomic_bool manual_stops; /* the move without lines is to end */
+    _Atomic int64_t kept_up_at; /* when a jog was asked for last */
     atomic_int percent;       /* of OUT's rates */
     atomic_uint wants;        /* how many lines are wanted in hand; 0 doesn't say */
     _Atomic uint64_t last;    /* after so many lines no more come for now, as was said */
@@ -65,6 +81,9 @@ void player_kept(struct player *player, const struct record *record, int error);
 
 /* Where the machine stands, in nanometres. `lock` is held. */
 void player_place(const struct player *player, int64_t nm[3]);
+
+/* What the player does, in a word or two, as `progress` is answered. */
+void player_doing(struct player *player, char *text, size_t room);
 
 /* A length in whole steps, half a step away from zero. */
 int64_t in_steps(int64_t nm, int64_t step_nm);

@@ -35,6 +35,7 @@ void record_print(const struct record *record, char text[RECORD_SIZE]) {
     char outputs[OUTPUTS_ROOM];
     char place[PLACE_ROOM];
     char mark[80] = "";
+    char homed[16] = "";
     char stopped[32] = "";
     outputs_print(outputs, sizeof outputs, &record->outputs);
     place_print(place, sizeof place, record->nm);
@@ -42,12 +43,16 @@ void record_print(const struct record *record, char text[RECORD_SIZE]) {
         snprintf(mark, sizeof mark, "file %" PRIu64 " %" PRIu64 " %08" PRIx32 "\n", record->mark.inode,
                  record->mark.born_ns, record->mark.digest);
     }
+    if (record->homed[0] != '\0') {
+        snprintf(homed, sizeof homed, "homed %s\n", record->homed);
+    }
     if (record->stopped[0] != '\0') {
         snprintf(stopped, sizeof stopped, "stopped %s\n", record->stopped);
     }
     char whole[RECORD_SIZE];
     int size = snprintf(whole, sizeof whole, "out %s\nlines %" PRIu64 "\nbytes %" PRIu64 "\noutputs %s\nreference %s\n"
-                        "%s%s", record->out, record->lines, record->bytes, outputs, place, mark, stopped);
+                        "%s%s%s%s", record->out, record->lines, record->bytes, outputs, place, mark, homed,
+                        record->is_off ? "off\n" : "", stopped);
     memset(text, ' ', RECORD_SIZE);
     memcpy(text, whole, size < RECORD_SIZE ? (size_t)size : RECORD_SIZE - 1);
     text[RECORD_SIZE - 1] = '\n';
@@ -174,6 +179,25 @@ static bool read_mark(struct scan line, struct file_mark *mark) {
     return true;
 }
 
+static bool read_homed(struct scan line, struct record *record) {
+    size_t count = 0;
+    bool is_right = scan_word(&line, "homed ");
+    for (const char *axis = "XYZ"; is_right && *axis != '\0'; axis++) {
+        if (!scan_is_over(&line) && *line.at == *axis) {
+            record->homed[count] = *axis;
+            count++;
+            line.at++;
+        }
+    }
+    record->homed[count] = '\0';
+    return is_right && count > 0 && scan_is_over(&line);
+}
+
+static bool read_off(struct scan line, struct record *record) {
+    record->is_off = scan_word(&line, "off") && scan_is_over(&line);
+    return record->is_off;
+}
+
 static bool read_stopped(struct scan line, struct record *record) {
     if (!scan_word(&line, "stopped ") || scan_is_over(&line)) {
         return false;
@@ -193,6 +217,14 @@ static int read_rest(struct scan text, struct record *record) {
     int number = 6;
     bool is_line = next_line(&text, &line);
     if (is_line && read_mark(line, &record->mark)) {
+        is_line = next_line(&text, &line);
+        number++;
+    }
+    if (is_line && read_homed(line, record)) {
+        is_line = next_line(&text, &line);
+        number++;
+    }
+    if (is_line && read_off(line, record)) {
         is_line = next_line(&text, &line);
         number++;
     }

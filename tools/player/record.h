@@ -30,7 +30,9 @@ struct record {
     struct outputs outputs;
     int64_t nm[3]; /* where the machine stands */
     struct file_mark mark;
-    char stopped[16]; /* what ended the player before OUT's end, in a word */
+    char homed[4];    /* the axes that were homed since the player began, as "XYZ" */
+    bool is_off;      /* the motors left the path of OUT by a move without lines */
+    char stopped[16]; /* what ended the player before OUT's end, in a word; `emergency` and `limit` until it is homed */
 };
 
 /* Whether a path of OUT can stand in a record. */

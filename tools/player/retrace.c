@@ -11,6 +11,7 @@
 #include "play_parts.h"
 #include "sink_link.h"
 #include "sink_play.h"
+#include "spindle.h"
 #include "waits.h"
 
 static struct moves moves;
@@ -30,8 +31,7 @@ void legs_look(struct play *play, struct way_sum *sum) {
     }
 }
 
-/* Makes a move now, which lasts so many nanoseconds, and counts it. */
-static enum end make(struct play *play, const struct move *move, uint64_t lasts_ns) {
+enum end make_move(struct play *play, const struct move *move, uint64_t lasts_ns) {
     struct player *player = play->player;
     char text[LONGEST_LINE];
     const int *step = move->line.step;
@@ -88,7 +88,7 @@ static enum end go_unpaced(struct play *play) {
             }
         }
         atomic_store(&play->player->stands_held, false);
-        if (make(play, &move, move.line.us * 1000) == FAILED) {
+        if (make_move(play, &move, move.line.us * 1000) == FAILED) {
             return FAILED;
         }
     }
@@ -147,7 +147,7 @@ static enum end go_paced(struct play *play) {
             first_ahead++;
             if (link_is_there()) {
                 link_give(move, ns, ramp, !play->is_moving);
-            } else if (make(play, move, ns) == FAILED) {
+            } else if (make_move(play, move, ns) == FAILED) {
                 return FAILED;
             }
         }
@@ -157,13 +157,14 @@ static enum end go_paced(struct play *play) {
 }
 
 /* Sets outputs over a sink, and waits for the spindle. */
-static enum end switch_sink_on(struct play *play, const struct line *line, bool turns) {
+static enum end switch_sink_on(struct play *play, const struct line *line, const struct outputs *before) {
     const struct move move = {true, *line, play->player->lines, play->player->bytes};
+    bool turns = line->outputs.spindle != before->spindle;
     if (!sink_await_room(play)) {
         return STOPPED;
     }
     link_give(&move, turns ? (uint64_t)play->machine.spindle_ns : 0, 0, true);
-    return sink_await_rest(play) ? AT_OUTS_END : STOPPED;
+    return sink_await_rest(play) && sink_is_at_speed(play, before, &line->outputs) ? AT_OUTS_END : STOPPED;
 }
 
 /* Sets outputs, but for the tool, which stays in the spindle, and waits for the spindle. */
@@ -173,9 +174,9 @@ static enum end switch_on(struct play *play, const struct outputs *outputs) {
     line.outputs.slot = play->player->outputs.slot;
     size_t size = outputs_print(text, sizeof text - 1, &line.outputs);
     text[size] = '\n';
-    bool turns = outputs->spindle != play->player->outputs.spindle;
+    const struct outputs before = play->player->outputs;
     if (link_is_there()) {
-        return switch_sink_on(play, &line, turns);
+        return switch_sink_on(play, &line, &before);
     }
     int error = pins_set(&line, text, size + 1);
     if (error != 0) {
@@ -186,7 +187,7 @@ static enum end switch_on(struct play *play, const struct outputs *outputs) {
     player_lock(play->player);
     play->player->outputs = line.outputs;
     player_unlock(play->player);
-    bool is_on = wait_for(play, turns ? play->machine.spindle_ns : 0);
+    bool is_on = spindle_wait(play, &before, outputs);
     schedule_pause(&play->schedule);
     return is_on ? AT_OUTS_END : STOPPED;
 }
@@ -197,6 +198,7 @@ static void arrive(struct player *player) {
     if (errand->wish.is_by_legs) {
         player->lines = errand->legs_lines;
         player->bytes = errand->legs_bytes;
+        player->is_off = false;
     }
     if (!player->source.is_pipe) {
         source_go_to(&player->source, player->lines, player->bytes);

@@ -1,11 +1,21 @@
 #include "sink_play.h"
 
 #include <inttypes.h>
+#include <string.h>
 
 #include "sink_catch_up.h"
 #include "sink_link.h"
+#include "spindle.h"
 #include "times.h"
 #include "waits.h"
+
+static struct sink_inputs session; /* which inputs the sink heeds */
+
+static struct sink_inputs inputs_of(const struct play *play, uint32_t stops, uint32_t halts, uint32_t turned) {
+    const struct sink_inputs inputs = {(uint16_t)stops, (uint16_t)halts,
+                                       (uint16_t)(play->machine.inputs.low ^ turned)};
+    return inputs;
+}
 
 bool sink_open(struct play *play, struct cause *why) {
     struct sink_answer left;
@@ -28,9 +38,46 @@ bool sink_open(struct play *play, struct cause *why) {
 }
 
 bool sink_begin(struct play *play, struct cause *why) {
-    static const struct sink_inputs none;
-    (void)play;
-    return !link_is_there() || link_begin(&none, why);
+    session = inputs_of(play, inputs_stops(&play->machine.inputs), 0, 0);
+    return !link_is_there() || link_begin(&session, why);
+}
+
+bool sink_begin_anew(struct play *play, uint32_t stops, uint32_t halts, uint32_t turned) {
+    struct player *player = play->player;
+    if (!link_is_there()) {
+        return true;
+    }
+    session = inputs_of(play, stops, halts, turned);
+    if (!link_begin(&session, &play->why)) {
+        note_stop(play, "sink");
+        return false;
+    }
+    player_lock(player);
+    outputs_stop(&player->outputs);
+    player_unlock(player);
+    return true;
+}
+
+uint32_t sink_inputs_on(const struct inputs *inputs) {
+    return link_look().inputs ^ (uint32_t)(session.low ^ inputs->low);
+}
+
+bool sink_is_touched(int64_t steps[3]) {
+    if (!link_is_there()) {
+        return false;
+    }
+    struct link_state state = link_look();
+    if (state.state == SINK_RUNS || (state.fault != FAULT_TOUCHED && !state.is_touched)) {
+        return false;
+    }
+    memcpy(steps, state.touched, sizeof state.touched);
+    return true;
+}
+
+bool sink_is_stopped_by_input(void) {
+    const char *word = NULL;
+    const char *text = NULL;
+    return link_is_there() && link_is_over(&word, &text) && link_look().fault == FAULT_INPUT;
 }
 
 bool sink_is_moving(void) {
@@ -46,6 +93,9 @@ bool sink_has_stopped(struct play *play) {
         return false;
     }
     struct link_state state = link_look();
+    if (state.fault == FAULT_TOUCHED && session.halts != 0) {
+        return false;
+    }
     bool is_lost = state.state == SINK_BROKEN || state.fault == FAULT_NONE;
     note_stop(play, word);
     player_lock(play->player);
@@ -81,14 +131,20 @@ bool sink_await_rest(struct play *play) {
     return !has_to_stop(play);
 }
 
+bool sink_is_at_speed(struct play *play, const struct outputs *before, const struct outputs *outputs) {
+    return !spindle_has_to_speed_up(play, before, outputs)
+        || (sink_await_rest(play) && spindle_wait_at_speed(play, before, outputs));
+}
+
 enum end sink_carry_out(struct play *play, const struct line *line, const char *text, size_t size, uint64_t ns,
                         uint64_t ramp) {
     struct schedule *schedule = &play->schedule;
-    bool turns = line->kind == 'S' && line->outputs.spindle != link_outputs().spindle;
+    const struct outputs before = link_outputs();
+    bool turns = line->kind == 'S' && line->outputs.spindle != before.spindle;
     times_add(schedule->due - schedule->begun, text, size);
     schedule_begin(schedule, ns);
     link_give_line(line, size, turns ? (uint64_t)play->machine.spindle_ns : ns, ramp, !play->is_moving);
-    return AT_OUTS_END;
+    return line->kind != 'S' || sink_is_at_speed(play, &before, &line->outputs) ? AT_OUTS_END : STOPPED;
 }
 
 bool sink_switch_off(struct play *play) {

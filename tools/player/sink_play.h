@@ -11,6 +11,20 @@ bool sink_open(struct play *play, struct cause *why);
 /* Begins a session, if there is a link: the record is written. Returns false, with the cause. */
 bool sink_begin(struct play *play, struct cause *why);
 
+/* Begins another session, at rest: `stops` stop the motors at once, `halts` bring them to rest by a ramp, and those of
+ * `turned` are heeded as they go off. Spindle and coolant are off then. False where the play has to stop, as no sink
+ * answers. */
+bool sink_begin_anew(struct play *play, uint32_t stops, uint32_t halts, uint32_t turned);
+
+/* The inputs that are on, as the sink said last. */
+uint32_t sink_inputs_on(const struct inputs *inputs);
+
+/* Whether an input of `halts` brought the motors to rest: then they stand, and were at these steps as it came. */
+bool sink_is_touched(int64_t steps[3]);
+
+/* Whether an input stopped the motors at once. */
+bool sink_is_stopped_by_input(void);
+
 /* Whether the sink makes what was given. */
 bool sink_is_moving(void);
 
@@ -29,6 +43,9 @@ bool sink_await_rest(struct play *play);
 /* Gives a line of OUT of so many bytes, in its time by the pacer. */
 enum end sink_carry_out(struct play *play, const struct line *line, const char *text, size_t size, uint64_t ns,
                         uint64_t ramp);
+
+/* Waits, behind a switch that was given, until the spindle is at its speed; false where the play has to stop before. */
+bool sink_is_at_speed(struct play *play, const struct outputs *before, const struct outputs *outputs);
 
 /* Turns spindle and coolant off, and notes it; says so if that isn't sure. */
 bool sink_switch_off(struct play *play);

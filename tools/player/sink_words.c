@@ -117,6 +117,7 @@ static void count(struct play *play, const struct move *move) {
     if (move->is_done && line->kind == 'S') {
         player->outputs = line->outputs;
     }
+    player->is_off = player->is_off && player->lines == move->lines;
     player->lines = move->lines;
     player->bytes = move->bytes;
     play->counts.pulses += move->is_done && line->kind == 'P';

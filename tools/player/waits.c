@@ -26,7 +26,9 @@ void stop_at_rest(void) {
 
 void note_stop(struct play *play, const char *word) {
     player_lock(play->player);
-    play->player->stopped = word;
+    if (play->player->alarm == NO_ALARM) {
+        play->player->stopped = word;
+    }
     player_unlock(play->player);
 }
 
@@ -36,7 +38,7 @@ bool is_rest_asked(const struct play *play) {
 
 bool has_to_stop(struct play *play) {
     int asked = atomic_load(&stops);
-    if (sink_has_stopped(play)) {
+    if (alarm_look(play) || sink_has_stopped(play)) {
         return true;
     }
     if ((play->is_moving || sink_is_moving()) && asked < 2) {

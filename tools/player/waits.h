@@ -8,13 +8,13 @@
 
 enum { SLICE_MS = 20 }; /* how long it sleeps at most before it looks whether it is to stop */
 
-/* Notes what stops the play, in a word, and why, in `play->why`. */
+/* Notes what stops the play, in a word, and why, in `play->why`. The word of an alarm stays. */
 void note_stop(struct play *play, const char *word);
 
 /* Whether the play is to come to rest and stop then: somebody asks for it, or the record can't be kept. */
 bool is_rest_asked(const struct play *play);
 
-/* Whether the play has to stop now: where it moves only if it is asked for once more. Notes why. */
+/* Whether the play has to stop now: for an alarm; and where it moves only if it is asked for once more. Notes why. */
 bool has_to_stop(struct play *play);
 
 /* Waits for so many nanoseconds; false where the play has to stop before. */

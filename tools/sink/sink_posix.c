@@ -3,6 +3,9 @@
  * sink_posix BOOT prints the terminal's path, then does what each line of its input says, and ends with the input.
  *     run TICKS BYTES    lets so many ticks of 1/8 us go by, once it has got so many bytes of the terminal in all
  *     inputs BITS        sets the inputs
+ *     switch INPUT AXIS  turns an input round while the axis, from 0 for X, is at least at STEPS from where it began, or
+ *       SIGN STEPS       at most, where SIGN is -1
+ *     turn STEPS BITS    turns inputs round once the motors have made so many steps
  *     boot BOOT          the chip starts again
  *     stray TICK         its timer calls sink_make while it isn't to
  *     serve MS           from now on the clock goes on by itself, but where the sink would have to slow down, or hears
@@ -37,6 +40,11 @@ static uint64_t poll_due;
 static uint64_t watched;  /* when the watchdog was told last */
 static bool is_timed;
 static unsigned inputs;
+static struct { unsigned bit; int axis; long sign; long at; } switches[4]; /* a bit of 0 is none */
+static long place[3];
+static unsigned long steps_made;
+static unsigned long turns_at; /* 0 for never */
+static unsigned turned;
 static uint8_t came[ROOM]; /* bytes that came, and were not yet read */
 static size_t begin;
 static size_t end;
@@ -65,6 +73,10 @@ void sink_port_timer(uint32_t ticks) {
 }
 
 void sink_port_pins(uint8_t steps, uint8_t down, const struct sink_outputs *outputs) {
+    for (int axis = 0; axis < 3; axis++) {
+        place[axis] += (steps >> axis & 1) * ((down >> axis & 1) ? -1 : 1);
+    }
+    steps_made += steps != 0;
     if (outputs == NULL) {
         printf("P %" PRIu64 " %u %u\n", now, steps, down);
         return;
@@ -74,7 +86,11 @@ void sink_port_pins(uint8_t steps, uint8_t down, const struct sink_outputs *outp
 }
 
 uint16_t sink_port_inputs(void) {
-    return (uint16_t)inputs;
+    unsigned levels = inputs ^ (turns_at > 0 && steps_made >= turns_at ? turned : 0);
+    for (int at = 0; at < 4; at++) {
+        levels ^= switches[at].sign * (place[switches[at].axis] - switches[at].at) >= 0 ? switches[at].bit : 0;
+    }
+    return (uint16_t)levels;
 }
 
 int sink_port_read(void) {
@@ -220,8 +236,9 @@ static void serve(void) {
             sink_poll(&sink, (uint32_t)now);
         }
         bool is_early = tempo > 0 && (now - tempo_ticks) / POLL_TICKS * 100 > (real_ms() - tempo_from) * tempo;
-        bool goes_on = !is_early && ((sink.state == SINK_RUNS && is_in_time())
-            || real_ms() - waited >= (sink.state == SINK_RUNS ? serves_ms : 1));
+        bool is_in_order = sink.state == SINK_RUNS && (sink_asked(&sink) != FAULT_NONE || is_in_time());
+        bool goes_on = !is_early
+            && (is_in_order || real_ms() - waited >= (sink.state == SINK_RUNS ? serves_ms : 1));
         if (goes_on) {
             run(POLL_TICKS);
             waited = real_ms();
@@ -235,6 +252,27 @@ static void serve(void) {
 static void boot(unsigned long count) {
     is_timed = false;
     sink_start(&sink, (uint16_t)count, (uint32_t)now);
+}
+
+/* Places a switch, or says when inputs turn; whether the line says that. */
+static bool place_switch(const char *line) {
+    static int count;
+    unsigned input = 0;
+    int axis = 0;
+    long sign = 0;
+    long at = 0;
+    if (sscanf(line, "turn %lu %u", &turns_at, &turned) == 2) {
+        return true;
+    }
+    if (sscanf(line, "switch %u %d %ld %ld", &input, &axis, &sign, &at) != 4 || count == 4 || axis < 0 || axis > 2) {
+        return false;
+    }
+    switches[count].bit = 1U << input;
+    switches[count].axis = axis;
+    switches[count].sign = sign;
+    switches[count].at = at;
+    count++;
+    return true;
 }
 
 static void obey(const char *line) {
@@ -262,7 +300,7 @@ static void obey(const char *line) {
         fault_rate = (uint32_t)other;
     } else if (got == 2 && strcmp(word, "cut") == 0) {
         cut_until = now + one * WIRE_TICKS_A_MS;
-    } else {
+    } else if (!place_switch(line)) {
         give_up("what is to be done?");
     }
     printf(". %lu\n", sent);

@@ -29,7 +29,7 @@ lines = 0
 [wait]
 spindle_s = 0
 
-[home] # of others
+[page] # of others
 order = ["Z", "XY"]
 """
 LONG = "P 1 0 0 50\n" * 4000  # 10 mm at 3,000 mm a minute, 400 steps a mm: 0.2 s at full rate, 0.1 s in ramps

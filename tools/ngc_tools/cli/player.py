@@ -8,10 +8,10 @@ import threading
 from contextlib import ExitStack
 
 from ngc_tools.cli.run import new_parser, run
-from ngc_tools.failure import WrongWords
+from ngc_tools.failure import Failure, WrongWords
 from ngc_tools.formats.out import BadLine
 from ngc_tools.formats.position import Position, millimetres
-from ngc_tools.formats.record import Record, check_path, machine_nm
+from ngc_tools.formats.record import ALARMS, Record, check_path, machine_nm
 from ngc_tools.formats.settings import Settings
 from ngc_tools.formats.text import shown
 from ngc_tools.player.answers import Answers
@@ -44,6 +44,10 @@ exit status:
   2  the words are wrong, or a file can't be used"""
 
 _SECONDS = re.compile(r"([0-9]{1,4})(?:\.([0-9]{1,6}))?")
+
+
+class NotKnown(Failure):
+    """Where the motors are isn't known; the text names the record that says so."""
 
 
 def seconds(text: str) -> int:
@@ -128,6 +132,7 @@ def prepared(args: argparse.Namespace, voice: Voice, stack: ExitStack) -> Player
     file = RecordFile(args.position)
     stack.callback(file.close)
     found = file.read()
+    check_alarm(args.position, found, at_nm is not None)
     begun, notice = where_to_begin(found, source, args.anew, args.restored)
     if notice:
         voice.say(f"{args.out}: {notice}")
@@ -158,6 +163,13 @@ def prepared(args: argparse.Namespace, voice: Voice, stack: ExitStack) -> Player
         player.answers = Answers(listener, player)
     player.keeper = Keeper(file, player.standing)
     return player
+
+
+def check_alarm(position: str, found: Record | None, is_told: bool) -> None:
+    """Raises NotKnown where a record says that motors were stopped at once, and nobody told since where they are."""
+    if found and found.stopped in ALARMS and not is_told:
+        raise NotKnown(f"{position}: {ALARMS[found.stopped]} stopped the motors, and where they are isn't known:"
+                       " --at X Y Z tells it")
 
 
 def stay(source: Source, begun: Record, voice: Voice) -> None:

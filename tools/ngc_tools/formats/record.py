@@ -21,7 +21,10 @@ _LINES = (
     ("reference X Y Z", re.compile(r"reference ([^ ]+ [^ ]+ [^ ]+)")),
 )
 _FILE = re.compile(rf"file ({_NUMBER}) ({_NUMBER}) ([0-9a-f]{{8}})")
+_HOMED = re.compile(r"homed (?=[XYZ])(X?Y?Z?)")
+_OFF = re.compile("(off)")
 _STOPPED = re.compile(r"stopped ([a-z]+)")
+ALARMS = {"emergency": "the emergency stop", "limit": "a limit"}  # what stopped motors whose place isn't known since
 
 
 class BadRecord(Failure, ValueError):
@@ -45,7 +48,8 @@ class FileMark:
 class Record:
     """The first `lines` lines of `out`, its first `size` bytes, are carried out. `outputs` are as the last switch left
     them, and the machine stands at `at_nm`. `mark` is that of a file, as a pipe has none. `stopped` is what ended the
-    player before OUT's end, in a word."""
+    player before OUT's end, in a word, one of ALARMS until the machine was homed. `homed` are the axes that were homed
+    since the player began, as `XYZ`; `is_off`: the motors left the path of OUT by a move without lines."""
 
     out: str
     lines: int = 0
@@ -54,6 +58,8 @@ class Record:
     at_nm: tuple[int, int, int] = (0, 0, 0)
     mark: FileMark | None = None
     stopped: str = ""
+    homed: str = ""
+    is_off: bool = False
 
     def text(self) -> bytes:
         """What stands in the file, 512 bytes. Raises BadRecord if the path of OUT can't stand in it."""
@@ -67,6 +73,10 @@ class Record:
         ]
         if self.mark:
             lines.append(f"file {self.mark}")
+        if self.homed:
+            lines.append(f"homed {self.homed}")
+        if self.is_off:
+            lines.append("off")
         if self.stopped:
             lines.append(f"stopped {self.stopped}")
         return ("\n".join(lines) + "\n").encode("utf-8", "surrogateescape").ljust(SIZE - 1) + b"\n"
@@ -107,25 +117,24 @@ def _read(text: bytes) -> Record:
         if match is None:
             raise ValueError(f"line {number + 1} isn't '{form}'")
         found.append(match[1])
-    mark, stopped_by, rest = _optional(lines[len(_LINES):])
+    (marked, homed, off, stopped_by), rest = _optional(lines[len(_LINES):])
+    mark = FileMark(int(marked[1]), int(marked[2]), int(marked[3], 16)) if marked else None
     if len(rest) != 2 or rest[0].strip(" ") or rest[1]:
         raise ValueError(f"line {len(lines) - len(rest) + 1} is no line of a record")
     x, y, z = map(machine_nm, found[4].split(" "))
     outputs = read_line(found[3], 4)
     assert isinstance(outputs, Switch)
-    return Record(found[0], int(found[1]), int(found[2]), outputs, (x, y, z), mark, stopped_by)
+    return Record(found[0], int(found[1]), int(found[2]), outputs, (x, y, z), mark, stopped_by[1] if stopped_by else "",
+                  homed[1] if homed else "", off is not None)
 
 
-def _optional(lines: list[str]) -> tuple[FileMark | None, str, list[str]]:
-    """The lines that a record may have after its five, and what is left."""
-    mark, stopped_by = None, ""
-    if lines and (match := _FILE.fullmatch(lines[0])):
-        mark = FileMark(int(match[1]), int(match[2]), int(match[3], 16))
-        lines = lines[1:]
-    if lines and (match := _STOPPED.fullmatch(lines[0])):
-        stopped_by = match[1]
-        lines = lines[1:]
-    return mark, stopped_by, lines
+def _optional(lines: list[str]) -> tuple[list[re.Match[str] | None], list[str]]:
+    """The lines that a record may have after its five, None for one that isn't there, and what is left."""
+    found = []
+    for pattern in (_FILE, _HOMED, _OFF, _STOPPED):
+        found.append(pattern.fullmatch(lines[0]) if lines else None)
+        lines = lines[1:] if found[-1] else lines
+    return found, lines
 
 
 def machine_nm(text: str) -> int:

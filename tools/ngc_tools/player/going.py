@@ -47,6 +47,8 @@ class Going:
         if found is None or begun.size == 0 and found.size != 0:
             whose = "there is no such record" if found is None else f"it speaks of {found.out}, not of {out}"
             raise WontGo(f"{self.args.position}: {whose}: where the motors are on the way isn't known")
+        if begun.is_off:
+            raise WontGo(f"{out}: the motors were moved off its path: recover in ngc-operate leads back to it by legs")
         stands, left = player.position.nm, Position(self.settings.step_nm, begun.at_nm).nm
         if stands != left and self.args.lift is None:
             raise WontGo(f"--at {player.position}: the motors left the way at {_point(left)}: --lift Z leads back to it"

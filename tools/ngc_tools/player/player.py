@@ -33,6 +33,7 @@ class Player(Goes):
         self.outputs = stopped(begun.outputs)
         self.out = begun.out
         self.lines, self.size = begun.lines, begun.size
+        self.is_off = begun.is_off
         self.counts = Counts()
         self.schedule = Schedule(manner.timed)
         self.keeper: Keeper | None = None
@@ -77,7 +78,8 @@ class Player(Goes):
         """What is carried out now, for the record."""
         with self._lock:
             lines, size, outputs, at_nm, why = self.lines, self.size, self.outputs, self.position.nm, self.stopped_by
-        return Record(self.out, lines, size, outputs, at_nm, self.source.mark(size), why)
+            is_off = self.is_off
+        return Record(self.out, lines, size, outputs, at_nm, self.source.mark(size), why, is_off=is_off)
 
     def close(self) -> None:
         """Lets go of what it has of the system."""
@@ -254,6 +256,7 @@ class Player(Goes):
             self.position.take(line)
             self.lines += 1
             self.size += size
+            self.is_off = False
 
     def _wait_until(self, due: int) -> None:
         """Waits until a moment of the monotonic clock."""

@@ -31,6 +31,10 @@
     where no line ends at BYTES.
 `legs LIFT X Y Z BYTES`, with outputs behind as well
     The same by legs: up to the machine coordinate LIFT, over, and down to X Y Z, which is where BYTES of OUT lead.
+`home N`, `jog N X+ RATE`, `seek N Z- RATE within MM`, `stop`, `machine N`
+    Moves without lines, of tools/player with `--machine`: OUTPUT.md, "Home, jog, seek". While one goes `moves` stands
+    in the place of `works`; `alarm` while the place isn't to be trusted, `broken` where no more line of the session is
+    carried out after that, and `waits spindle` while the spindle isn't at its speed.
 `end`
     The session is over; whoever asks sends it last, before it closes OUT. Lines in hand are carried out. With spindle
     and coolant off the player then ends with status 0. With one of them on it ends with status 0 too, but leaves them
@@ -39,6 +43,7 @@
 A console that dies sends no `end`: the player ends with status 1 after the same seconds."""
 import errno
 import os
+import random
 import re
 import socket
 import stat
@@ -56,8 +61,12 @@ KEPT = re.compile(rb"kept [0-9]{1,20}")
 PERCENT = re.compile(rb"percent ([1-9][0-9]{0,2})")
 _OTHER = "it is of another version: take a player and a console of one version"
 _LONGEST = 192  # bytes of a datagram to a player
-_REPORT = re.compile(r"carried (\d+) received (\d+) (works|held|waits tool (\d{1,3})) reference (\S+ \S+ \S+)"
+_WORDS = "works|held|moves|alarm|broken|waits spindle"
+_REPORT = re.compile(rf"carried (\d+) received (\d+) ({_WORDS}|waits tool (\d{{1,3}})) reference (\S+ \S+ \S+)"
                      r" outputs (S \d \S+ \d \d \d+ \d+) percent (\d+) wants (\d+) out (.*)", re.DOTALL)
+_POINT = r"none|\S+ \S+ \S+"
+_MACHINE = re.compile(rf"does (stands|(?:home|jog|seek) \S+) homed ([XYZ]+|none) alarm (\w+) on (\S+)"
+                      rf" touched ({_POINT}) ended (\d+) (.*)", re.DOTALL)
 
 
 class NoAnswer(Failure):
@@ -81,6 +90,7 @@ class Report:
     is_held: bool = False  # it stands, since it is to
     percent: int = 100
     wants: int = 0
+    word: str = "works"  # where it neither waits for a tool nor is held: `moves`, `alarm`, `broken`, `waits spindle`
 
     @property
     def behind(self) -> int:
@@ -89,7 +99,7 @@ class Report:
 
     def text(self) -> bytes:
         """What is answered."""
-        state = f"waits tool {self.tool}" if self.waits else "held" if self.is_held else "works"
+        state = f"waits tool {self.tool}" if self.waits else "held" if self.is_held else self.word
         said = (f"carried {self.carried} received {self.received} {state} reference {self.at}"
                 f" outputs {self.outputs} percent {self.percent} wants {self.wants} out {self.out}")
         return said.encode("utf-8", "surrogateescape")
@@ -101,8 +111,36 @@ class Report:
         outputs = _switch(match[6]) if match else None
         if match is None or outputs is None:
             raise ValueError(f"not a report of a player: {answer[:80]!r}")
+        word = "works" if match[4] or match[3] == "held" else match[3]
         return Report(int(match[1]), int(match[2]), match[4] is not None, match[5], match[9], outputs,
-                      int(match[4] or 0), match[3] == "held", int(match[7]), int(match[8]))
+                      int(match[4] or 0), match[3] == "held", int(match[7]), int(match[8]), word)
+
+
+@dataclass(frozen=True, slots=True)
+class Machine:
+    """What a player says of moves without lines. `does` is `stands`, `home X`, `jog X+` or `seek Z-`; `homed` the axes
+    that were homed, as `XYZ`; `alarm` is `emergency_stop` or `limits`, "" for none; `on` the inputs that are on;
+    `touched` where the probe was touched last, in machine millimetres. The move of the number `ended` is over, 0 for
+    none, and `how` is `done`, or says in words why it came to rest."""
+
+    does: str
+    homed: str = ""
+    alarm: str = ""
+    on: tuple[str, ...] = ()
+    touched: str = ""
+    ended: int = 0
+    how: str = ""
+
+    @staticmethod
+    def read(answer: bytes) -> "Machine":
+        """Reads what was answered. Raises ValueError for any other text."""
+        match = _MACHINE.fullmatch(answer.decode("utf-8", "replace"))
+        if match is None:
+            raise ValueError(f"not what a player says of its machine: {answer[:80]!r}")
+        does, homed, alarm, on, touched = (each if each != "none" else "" for each in match.groups()[:5])
+        ended = int(match[6])
+        inputs = tuple(on.split(",")) if on else ()
+        return Machine(does, homed, alarm, inputs, touched, ended, match[7] if ended else "")
 
 
 def _switch(text: str) -> Switch | None:
@@ -190,6 +228,7 @@ class Link:
         self.path = str(path)
         self.patience_s = patience_s
         self.count = 0
+        self._moves = random.randrange(10**12)  # the number of the last move, which no other asker has
         self.socket = socket.socket(socket.AF_UNIX, socket.SOCK_DGRAM)
         self.socket.settimeout(0.05)
         self.socket.bind("")  # a name of its own, which the system chooses, so that it can be answered
@@ -207,6 +246,10 @@ class Link:
     def _answer(self, question: bytes) -> bytes:
         """What is answered to a question, behind it. Raises NoAnswer."""
         self._send(question)
+        return self._awaited(question)
+
+    def _awaited(self, question: bytes) -> bytes:
+        """The answer to a question that was asked, behind it. Raises NoAnswer."""
         until = time.monotonic() + self.patience_s
         while time.monotonic() < until:
             try:
@@ -282,6 +325,46 @@ class Link:
     def release(self) -> None:
         """Tells a player that is held to go on. Raises NoAnswer."""
         self._send(b"release")
+
+    def machine(self) -> Machine:
+        """What moves without lines, which inputs are on, and how the last such move ended. Raises NoAnswer; so it does
+        where the player has no such moves."""
+        self.count += 1
+        try:
+            return Machine.read(self._answer(b"machine %d" % self.count))
+        except ValueError as error:
+            raise NoAnswer(f"{self.path}: {error}; {_OTHER}") from None
+
+    def home(self, axes: str = "") -> tuple[int, str]:
+        """Homes all axes, or these, as `XZ`: the move's number, and why it is refused, "" if it is taken. Raises
+        NoAnswer."""
+        return self._move("home", axes)
+
+    def jog(self, way: str, rate: str, length: str = "") -> tuple[int, str]:
+        """Goes `X+` or another way at a rate, in mm a minute: so far, or as long as `keep_on` says. Returns as `home`.
+        Raises NoAnswer."""
+        return self._move("jog", f"{way} {rate}" + (f" for {length}" if length else ""))
+
+    def keep_on(self, number: int, way: str, rate: str) -> None:
+        """Keeps a jog of that number going; to be called each 100 ms. Raises NoAnswer."""
+        self._send(f"jog {number} {way} {rate}".encode())
+
+    def seek(self, way: str, rate: str, within: str) -> tuple[int, str]:
+        """Goes until the probe is on, at most so far. Returns as `home`. Raises NoAnswer."""
+        return self._move("seek", f"{way} {rate} within {within}")
+
+    def stop(self) -> None:
+        """Ends a move without lines, by a ramp. Raises NoAnswer."""
+        self._send(b"stop")
+
+    def _move(self, verb: str, what: str) -> tuple[int, str]:
+        self._moves += 1
+        question = f"{verb} {self._moves}"
+        self._send(f"{question} {what}".rstrip().encode())
+        answer = self._awaited(question.encode()).decode("utf-8", "replace")
+        if answer != "taken" and not answer.startswith("refused "):
+            raise NoAnswer(f"{self.path}: {_OTHER}")
+        return self._moves, "" if answer == "taken" else answer.removeprefix("refused ")
 
     def override(self, percent: int) -> None:
         """Tells a player to go at so many percent of OUT's rates, 1 to 100. Raises NoAnswer."""

@@ -106,6 +106,7 @@ class Goes:
     is_held = False  # somebody asks for a rest
     _limits: Limits | None = None
     errand: Errand | None = None
+    is_off = False  # the motors left the path of OUT by a move without lines
 
     def take_errand(self, size: int, on: Switch | None, lift_nm: int | None = None, at_nm: Point | None = None) -> str:
         """Takes an errand: along OUT to where its first `size` bytes lead. If `at_nm` is named, it is where they lead,
@@ -114,6 +115,8 @@ class Goes:
         source = self.source
         if self.errand or source.received != self.lines:
             return "it works: lines are in hand"
+        if self.is_off and at_nm is None:
+            return "the motors were moved off the path of OUT: legs lead back to it"
         is_line = source.is_file and size <= source.size() and source.holds(size)
         if not is_line and (source.is_file or at_nm is None):
             return f"no line of OUT ends at byte {size}" if source.is_file else "OUT is a pipe, and keeps no lines"
@@ -152,6 +155,7 @@ class Goes:
         with self._lock:
             if self.source.is_file:
                 self._arrive(errand)
+            self.is_off = self.is_off and not errand.legs
             self.errand = None
         return True
 

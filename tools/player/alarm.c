@@ -1,0 +1,208 @@
+#define _GNU_SOURCE
+#include "alarm.h"
+
+#include <errno.h>
+#include <inttypes.h>
+#include <poll.h>
+#include <stdio.h>
+#include <string.h>
+#include <sys/eventfd.h>
+
+#include "home.h"
+#include "inputs.h"
+#include "manual.h"
+#include "play_parts.h"
+#include "sink_link.h"
+#include "sink_play.h"
+#include "waits.h"
+
+static const char *const record_words[] = {"", "emergency", "limit"};
+
+const char *alarm_word(enum alarm alarm) {
+    return record_words[alarm];
+}
+
+bool alarm_stands(struct player *player) {
+    player_lock(player);
+    bool stands = player->alarm != NO_ALARM;
+    player_unlock(player);
+    return stands;
+}
+
+/* Whether the machine's file says how it is homed. */
+static bool has_home(const struct player *player) {
+    return player->machine != NULL && home_axes(&player->machine->home) != 0;
+}
+
+/* Whether somebody can ask this player to home the machine. */
+static bool can_home(const struct player *player) {
+    return player->socket >= 0 && has_home(player);
+}
+
+bool alarm_take_over(struct player *player, const struct options *options, struct cause *why) {
+    enum alarm alarm = LIMITS;
+    while (alarm != NO_ALARM && strcmp(player->left.stopped, record_words[alarm]) != 0) {
+        alarm--;
+    }
+    if (alarm == NO_ALARM || options->has_place) {
+        return true;
+    }
+    player->alarm = alarm;
+    player->stopped = record_words[alarm];
+    return (options->socket != NULL && has_home(player))
+        || because(why, "%s: %s stopped the motors, and where they are isn't known: --at X Y Z tells it",
+                   options->position, alarm == LIMITS ? "a limit" : "the emergency stop");
+}
+
+bool alarm_begin(const struct player *player, const struct options *options, struct cause *why) {
+    const struct machine *machine = player->machine;
+    uint32_t on = 0;
+    if (machine == NULL || !machine->inputs.are_there) {
+        return true;
+    }
+    int error = inputs_read(&machine->inputs, &on);
+    if (error != 0) {
+        return because(why, "%s: inputs: %s", options->machine,
+                       error == ENOTSUP ? "the pins of this player have none" : strerror(error));
+    }
+    return machine->inputs.door == NO_INPUT || options->socket != NULL
+        || because(why, "%s: inputs: the door takes --progress: nobody could say that the machine goes on",
+                   options->machine);
+}
+
+/* Inputs stop the motors; none, where the sink knows one that is off again: it counts as the emergency stop. */
+static void begin_alarm(struct play *play, uint32_t hits) {
+    struct player *player = play->player;
+    const struct inputs *inputs = &play->machine.inputs;
+    bool is_stop = hits == 0 || input_is_on(hits, inputs->emergency_stop);
+    char what[32] = "the emergency stop";
+    if (!is_stop) {
+        const char *limit = inputs_limit_name(inputs, hits);
+        snprintf(what, sizeof what, limit[0] != '\0' ? "the limit %s" : "a limit", limit);
+    }
+    if (sink_is_moving()) {
+        link_stop(true);
+    }
+    switch_off(play);
+    player_lock(player);
+    player->alarm = is_stop ? EMERGENCY_STOP : LIMITS;
+    player->stopped = alarm_word(player->alarm);
+    player->homed = 0;
+    player_unlock(player);
+    because(&play->why, "%s is on, after line %" PRIu64 ": the motors stopped at once;", what, player->lines);
+}
+
+/* An open door holds the motors. */
+static void look_at_door(struct play *play, uint32_t on) {
+    static bool was_open;
+    bool is_open = input_is_on(on, play->machine.inputs.door);
+    if (is_open) {
+        atomic_store(&play->player->is_held, true);
+    }
+    if (is_open && !was_open) {
+        say("%s: the door is open: held; release goes on once it is closed", play->options->out);
+    }
+    was_open = is_open;
+}
+
+bool alarm_look(struct play *play) {
+    uint32_t on = 0;
+    if (!play->machine.inputs.are_there) {
+        return false;
+    }
+    int error = inputs_read(&play->machine.inputs, &on);
+    if (error != 0) {
+        note_stop(play, "pins");
+        return !because(&play->why, "the inputs: %s, after line %" PRIu64 ";", strerror(error), play->player->lines);
+    }
+    atomic_store(&play->player->on, on);
+    look_at_door(play, on);
+    if ((on & play->stops_at) != 0 || (play->stops_at != 0 && sink_is_stopped_by_input())) {
+        begin_alarm(play, on & play->stops_at);
+        return true;
+    }
+    return false;
+}
+
+/* Lets go of all lines in hand: they would be carried out from another place. */
+static void drop_lines(struct player *player) {
+    size_t part = 0;
+    player_lock(player);
+    source_take_all(&player->source);
+    source_part(&player->source, &part);
+    bool is_any = player->source.received != player->lines || part > 0 || player->errand.is_there;
+    player->is_broken = player->is_broken || is_any;
+    player->errand.is_there = false;
+    if (player->source.is_pipe) {
+        player->source.first = player->source.end = 0;
+    } else {
+        source_go_to(&player->source, player->lines, player->bytes);
+        player->source.limit = player->bytes;
+    }
+    player_unlock(player);
+}
+
+/* Whether the session is over, or nobody can home the machine any more. */
+static bool is_over(struct play *play) {
+    return is_rest_asked(play) || !can_home(play->player) || is_left(play);
+}
+
+/* Waits a little for a datagram. */
+static void doze(const struct play *play) {
+    struct pollfd on = {play->player->wake, POLLIN, 0};
+    eventfd_t events;
+    if (poll(&on, 1, SLICE_MS) > 0) {
+        eventfd_read(play->player->wake, &events);
+    }
+}
+
+/* The motors stand: says why. */
+static void begin_rest(struct play *play) {
+    struct player *player = play->player;
+    if (play->why.text[0] == '\0') { /* it began so */
+        because(&play->why, "%s stopped the motors before, and where they are isn't known;",
+                player->alarm == LIMITS ? "a limit" : "the emergency stop");
+    }
+    atomic_store(&player->tool, NO_TOOL);
+    atomic_store(&player->stands_held, false);
+    play->is_moving = false;
+    say("%s: %s spindle and coolant off; %s", play->options->out, play->why.text,
+        can_home(player) ? "home the machine" : "start anew with --at X Y Z");
+}
+
+/* Looks at the inputs at rest: what is on already is no news. An open door alone holds. */
+static void look_at_rest(struct play *play) {
+    uint32_t stops_at = play->stops_at;
+    play->stops_at = 0;
+    atomic_store(&play->player->is_held, false);
+    alarm_look(play);
+    play->stops_at = stops_at;
+}
+
+bool alarm_wait(struct play *play) {
+    struct player *player = play->player;
+    bool goes_on = false;
+    begin_rest(play);
+    while (!goes_on && !is_over(play)) {
+        drop_lines(player);
+        look_at_rest(play);
+        enum end end = manual_is_there(player) ? do_manual(play) : AT_OUTS_END;
+        if (end == FAILED) {
+            return false;
+        }
+        if (end == STOPPED) {
+            say("%s: %s spindle and coolant off", play->options->out, play->why.text);
+        }
+        doze(play);
+        goes_on = !alarm_stands(player) && !player->is_broken;
+    }
+    schedule_pause(&play->schedule);
+    because(&play->why, "the session is over, and %s",
+            alarm_stands(player) ? "the machine isn't homed;" : "lines in hand weren't carried out;");
+    return goes_on;
+}
+
+void alarm_end(struct player *player) {
+    player->alarm = NO_ALARM;
+    player->stopped = "";
+}

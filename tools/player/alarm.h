@@ -1,0 +1,40 @@
+/* The alarm: the emergency stop or a limit stopped the motors at once, and where they are isn't known any more. */
+#ifndef ALARM_H
+#define ALARM_H
+
+#include <stdbool.h>
+#include <stdint.h>
+
+#include "cause.h"
+#include "options.h"
+
+enum alarm { NO_ALARM, EMERGENCY_STOP, LIMITS };
+
+struct player;
+struct play;
+
+/* Takes over the alarm that the record tells of, unless a person tells where the machine stands. Returns false, with
+ * the cause, where nobody could home it. */
+bool alarm_take_over(struct player *player, const struct options *options, struct cause *why);
+
+/* Looks whether the pins have the inputs of the machine's file. Returns false, with the cause. */
+bool alarm_begin(const struct player *player, const struct options *options, struct cause *why);
+
+/* Looks at the inputs. Whether the motors have to stop at once: then an alarm stands, and the play knows why. An open
+ * door holds them. */
+bool alarm_look(struct play *play);
+
+/* Whether one stands. */
+bool alarm_stands(struct player *player);
+
+/* The word of a record for it. */
+const char *alarm_word(enum alarm alarm);
+
+/* Stands in an alarm, with spindle and coolant off and lines in hand dropped, until the machine is homed. Whether lines
+ * go on then: not where some were dropped, or it has to stop before. */
+bool alarm_wait(struct play *play);
+
+/* All axes that the machine's file names are homed: ends it. The lock is held. */
+void alarm_end(struct player *player);
+
+#endif

@@ -1,0 +1,78 @@
+#define _GNU_SOURCE
+#include "spindle.h"
+
+#include <inttypes.h>
+#include <poll.h>
+
+#include "inputs.h"
+#include "waits.h"
+
+enum { LOOKS_MS = 5 };
+
+#define NS_PER_S INT64_C(1000000000)
+
+/* Waits while it is held; false where the play has to stop. */
+static bool wait_held(struct play *play) {
+    struct player *player = play->player;
+    while (atomic_load(&player->is_held)) {
+        atomic_store(&player->stands_held, true);
+        poll(NULL, 0, LOOKS_MS);
+        if (has_to_stop(play) || is_left_held(play)) {
+            return false;
+        }
+    }
+    atomic_store(&player->stands_held, false);
+    return true;
+}
+
+/* The spindle wasn't at its speed in time: held, or stopped where nobody could release it. */
+static bool give_up(struct play *play) {
+    struct player *player = play->player;
+    int64_t seconds = play->machine.inputs.at_speed_ns / NS_PER_S;
+    if (player->socket < 0) {
+        note_stop(play, "spindle");
+        return because(&play->why, "line %" PRIu64 ": the spindle isn't at its speed after %" PRId64 " s;",
+                       player->lines + 1, seconds);
+    }
+    say("line %" PRIu64 ": the spindle isn't at its speed after %" PRId64 " s: held; release waits again",
+        player->lines + 1, seconds);
+    atomic_store(&player->is_held, true);
+    return wait_held(play);
+}
+
+/* Waits until the input says that it is at its speed; false where the play has to stop. */
+static bool wait_at_speed(struct play *play) {
+    const struct inputs *inputs = &play->machine.inputs;
+    int64_t until = schedule_now() + inputs->at_speed_ns;
+    bool goes_on = !has_to_stop(play);
+    while (goes_on && !input_is_on(atomic_load(&play->player->on), inputs->spindle_at_speed)) {
+        poll(NULL, 0, LOOKS_MS);
+        goes_on = !has_to_stop(play);
+        if (goes_on && schedule_now() >= until) {
+            goes_on = give_up(play);
+            until = schedule_now() + inputs->at_speed_ns;
+        }
+    }
+    return goes_on;
+}
+
+bool spindle_has_to_speed_up(const struct play *play, const struct outputs *before, const struct outputs *now) {
+    bool is_changed = now->spindle != before->spindle || now->speed != before->speed;
+    const struct inputs *inputs = &play->machine.inputs;
+    return now->spindle != 0 && is_changed && inputs->are_there && inputs->spindle_at_speed != NO_INPUT;
+}
+
+bool spindle_wait_at_speed(struct play *play, const struct outputs *before, const struct outputs *now) {
+    if (!spindle_has_to_speed_up(play, before, now)) {
+        return true;
+    }
+    atomic_store(&play->player->waits_spindle, true);
+    bool is_there = wait_at_speed(play);
+    atomic_store(&play->player->waits_spindle, false);
+    return is_there;
+}
+
+bool spindle_wait(struct play *play, const struct outputs *before, const struct outputs *now) {
+    bool turns = now->spindle != before->spindle;
+    return (!turns || wait_for(play, play->machine.spindle_ns)) && spindle_wait_at_speed(play, before, now);
+}
