@@ -71,7 +71,8 @@ class Who(Served):
         """What is too long, of another kind, or no request of a page."""
         page = self.page()
         for body, given, status in ((b"{" * 5000, {}, 413), (b"{}", {"Content_Type": "text/plain"}, 415),
-                                    (b"[]", {}, 400), (b"{", {}, 400), (b"{}", {"X_Page": "<b>"}, 400)):
+                                    (b"[]", {}, 400), (b"{", {}, 400), (b"{}", {"X_Page": "<b>"}, 400),
+                                    (b"[" * 4000, {}, 400)):
             self.assertEqual(page.post("run", body, **given)[0], status, body[:9])
         self.assertEqual(page.post("check", b" " * 3_000_000)[0], 413)
         self.assertEqual(page.post("check", b"", Content_Length="999999999")[0], 413)
@@ -97,6 +98,7 @@ class Who(Served):
                              ("GET / HTTP/1.1\r\nHost: a\r\nHost: a\r\n\r\n", 400),
                              ("GET / HTTP/1.1\r\nHost: a\r\n b\r\n\r\n", 400), ("GET / HTTP/1.1\r\n\r\n", 421),
                              ("PUT / HTTP/1.1\r\n\r\n", 501), ("GET /" + "a" * 20_000, 431),
+                             ("GET / HTTP/1.1\r\nHost:" + " " * 16_000 + "\x01\r\n\r\n", 400),
                              (f"{head}Origin: http://127.0.0.1:{page.port}\r\n\r\n", 411),
                              (f"{head}Origin: http://127.0.0.1:{page.port}\r\nContent-Length: 2\r\n"
                               "Transfer-Encoding: chunked\r\n\r\n{}", 501)):
@@ -381,6 +383,21 @@ class Moves(Served):
         self.assertFalse(page.rested()["moving"])
         self.assertEqual(len(self.machine.axes.words), count)
 
+    def test_held_by_another(self) -> None:
+        """A hold of a page that watches ends the press: the finger that stays on the button starts nothing."""
+        page, other = self.page(), self.page(OTHER)
+        wish = {"axis": "Y", "sign": -1, "rate": "300", "press": 1}
+        before = page.rested()["entries"]
+        while self.jogs() < 2:
+            self.assertEqual(page.post("jog", wish), (200, {}))
+            page.next()
+        other.post("hold")
+        page.until("it is over", lambda state: not state["busy"] and state["entries"] > before)
+        count = len(self.machine.axes.words)
+        self.assertEqual(page.post("jog", wish), (200, {}))
+        self.assertFalse(page.rested()["moving"])
+        self.assertEqual(len(self.machine.axes.words), count)
+
     def test_alarm(self) -> None:
         """It is shown in capitals, and home alone is taken."""
         page = self.page()
@@ -611,6 +628,22 @@ class HeldJogs(unittest.TestCase):
         self.assertEqual((jog.wish("Y-", "60", 4), jog.is_wanted(), jog.way, jog.rate), (True, True, "Y-", "60"))
         jog.forget()
         self.assertEqual((jog.is_wanted(), jog.wish("X+", "600", 0)), (False, True))
+
+    def test_ends(self) -> None:
+        """A hold ends a press, and so does a jog that ends by itself; the next press is another one."""
+        jog, done = HeldJog(), []
+
+        class Refusing:
+            @staticmethod
+            def jog_while(*words: object) -> None:
+                done.append(words[:2])
+
+        self.assertTrue(jog.wish("X+", "600", 1))
+        jog.end()
+        self.assertEqual((jog.is_wanted(), jog.wish("X+", "600", 1)), (False, False))
+        self.assertTrue(jog.wish("X+", "600", 2))
+        jog.go(Refusing)
+        self.assertEqual((done, jog.wish("X+", "600", 2), jog.wish("X+", "60", 3)), ([("X+", "600")], False, True))
 
 
 class Asides(InFolder):

@@ -406,12 +406,12 @@ class Finding(InFolder):
 class BeyondTheRecord(InFolder):
     """How far the motors may be past it: by hand, with steps of 1 um and a period of 50 us."""
 
-    def past(self, text: bytes, lines: int, size: int, age_ms: int) -> tuple[int, int, bool]:
+    def past(self, text: bytes, lines: int, size: int, age_ms: int, percent: int = 100) -> tuple[int, int, bool]:
         """The lines and nanometres, and whether OUT has them, for a record that counts so many lines and bytes."""
         Path("out").write_bytes(text)
         file = os.open("out", os.O_RDONLY)
         self.addCleanup(os.close, file)
-        found = along_out(file, lines, size, Settings.read("first.toml"), age_ms)
+        found = along_out(file, lines, size, Settings.read("first.toml"), age_ms, percent)
         return found.lines, found.nm, found.of_out
 
     def test_along_out(self) -> None:
@@ -426,6 +426,13 @@ class BeyondTheRecord(InFolder):
         self.assertEqual(self.past(slow + b"D 90000\n" + slow * 9, 0, 0, 10), (2, 1_000, True))
         self.assertEqual(self.past(slow * 3 + bytes(4000), 0, 0, 10), (3, 3_000, True))
         self.assertEqual(self.past(b"P 1 1 0 500\n" * 2, 0, 0, 10), (2, 2 * 1414, True))
+
+    def test_override(self) -> None:
+        """At 200 percent a line takes half its time: 41 of 500 us in 10 ms, or 401 of 50 us, and 9 ms of waiting 4.5."""
+        slow = b"P 1 0 0 500\n"
+        self.assertEqual(self.past(slow * 99, 40, 480, 10, 200), (41, 41_000, True))
+        self.assertEqual(self.past(slow + b"D 9000\n" + slow * 99, 0, 0, 10, 200), (24, 23_000, True))
+        self.assertEqual(by_rate(Settings.read("first.toml"), 10, 200).lines, 401)
 
     def test_by_rate(self) -> None:
         """At 50 us 201 lines in 10 ms, and a line moves the root of 3 um at most: where none stands behind the record,

@@ -23,6 +23,7 @@ from ngc_tools.operator.recovery import Found
 from ngc_tools.operator.sentences import explained
 from ngc_tools.operator.setter import read_setter
 from ngc_tools.operator.synced import SYNCED_AT_ONCE, SYNCED_PARTS, SyncedLink
+from ngc_tools.player.machine import read_limits
 from ngc_tools.player.progress import Link, Report
 from ngc_tools.ngc.run import find_ngc
 from ngc_tools.ngc.usable_settings import look_at_settings
@@ -152,6 +153,8 @@ def session(ngc: str, args: argparse.Namespace, meter: Meter | None, pipe: int |
             operator = Operator(console, screen, meter)
             operator.recover.found = out
             if args.machine:
+                limits = read_limits(args.machine, operator.session.settings.step_nm)
+                operator.recover.most_percent = limits.most_percent
                 operator.loading.times_command = line_times.command(ngc, args.settings, args.machine)
             stack.callback(operator.loading.close)
             operator.touch.setter_nm = setter_nm

@@ -24,6 +24,7 @@ from ngc_tools.operator.synced import SyncedLink
 from ngc_tools.page.face import PageFace
 from ngc_tools.page.server import Server
 from ngc_tools.page.session import Opened, Session
+from ngc_tools.player.machine import read_limits
 from ngc_tools.player.progress import Link, NoAnswer
 
 ABOUT = """A page in the browser over `ngc run`: the machine's state, the program, its path, and what an operator does.
@@ -143,7 +144,10 @@ class Opener:
         console.status()
         operator = Operator(console, face, meter)
         operator.recover.found = out
-        operator.touch.setter_nm = read_setter(self.args.machine) if self.args.machine else None
+        if self.args.machine:
+            operator.touch.setter_nm = read_setter(self.args.machine)
+            limits = read_limits(self.args.machine, operator.session.settings.step_nm)
+            operator.recover.most_percent = limits.most_percent
         said = bound(self.args, meter, pipe)
         if pipe is not None:
             os.close(pipe)

@@ -34,20 +34,21 @@ class Past:
         return f"It may be {KEEPS_MS} ms and a sync old: they make at most {made}, in {KEEPS_MS} ms"
 
 
-def by_rate(settings: Settings, age_ms: int) -> Past:
-    """By the machine's greatest rate, at which each line moves each axis by a step."""
-    lines = (age_ms or KEEPS_MS) * 1000 // settings.period_us + 1
+def by_rate(settings: Settings, age_ms: int, percent: int = 100) -> Past:
+    """By the machine's greatest rate, at which each line moves each axis by a step; `percent` of it, if an override may
+    have been so much."""
+    lines = (age_ms or KEEPS_MS) * 10 * percent // settings.period_us + 1
     return Past(lines, diagonal_nm(lines, settings), False, age_ms)
 
 
-def along_out(file: int, lines: int, size: int, settings: Settings, age_ms: int) -> Past:
+def along_out(file: int, lines: int, size: int, settings: Settings, age_ms: int, percent: int = 100) -> Past:
     """The same along OUT, which is open, from behind so many lines and bytes of it, on or back; by the machine's rate
-    if no line stands behind them, as some may be cut off."""
-    us = (age_ms or KEEPS_MS) * 1000
+    if no line stands behind them, as some may be cut off. `percent` is that of OUT's rates."""
+    us = (age_ms or KEEPS_MS) * 10 * percent
     end, least = os.fstat(file).st_size, settings.period_us
     ways = [look(_within(moves(file, lines, size, to, least), us), Position(settings.step_nm)) for to in (end, 0)]
     if not ways[0].lines:
-        return by_rate(settings, age_ms)
+        return by_rate(settings, age_ms, percent)
     return Past(max(way.lines for way in ways), max(way.length_nm for way in ways), True, age_ms)
 
 

@@ -20,6 +20,7 @@ from ngc_tools.operator.past import Past, along_out, by_rate
 from ngc_tools.operator.recovery import Found, Recovery
 from ngc_tools.operator.rehearsing import segment_begins
 from ngc_tools.operator.session import ALARM, BROKEN, Session
+from ngc_tools.player.machine import MOST_PERCENTS
 from ngc_tools.player.progress import Report
 from ngc_tools.player.retrace import legs_to
 from ngc_tools.player.way import NoWay, count_lines
@@ -51,11 +52,13 @@ by legs then: straight up, over, and down to {at}. Up to which Z, in machine mm?
 
 
 class Recover:
-    """What `recover` and `drop` do. `found` is what the session found of OUT, a file; None where OUT is none."""
+    """What `recover` and `drop` do. `found` is what the session found of OUT, a file; None where OUT is none.
+    `most_percent` is the most that an override may be, by the machine's file; without one what any file may say."""
 
     def __init__(self, session: Session) -> None:
         self.session = session
         self.found: Found | None = None
+        self.most_percent = MOST_PERCENTS[-1]
         self._entries: int | None = None  # as the session began
 
     def forbids(self, word: str, is_line: bool) -> bool:
@@ -213,12 +216,13 @@ class Recover:
     def _past(self) -> Past:
         """How far the motors may be past the record. Raises NoAnswer."""
         settings, age_ms = self.session.settings, self.session.meter.link.age_ms()
+        percent = self.most_percent if self.session.seen and self.session.seen.wants else 100  # else it has no override
         if self.found is None:
-            return by_rate(settings, age_ms)
+            return by_rate(settings, age_ms, percent)
         recovery = self.found.recovery
         if recovery.way is None:  # beside OUT's path, as within legs
-            return by_rate(settings, age_ms)
-        return along_out(self.found.link.file, recovery.lines, recovery.size, settings, age_ms)
+            return by_rate(settings, age_ms, percent)
+        return along_out(self.found.link.file, recovery.lines, recovery.size, settings, age_ms, percent)
 
     def _height(self, start: str, end: str) -> str | None:
         """The height of legs from a point to another, as a person types it, whose lengths are said; None for none."""

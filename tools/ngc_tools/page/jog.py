@@ -9,7 +9,8 @@ SILENCE_S = 0.3
 
 class HeldJog:
     """The wish, as pages repeat it in any thread. Each press of a button has a number; one that was let go isn't taken
-    up by a wish that comes late."""
+    up by a wish that comes late. A jog that ended by something else, as by a hold or at a limit, ends its press too:
+    whoever still has a finger on the button has to press it again."""
 
     def __init__(self) -> None:
         self.way, self.rate = "", ""
@@ -27,6 +28,10 @@ class HeldJog:
         """That press is over."""
         self._let_go = max(self._let_go, press)
 
+    def end(self) -> None:
+        """The press that there is is over, whoever it is by."""
+        self.let_go(self._press)
+
     def is_wanted(self) -> bool:
         """Whether it goes on."""
         return self._press > self._let_go and time.monotonic() < self._wished + SILENCE_S
@@ -37,6 +42,11 @@ class HeldJog:
 
     def go(self, moves: Moves) -> None:
         """Jogs until the wish is over, or is one for another way; `ngc` is told where that ended."""
-        way = self.way
-        if self.is_wanted():
-            moves.jog_while(way, self.rate, lambda: self.way == way and self.is_wanted())
+        way, rate, press = self.way, self.rate, self._press
+        if not self.is_wanted():
+            return
+        try:
+            moves.jog_while(way, rate, lambda: self.way == way and self.is_wanted())
+        finally:
+            if self.is_wanted():
+                self.let_go(press)

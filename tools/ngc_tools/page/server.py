@@ -282,7 +282,7 @@ class _Connection:
             raise Refused(HTTPStatus.UNSUPPORTED_MEDIA_TYPE)
         try:
             words = json.loads(body)
-        except ValueError:
+        except (ValueError, RecursionError):
             raise Refused(HTTPStatus.BAD_REQUEST, "no JSON") from None
         if not isinstance(words, dict):
             raise Refused(HTTPStatus.BAD_REQUEST, "no object")

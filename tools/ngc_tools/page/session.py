@@ -164,6 +164,7 @@ class Session:
 
     def hold(self) -> None:
         """Holds at once, whatever is under way: the motors, and then `ngc`. It waits for nothing."""
+        self.jogs.end()
         self.face.hold()
         if self.opened.motors and self.stand.has_ramps:
             with suppress(NoAnswer):  # the session's thread says it

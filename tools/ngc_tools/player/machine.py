@@ -10,10 +10,13 @@ from ngc_tools.formats.text import shown
 from ngc_tools.player import window
 from ngc_tools.player.pace_path import Axes, Limits
 
+MOST_PERCENTS = range(100, 201)
+"""What `most_percent` may be."""
+
 _RANGES = {
     ("motion", "accel_mm_s2"): range(1, 1_000_001), ("motion", "rate_mm_min"): range(100_001),
     ("motion", "start_mm_min"): range(100_001), ("motion", "slack_steps"): range(1, 65),
-    ("motion", "most_percent"): range(100, 201), ("window", "lines"): range(window.MOST + 1),
+    ("motion", "most_percent"): MOST_PERCENTS, ("window", "lines"): range(window.MOST + 1),
     ("wait", "spindle_s"): range(3601),
 }
 _PER_AXIS = ("accel_mm_s2", "rate_mm_min", "start_mm_min")
