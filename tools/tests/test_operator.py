@@ -144,9 +144,9 @@ class RampLink(FileLink):
         self.words.append("release")
 
     def override(self, percent: int) -> None:
-        """Takes up to 100 percent."""
+        """Takes up to 120 percent."""
         self.words.append(f"percent {percent}")
-        self.percent = percent
+        self.percent = percent if percent <= 120 else self.percent
 
     def last(self) -> None:
         """Nothing more comes for now; how many lines stand in OUT then."""
@@ -977,10 +977,13 @@ class Motors(Core):
         with its range."""
         link = self.begin_ramps()
         self.assertEqual(self.do("-", "percent 25", "-", "--", "-", "+", "+", "0", "+", "percent"), [
-            f"{percent} % of OUT's rates" for percent in (90, 25, 20, 1, 1, 10, 20, 100, 100, 100)])
-        self.assertEqual(link.words, [f"percent {percent}" for percent in (90, 25, 20, 1, 10, 20, 100)])
-        wrong = "percent takes a whole number from 1 to 100: so many percent of OUT's rates"
-        self.assertEqual(self.do("percent 0", "percent 101", "percent x", "percent 1.5"), [wrong] * 4)
+            f"{percent} % of OUT's rates" for percent in (90, 25, 20, 1, 1, 10, 20, 100, 110, 110)])
+        self.assertEqual(link.words, [f"percent {percent}" for percent in (90, 25, 20, 1, 10, 20, 100, 110)])
+        wrong = "percent takes a whole number from 1 to 200: so many percent of OUT's rates"
+        self.assertEqual(self.do("percent 121"), ["the player stays at 110 %: it takes 1 to 200, as far as its"
+                                                  " most_percent goes"])
+        self.face.said.clear()
+        self.assertEqual(self.do("percent 0", "percent 201", "percent x", "percent 1.5"), [wrong] * 4)
         self.assertEqual({kind for kind, _ in self.face.said}, {REFUSED})
         self.load("G21 G90\nG1 X0.5 F600\nM2\n")
         self.face.given = ["percent 70 %", "-"]
@@ -988,7 +991,7 @@ class Motors(Core):
         self.assertIn("60 %", [view.motion[0] for view in self.face.views if view])
         self.assertTrue(self.do("where")[-2].endswith(", 60 %"))
         link.override = link.words.append
-        self.assertEqual(self.do("+"), ["the player stays at 60 %: it takes 1 to 100, as far as its most_percent goes"])
+        self.assertEqual(self.do("+"), ["the player stays at 60 %: it takes 1 to 200, as far as its most_percent goes"])
 
     def test_without_ramps(self) -> None:
         """A player without a machine's file isn't told, and takes no percentage."""

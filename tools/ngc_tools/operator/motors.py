@@ -7,10 +7,12 @@ from ngc_tools.formats.settings import Settings
 from ngc_tools.job.figures import millimetres as rounded
 from ngc_tools.operator.face import REFUSED, WARNING, WHERE
 from ngc_tools.operator.session import ALARM, BROKEN, Session
+from ngc_tools.player.machine import MOST_PERCENTS
 from ngc_tools.player.progress import NoAnswer, Report
 
-PERCENTS = range(1, 101)
-"""What an override may be, in percent of OUT's rates."""
+PERCENTS = range(1, MOST_PERCENTS[-1] + 1)
+"""What an override may be, in percent of OUT's rates. A player takes no more than its `most_percent`."""
+WHOLE = 100
 TEN = 10  # percent that a key changes
 
 _STATES = {"moves": "moving", "waits spindle": "waiting for the spindle's speed", ALARM: "ALARM: not to be trusted",
@@ -49,7 +51,7 @@ def behind(report: Report, settings: Settings) -> str:
 def manner(report: Report) -> list[str]:
     """Whether they are held, or what else they do, and the override, in words; nothing where nothing is to be said."""
     said = ["held"] if report.is_held else [_STATES[report.word]] if report.word in _STATES else []
-    return said + ([f"{report.percent} %"] if report.wants or report.percent != PERCENTS[-1] else [])
+    return said + ([f"{report.percent} %"] if report.wants or report.percent != WHOLE else [])
 
 
 def live(report: Report, settings: Settings) -> list[str]:
@@ -180,6 +182,6 @@ def _percent_of(text: str) -> int:
 def _after(key: str, percent: int) -> int:
     """The override after a key: the next ten above or below, within what it may be."""
     if key == "0":
-        return PERCENTS[-1]
+        return WHOLE
     tens = percent // TEN * TEN + TEN if key == "+" else -(-percent // TEN) * TEN - TEN
     return min(max(tens, PERCENTS[0]), PERCENTS[-1])

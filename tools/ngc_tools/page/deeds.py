@@ -5,6 +5,7 @@ from collections.abc import Callable
 from dataclasses import dataclass
 from http import HTTPStatus
 
+from ngc_tools.operator.motors import PERCENTS
 from ngc_tools.page.http import Refused
 from ngc_tools.page.pages import Pages
 from ngc_tools.page.rehearse import rehearse
@@ -178,7 +179,7 @@ DEEDS: dict[str, Callable[[Given], dict | None]] = {
     "release": lambda given: given.session.type("release"),
     "abandon": lambda given: given.session.tell("abandon"),
     "go": lambda given: given.session.tell("go"),
-    "percent": lambda given: given.session.tell(f"percent {given.count('percent', 100)}"),
+    "percent": lambda given: given.session.tell(f"percent {given.count('percent', PERCENTS[-1])}"),
     "loss": lambda given: given.pages.choose(given.flag("goes")),
     "restart": lambda given: given.session.restart(),
     "quit": lambda given: given.session.quit(),
