@@ -364,14 +364,13 @@ class Jogging(Moving):
         if not self.link.machine().homed:
             self.assertEqual(self.at(), tuple(each / 1000 for each in self.world.place))
 
-    def test_two_who_ask(self) -> None:
-        """A move of another asker is one of its own, also with the first numbers that both give."""
+    def test_next_console(self) -> None:
+        """A move that another console asks for as its first one isn't taken for the first one of the console before."""
         self.started("--untimed")
-        other = self.linked()
-        for _ in range(3):
-            self.assertEqual(self.how(self.link.jog("X+", "600", "0.1")), "done")
-            self.assertEqual(self.how(other.jog("X+", "600", "0.1")), "done")
-        self.assertEqual(self.at(), (0.6, 0, 0))
+        for way in ("X+", "Y+"):
+            self.link = self.linked()
+            self.assertEqual(self.how(self.link.jog(way, "600", "1")), "done")
+        self.assertEqual(self.at(), (1, 1, 0))
 
     def test_half_done(self) -> None:
         """Lines that the last session left are no lines in hand: the count stays, and along them it doesn't go then."""

@@ -44,7 +44,6 @@
 A console that dies sends no `end`: the player ends with status 1 after the same seconds."""
 import errno
 import os
-import random
 import re
 import socket
 import stat
@@ -230,7 +229,7 @@ class Link:
         self.path = str(path)
         self.patience_s = patience_s
         self.count = 0
-        self._moves = random.randrange(10**12)  # the number of the last move, which no other asker has
+        self._moves = int.from_bytes(os.urandom(5), "big")  # the player takes a number for a move of whoever has it
         self.socket = socket.socket(socket.AF_UNIX, socket.SOCK_DGRAM)
         self.socket.settimeout(0.05)
         self.socket.bind("")  # a name of its own, which the system chooses, so that it can be answered
