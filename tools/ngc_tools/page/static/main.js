@@ -204,7 +204,7 @@ async function goOn(s, title) {
     s.restore?.length ? sheet.said(`Restore puts back what your lines left in force: ${s.restore.join(', ')}`) : null,
     sheet.warning(spindle, s.spindle ? 'fine' : ''), sheet.lead(program.line(s.line)),
     sheet.said(`The tool goes on from where it is now: ${point(s.at)}. Look that the way is free.`),
-    sheet.lines(found.lines)],
+    sheet.lines(found.lines.slice(1))],
   [sheet.gap(), sheet.button('Back', sheet.close), s.restore?.length ? sheet.button('Restore', does('restore')) : '',
     sheet.go(title, does('run'))]);
 }
