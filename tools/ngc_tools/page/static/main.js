@@ -1,5 +1,5 @@
 // The page: what the server says is shown, what people touch is asked. It decides nothing.
-import { $, el, grouped, lasting, micrometres, point, text } from './dom.js';
+import { $, el, grouped, lasting, micrometres, point, text, zeroOf } from './dom.js';
 import { Job, TRAVERSE } from './job.js';
 import { connect, get, post } from './link.js';
 import { load } from './loader.js';
@@ -13,7 +13,7 @@ import { Setup } from './setup.js';
 import * as sheet from './sheet.js';
 import * as tools from './tools.js';
 
-const app = { state: null, job: null, travel: null, never: [], programId: null, jobId: null, asked: 0 };
+const app = { state: null, job: null, travel: null, never: [], programId: null, jobId: null, failed: '', asked: 0 };
 window.ngc = app; // for who looks at the page from outside, as tests do
 
 const log = new Log();
@@ -130,7 +130,7 @@ function progress(s) {
   const ahead = 1000 * (s.behind_mm ?? 2) + 1000;
   const reached = place.now >= 0 ? job.reached(place.now, motors, ahead) : { step: -1, share: 0, part: 1 };
   const done = place.now >= 0 ? reached.step : place.done;
-  picture.zero(micrometres(s.work).map((number, i) => motors[i] - number)); // with the tool's length in it
+  picture.zero(zeroOf(s));
   picture.at(done, reached.step, reached.part, motors);
   showTimes(s, done, s.busy || s.does === 'held' ? reached.share : 0);
   return reached;
@@ -139,7 +139,8 @@ function progress(s) {
 function showTimes(s, done, share) {
   const { job } = app;
   if (!job || !s.program.lines) {
-    text($('share'), '');
+    const drawing = app.failed || 'The path is being drawn\u2026';
+    text($('share'), s.command?.word === 'load' ? 'ngc tries the program\u2026' : s.program.lines ? drawing : '');
     text($('left'), '');
     $('bar').style.width = '0';
     return;
@@ -169,6 +170,7 @@ async function fetchNew(s) {
   app.jobId = s.job;
   const got = await get('job');
   app.job = got.job ? new Job(got.job) : null;
+  app.failed = got.failed;
   app.travel = [got.low, got.high];
   app.never = got.never_cut ?? [];
   picture.ways = app.never.map(points => ({ points, colour: 'red', isSolid: true }));
@@ -202,7 +204,7 @@ async function goOn(s, title) {
     s.restore?.length ? sheet.said(`Restore puts back what your lines left in force: ${s.restore.join(', ')}`) : null,
     sheet.warning(spindle, s.spindle ? 'fine' : ''), sheet.lead(program.line(s.line)),
     sheet.said(`The tool goes on from where it is now: ${point(s.at)}. Look that the way is free.`),
-    sheet.lines(found.lines)],
+    sheet.lines(found.lines.slice(1))],
   [sheet.gap(), sheet.button('Back', sheet.close), s.restore?.length ? sheet.button('Restore', does('restore')) : '',
     sheet.go(title, does('run'))]);
 }

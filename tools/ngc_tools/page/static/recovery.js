@@ -1,6 +1,6 @@
 // After a loss of power: what was stored, where the machine is, a rehearsal, and then step by step. Nothing moves and
 // nothing is switched before the last step.
-import { AXES, counted, el, grouped, lasting, micrometres, mm, point, typedNumber } from './dom.js';
+import { AXES, counted, el, grouped, lasting, micrometres, mm, point, typedNumber, zeroOf } from './dom.js';
 import { Picture } from './picture.js';
 import * as question from './question.js';
 import * as sheet from './sheet.js';
@@ -126,8 +126,8 @@ export class Recovery {
     picture.ways = this.app.never.map(points => ({ points, colour: 'red', isSolid: true }));
     if (way) picture.ways.push({ points: way, colour: 'violet' });
     const typed = this.at.every(number => typedNumber(number) !== null) ? this.at : null;
-    const here = state.busy ? state.motors ?? state.at : typed, motors = micrometres(state.motors ?? state.at);
-    picture.zero(micrometres(state.work).map((number, i) => motors[i] - number));
+    const here = state.busy ? state.motors ?? state.at : typed;
+    picture.zero(zeroOf(state));
     picture.at(at.done, at.now, 0, here && micrometres(here));
     picture.draw();
   }
