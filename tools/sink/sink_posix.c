@@ -3,8 +3,8 @@
  * sink_posix BOOT prints the terminal's path, then does what each line of its input says, and ends with the input.
  *     run TICKS BYTES    lets so many ticks of 1/8 us go by, once it has got so many bytes of the terminal in all
  *     inputs BITS        sets the inputs
- *     switch INPUT AXIS  turns an input round while the axis, from 0 for X, is at least at STEPS from where it began, or
- *       SIGN STEPS       at most, where SIGN is -1
+ *     switch INPUT AXIS  turns an input round while the axis, from 0 for X, is at least at STEPS from where it began,
+ *       SIGN STEPS       or at most, where SIGN is -1
  *     turn STEPS BITS    turns inputs round once the motors have made so many steps
  *     boot BOOT          the chip starts again
  *     stray TICK         its timer calls sink_make while it isn't to
@@ -307,7 +307,7 @@ static void obey(const char *line) {
     fflush(stdout);
 }
 
-/* A pseudo terminal that lets all bytes through, and drops what it has no room for. Its other end stays open, so that it
+/* A pseudo terminal that lets all bytes through, but for what it has no room for. Its other end stays open, so that it
  * can be closed and opened. */
 static const char *open_terminal(void) {
     struct termios raw;

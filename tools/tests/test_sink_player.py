@@ -21,7 +21,7 @@ FINE = FIRST.replace("[1000, 1000, 1000]", "[2500, 2500, 2500]")
 MOTION = "[motion]\naccel_mm_s2 = [500, 500, 500]\n"
 LONG = "P 1 0 0 50\n" * 4000  # 10 mm at 3,000 mm a minute: 20,000 steps a second, from which a stop takes 1,000
 PATIENT_MS, HASTY_MS = 20_000, 2
-RUNS = 24
+RUNS = 16
 
 
 class OverSink(PlayerTest):
@@ -206,8 +206,9 @@ class Stops(InC, OverSink, unittest.TestCase):
         Path("out").rename("other")
         Path("out").write_text("D 1\n")
         done = self.run_player("--anew", *self.words())
-        self.assertEqual((done.returncode, done.stderr), (0, f"{sink.path}: the sink's last player was killed: the motors"
-                                                             " may be past its record by what was in hand; measure\n"))
+        self.assertEqual(done.returncode, 0)
+        self.assertEqual(done.stderr, f"{sink.path}: the sink's last player was killed: the motors may be past its"
+                                      " record by what was in hand; measure\n")
         self.assertEqual(self.run_player("--anew", *self.words()).stderr, "")
         made = [each for each in sink.end() if each.step and any(each.step)][:60_000]
         Path("out").write_text(LONG * 15)
@@ -265,7 +266,7 @@ class ByChance(InC, OverSink, unittest.TestCase):
         elif what < 0.6:
             child.send_signal(signal.SIGTERM)
             child.send_signal(signal.SIGINT)
-        elif what < 0.8:
+        elif what < 0.7:
             child.kill()
         _, said = child.communicate(timeout=PATIENCE_S)
         return child.returncode, said
