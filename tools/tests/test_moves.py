@@ -364,6 +364,14 @@ class Jogging(Moving):
         if not self.link.machine().homed:
             self.assertEqual(self.at(), tuple(each / 1000 for each in self.world.place))
 
+    def test_next_console(self) -> None:
+        """A move that another console asks for as its first one isn't taken for the first one of the console before."""
+        self.started("--untimed")
+        for way in ("X+", "Y+"):
+            self.link = self.linked()
+            self.assertEqual(self.how(self.link.jog(way, "600", "1")), "done")
+        self.assertEqual(self.at(), (1, 1, 0))
+
     def test_half_done(self) -> None:
         """Lines that the last session left are no lines in hand: the count stays, and along them it doesn't go then."""
         Path("out").write_text("P 1 0 0 50\n" * 30)
