@@ -168,10 +168,14 @@ class Served(InFolder):
         self.assertEqual(page.post("load", {"id": found["id"]}), (200, {"taken": True}), page.said())
 
     def cuts(self, page: Page, line: int = 3) -> dict:
-        """The state once a program is started, and cuts in a line."""
+        """The state once a program is started, and the motors cut in line 3 of SLOW, or in line 5 of CUT: `ngc` is some
+        lines ahead of them."""
+        def cut(state: dict) -> bool:
+            x, _, z = map(float, state["motors"])
+            return state["line"] == line and state["half"] == "program" and (x > 0 if line == 3 else z < 0)
+
         self.assertEqual(page.post("run"), (200, {}))
-        return page.until("it cuts", lambda state: state["line"] == line and state["half"] == "program"
-                          and state["behind"])
+        return page.until("it cuts", cut)
 
     def pull(self) -> None:
         """Power is lost."""

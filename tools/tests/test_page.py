@@ -233,6 +233,16 @@ class Work(Served):
         self.assertEqual((status, headers["Content-Type"]), (200, "application/json"))
         self.assertIn("\x1b[2J", json.loads(text)["text"])
 
+    def test_lines_are_lines(self) -> None:
+        """A line of G-code is no command of the core, whatever it says: no file of the server's is read."""
+        page = self.page()
+        Path("part.ngc").write_text("M2\n")
+        for line in ("load part.ngc", "quit", "anyway load part.ngc", "mdi load part.ngc", "load part.ngc anyway"):
+            for anyway in (False, True):
+                self.assertEqual(page.post("mdi", {"line": line, "anyway": anyway}), (200, {}))
+                state = page.rested()
+                self.assertEqual((state["word"], state["program"]["lines"], state["ended"]), ("Refused", 0, ""), line)
+
     def test_quit_asks(self) -> None:
         """What a session's end leaves on is asked about, and switched off."""
         page = self.page()
@@ -253,8 +263,7 @@ class Work(Served):
         self.load(page, SLOW)
         before = page.rested()["session"]
         self.assertEqual(page.post("restart")[0], 409)
-        page.post("run")
-        page.until("it cuts", lambda state: state["line"] == 3 and state["half"] == "program")
+        self.cuts(page)
         os.kill(self.children()[0], signal.SIGKILL)
         state = page.until("it has ended", lambda state: state["ended"] and not state["busy"])
         self.assertEqual((state["word"], state["over"]), ("Ended", False))

@@ -16,9 +16,10 @@ from ngc_tools.formats.text import shown
 from ngc_tools.job.danger import Danger
 from ngc_tools.job.dangers import Conditions, dangers
 from ngc_tools.job.in_force import InForce
+from ngc_tools.job.marked import carets, goes_on
 from ngc_tools.job.moves import of_canonical
 from ngc_tools.job.outside import breach, widest
-from ngc_tools.job.refused import Finding, Lines, Piece, find_all
+from ngc_tools.job.refused import Finding, Lines, find_all
 from ngc_tools.ngc import cures, faults, machine_report, settings_report
 from ngc_tools.ngc.machine_report import Motion
 from ngc_tools.ngc.pacing import NotTimed
@@ -232,14 +233,6 @@ class Listing:
         return text if new else ""
 
 
-def goes_on(finding: Finding) -> str:
-    if finding.added:
-        return f"as with{finding.added.decode()}"
-    if finding.left_out is None:
-        return "without this line"
-    return "without " + " ".join(shown(finding.text[piece.begin:piece.end]) for piece in finding.left_out)
-
-
 def _count(number: int, what: str) -> str:
     return f"{number} {what}{'' if number == 1 else 's'}" if number else f"no {what}s"
 
@@ -247,13 +240,3 @@ def _count(number: int, what: str) -> str:
 def wrapped(text: str) -> str:
     """A sentence in lines of at most 100 columns, each four in."""
     return textwrap.fill(text, 100, initial_indent="    ", subsequent_indent="    ", break_on_hyphens=False)
-
-
-def carets(text: bytes, marks: tuple[Piece, ...]) -> str:
-    """A line of carets below the marked pieces, as `shown` shows the line."""
-    row = [" "] * (len(shown(text)) + 1)
-    for mark in marks:
-        begin = len(shown(text[:mark.begin]))
-        end = max(len(shown(text[:mark.end])), begin + 1)
-        row[begin:end] = "^" * (end - begin)
-    return "".join(row).rstrip()

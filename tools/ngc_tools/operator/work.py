@@ -73,8 +73,8 @@ class Work:
     def go(self) -> str | None:
         """Gives ticks until there is nothing to do, or somebody wants to hold.
 
-        It returns what ended them: idle, stopped, held, refused or SINGLE; None for a wish to hold, or a player that is gone.
-        After all but a refusal it waits until the motors are through."""
+        It returns what ended them: idle, stopped, held, refused or SINGLE; None for a wish to hold, or a player that is
+        gone. After all but a refusal it waits until the motors are through."""
         self.session.gone = False
         self._waited = None
         self._shown = _NOTHING_SHOWN

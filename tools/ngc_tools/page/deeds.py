@@ -89,8 +89,9 @@ def _load(given: Given) -> dict:
 
 
 def _mdi(given: Given) -> None:
+    """A line is one of G-code, whatever it says: no command of the core, which may name a file."""
     line = given.line("line", _LONGEST_LINE)
-    given.session.type(f"anyway {line}" if given.flag("anyway") else f"mdi {line}")
+    given.session.type(f"anyway mdi {line}" if given.flag("anyway") else f"mdi {line}")
 
 
 def _reference(given: Given) -> None:

@@ -2,13 +2,13 @@
 from collections.abc import Iterator
 from dataclasses import dataclass
 
-from ngc_tools.cli.check import carets, goes_on
 from ngc_tools.formats.device import Device
 from ngc_tools.formats.program_text import NotText, ProgramText
 from ngc_tools.formats.settings import Settings
 from ngc_tools.formats.text import shown
 from ngc_tools.job.danger import Danger
 from ngc_tools.job.dangers import Conditions, dangers
+from ngc_tools.job.marked import carets, goes_on
 from ngc_tools.job.refused import Finding, Lines, find_all
 from ngc_tools.ngc import cures, faults
 from ngc_tools.ngc.beginning import Beginning

@@ -150,7 +150,7 @@ class Session:
 
     def type(self, line: str) -> None:
         """Does a command of the operator's core, as a person types it. Raises Busy."""
-        self.give(line.split()[0], lambda: self.operator.do(line))
+        self.give(line.removeprefix("anyway ").split()[0], lambda: self.operator.do(line))
 
     def tell(self, line: str) -> None:
         """Does a short command, and waits for it; one that may come while something runs is given then. Raises Busy."""
@@ -187,6 +187,7 @@ class Session:
     def run(self, line: str) -> None:
         """Starts the program, or goes on with it, by `run` or `run anyway`. Raises Busy."""
         def does() -> None:
+            """Draws it too, where it begins otherwise than it was drawn."""
             self.face.message = ""
             if not self.stand.status.place and self.stand.status.does == "idle":
                 self.started = time.time()
@@ -198,6 +199,7 @@ class Session:
     def load(self, name: str, text: bytes) -> bool:
         """Stores a program that people call `name`; whether it was taken. Raises Busy."""
         def does() -> bool:
+            """Whether it is stored; then it is drawn."""
             if not self.operator.load(name, text):
                 return False
             self.name, self.program_id, self.started = name, self.program_id + 1, 0.0

@@ -1,7 +1,6 @@
 """What pages show and what changes, as JSON has it."""
 from ngc_tools.formats.device import Device
 from ngc_tools.formats.lines import Program
-from ngc_tools.formats.out import Switch
 from ngc_tools.formats.position import millimetres, nanometres
 from ngc_tools.formats.text import shown_line
 from ngc_tools.ngc.console import Status
