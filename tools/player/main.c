@@ -162,8 +162,8 @@ static int run(struct play *play, const struct options *options) {
     if (player.socket >= 0) {
         pthread_join(answers, NULL);
     }
-    sink_end();
     bool is_kept = keep_last(options->position);
+    sink_end();
     return end_times(options->times) && is_kept && tell(play) ? status : 2;
 }
 
@@ -184,9 +184,9 @@ int main(int count, char **given) {
     play.player = &player;
     play.options = &options;
     play.least_us = (uint64_t)settings.period_us;
-    has_begun = has_begun && sink_begin(&play, &why) && alarm_begin(&player, &options, &why)
+    has_begun = has_begun && sink_open(&play, &why) && alarm_begin(&player, &options, &why)
         && (!options.goes || going_prepare(&play, &settings, &why))
-        && player_keep_first(&player, &why);
+        && player_keep_first(&player, &why) && sink_begin(&play, &why);
     int status = has_begun ? run(&play, &options) : fail(&why);
     if (player.socket >= 0) {
         unlink(options.socket);

@@ -46,7 +46,7 @@ void record_print(const struct record *record, char text[RECORD_SIZE]);
 /* Reads the bytes of the file `path`. Returns false, with the cause, if they are no record. */
 bool record_read(const char *text, size_t size, const char *path, struct record *record, struct cause *why);
 
-/* Millimetres of at most twelve digits and six decimals, as "7.21", in nanometres. */
+/* place.c: millimetres of at most twelve digits and six decimals, as "7.21", in nanometres. */
 bool nm_read(const char *text, size_t size, int64_t *nm);
 
 /* "X Y Z" in machine millimetres with six decimals. */

@@ -13,29 +13,13 @@
 enum {
     BEGINS_MS = 5000, /* as long as a sink may take to answer, and to end what another player gave */
     STOPS_MS = 3000,
-    ASKS_MS = 50 /* a stop is asked for again after so long */
+    LOOKS_MS = 5,
+    ASKS_MS = 50,   /* a stop is asked for again after so long */
+    MARK_BYTES = 40 /* bits of a mark that count OUT's bytes */
 };
 
 static struct link *const shared = &sink_link;
 static unsigned seen; /* changes that link_await has told of */
-
-bool link_open(struct play *of, struct cause *why) {
-    static const struct sink_inputs none;
-    const struct sink_settings *settings = &of->machine.sink;
-    shared->play = of;
-    shared->path = settings->line;
-    link_make_lock();
-    shared->wake = eventfd(0, EFD_NONBLOCK | EFD_CLOEXEC);
-    shared->line = serial_open(shared->path, settings->baud, why);
-    if (shared->line < 0) {
-        return false;
-    }
-    sender_begin(&shared->sender, 0, &none, LINK_WINDOW_TICKS);
-    shared->sender.state = SENDER_ENDED; /* nothing is sought before a session is to begin */
-    words_begin(&shared->words, shared->play);
-    int error = link_start();
-    return error == 0 || because(why, "no thread: %s", strerror(error));
-}
 
 bool link_is_there(void) {
     return shared->line >= 0;
@@ -59,13 +43,64 @@ static bool wait_changed(int64_t until) {
     return error == 0;
 }
 
+/* Why there is no session. */
+static bool refuse(bool is_heard, struct cause *why) {
+    return is_heard ? because(why, "%s: the step sink doesn't come to rest", shared->path)
+                    : because(why, "%s: no step sink answers: is it switched on, and is baud that of its port?",
+                              shared->path);
+}
+
+/* Waits until the sink's last session is over. */
+static bool hear_left(struct sink_answer *left, struct cause *why) {
+    const struct sender *sender = &shared->sender;
+    int64_t until = schedule_now() + INT64_C(1000000) * BEGINS_MS;
+    bool is_over = false;
+    pthread_mutex_lock(&shared->lock);
+    while (!is_over && schedule_now() < until && !shared->is_gone) {
+        wait_changed(schedule_now() + INT64_C(1000000) * LOOKS_MS);
+        is_over = sender->is_heard && sender->sink.state != SINK_STANDS && sender->sink.state != SINK_RUNS;
+    }
+    bool is_heard = sender->is_heard;
+    *left = sender->sink;
+    pthread_mutex_unlock(&shared->lock);
+    return is_over || refuse(is_heard, why);
+}
+
+bool link_open(struct play *of, struct sink_answer *left, struct cause *why) {
+    const struct sink_settings *settings = &of->machine.sink;
+    shared->play = of;
+    shared->path = settings->line;
+    link_make_lock();
+    shared->wake = eventfd(0, EFD_NONBLOCK | EFD_CLOEXEC);
+    shared->line = serial_open(shared->path, settings->baud, why);
+    if (shared->line < 0) {
+        return false;
+    }
+    sender_listen(&shared->sender);
+    words_begin(&shared->words, shared->play);
+    int error = link_start();
+    return error == 0 ? hear_left(left, why) : because(why, "no thread: %s", strerror(error));
+}
+
+uint64_t link_mark(const struct player *player) {
+    const struct source *source = &player->source;
+    struct file_mark file = source_mark(source, 0);
+    uint8_t bytes[24];
+    if (source->is_pipe) {
+        return WIRE_NO_MARK;
+    }
+    wire_put64(bytes, file.inode);
+    wire_put64(bytes + 8, file.born_ns);
+    wire_put64(bytes + 16, wire_crc((const uint8_t *)player->out, strlen(player->out)));
+    return (uint64_t)wire_crc(bytes, sizeof bytes) << MARK_BYTES | (player->bytes & ((UINT64_C(1) << MARK_BYTES) - 1));
+}
+
 bool link_begin(const struct sink_inputs *inputs, struct cause *why) {
     int64_t until = schedule_now() + INT64_C(1000000) * BEGINS_MS;
     pthread_mutex_lock(&shared->lock);
-    sender_begin(&shared->sender, new_token(), inputs, LINK_WINDOW_TICKS);
+    sender_begin(&shared->sender, new_token(), inputs, LINK_WINDOW_TICKS, link_mark(shared->play->player));
     words_begin(&shared->words, shared->play);
     shared->now = (struct link_state){.dry = shared->now.dry};
-    shared->was_left = false;
     bool has_begun = false;
     bool is_in_time = true;
     while (!has_begun && is_in_time && !shared->is_gone) {
@@ -74,19 +109,7 @@ bool link_begin(const struct sink_inputs *inputs, struct cause *why) {
     }
     bool is_heard = shared->sender.is_heard;
     pthread_mutex_unlock(&shared->lock);
-    if (has_begun) {
-        return true;
-    }
-    return is_heard ? because(why, "%s: the step sink doesn't come to rest", shared->path)
-                    : because(why, "%s: no step sink answers: is it switched on, and is baud that of its port?",
-                              shared->path);
-}
-
-bool link_was_left(void) {
-    pthread_mutex_lock(&shared->lock);
-    bool was_left = shared->was_left;
-    pthread_mutex_unlock(&shared->lock);
-    return was_left;
+    return has_begun || refuse(is_heard, why);
 }
 
 bool link_wants(void) {
@@ -96,16 +119,20 @@ bool link_wants(void) {
     return wants;
 }
 
-void link_give(const struct move *move, uint64_t ns, uint64_t ramp, bool is_rest) {
+static void give(const struct move *move, uint64_t ns, uint64_t ramp, bool is_rest, bool is_line) {
     pthread_mutex_lock(&shared->lock);
-    words_give(&shared->words, &shared->sender, move, ns, ramp, is_rest);
+    words_give(&shared->words, &shared->sender, move, ns, ramp, is_rest, is_line);
     shared->now.is_done = false;
     pthread_mutex_unlock(&shared->lock);
 }
 
+void link_give(const struct move *move, uint64_t ns, uint64_t ramp, bool is_rest) {
+    give(move, ns, ramp, is_rest, false);
+}
+
 void link_give_line(const struct line *of, size_t size, uint64_t ns, uint64_t ramp, bool is_rest) {
     struct move move = {true, *of, shared->words.lines + 1, shared->words.bytes + size};
-    link_give(&move, ns, ramp, is_rest);
+    give(&move, ns, ramp, is_rest, true);
 }
 
 struct outputs link_outputs(void) {
@@ -183,14 +210,14 @@ bool link_switch_off(void) {
     return is_off;
 }
 
-/* Ends the session; one that is over for silence, and is counted, by a new one. */
+/* Ends the session; one that is over for a fault, and is counted, by a new one. */
 static void leave(void) {
     static const struct sink_inputs none;
     struct cause why;
     pthread_mutex_lock(&shared->lock);
-    bool is_silent = shared->sender.state == SENDER_ENDED && shared->sender.sink.fault == FAULT_SILENT;
+    bool is_over = shared->sender.state == SENDER_ENDED && shared->sender.sink.fault != FAULT_ASKED;
     pthread_mutex_unlock(&shared->lock);
-    if (!is_silent || link_begin(&none, &why)) {
+    if (!is_over || link_begin(&none, &why)) {
         link_stop(false);
     }
 }

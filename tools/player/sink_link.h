@@ -26,18 +26,18 @@ struct link_state {
     uint64_t dry;       /* how often the sink came to rest as it had no more words */
 };
 
-/* Opens the line of the machine's settings, and starts the thread. What is made is counted in `play`. Returns false,
- * with the cause. */
-bool link_open(struct play *play, struct cause *why);
+/* Opens the line of the machine's settings, and starts the thread. What is made is counted in `play`. `left` is what
+ * the sink says of its last session, once that is over: waits for it. Returns false, with the cause, if no sink answers
+ * for some seconds. */
+bool link_open(struct play *play, struct sink_answer *left, struct cause *why);
+
+/* The mark of a session that begins now: which OUT it is, and behind how many of its bytes; a pipe has none. */
+uint64_t link_mark(const struct player *player);
 
 /* Begins a session, at rest, with these inputs; what was given before and isn't made is dropped. All outputs but the
  * tool are off then. Waits for it; false, with the cause, if no sink answers for some seconds. An input that stops may
  * be on: then the session is over at once. */
 bool link_begin(const struct sink_inputs *inputs, struct cause *why);
-
-/* Whether the session before link_begin's had no end: its player was killed, and the sink may have made more than that
- * one's record counts. */
-bool link_was_left(void);
 
 /* Whether there is a link: the machine's file has [sink]. */
 bool link_is_there(void);

@@ -3,6 +3,7 @@
 #include <inttypes.h>
 #include <string.h>
 
+#include "sink_catch_up.h"
 #include "sink_link.h"
 #include "spindle.h"
 #include "times.h"
@@ -16,22 +17,29 @@ static struct sink_inputs inputs_of(const struct play *play, uint32_t stops, uin
     return inputs;
 }
 
-bool sink_begin(struct play *play, struct cause *why) {
-    if (play->machine.sink.line[0] == '\0') {
+bool sink_open(struct play *play, struct cause *why) {
+    struct sink_answer left;
+    const struct sink_settings *settings = &play->machine.sink;
+    if (settings->line[0] == '\0') {
         return true;
     }
     if (play->options->pins != NULL) {
         return because(why, "--pins goes without [sink] of %s: the sink has the pins", play->options->machine);
     }
-    session = inputs_of(play, inputs_stops(&play->machine.inputs), 0, 0);
-    if (!link_open(play, why) || !link_begin(&session, why)) {
+    if (!link_open(play, &left, why)) {
         return false;
     }
-    if (link_was_left()) {
+    bool was_ended = left.state == SINK_NEW || left.fault == FAULT_ASKED;
+    if (!was_ended && !sink_catch_up(play, &left)) {
         say("%s: the sink's last player was killed: the motors may be past its record by what was in hand; measure",
-            play->machine.sink.line);
+            settings->line);
     }
     return true;
+}
+
+bool sink_begin(struct play *play, struct cause *why) {
+    session = inputs_of(play, inputs_stops(&play->machine.inputs), 0, 0);
+    return !link_is_there() || link_begin(&session, why);
 }
 
 bool sink_begin_anew(struct play *play, uint32_t stops, uint32_t halts, uint32_t turned) {

@@ -4,7 +4,11 @@
 
 #include "play_parts.h"
 
-/* Opens the link and begins a session, if the machine has a sink. Returns false, with the cause. */
+/* Opens the link, if the machine has a sink. What that one made after the record of a player that was killed is
+ * counted, where OUT is the same file; else it is told. Returns false, with the cause. */
+bool sink_open(struct play *play, struct cause *why);
+
+/* Begins a session, if there is a link: the record is written. Returns false, with the cause. */
 bool sink_begin(struct play *play, struct cause *why);
 
 /* Begins another session, at rest: `stops` stop the motors at once, `halts` bring them to rest by a ramp, and those of

@@ -57,31 +57,32 @@ static uint8_t bits_of(const struct line *line, bool is_rest) {
 
 /* A step, or a wait, which begins with a word and goes on by words_top_up where it is long. */
 static void give_timed(struct words *words, struct sender *sender, const struct line *line, uint64_t ticks,
-                       uint64_t ramp, bool is_rest) {
+                       uint64_t ramp, bool is_rest, bool is_line) {
     bool is_long = ticks > MOST_STEP_TICKS;
     bool is_end = is_rest || is_long || line->kind == 'D';
     uint8_t slope = slope_of(ramp < words->last_ramp ? ramp : words->last_ramp);
+    slope = is_line ? slope | WIRE_LINE_BIT : slope;
     sender_give(sender, (uint32_t)(is_long ? PIECE_TICKS : ticks), slope, bits_of(line, is_end));
     words->left_ticks = is_long ? ticks - PIECE_TICKS : 0;
     words->last_ramp = is_end ? UINT64_MAX : ramp;
 }
 
-static void switch_to(struct words *words, struct sender *sender, const struct outputs *outputs) {
+static void switch_to(struct words *words, struct sender *sender, const struct outputs *outputs, bool is_line) {
     const struct sink_outputs all = {outputs->speed, (uint8_t)outputs->spindle, (uint8_t)outputs->mist,
                                      (uint8_t)outputs->flood, (uint8_t)outputs->selected, (uint8_t)outputs->slot};
-    sender_switch(sender, &all);
+    sender_switch(sender, &all, is_line);
     words->outputs = *outputs;
 }
 
 void words_give(struct words *words, struct sender *sender, const struct move *move, uint64_t ns, uint64_t ramp,
-                bool is_rest) {
+                bool is_rest, bool is_line) {
     uint32_t made_after = sender->given;
     if (move->is_done && move->line.kind == 'S') {
-        switch_to(words, sender, &move->line.outputs);
+        switch_to(words, sender, &move->line.outputs, is_line);
         made_after += 2;
         words->left_ticks = ns > 0 ? in_ticks(words, ns) : 0;
     } else if (move->is_done) {
-        give_timed(words, sender, &move->line, in_ticks(words, ns), ramp, is_rest);
+        give_timed(words, sender, &move->line, in_ticks(words, ns), ramp, is_rest, is_line);
         made_after += 1;
     }
     words->moves[words->end % SENDER_ROOM] = (struct given){made_after, *move};
@@ -103,7 +104,7 @@ void words_top_up(struct words *words, struct sender *sender) {
 void words_switch_off(struct words *words, struct sender *sender) {
     struct outputs off = words->outputs;
     outputs_stop(&off);
-    switch_to(words, sender, &off);
+    switch_to(words, sender, &off, false);
 }
 
 /* Counts a move that is made. */

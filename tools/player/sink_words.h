@@ -31,9 +31,9 @@ void words_begin(struct words *words, const struct play *play);
 /* Whether there is room for a move. */
 bool words_have_room(const struct words *words, const struct sender *sender);
 
-/* Gives a move, as link_give says. */
+/* Gives a move, as link_give says; whether it is the next line of OUT. */
 void words_give(struct words *words, struct sender *sender, const struct move *move, uint64_t ns, uint64_t ramp,
-                bool is_rest);
+                bool is_rest, bool is_line);
 
 /* Gives what is left of a wait, as far as it is wanted. */
 void words_top_up(struct words *words, struct sender *sender);

@@ -141,6 +141,14 @@ static void make_step(struct sink *sink, uint32_t value, uint8_t bits) {
     sink->lasted = sink->left;
 }
 
+/* Counts a line, and notes steps and outputs that are no line's. */
+static void count_line(struct sink *sink, uint32_t value, uint8_t bits) {
+    bool is_line = wire_is_line(value, bits);
+    bool is_deed = (bits & ((bits & WORD_OUTPUT) != 0 ? WORD_SWITCH : WORD_STEPS)) != 0;
+    sink->lines = sink->lines + is_line;
+    sink->is_beside = sink->is_beside || (is_deed && !is_line);
+}
+
 /* Makes the word at the FIFO's front. */
 static void make_word(struct sink *sink) {
     uint32_t value = sink->values[sink->made % WIRE_FIFO];
@@ -150,6 +158,7 @@ static void make_word(struct sink *sink) {
     } else {
         make_step(sink, value, bits);
     }
+    count_line(sink, value, bits);
     sink->is_rest = (bits & WORD_REST) != 0;
     if (sink->is_rest) {
         sink->is_still = true;

@@ -7,11 +7,18 @@ static bool is_before(uint32_t one, uint32_t other) {
     return one - other >= 0x80000000;
 }
 
-void sender_begin(struct sender *sender, uint32_t token, const struct sink_inputs *inputs, uint32_t window_ticks) {
+void sender_begin(struct sender *sender, uint32_t token, const struct sink_inputs *inputs, uint32_t window_ticks,
+                  uint64_t mark) {
     memset(sender, 0, sizeof *sender);
     sender->token = token;
     sender->inputs = *inputs;
     sender->window_ticks = window_ticks;
+    sender->mark = mark;
+}
+
+void sender_listen(struct sender *sender) {
+    memset(sender, 0, sizeof *sender);
+    sender->listens = true;
 }
 
 static struct sender_word *word_at(struct sender *sender, uint32_t index) {
@@ -88,20 +95,21 @@ static bool are_same(const struct sink_outputs *one, const struct sink_outputs *
         && one->flood == other->flood && one->selected == other->selected && one->slot == other->slot;
 }
 
-enum sender_give sender_switch(struct sender *sender, const struct sink_outputs *outputs) {
+enum sender_give sender_switch(struct sender *sender, const struct sink_outputs *outputs, bool is_line) {
+    uint8_t bits = WORD_OUTPUT | WORD_SWITCH | WORD_REST;
     uint32_t low = 0;
     uint32_t switches = 0;
     struct sink_outputs understood;
     wire_put_outputs(&low, &switches, outputs);
     wire_get_outputs(low, switches, &understood);
-    if (!are_same(outputs, &understood) || !wire_is_word(switches, WORD_OUTPUT | WORD_SWITCH | WORD_REST)) {
+    if (!are_same(outputs, &understood) || !wire_is_word(switches, bits)) {
         return GIVE_REFUSED;
     }
     if (!has_room(sender, 2)) {
         return GIVE_LATER;
     }
     put(sender, low, WORD_OUTPUT | WORD_REST);
-    put(sender, switches, WORD_OUTPUT | WORD_SWITCH | WORD_REST);
+    put(sender, switches, is_line ? bits | WORD_LINE : bits);
     return GIVE_TAKEN;
 }
 
@@ -140,6 +148,7 @@ static size_t put_begin(const struct sender *sender, uint8_t *body) {
     wire_put16(body + 9, sender->inputs.stops);
     wire_put16(body + 11, sender->inputs.halts);
     wire_put16(body + 13, sender->inputs.low);
+    wire_put64(body + 15, sender->mark);
     return WIRE_BEGIN;
 }
 
@@ -201,7 +210,7 @@ static void link_up(struct sender *sender, const struct sink_answer *answer) {
 
 /* An answer before a session has begun: of the last session, or by its token of the one that was asked for. */
 static void seek(struct sender *sender, const struct sink_answer *answer) {
-    bool is_own = answer->token == sender->token;
+    bool is_own = answer->token == sender->token && !sender->listens;
     bool is_old = sender->is_heard && is_before(answer->session, sender->session);
     if (is_own) {
         link_up(sender, answer);
@@ -213,7 +222,7 @@ static void seek(struct sender *sender, const struct sink_answer *answer) {
     sender->is_heard = true;
     sender->session = answer->session;
     sender->sink = *answer;
-    sender->state = answer->state == SINK_RUNS ? SENDER_SEEKS : SENDER_BEGINS;
+    sender->state = answer->state == SINK_RUNS || sender->listens ? SENDER_SEEKS : SENDER_BEGINS;
 }
 
 void sender_read(struct sender *sender, uint8_t byte) {

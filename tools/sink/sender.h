@@ -49,11 +49,13 @@ struct sender {
     uint64_t most_wanted;  /* the most that a word that was given wants .. */
     uint64_t now_wanted;   /* .. and one that was looked at */
     uint32_t window_ticks;
+    uint64_t mark;
     uint32_t session;
     uint32_t token;
     uint32_t spoke_at;     /* ms */
     uint32_t heard_at;     /* ms */
     uint8_t state;         /* enum sender_state */
+    bool listens;          /* it begins no session */
     bool is_heard;         /* an answer came since it began to seek */
     bool has_heard;        /* one of this session came since the last sender_write */
     bool has_spoken;
@@ -65,8 +67,13 @@ struct sender {
 
 /* Seeks the sink. `token` isn't 0, and another one each time, of whatever process, as the clock's microseconds are: by
  * it a late answer of an earlier session isn't taken for one of this. `window_ticks` of 1/8 us, 160,000 for 20 ms: a
- * pause of the sender may be so long. At least 80,000, with which the sink begins. */
-void sender_begin(struct sender *sender, uint32_t token, const struct sink_inputs *inputs, uint32_t window_ticks);
+ * pause of the sender may be so long. At least 80,000, with which the sink begins. `mark` is a number of the sender's
+ * for who comes after it, or WIRE_NO_MARK: until the next session the sink tells it with the lines that it has made. */
+void sender_begin(struct sender *sender, uint32_t token, const struct sink_inputs *inputs, uint32_t window_ticks,
+                  uint64_t mark);
+
+/* Listens to a sink, and begins no session: `sink` is what it said last, once `is_heard`. */
+void sender_listen(struct sender *sender);
 
 /* What becomes of what is given; but for GIVE_TAKEN nothing of it is taken. */
 enum sender_give {
@@ -79,12 +86,12 @@ enum sender_give {
  * beyond the sink's room. */
 bool sender_wants(struct sender *sender);
 
-/* Gives the next word: `slope` is a byte as of wire_slope_byte. The last one before a pause of any length has to have
- * WORD_REST; without it the sink comes to rest before. */
+/* Gives the next word: `slope` is a byte as of wire_slope_byte, with WIRE_LINE_BIT where a line is made with it. The
+ * last one before a pause of any length has to have WORD_REST; without it the sink comes to rest before. */
 enum sender_give sender_give(struct sender *sender, uint32_t ticks, uint8_t slope, uint8_t bits);
 
-/* Gives the two words of outputs, at rest. */
-enum sender_give sender_switch(struct sender *sender, const struct sink_outputs *outputs);
+/* Gives the two words of outputs, at rest; whether they are a line's. */
+enum sender_give sender_switch(struct sender *sender, const struct sink_outputs *outputs, bool is_line);
 
 /* Writes the next frame for the line, which has room for WIRE_LINE; returns its size, 0 where there is none now. To be
  * called about once a millisecond until it returns 0. `now` in milliseconds, which may wrap. */

@@ -89,6 +89,9 @@ static void begin_session(struct sink *sink, const uint8_t *body) {
     sink->fault = FAULT_NONE;
     sink->lost = 0;
     sink->dry = 0;
+    sink->lines = 0;
+    sink->is_beside = false;
+    sink->mark = wire_get64(body + 15);
     sink->token = wire_get32(body + 5);
     sink->inputs.stops = wire_get16(body + 9);
     sink->inputs.halts = wire_get16(body + 11);
@@ -178,6 +181,8 @@ static void answer(struct sink *sink) {
     now.token = sink->token;
     now.touched = sink->touched;
     now.dry = sink->dry;
+    now.lines = sink->lines;
+    now.mark = sink->is_beside ? WIRE_NO_MARK : sink->mark;
     size_t size = wire_put_answer(sink->body, &now);
     sink_port_write(sink->line, wire_frame(sink->line, sink->body, size));
 }

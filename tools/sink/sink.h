@@ -52,6 +52,8 @@ struct sink {
     volatile uint8_t newest;             /* .. of this number */
     volatile uint32_t made;
     volatile uint32_t touched;
+    volatile uint32_t lines;   /* that were made in this session */
+    volatile bool is_beside;   /* it made something else than lines too */
     volatile uint8_t state; /* enum sink_state */
     volatile uint8_t fault; /* enum sink_fault */
     volatile uint8_t asked; /* a fault that is to be stopped for */
@@ -70,6 +72,7 @@ struct sink {
     struct sink_outputs outputs;
     /* The main loop's half. */
     uint32_t session;
+    uint64_t mark;       /* the sender's, for who comes after it */
     uint32_t token;      /* by which the sender that began it knows its session */
     struct sink_inputs inputs;
     uint16_t lost;

@@ -10,6 +10,7 @@
  *     stray TICK         its timer calls sink_make while it isn't to
  *     serve MS           from now on the clock goes on by itself, but where the sink would have to slow down, or hears
  *                        nothing, no sooner than so many real milliseconds later
+ *     tempo PERCENT      then its clock goes on no faster than in so many percent of real time; 0 for as fast as it can
  *     faults SEED RATE   of a thousand frames so many are lost, or damaged, or doubled, each way
  *     cut MS             nothing comes through for so many milliseconds of the clock
  * What the pins do is printed as `P tick steps down` and `S tick spindle speed mist flood selected slot`; each line is
@@ -53,6 +54,9 @@ static unsigned long serves_ms; /* 0 where it doesn't serve */
 static uint32_t random_state;
 static uint32_t fault_rate;
 static uint64_t cut_until;
+static unsigned long tempo;
+static uint64_t tempo_from;     /* real milliseconds and ticks from which on it is heeded */
+static uint64_t tempo_ticks;
 static uint64_t waited;         /* real milliseconds since which the clock stands */
 
 static void give_up(const char *what) {
@@ -139,6 +143,8 @@ static void receive(unsigned long bytes) {
     end -= begin;
     begin = 0;
     while (received < bytes) {
+        struct pollfd on = {terminal, POLLIN, 0};
+        poll(&on, 1, -1);
         ssize_t got = read(terminal, came + end, ROOM - end);
         if (got <= 0) {
             give_up("the terminal is gone, or more came than there is room for");
@@ -229,8 +235,10 @@ static void serve(void) {
         if (begin != end) {
             sink_poll(&sink, (uint32_t)now);
         }
-        bool goes_on = (sink.state == SINK_RUNS && (sink_asked(&sink) != FAULT_NONE || is_in_time()))
-            || real_ms() - waited >= (sink.state == SINK_RUNS ? serves_ms : 1);
+        bool is_early = tempo > 0 && (now - tempo_ticks) / POLL_TICKS * 100 > (real_ms() - tempo_from) * tempo;
+        bool is_in_order = sink.state == SINK_RUNS && (sink_asked(&sink) != FAULT_NONE || is_in_time());
+        bool goes_on = !is_early
+            && (is_in_order || real_ms() - waited >= (sink.state == SINK_RUNS ? serves_ms : 1));
         if (goes_on) {
             run(POLL_TICKS);
             waited = real_ms();
@@ -283,6 +291,10 @@ static void obey(const char *line) {
         sink_make(&sink);
     } else if (got == 2 && strcmp(word, "serve") == 0) {
         serves_ms = one;
+    } else if (got == 2 && strcmp(word, "tempo") == 0) {
+        tempo = one;
+        tempo_from = real_ms();
+        tempo_ticks = now;
     } else if (got == 3 && strcmp(word, "faults") == 0) {
         random_state = (uint32_t)one;
         fault_rate = (uint32_t)other;
@@ -295,10 +307,11 @@ static void obey(const char *line) {
     fflush(stdout);
 }
 
-/* A pseudo terminal that lets all bytes through. Its other end stays open, so that it can be closed and opened. */
+/* A pseudo terminal that lets all bytes through, and drops what it has no room for. Its other end stays open, so that it
+ * can be closed and opened. */
 static const char *open_terminal(void) {
     struct termios raw;
-    terminal = posix_openpt(O_RDWR | O_NOCTTY);
+    terminal = posix_openpt(O_RDWR | O_NOCTTY | O_NONBLOCK);
     if (terminal < 0 || grantpt(terminal) != 0 || unlockpt(terminal) != 0) {
         give_up("no pseudo terminal");
     }

@@ -12,12 +12,21 @@ void wire_put32(uint8_t *to, uint32_t value) {
     wire_put16(to + 2, (uint16_t)(value >> 16));
 }
 
+void wire_put64(uint8_t *to, uint64_t value) {
+    wire_put32(to, (uint32_t)(value & 0xffffffff));
+    wire_put32(to + 4, (uint32_t)(value >> 32));
+}
+
 uint16_t wire_get16(const uint8_t *from) {
     return (uint16_t)(from[0] | from[1] << 8);
 }
 
 uint32_t wire_get32(const uint8_t *from) {
     return wire_get16(from) | (uint32_t)wire_get16(from + 2) << 16;
+}
+
+uint64_t wire_get64(const uint8_t *from) {
+    return wire_get32(from) | (uint64_t)wire_get32(from + 4) << 32;
 }
 
 uint32_t wire_crc(const uint8_t *bytes, size_t size) {
@@ -106,10 +115,10 @@ static bool are_outputs(const struct sink_outputs *outputs) {
 bool wire_is_word(uint32_t value, uint8_t bits) {
     struct sink_outputs outputs;
     if ((bits & WORD_OUTPUT) == 0) {
-        return wire_ticks(value) >= WIRE_LEAST_TICKS && value >> 24 <= WIRE_MOST_SLOPE;
+        return wire_ticks(value) >= WIRE_LEAST_TICKS;
     }
     wire_get_outputs(0, value, &outputs);
-    bool has_own_bits = (bits | WORD_SWITCH) == (WORD_OUTPUT | WORD_REST | WORD_SWITCH);
+    bool has_own_bits = (bits | WORD_SWITCH | WORD_LINE) == (WORD_OUTPUT | WORD_REST | WORD_SWITCH | WORD_LINE);
     return has_own_bits && ((bits & WORD_SWITCH) == 0 || are_outputs(&outputs));
 }
 
@@ -118,7 +127,11 @@ uint32_t wire_ticks(uint32_t value) {
 }
 
 uint32_t wire_slope(uint32_t value) {
-    return wire_slope_of((uint8_t)(value >> 24));
+    return wire_slope_of((uint8_t)(value >> 24 & WIRE_MOST_SLOPE));
+}
+
+bool wire_is_line(uint32_t value, uint8_t bits) {
+    return (bits & WORD_OUTPUT) != 0 ? (bits & WORD_LINE) != 0 : (value >> 24 & WIRE_LINE_BIT) != 0;
 }
 
 uint32_t wire_slope_of(uint8_t byte) {
@@ -145,6 +158,8 @@ size_t wire_put_answer(uint8_t *body, const struct sink_answer *answer) {
     wire_put32(body + 19, answer->token);
     wire_put32(body + 23, answer->touched);
     wire_put16(body + 27, answer->dry);
+    wire_put64(body + 29, answer->mark);
+    wire_put32(body + 37, answer->lines);
     return WIRE_ANSWER;
 }
 
@@ -162,6 +177,8 @@ bool wire_get_answer(const uint8_t *body, size_t size, struct sink_answer *answe
     answer->token = wire_get32(body + 19);
     answer->touched = wire_get32(body + 23);
     answer->dry = wire_get16(body + 27);
+    answer->mark = wire_get64(body + 29);
+    answer->lines = wire_get32(body + 37);
     return true;
 }
 

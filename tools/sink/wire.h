@@ -13,15 +13,18 @@ enum {
     WIRE_CRC = 4,
     WIRE_BODY = WIRE_HEAD + WIRE_WORDS * WIRE_WORD + WIRE_CRC, /* most bytes of a frame: 253 */
     WIRE_LINE = WIRE_BODY + 2,                                 /* and as it goes over the line */
-    WIRE_BEGIN = 15,  /* bytes of a frame that begins a session, without its CRC */
+    WIRE_BEGIN = 23,  /* bytes of a frame that begins a session, without its CRC */
     WIRE_STOP = 6,    /* of one that stops */
-    WIRE_ANSWER = 29, /* of an answer */
+    WIRE_ANSWER = 41, /* of an answer */
     WIRE_FIFO = 2048, /* words that the sink has room for: what a stop takes */
     WIRE_TICKS_A_MS = 8000,
     WIRE_LEAST_TICKS = 40,       /* 5 us: no word is shorter; an output word lasts that long */
     WIRE_MOST_TICKS = 0xffffff,  /* 2 s */
-    WIRE_MOST_SLOPE = 143        /* the byte of the greatest slope: WIRE_FIFO of these add up to less than 2^32 */
+    WIRE_MOST_SLOPE = 127,       /* the byte of the greatest slope: WIRE_FIFO of these add up to less than 2^32 */
+    WIRE_LINE_BIT = 0x80         /* of the byte of a slope: a line of the sender's is made with this word */
 };
+
+#define WIRE_NO_MARK UINT64_MAX
 
 /* The last byte of a word. */
 enum {
@@ -29,7 +32,8 @@ enum {
     WORD_DOWN = 0x38,   /* .. which counts down: X (bit 3), Y and Z */
     WORD_REST = 0x40,   /* the motors stand once this word's step is made: it may be the last one for any time */
     WORD_OUTPUT = 0x80, /* not a step: 32 bits in the place of ticks and slope are of the outputs .. */
-    WORD_SWITCH = 0x01  /* .. the switches, which take effect now; else the low bits of the speed for the next ones */
+    WORD_SWITCH = 0x01, /* .. the switches, which take effect now; else the low bits of the speed for the next ones */
+    WORD_LINE = 0x02    /* .. with which a line of the sender's is made */
 };
 
 enum wire_kind { KIND_WORDS = 1, KIND_BEGIN = 2, KIND_STOP = 3, KIND_ANSWER = 4 };
@@ -83,6 +87,8 @@ struct sink_answer {
     uint32_t token;   /* of the sender that began the session */
     uint32_t touched; /* words that were made when an input of `halts` came on; 0 before */
     uint16_t dry;     /* how often it came to rest in the midst of a path, as it had no more words; counts on */
+    uint64_t mark;    /* as the session's begin had it; WIRE_NO_MARK once steps or outputs were made beside lines */
+    uint32_t lines;   /* that were made in this session */
 };
 
 /* A frame as it comes, byte by byte. */
@@ -98,8 +104,10 @@ enum wire_taken { WIRE_MORE, WIRE_FRAME, WIRE_DAMAGED };
 
 void wire_put16(uint8_t *to, uint16_t value);
 void wire_put32(uint8_t *to, uint32_t value);
+void wire_put64(uint8_t *to, uint64_t value);
 uint16_t wire_get16(const uint8_t *from);
 uint32_t wire_get32(const uint8_t *from);
+uint64_t wire_get64(const uint8_t *from);
 
 /* The CRC-32 of IEEE 802.3, as zlib has it. */
 uint32_t wire_crc(const uint8_t *bytes, size_t size);
@@ -111,13 +119,16 @@ size_t wire_frame(uint8_t *line, uint8_t *body, size_t size);
 /* Takes a byte. At WIRE_FRAME `body` holds a whole frame of `*size` bytes without its CRC, until the next byte. */
 enum wire_taken wire_take(struct wire_reader *reader, uint8_t byte, size_t *size);
 
-/* Whether the 32 bits and the last byte of a word are one: of at least WIRE_LEAST_TICKS and at most WIRE_MOST_SLOPE, or
- * at rest, of outputs as an S line may have them. */
+/* Whether the 32 bits and the last byte of a word are one: of at least WIRE_LEAST_TICKS, or at rest, of outputs as an S
+ * line may have them. */
 bool wire_is_word(uint32_t value, uint8_t bits);
 
 /* The parts of a word of a step. */
 uint32_t wire_ticks(uint32_t value);
 uint32_t wire_slope(uint32_t value);
+
+/* Whether a line of the sender's is made with a word. */
+bool wire_is_line(uint32_t value, uint8_t bits);
 
 /* The slope of a byte: the square of the rate may change by so much from one word to the next. A square is 1 where
  * words come each 2^21 ticks, and 2^42 over the square of the ticks else. */

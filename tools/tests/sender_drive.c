@@ -32,7 +32,7 @@ static void give_outputs(uint32_t low, char **rest) {
     uint32_t value = (uint32_t)strtoul(strtok_r(NULL, " \n", rest), NULL, 10);
     strtok_r(NULL, " \n", rest);
     wire_get_outputs(low, value, &outputs);
-    taken = sender_switch(&sender, &outputs);
+    taken = sender_switch(&sender, &outputs, false);
 }
 
 static void give(char *words, bool is_forced) {
@@ -55,7 +55,7 @@ static void set(const char *words) {
     struct sink_outputs outputs = {0};
     sscanf(words, "%" SCNu8 " %" SCNu64 " %" SCNu8 " %" SCNu8 " %" SCNu8 " %" SCNu8, &outputs.spindle, &outputs.speed,
            &outputs.mist, &outputs.flood, &outputs.selected, &outputs.slot);
-    taken = sender_switch(&sender, &outputs);
+    taken = sender_switch(&sender, &outputs, true);
 }
 
 static void take(const char *hex) {
@@ -84,7 +84,7 @@ static void begin(const char *words) {
     uint32_t ticks = 0;
     sscanf(words, "%" SCNu32 " %" SCNu16 " %" SCNu16 " %" SCNu16 " %" SCNu32, &token, &inputs.stops, &inputs.halts,
            &inputs.low, &ticks);
-    sender_begin(&sender, token, &inputs, ticks);
+    sender_begin(&sender, token, &inputs, ticks, 77);
 }
 
 static void obey(char *line) {

@@ -61,6 +61,8 @@ static uint16_t inputs;
 static uint8_t came[1 << 16];
 static size_t came_from, came_to;
 static uint8_t last_steps, last_down;
+static uint32_t begun_at;   /* words that were made when the sender's session began .. */
+static uint64_t mark_of_session; /* .. with this mark */
 static uint32_t asked_at;   /* words that were made when it was to come to rest */
 static bool is_asked;
 static bool is_fresh;
@@ -185,7 +187,7 @@ static uint32_t ticks_of(double of) {
  * of the window for which there is room in the FIFO. */
 static void plan_motion(uint32_t count, bool has_room) {
     static double most[MOST_WORDS];
-    uint8_t mean = (uint8_t)(64 + chance(72));
+    uint8_t mean = (uint8_t)(56 + chance(72));
     uint32_t first = plan_size;
     double reached = 0;
     double most_wanted = has_room ? fmin(1400.0 * wire_slope_of((uint8_t)(mean - 7)), 42e6) : 1e9;
@@ -197,7 +199,7 @@ static void plan_motion(uint32_t count, bool has_room) {
         reached = fmin(reached + wire_slope_of(slope), wanted);
         most[at] = reached;
         plan[plan_size].bits = (uint8_t)(chance(64) | (at + 1 == count ? WORD_REST : 0));
-        plan[plan_size].value = (uint32_t)slope << 24;
+        plan[plan_size].value = (uint32_t)(slope | (chance(2) == 0 ? WIRE_LINE_BIT : 0)) << 24;
         plan_size++;
     }
     double left = 0;
@@ -214,7 +216,7 @@ static void plan_outputs(void) {
     struct word *word = &plan[plan_size];
     wire_put_outputs(&word[0].value, &word[1].value, &outputs);
     word[0].bits = WORD_OUTPUT | WORD_REST;
-    word[1].bits = WORD_OUTPUT | WORD_SWITCH | WORD_REST;
+    word[1].bits = (uint8_t)(WORD_OUTPUT | WORD_SWITCH | WORD_REST | (chance(2) == 0 ? WORD_LINE : 0));
     plan_size += 2;
 }
 
@@ -379,7 +381,7 @@ static void seek_anew(uint16_t stops, uint16_t halts) {
     static uint32_t token;
     struct sink_inputs of = {stops, halts, 0};
     token++;
-    sender_begin(&sender, token, &of, WINDOW);
+    sender_begin(&sender, token, &of, WINDOW, made_count);
 }
 
 /* The words that were made before the chip started as it had for the sender's session. */
@@ -400,7 +402,7 @@ static void give_words(void) {
             given = sender_give(&sender, wire_ticks(word->value), (uint8_t)(word->value >> 24), word->bits);
         } else {
             wire_get_outputs(word->value, word[1].value, &outputs);
-            given = sender_switch(&sender, &outputs);
+            given = sender_switch(&sender, &outputs, (word[1].bits & WORD_LINE) != 0);
         }
         at = sender_base() + sender.given;
     }
@@ -409,11 +411,29 @@ static void give_words(void) {
     }
 }
 
+/* The sink says how many lines were made in its session, and by its mark from where on. */
+static void check_lines(const struct sink_answer *said) {
+    uint32_t lines = 0;
+    bool is_beside = false;
+    for (uint32_t at = begun_at; at < made_count; at++) {
+        bool is_output = (plan[at].bits & WORD_OUTPUT) != 0;
+        bool is_line = is_output ? (plan[at].bits & WORD_LINE) != 0 : plan[at].value >> 31 != 0;
+        lines += is_line;
+        is_beside = is_beside || (!is_line && (plan[at].bits & (is_output ? WORD_SWITCH : WORD_STEPS)) != 0);
+    }
+    if (said->lines != lines || said->mark != (is_beside ? WIRE_NO_MARK : mark_of_session)) {
+        give_up("it says %" PRIu32 " lines by mark %" PRIu64 ", and made %" PRIu32, said->lines, said->mark, lines);
+    }
+}
+
 /* The session of the sender is over. */
 static void note_end(void) {
     uint32_t count = sender_base() + sender.sink.made;
     if (sender.state == SENDER_ENDED && sender_base() == base && count != made_count) {
         give_up("the sink says %" PRIu32 ", and made %" PRIu32, count, made_count);
+    }
+    if (sender.state == SENDER_ENDED && sender_base() == base) {
+        check_lines(&sender.sink);
     }
     ends[sender.state == SENDER_ENDED ? sender.sink.fault : 7]++;
     seek_anew(sender.inputs.stops, sender.inputs.halts);
@@ -427,6 +447,10 @@ static void run_sender(void) {
         for (size_t at = 0; at < frame.size; at++) {
             sender_read(&sender, frame.bytes[at]);
         }
+    }
+    if (!was_linked && (sender.state == SENDER_LINKED || sender.state == SENDER_ENDED)) {
+        begun_at = made_count;
+        mark_of_session = sender.mark;
     }
     if (sender.state == SENDER_LINKED) {
         if (!was_linked && sender_base() == base && base + sender.given != made_count) {
@@ -466,7 +490,7 @@ static void ask_to_stop(bool is_at_once) {
 /* A frame that isn't damaged holds a word that isn't one. */
 static void send_bad_word(void) {
     static const struct word bad[] = {
-        {39, 1}, {40 | 144u << 24, 1}, {40, WORD_OUTPUT}, {3, WORD_OUTPUT | WORD_REST | WORD_SWITCH}};
+        {39, 1}, {40 | 32, WORD_OUTPUT}, {40, WORD_OUTPUT | WORD_REST | 4}, {3, WORD_OUTPUT | WORD_REST | WORD_SWITCH}};
     const struct word *word = &bad[chance(4)];
     uint8_t body[WIRE_BODY];
     uint8_t bytes[WIRE_LINE];

@@ -22,6 +22,9 @@ SINK = TOOLS / "sink"
 MS = 8000  # ticks
 LEAST = 40
 TOKEN = 4_000_000_000
+MARK = 2**60 + 3
+NO_MARK = 2**64 - 1
+LINE, LINE_SWITCH = 0x80 << 24, 0x02
 REST, OUTPUT, SWITCH = 0x40, 0x80, 0x01
 FIFO = 2048
 STEEP = 100  # the byte of a slope of 49,152: from 20,000 words a second it takes 559 to stop
@@ -60,7 +63,7 @@ def steep(ticks: int, bits: int) -> tuple[int, int]:
 
 def slope_of(value: int) -> int:
     """How much the square of the rate may change from a word to the next; 2^42 over the square of its ticks."""
-    return (8 | value >> 24 & 7) << (value >> 27)
+    return (8 | value >> 24 & 7) << (value >> 27 & 15)
 
 
 def words_frame(session: int, first: int, *words: tuple[int, int]) -> bytes:
@@ -70,7 +73,7 @@ def words_frame(session: int, first: int, *words: tuple[int, int]) -> bytes:
 
 def begin_frame(session: int, stops: int = 0, low: int = 0, halts: int = 0) -> bytes:
     """A frame that ends a session and begins the next."""
-    return framed(struct.pack("<BIIHHH", 2, session, TOKEN, stops, halts, low))
+    return framed(struct.pack("<BIIHHHQ", 2, session, TOKEN, stops, halts, low, MARK))
 
 
 def stop_frame(session: int, at_once: int = 0) -> bytes:
@@ -91,9 +94,11 @@ class Answer(NamedTuple):
     token: int
     touched: int = 0
     dry: int = 0
+    mark: int = 0
+    lines: int = 0
 
 
-ANSWER = "<BIIIBBHHIIH"
+ANSWER = "<BIIIBBHHIIHQI"
 
 
 def answers(line: bytes) -> list[Answer]:
@@ -409,7 +414,7 @@ class Bytes(SinkTest):
         """The number of a session that began."""
         session = self.boot() + 1
         answer = self.sink.last(6, begin_frame(session - 1, stops, low))
-        self.assertEqual(answer, (session, 0, 0, STANDS, NOTHING, low, 0, TOKEN, 0, 0))
+        self.assertEqual(answer, (session, 0, 0, STANDS, NOTHING, low, 0, TOKEN, 0, 0, MARK, 0))
         return session
 
     def test_worked_frame(self) -> None:
@@ -434,11 +439,11 @@ class Bytes(SinkTest):
                           (0, 0)])
         gaps = [after[0] - event[0] for event, after in zip(events, events[1:])]
         self.assertEqual(gaps, [320, 41, 40, 2**16 + 7, 100 * MS, 40, 40, 40])
-        self.assertEqual(answers(line)[-1], (session, 9, 9, STANDS, NOTHING, 0, 0, TOKEN, 0, 0))
+        self.assertEqual(answers(line)[-1], (session, 9, 9, STANDS, NOTHING, 0, 0, TOKEN, 0, 0, NO_MARK, 0))
 
     def test_answers(self) -> None:
         """Every 5 ms, in motion too, with the count of that moment; and it isn't silent before a session."""
-        self.assertEqual(answers(self.sink.run(20)[1]), [(self.boots << 16, 0, 0, NEW, NOTHING, 0, 0, 0, 0, 0)] * 4)
+        self.assertEqual(answers(self.sink.run(20)[1]), [(self.boots << 16, 0, 0, NEW, NOTHING, *[0] * 7)] * 4)
         session = self.began()
         found = answers(self.sink.run(30, words_frame(session, 0, *[(MS, 1)] * 24, (MS, REST)))[1])
         self.assertEqual(len(found), 6)
@@ -493,8 +498,20 @@ class Bytes(SinkTest):
     def test_numbers_wrap(self) -> None:
         """Each byte may be any: frames with zeros and without any."""
         session = self.began()
-        for at, value in enumerate((0x01010101, 0x00ffff00, 0x8fffffff, 256)):
+        for at, value in enumerate((0x01010101, 0x00ffff00, 0xffffffff, 256)):
             self.assertEqual(self.sink.last(5, words_frame(session, at, (value, 0x3f | REST))).taken, at + 1)
+
+    def test_lines(self) -> None:
+        """It tells the mark of its session, and how many lines were made; but no mark once there was a step beside."""
+        session = self.began()
+        value, bits = switches(1, 1_000_000, 0, 0, 0, 0)[1]
+        words = [(LEAST | LINE, 1), (LEAST, REST), (LEAST | LINE, REST), (LEAST, OUTPUT | REST),
+                 (value, bits | LINE_SWITCH), (LEAST | LINE, 2 | REST)]
+        answer = self.sink.last(5, words_frame(session, 0, *words))
+        self.assertEqual((answer.made, answer.mark, answer.lines), (6, MARK, 4))
+        answer = self.sink.last(5, words_frame(session, 6, (LEAST, 1 | REST), (LEAST | LINE, 2 | REST)))
+        self.assertEqual((answer.made, answer.mark, answer.lines), (8, NO_MARK, 5))
+        self.assertEqual(self.sink.last(6, begin_frame(session))[-2:], (MARK, 0))
 
     def test_sessions(self) -> None:
         """A session ends only by its number, and while nothing runs. The count goes on; old frames are nothing then."""
@@ -662,8 +679,8 @@ class Faults(SinkTest):
 
     def test_word(self) -> None:
         """A word that isn't one: nothing of its frame is taken, and it comes to rest."""
-        bad = [(39, 1), (0, REST), (LEAST | 144 << 24, 1), (LEAST, OUTPUT), (LEAST, OUTPUT | SWITCH),
-               (LEAST, OUTPUT | REST | 2), (LEAST, OUTPUT | REST | 32), (3, OUTPUT | SWITCH | REST),
+        bad = [(39, 1), (0, REST), (LEAST, OUTPUT), (LEAST, OUTPUT | SWITCH), (LEAST, OUTPUT | REST | 4),
+               (LEAST, OUTPUT | REST | 32), (3, OUTPUT | SWITCH | REST),
                (129 << 4, OUTPUT | SWITCH | REST), (129 << 12, OUTPUT | SWITCH | REST)]
         for each in bad:
             session = self.began()
@@ -691,7 +708,7 @@ class Faults(SinkTest):
         late = begin_frame(session - 1) + words_frame(session, 0, (LEAST, 1 | REST))
         now = self.boot()
         events, line = self.sink.run(10, late)
-        self.assertEqual((events, answers(line)[-1]), ([], (now, 0, 0, NEW, NOTHING, 0, 0, 0, 0, 0)))
+        self.assertEqual((events, answers(line)[-1]), ([], (now, 0, 0, NEW, NOTHING, 0, 0, 0, 0, 0, 0, 0)))
 
 
 class Sent(SinkTest):
@@ -793,7 +810,6 @@ class Sent(SinkTest):
 
         self.assertEqual(told("force 39 1 40 1"), (REFUSED, 0))
         self.assertEqual(told("force 40 64 40 132 40 64"), (REFUSED, 1))
-        self.assertEqual(told(f"force {LEAST | 144 << 24} 64"), (REFUSED, 1))
         self.assertEqual(told("switch 2 9999999999999 1 0 128 3"), (TAKEN, 3))
         for outputs in ("3 1 0 0 0 0", "0 1 0 0 0 129", "0 1 2 0 0 0", f"0 {2**44} 0 0 0 0"):
             self.assertEqual(told(f"switch {outputs}"), (REFUSED, 3))
@@ -815,7 +831,7 @@ class Sent(SinkTest):
 
         def heard(taken: int, made: int, lost: int) -> tuple[int, list[int]]:
             fields = (4, self.sender.session, taken, made, RUNS, 0, 0, lost, self.sender.token)
-            line = framed(struct.pack(ANSWER, *fields, 0, 0))
+            line = framed(struct.pack(ANSWER, *fields, 0, 0, 0, 0))
             session.now += 1
             frames = self.sender.step(session.now, line)
             return self.sender.made, [unstuffed(frame)[5] for frame in frames]
@@ -828,7 +844,7 @@ class Sent(SinkTest):
         self.assertEqual(heard(396, 390, 2)[1][:2], [396 & 255, 444 & 255])
         self.assertEqual(heard(401, 30, 2), (390, []))
         self.assertEqual(heard(5000, 4999, 2), (390, []))
-        self.sender.step(session.now, framed(struct.pack(ANSWER, 4, self.sender.session - 1, *[0] * 9)))
+        self.sender.step(session.now, framed(struct.pack(ANSWER, 4, self.sender.session - 1, *[0] * 11)))
         self.assertEqual(self.sender.state, LINKED)
 
     def test_any_boot(self) -> None:
@@ -847,7 +863,7 @@ class Sent(SinkTest):
         self.sender.tell("force " + "40 1 " * 200)
         self.sender.step(session.now, b"")
         line = b"".join(framed(struct.pack(ANSWER, 4, self.sender.session, taken, made, RUNS, 0, 0, 1,
-                                           self.sender.token, 0, 0)) for taken, made in ((48, 40), (144, 140)))
+                                           self.sender.token, 0, 0, 0, 0)) for taken, made in ((48, 40), (144, 140)))
         self.assertEqual([unstuffed(frame)[5] for frame in self.sender.step(session.now, line)], [144, 192])
 
     def test_fifo(self) -> None:
@@ -874,7 +890,7 @@ class Sent(SinkTest):
         """A session that another sender asked for isn't taken for one's own, nor an answer that was late."""
         session = self.linked()
         first = self.boots << 16
-        answered = {number: framed(struct.pack(ANSWER, 4, first + number, made, made, STANDS, 0, 0, 0, TOKEN, 0, 0))
+        answered = {number: framed(struct.pack(ANSWER, 4, first + number, made, made, STANDS, 0, 0, 0, TOKEN, *[0] * 4))
                     for number, made in ((1, 5), (2, 246), (3, 700))}
         session.restart()
         for number, newest in ((1, 1), (2, 2), (1, 2), (3, 3), (2, 3)):

@@ -66,7 +66,7 @@ class OverSink(PlayerTest):
         pulses = sum(words[0] == "P" and words[1:4] != ["0"] * 3 for words in lines)
         self.assertEqual(pulses, len(self.check_made(made)))
         place = [sum(int(words[axis]) for words in lines if words[0] == "P") for axis in (1, 2, 3)]
-        self.assertEqual(said["reference"], " ".join(f"{steps * 0.0025:.6f}" for steps in place).replace("-0.0000", "0.0"))
+        self.assertEqual(said["reference"], " ".join(f"{steps * 2500 / 1e6:.6f}" for steps in place))
         return len(lines)
 
 
@@ -158,7 +158,8 @@ class Stops(InC, OverSink, unittest.TestCase):
     """What stops it."""
 
     def begun(self, sink: ServedSink, text: str) -> object:
-        """A player that moves."""
+        """A player that moves, in a tenth of real time."""
+        sink.tell("tempo 10")
         Path("out").write_text(text)
         child = self.begin(*self.words("--progress", "progress"))
         link = self.linked()
@@ -171,6 +172,7 @@ class Stops(InC, OverSink, unittest.TestCase):
         child = self.begun(sink, "P 1 0 0 2000\n" * 100_000)
         child.send_signal(signal.SIGTERM)
         _, said = child.communicate(timeout=PATIENCE_S)
+        sink.tell("tempo 0")
         self.assertEqual(child.returncode, 1)
         made = sink.end()
         count = self.check_record(made)
@@ -183,6 +185,7 @@ class Stops(InC, OverSink, unittest.TestCase):
         sink = self.serve(HASTY_MS)
         child = self.begun(sink, "S 1 9.000000 0 0 0 0\n" + "P 1 0 0 2000\n" * 100_000)
         sink.tell("cut 700")
+        sink.tell("tempo 0")
         _, said = child.communicate(timeout=PATIENCE_S)
         made = sink.end()
         count = self.check_record(made)
@@ -191,25 +194,32 @@ class Stops(InC, OverSink, unittest.TestCase):
         self.assertEqual(made[-1].outputs[:1], (0,))
 
     def test_killed(self) -> None:
-        """A player that is killed: the sink comes to rest by itself, within what it had in hand, and motors can follow;
-        the next player says so, and one that follows a player with an end says nothing."""
+        """A player that is killed: the sink comes to rest by itself, and the next player counts what it made after the
+        record: no pulse is made twice, and motors can follow. Where OUT is another file it says so."""
         sink = self.serve(HASTY_MS)
-        child = self.begun(sink, LONG * 100)
-        child.kill()
-        child.communicate(timeout=PATIENCE_S)
-        counted = int(dict(line.split(" ", 1) for line in record().splitlines())["lines"])
-        Path("out").write_text(LONG * 100 + "D 1\n")  # goes on behind the record: nothing more is looked at
-        killed = self.begin(*self.words())
-        self.assertIn("the sink's last player was killed: the motors may be past its record", killed.stderr.readline())
-        killed.send_signal(signal.SIGTERM)
-        killed.communicate(timeout=PATIENCE_S)
+        self.kill(sink)
+        done = self.run_player(*self.words())
+        self.assertEqual(done.returncode, 0, done.stderr)
+        self.assertRegex(done.stderr, "^(out: the sink made [0-9]+ lines after the record of a player that was killed:"
+                                      " they are counted\n)?$")
+        self.kill(sink)
+        Path("out").rename("other")
         Path("out").write_text("D 1\n")
         done = self.run_player("--anew", *self.words())
-        self.assertEqual((done.returncode, done.stderr), (0, ""))
-        made = [each.tick for each in sink.end() if each.step and any(each.step)]
-        self.assertGreaterEqual(len(made), counted)
-        Path("out").write_text(LONG * 100)
-        self.assertLess(excess(self.timed(made), (200_000,) * 3), 4)
+        self.assertEqual((done.returncode, done.stderr), (0, f"{sink.path}: the sink's last player was killed: the motors"
+                                                             " may be past its record by what was in hand; measure\n"))
+        self.assertEqual(self.run_player("--anew", *self.words()).stderr, "")
+        made = [each for each in sink.end() if each.step and any(each.step)][:60_000]
+        Path("out").write_text(LONG * 15)
+        self.assertLess(excess(self.timed(self.check_made(made)), (200_000,) * 3), 4)
+
+    def kill(self, sink: ServedSink) -> None:
+        """Kills a player over 60,000 lines in the midst of them."""
+        Path("position").unlink(missing_ok=True)
+        child = self.begun(sink, LONG * 15)
+        child.kill()
+        child.communicate(timeout=PATIENCE_S)
+        sink.tell("tempo 0")
 
     def test_gone(self) -> None:
         """The line is gone: it ends with status 2, and says that the motors and the outputs aren't sure."""
@@ -255,6 +265,8 @@ class ByChance(InC, OverSink, unittest.TestCase):
         elif what < 0.6:
             child.send_signal(signal.SIGTERM)
             child.send_signal(signal.SIGINT)
+        elif what < 0.8:
+            child.kill()
         _, said = child.communicate(timeout=PATIENCE_S)
         return child.returncode, said
 
