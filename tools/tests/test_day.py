@@ -166,8 +166,7 @@ class Day(InC, PlayerTest):
     def cut(self) -> None:
         """The door is opened in the midst of line 5, of which 3 of 6 mm are cut then; at a stop the table is moved."""
         self.turns(11_000, DOOR)
-        self.terminal.send(b"run\n")
-        self.wait_for("it is held", lambda: self.link.ask().is_held)
+        self.send("run", "lets them go on\n")
         self.send("")
         self.turns_back()
         self.send("run")
