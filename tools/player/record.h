@@ -12,7 +12,7 @@
 
 enum {
     RECORD_SIZE = 512,  /* a disk writes them whole or not at all */
-    LONGEST_PATH = 255, /* with it the greatest numbers have room */
+    LONGEST_PATH = 255, /* with it counts of fifteen digits have room, and all else at its greatest */
     OLDEST_MS = 9999    /* as an age is written */
 };
 

@@ -1,15 +1,20 @@
 """OUT's lines, positions and records, by docs/OUTPUT.md and docs/SETTINGS.md."""
+import shutil
+import subprocess
 import sys
 import unittest
 from pathlib import Path
 
 sys.path.insert(0, str(Path(__file__).resolve().parent))
 
-from session_support import InFolder  # noqa: E402
+from session_support import TOOLS, InFolder  # noqa: E402
 
 from ngc_tools.formats.out import BadLine, Dwell, Pulse, Switch, read_line  # noqa: E402
 from ngc_tools.formats.position import Position, millimetres, nanometres  # noqa: E402
 from ngc_tools.formats.record import BadRecord, FileMark, Record  # noqa: E402
+
+GREATEST = Record("/" + "x" * 254, 10**15 - 1, 10**15 - 1, Switch(2, 9_999_999_999_999, True, True, 128, 128),
+                  (-(10**18 - 1),) * 3, FileMark(2**63 - 1, 2**63 - 1, 2**32 - 1), "emergency", 9999, "XYZ", True)
 
 
 class Lines(unittest.TestCase):
@@ -86,13 +91,35 @@ class Records(InFolder):
         self.assertEqual(Record.read("position"), record)
 
     def test_all_lines(self) -> None:
-        """A file's mark, an age and a stop have lines of their own; with the longest path all has room."""
-        stopped = Record("/" + "x" * 254, 10**18 - 1, 10**18 - 1, Switch(2, 9_999_999_999_999, True, True, 128, 128),
-                         (-(10**18 - 1),) * 3, FileMark(10**19 - 1, 10**19 - 1, 2**32 - 1), "console", 9999)
-        self.assertIn(b"\nfile 9999999999999999999 9999999999999999999 ffffffff\nage 9999\nstopped console\n",
-                      stopped.text())
-        self.assertEqual(len(stopped.text()), 512)
-        self.assertEqual(Record.of_text(stopped.text(), "position"), stopped)
+        """A file's mark, an age, what a home and a move leave, and a stop have lines of their own. With the longest
+        path all has room, each at its greatest: a count has fifteen digits, which are years of lines."""
+        text = GREATEST.text()
+        self.assertIn(b"\nfile 9223372036854775807 9223372036854775807 ffffffff\nage 9999\nhomed XYZ\noff\n"
+                      b"stopped emergency\n", text)
+        self.assertEqual(len(text), 512)
+        self.assertEqual(Record.of_text(text, "position"), GREATEST)
+
+    @unittest.skipUnless(shutil.which("cc"), "no C compiler")
+    def test_all_lines_in_c(self) -> None:
+        """The player in C reads the same record, and writes the same bytes."""
+        sources = [str(TOOLS / "player" / name) for name in ("record.c", "scan.c", "line.c", "cause.c", "utf8.c")]
+        Path("copy.c").write_text('''#include "record.h"
+#include <stdio.h>
+int main(void) {
+    static char text[RECORD_SIZE + 1];
+    static struct record record;
+    static struct cause why;
+    if (!record_read(text, fread(text, 1, sizeof text, stdin), "position", &record, &why)) {
+        return puts(why.text) < 0 ? 2 : 1;
+    }
+    record_print(&record, text);
+    return fwrite(text, 1, RECORD_SIZE, stdout) == RECORD_SIZE ? 0 : 2;
+}
+''')
+        subprocess.run(["cc", "-std=c11", "-I", str(TOOLS / "player"), "copy.c", *sources, "-o", "copy"], check=True)
+        for record in (Record("/a", 7, 80), GREATEST):
+            done = subprocess.run(["./copy"], input=record.text(), capture_output=True, check=False)
+            self.assertEqual((done.returncode, done.stdout), (0, record.text()))
 
     def test_other_files(self) -> None:
         """Another file is refused, and so is a path that is too long."""

@@ -10,6 +10,7 @@ import time
 import unittest
 from collections.abc import Callable
 from pathlib import Path
+from types import SimpleNamespace
 
 sys.path.insert(0, str(Path(__file__).resolve().parent))
 
@@ -27,6 +28,7 @@ from ngc_tools.page.face import PageFace  # noqa: E402
 from ngc_tools.page.jog import HeldJog  # noqa: E402
 from ngc_tools.page.pages import LOST_S  # noqa: E402
 from ngc_tools.page.rehearse import Asked, rehearsed  # noqa: E402
+from ngc_tools.page.session import Command, Session  # noqa: E402
 from ngc_tools.player.progress import NoAnswer  # noqa: E402
 
 EXAMPLES = TOOLS.parent / "examples"
@@ -208,6 +210,16 @@ class Work(Served):
         gone = page.until("it is gone", lambda state: state["pages"] == 1)
         state = page.until("it is lost", lambda state: state["now"] > gone["now"] + LOST_S + 1)
         self.assertEqual((state["does"], state["on_loss"]), ("running", "go"))
+
+    def test_page_replaced(self) -> None:
+        """A page that takes the place of a lost one doesn't keep what runs from being held."""
+        page = self.page()
+        self.load(page, SLOW)
+        self.cuts(page)
+        page.close()
+        other = self.page(OTHER)
+        other.until("it is held", lambda state: state["does"] == "held" and not state["busy"])
+        self.assertIn("the page that commands is lost: hold", other.said())
 
     def test_hostile_text(self) -> None:
         """What a program says stays text, and nothing of it is obeyed."""
@@ -614,6 +626,19 @@ class Faces(unittest.TestCase):
             self.face.ask("Where? ")
         self.assertIsNone(self.face.question)
         self.assertFalse(self.face.answer(1, "here"))
+
+
+class Given(unittest.TestCase):
+    """What is given to a session while something runs."""
+
+    def test_aside(self) -> None:
+        """What a command didn't take up is done at its end, not within the next one."""
+        session, done = Session.__new__(Session), []
+        session.face, session.stand = PageFace(), SimpleNamespace(status=None)
+        session.operator = SimpleNamespace(do=done.append, over=False)
+        session.face.give_aside("percent 50")
+        session._do(Command("reference", lambda: done.append("reference"), 0, 0))
+        self.assertEqual((done, session.face.asides()), (["reference", "percent 50"], []))
 
 
 class HeldJogs(unittest.TestCase):

@@ -217,6 +217,28 @@ class Tool(Core):
         self.assertEqual(self.lengths(), [])
 
 
+class ByProbe(Core):
+    """What is set by the point at which the probe was touched."""
+
+    def test_tool_changed(self) -> None:
+        """A point that was touched with another tool than that in the spindle isn't taken, until the probe is touched
+        again."""
+        self.begin()
+        self.do("tool 1 0", "T1 M6")
+        self.operator.moves.touched_nm, self.operator.moves.touched_by = (0, 0, -5_000_000), 1
+        self.assertIn("the probe was touched at machine Z -5, and the setter's top is at -9",
+                      self.do("touch tool 1 -9 probe"))
+        self.do("tool 2 0", "T2 M6")
+        refused = ("the probe was touched with tool 1 in the spindle, and there is tool 2 now: seek Z- RATE within MM"
+                   " again, or without the word probe from where the machine stands")
+        self.assertEqual(self.do("touch tool 2 -9 probe"), [refused])
+        self.assertEqual(self.do("zero Z probe"), [refused])
+        self.assertEqual(self.operator.stored().tools_nm, [4_000_000, 0])
+        self.operator.moves.touched_by = 2
+        self.do("touch tool 2 -9 probe")
+        self.assertEqual(self.operator.stored().tools_nm, [4_000_000, 4_000_000])
+
+
 class Setter(InFolder):
     """The table `[setter]`."""
 

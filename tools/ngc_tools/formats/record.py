@@ -7,7 +7,7 @@ from ngc_tools.formats.out import OFF, Switch, read_line
 from ngc_tools.formats.position import millimetres
 
 SIZE = 512  # bytes: a disk writes them whole or not at all
-LONGEST_PATH = 255  # bytes: with it the greatest numbers have room
+LONGEST_PATH = 255  # bytes: with it counts of fifteen digits have room, and all else at its greatest
 OLDEST_MS = 9999  # as an age is written
 
 _COUNT = r"0|[1-9][0-9]{0,17}"

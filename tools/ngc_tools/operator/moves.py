@@ -3,6 +3,7 @@ import re
 import time
 from collections.abc import Callable
 
+from ngc_tools.formats.device import Device
 from ngc_tools.formats.position import nanometres
 from ngc_tools.ngc.console import Status
 from ngc_tools.operator.causes import busy, taken
@@ -40,12 +41,14 @@ Asked = tuple[int, str]
 
 
 class Moves:
-    """What they do. `do` does a command that is given meanwhile. `touched_nm` is where the probe was touched last."""
+    """What they do. `do` does a command that is given meanwhile. `touched_nm` is where the probe was touched last, and
+    `touched_by` the slot of the tool that was in the spindle, as `ngc` knows it."""
 
     def __init__(self, session: Session, motors: Motors, left: Left, recover: Recover,
                  do: Callable[[str], None]) -> None:
         self.session, self.motors, self.left, self.recover, self.do = session, motors, left, recover, do
         self.touched_nm: tuple[int, int, int] | None = None
+        self.touched_by: int | None = None
 
     def home(self, rest: str) -> None:
         """Homes all axes, or those that are named."""
@@ -155,7 +158,8 @@ class Moves:
             self.session.face.say(f"homed: {' '.join(machine.homed)}")
         if name.startswith("seek") and machine.how == DONE and machine.touched:
             x, y, z = map(nanometres, machine.touched.split())
-            self.touched_nm = (x, y, z)
+            device = self.session.stored()
+            self.touched_nm, self.touched_by = (x, y, z), device.slot if isinstance(device, Device) else None
             self.session.face.say(f"the probe was touched at {axes(machine.touched.split())}", SAID)
 
     def tell(self) -> None:

@@ -28,6 +28,8 @@ _TOUCH = "touch tool N: which slot's tool stands on the setter? touch tool 3, or
 _HEIGHT = ("at which machine Z does the bare spindle reach the setter's top? touch tool {slot} HEIGHT, or height_um of"
            " [setter] in the file of --machine")
 _NOT_TOUCHED = "the probe wasn't touched since home: seek Z- RATE within MM"
+_OTHER_TOOL = ("the probe was touched with {then} in the spindle, and there is {now} now: seek Z- RATE within MM again,"
+               " or without the word probe from where the machine stands")
 _INCHES = "inches are in force (G20): write {text}in, or {text}mm"
 
 
@@ -217,6 +219,8 @@ class Touch:
             return device.state.point_nm
         if self.moves.touched_nm is None:
             raise CannotTouch(_NOT_TOUCHED)
+        if self.moves.touched_by != device.slot:
+            raise CannotTouch(_OTHER_TOOL.format(then=_tool(self.moves.touched_by), now=_tool(device.slot)))
         return self.moves.touched_nm
 
     def _height(self, words: list[str]) -> int:
@@ -240,6 +244,10 @@ def _parted(rest: str) -> tuple[str, bool]:
     """What stands before the word `probe`, and whether that stands at the end."""
     *named, last = rest.split() or [""]
     return (" ".join(named), True) if last.lower() == _PROBE else (rest, False)
+
+
+def _tool(slot: int | None) -> str:
+    return f"tool {slot}" if slot else "no tool"
 
 
 def _is_slot(text: str) -> bool:

@@ -30,6 +30,8 @@ class Pages:
             return False
         self._streams[page] = self._streams.get(page, 0) + 1
         if self.commands not in self._streams:
+            if self.commands != page:
+                self._lose()
             self.commands = page
         if self.commands == page:
             self.session.jogs.forget()
@@ -57,9 +59,13 @@ class Pages:
         self.session.face.publish()
 
     def _lost(self, page: str) -> None:
-        """It didn't come back: holds, if that was chosen and something runs."""
-        if page in self._streams or page != self.commands:
-            return
-        if self.on_loss == "hold" and self.session.is_busy:
+        """Looks whether it came back."""
+        if page not in self._streams and page == self.commands:
+            self._lose()
+
+    def _lose(self) -> None:
+        """The page that commands is lost, or another one has its place: holds, if that was chosen and something runs.
+        """
+        if self.commands and self.on_loss == "hold" and self.session.is_busy:
             self.session.face.say("the page that commands is lost: hold", WARNING)
             self.session.hold()

@@ -277,6 +277,8 @@ class Session:
         before = self.stand.status
         try:
             command.result = command.does()
+            for line in self.face.asides():  # that came too late for it
+                self.operator.do(line)
         except Ended:
             raise
         except (Failure, OSError) as error:

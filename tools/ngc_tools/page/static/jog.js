@@ -48,7 +48,13 @@ export class Jog {
     this.press += 1;
     this.isOn = true;
     const wish = { axis, sign, rate, press: this.press };
-    const says = async () => { if (!await this.asks('jog', wish)) this.stop(); };
+    let isAsked = false; // one at a time: what waits in a slow network would come after the finger is gone
+    const says = async () => {
+      if (isAsked) return;
+      isAsked = true;
+      if (!await this.asks('jog', wish)) this.stop();
+      isAsked = false;
+    };
     this.timer = setInterval(says, AGAIN_MS);
     says();
   }

@@ -75,14 +75,18 @@ export class Setup {
   }
 
   sets(axes) {
-    const value = typed(this.value), probe = !this.byProbe.hidden && isOn(this.byProbe);
-    if (value !== null) this.asks('zero', { axes: Object.fromEntries([...axes].map(axis => [axis, value])), probe });
+    const value = typed(this.value);
+    if (value !== null) {
+      this.asks('zero', { axes: Object.fromEntries([...axes].map(axis => [axis, value])), probe: this.probe() });
+    }
   }
 
   touchOff() {
     const height = this.needsHeight ? typed(this.height) : undefined;
-    if (height !== null) this.asks('touch', { slot: this.slot, height });
+    if (height !== null) this.asks('touch', { slot: this.slot, height, probe: this.probe() });
   }
+
+  probe() { return !this.byProbe.hidden && isOn(this.byProbe); }
 }
 
 function part(title, beside, ...content) {
