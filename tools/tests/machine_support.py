@@ -148,6 +148,10 @@ class MachineLink:
             raise NoAnswer("progress: the player doesn't answer")
         return self.axes.ask()
 
+    def age_ms(self) -> int:
+        """How old its record ever was."""
+        return 20
+
     def _take(self, verb: str, rest: str) -> tuple[int, str]:
         self.count += 1
         if not self.knows:
