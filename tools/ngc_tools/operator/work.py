@@ -179,11 +179,6 @@ class Work:
         self._is_unwanted = not self._wanted()
         return not self._is_unwanted and not self.session.is_in(ALARM, BROKEN)
 
-<<<<<<< HEAD
-=======
-    def _show_messages(self, status: Status, is_through: bool) -> None:
-        """Shows the messages of the lines that the place has passed; a program that is through stands at its start."""
->>>>>>> 25883309ee37c84c8ed5298775145df2a3df3007
     def _tell_waits(self, report: Report) -> None:
         """Says what else the motors wait for."""
         if report.word == "waits spindle":
@@ -194,13 +189,8 @@ class Work:
         elif now > self._free_at + _HELD_S:
             self.session.face.once(_HELD)
 
-<<<<<<< HEAD
     def _show_messages(self, status: Status, is_through: bool) -> None:
         """Shows the messages of the lines that the place has passed; a program that is through stands at its start."""
-=======
-    def _show_messages(self, status: Status) -> None:
-        """Shows the messages of the lines that the place has passed."""
->>>>>>> 25883309ee37c84c8ed5298775145df2a3df3007
         session = self.session
         goes_on = status.place > session.told or status.place == session.told and not is_through
         end = status.place if goes_on else len(session.program.text)
