@@ -186,8 +186,12 @@ bool alarm_wait(struct play *play) {
     while (!goes_on && !is_over(play)) {
         drop_lines(player);
         look_at_rest(play);
-        if (manual_is_there(player) && do_manual(play) == FAILED) {
+        enum end end = manual_is_there(player) ? do_manual(play) : AT_OUTS_END;
+        if (end == FAILED) {
             return false;
+        }
+        if (end == STOPPED) {
+            say("%s: %s spindle and coolant off", play->options->out, play->why.text);
         }
         doze(play);
         goes_on = !alarm_stands(player) && !player->is_broken;

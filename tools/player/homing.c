@@ -180,7 +180,6 @@ static void set_place(struct play *play, int axis) {
     player_lock(player);
     player->steps[axis] = in_steps(play->machine.home.at_um[axis] * NM_PER_UM, player->step_nm[axis]);
     player->homed |= 1U << axis;
-    player->is_off = true;
     player_unlock(player);
 }
 

@@ -129,6 +129,7 @@ static enum end go(struct play *play, const struct manual_wish *wish, struct cau
 static void note_end(struct play *play, const struct manual_wish *wish, const struct cause *how) {
     struct player *player = play->player;
     player_lock(player);
+    manual_look_at_path(player);
     player->manual.is_there = false;
     player->manual.ended = wish->number;
     snprintf(player->manual.how, HOW_ROOM, "%.*s", HOW_ROOM - 1, how->text);

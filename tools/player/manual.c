@@ -28,6 +28,20 @@ bool manual_is_there(struct player *player) {
     return is_there;
 }
 
+void manual_leave_path(struct player *player) {
+    if (!player->is_off) {
+        memcpy(player->left_at, player->steps, sizeof player->left_at);
+        player->knows_left = true;
+        player->is_off = true;
+    }
+}
+
+void manual_look_at_path(struct player *player) {
+    if (player->knows_left && memcmp(player->left_at, player->steps, sizeof player->left_at) == 0) {
+        player->is_off = false;
+    }
+}
+
 int64_t manual_room(const struct player *player, int axis, int sign) {
     int64_t end = sign > 0 ? player->high_nm[axis] : player->low_nm[axis];
     int64_t nm = (end - player->steps[axis] * player->step_nm[axis]) * sign;

@@ -1,7 +1,8 @@
 /* Moves without lines of OUT: home, jog and seek, as docs/OUTPUT.md has them.
  *
  * What the record says meanwhile. Its counts stay, and `reference` is where the motors are. With the first pulse of
- * such a move the motors leave the path of OUT, which the record says by `off`, until a line of OUT comes. */
+ * such a move the motors leave the path of OUT, which the record says by `off`, until a line of OUT comes, or they stand
+ * where they left it. */
 #ifndef MANUAL_H
 #define MANUAL_H
 
@@ -45,6 +46,12 @@ bool manual_heed(struct player *player, const char *text, size_t size, char *ans
 
 /* Whether a move is to be made, or is under way. */
 bool manual_is_there(struct player *player);
+
+/* The motors leave the path of OUT, if they are on it. The lock is held. */
+void manual_leave_path(struct player *player);
+
+/* They stand: where they left the path they are on it again. The lock is held. */
+void manual_look_at_path(struct player *player);
 
 /* How many steps an axis may go before its travel ends. The lock is held. */
 int64_t manual_room(const struct player *player, int axis, int sign);

@@ -203,7 +203,10 @@ static enum end carry_out_all(struct play *play) {
 
 bool switch_off(struct play *play) {
     struct player *shared = play->player;
-    int error = link_is_there() ? sink_switch_off() : pins_off();
+    if (link_is_there()) {
+        return sink_switch_off(play);
+    }
+    int error = pins_off();
     if (error != 0) {
         note_stop(play, "pins");
         say("player: the pins: %s; switch spindle and coolant off by hand", strerror(error));

@@ -44,7 +44,9 @@ struct player {
     struct errand errand;
     struct manual manual;
     unsigned homed;      /* the axes that were homed since it began and no alarm came; bit 0 is X */
-    bool is_off;         /* the motors left the path of OUT by a move without lines, and no line came since */
+    bool is_off;         /* the motors left the path of OUT by a move without lines, and no line came since .. */
+    bool knows_left;     /* .. and it is known where .. */
+    int64_t left_at[3];  /* .. in steps */
     enum alarm alarm;
     bool is_broken;      /* lines were dropped for an alarm: no more of them are carried out */
     struct record left; /* the record as it was, if it speaks of this OUT */

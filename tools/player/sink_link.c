@@ -65,6 +65,7 @@ bool link_begin(const struct sink_inputs *inputs, struct cause *why) {
     sender_begin(&shared->sender, new_token(), inputs, LINK_WINDOW_TICKS);
     words_begin(&shared->words, shared->play);
     shared->now = (struct link_state){.dry = shared->now.dry};
+    shared->was_left = false;
     bool has_begun = false;
     bool is_in_time = true;
     while (!has_begun && is_in_time && !shared->is_gone) {
@@ -79,6 +80,13 @@ bool link_begin(const struct sink_inputs *inputs, struct cause *why) {
     return is_heard ? because(why, "%s: the step sink doesn't come to rest", shared->path)
                     : because(why, "%s: no step sink answers: is it switched on, and is baud that of its port?",
                               shared->path);
+}
+
+bool link_was_left(void) {
+    pthread_mutex_lock(&shared->lock);
+    bool was_left = shared->was_left;
+    pthread_mutex_unlock(&shared->lock);
+    return was_left;
 }
 
 bool link_wants(void) {
@@ -175,10 +183,23 @@ bool link_switch_off(void) {
     return is_off;
 }
 
+/* Ends the session; one that is over for silence, and is counted, by a new one. */
+static void leave(void) {
+    static const struct sink_inputs none;
+    struct cause why;
+    pthread_mutex_lock(&shared->lock);
+    bool is_silent = shared->sender.state == SENDER_ENDED && shared->sender.sink.fault == FAULT_SILENT;
+    pthread_mutex_unlock(&shared->lock);
+    if (!is_silent || link_begin(&none, &why)) {
+        link_stop(false);
+    }
+}
+
 void link_close(void) {
     if (shared->line < 0) {
         return;
     }
+    leave();
     pthread_mutex_lock(&shared->lock);
     shared->ends = true;
     pthread_mutex_unlock(&shared->lock);

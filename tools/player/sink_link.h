@@ -35,6 +35,10 @@ bool link_open(struct play *play, struct cause *why);
  * be on: then the session is over at once. */
 bool link_begin(const struct sink_inputs *inputs, struct cause *why);
 
+/* Whether the session before link_begin's had no end: its player was killed, and the sink may have made more than that
+ * one's record counts. */
+bool link_was_left(void);
+
 /* Whether there is a link: the machine's file has [sink]. */
 bool link_is_there(void);
 
@@ -67,7 +71,7 @@ void link_stop(bool is_dead);
 /* Turns spindle and coolant off, at rest; false where it isn't sure that they are. */
 bool link_switch_off(void);
 
-/* Ends the thread. */
+/* Ends the session, at rest, so that who comes next knows that all is counted; and the thread. */
 void link_close(void);
 
 #endif

@@ -1,6 +1,5 @@
 #include "sink_play.h"
 
-#include <errno.h>
 #include <inttypes.h>
 #include <string.h>
 
@@ -25,7 +24,14 @@ bool sink_begin(struct play *play, struct cause *why) {
         return because(why, "--pins goes without [sink] of %s: the sink has the pins", play->options->machine);
     }
     session = inputs_of(play, inputs_stops(&play->machine.inputs), 0, 0);
-    return link_open(play, why) && link_begin(&session, why);
+    if (!link_open(play, why) || !link_begin(&session, why)) {
+        return false;
+    }
+    if (link_was_left()) {
+        say("%s: the sink's last player was killed: the motors may be past its record by what was in hand; measure",
+            play->machine.sink.line);
+    }
+    return true;
 }
 
 bool sink_begin_anew(struct play *play, uint32_t stops, uint32_t halts, uint32_t turned) {
@@ -49,8 +55,11 @@ uint32_t sink_inputs_on(const struct inputs *inputs) {
 }
 
 bool sink_is_touched(int64_t steps[3]) {
+    if (!link_is_there()) {
+        return false;
+    }
     struct link_state state = link_look();
-    if (!link_is_there() || state.state == SINK_RUNS || (state.fault != FAULT_TOUCHED && !state.is_touched)) {
+    if (state.state == SINK_RUNS || (state.fault != FAULT_TOUCHED && !state.is_touched)) {
         return false;
     }
     memcpy(steps, state.touched, sizeof state.touched);
@@ -130,8 +139,16 @@ enum end sink_carry_out(struct play *play, const struct line *line, const char *
     return line->kind != 'S' || sink_is_at_speed(play, &before, &line->outputs) ? AT_OUTS_END : STOPPED;
 }
 
-int sink_switch_off(void) {
-    return link_switch_off() ? 0 : EIO;
+bool sink_switch_off(struct play *play) {
+    bool is_off = link_switch_off();
+    player_lock(play->player);
+    outputs_stop(&play->player->outputs);
+    player_unlock(play->player);
+    if (!is_off) {
+        say("%s: %s the sink doesn't say that spindle and coolant are off: switch them off by hand", play->options->out,
+            play->why.text);
+    }
+    return is_off;
 }
 
 void sink_end(void) {

@@ -43,8 +43,8 @@ enum end sink_carry_out(struct play *play, const struct line *line, const char *
 /* Waits, behind a switch that was given, until the spindle is at its speed; false where the play has to stop before. */
 bool sink_is_at_speed(struct play *play, const struct outputs *before, const struct outputs *outputs);
 
-/* Turns spindle and coolant off; 0, or the number of an error. */
-int sink_switch_off(void);
+/* Turns spindle and coolant off, and notes it; says so if that isn't sure. */
+bool sink_switch_off(struct play *play);
 
 /* Says how often the sink ran dry, and ends the link. */
 void sink_end(void);

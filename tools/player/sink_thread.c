@@ -43,6 +43,10 @@ static void heed(void) {
         shared->words.dry = sink->dry;
         words_count(&shared->words, shared->play, sink->made);
     }
+    if (!is_own && shared->sender.is_heard) {
+        bool is_live = sink->state == SINK_STANDS || sink->state == SINK_RUNS;
+        shared->was_left = shared->was_left || is_live || sink->fault == FAULT_SILENT;
+    }
     shared->now.state = sink->state;
     shared->now.fault = sink->fault;
     shared->now.inputs = sink->inputs;

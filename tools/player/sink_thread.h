@@ -29,7 +29,8 @@ struct link {
     uint8_t to_send[LINK_ROOM]; /* so many bytes that the line had no room for */
     size_t size_to_send;
     unsigned changes;
-    bool is_gone; /* the line */
+    bool was_left; /* the session before wasn't ended */
+    bool is_gone;  /* the line */
     bool ends;
 };
 

@@ -102,9 +102,9 @@ enum end travel(struct play *play, const struct travel *travel) {
     pace_begin(&pace, &play->machine.limits);
     schedule_pause(&play->schedule);
     player_lock(play->player);
-    play->player->is_off = true;
+    manual_leave_path(play->player);
     player_unlock(play->player);
     enum end end = link_is_there() ? go_by_sink(play, travel, &pulse) : go_by_pins(play, travel, &pulse);
     play->is_moving = play->is_moving && end != AT_OUTS_END;
-    return end;
+    return end == AT_OUTS_END && has_to_stop(play) ? STOPPED : end; /* looks at the inputs where it stands */
 }

@@ -137,7 +137,7 @@ static void make_step(struct sink *sink, uint32_t value, uint8_t bits) {
     sink->square = square == 0 ? slope : square;
     sink->is_still = is_within(sink->lasted, slope);
     sink->left = lasting(sink, wire_ticks(value));
-    sink->is_slowed = square == 0 || sink->left > wire_ticks(value);
+    sink->is_slowed = sink->left > wire_ticks(value);
     sink->lasted = sink->left;
 }
 

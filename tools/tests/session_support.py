@@ -111,8 +111,8 @@ class Terminal:
         """Types."""
         os.write(self.file, text)
 
-    def read_to(self, end: bytes) -> bytes:
-        """What is shown up to such an end."""
+    def read_to(self, end: bytes | tuple[bytes, ...]) -> bytes:
+        """What is shown up to such an end, or to one of some."""
         got, until = b"", time.monotonic() + PATIENCE_S
         while not got.endswith(end):
             if time.monotonic() > until:

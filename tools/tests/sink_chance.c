@@ -27,7 +27,8 @@ struct event {
     uint64_t at;
     uint8_t steps;
     uint8_t down;
-    bool is_begun; /* the first one of a session, or after the sink had stopped */
+    bool is_begun; /* the first one of a session, or after the sink had stood .. */
+    bool is_dry;   /* .. in the midst of a path, as it had no more words */
 };
 
 struct frame {
@@ -63,6 +64,7 @@ static uint8_t last_steps, last_down;
 static uint32_t asked_at;   /* words that were made when it was to come to rest */
 static bool is_asked;
 static bool is_fresh;
+static bool was_dry;
 static uint32_t run_number;
 static unsigned long words_made, slower, sessions, ends[8], broken, dry;
 static uint64_t random_state;
@@ -290,8 +292,8 @@ static void note_made(uint32_t was) {
     }
     struct event *event = &made[made_count];
     bool is_step = (plan[index].bits & WORD_OUTPUT) == 0;
-    *event = (struct event){now, last_steps, last_down, is_fresh};
-    is_fresh = false;
+    *event = (struct event){now, last_steps, last_down, is_fresh, was_dry};
+    is_fresh = was_dry = false;
     made_count++;
     words_made++;
     if (is_step && (event->steps != (plan[index].bits & 7) || event->down != (plan[index].bits >> 3 & 7))) {
@@ -305,6 +307,9 @@ static void note_made(uint32_t was) {
         give_up("word %" PRIu32 " is too short", index - 1);
     }
     slower += lasted(index - 1) > given;
+    if (made[index - 1].is_dry && is_path(index) && square(lasted(index - 1)) > wire_slope(plan[index - 1].value)) {
+        give_up("word %" PRIu32 " begins from rest, and lasts %.0f", index - 1, lasted(index - 1));
+    }
     if (index > 1 && is_path(index - 1) && is_path(index)) {
         check_slope(index - 1);
     }
@@ -324,6 +329,7 @@ static void note_stop(void) {
         }
     }
     is_fresh = true;
+    was_dry = sink.state == SINK_STANDS && made_count > 0 && (plan[made_count - 1].bits & WORD_REST) == 0;
 }
 
 static void make_one(void) {
@@ -427,6 +433,7 @@ static void run_sender(void) {
             give_up("a session begins at %" PRIu32 ", and %" PRIu32 " are made", base + sender.given, made_count);
         }
         sessions += !was_linked;
+        was_dry = was_dry && was_linked;
         give_words();
     }
     if (sender.state == SENDER_ENDED || sender.state == SENDER_RESET) {
@@ -443,7 +450,7 @@ static void boot(void) {
     boots++;
     base = made_count;
     bases[boots & 0xffff] = base;
-    is_timed = is_asked = false;
+    is_timed = is_asked = was_dry = false;
     is_fresh = true;
     sink_start(&sink, (uint16_t)boots, (uint32_t)now);
 }

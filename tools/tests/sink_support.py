@@ -59,6 +59,12 @@ class ServedSink:
         self.child.stdin.write(line + "\n")
         self.child.stdin.flush()
 
+    def kill(self) -> None:
+        """Ends it at once, if it hasn't ended."""
+        self.child.kill()
+        self.child.communicate()
+        self._said.close()
+
     def end(self) -> list[Made]:
         """Lets it come to rest alone, and ends it: all that its pins did."""
         self.tell("serve 0")

@@ -122,9 +122,9 @@ class Moving(PlayerTest):
         """The player."""
         return [program()]
 
-    def started(self, *words: str) -> None:
+    def started(self, *words: str, changes: str = "--no-ask-tool") -> None:
         """Starts the player, and opens the pipe as `ngc` does."""
-        self.child = self.begin(*words, "--no-ask-tool", "--machine", "mill.toml", "--progress", "progress", "axis",
+        self.child = self.begin(*words, changes, "--machine", "mill.toml", "--progress", "progress", "axis",
                                 "first.toml", "position")
         self.link = self.linked()
         self.pipe = open("axis", "wb", buffering=0)
@@ -206,6 +206,13 @@ class Homing(Moving):
         self.assertEqual(self.how(self.link.home()), "X: its switch isn't on within 40.000 mm")
         self.assertEqual(self.world.place, (-40_000, 0, 4_000))
         self.assertEqual(self.link.machine().homed, "Z")
+
+    def test_way(self) -> None:
+        """Without way_mm it is the travel, a tenth, and a millimetre."""
+        Path("mill.toml").write_text(MACHINE.replace("way_mm = [40, 40, 40]\n", ""))
+        self.world.no_switch(2)
+        self.started("--untimed")
+        self.assertEqual(self.how(self.link.home("Z")), "Z: its switch isn't on within 23.000 mm")
 
     def test_differ(self) -> None:
         """Two touches that are farther apart than agree_um are both told."""
@@ -337,6 +344,35 @@ class Jogging(Moving):
         self.link.stop()
         self.assertEqual(self.how((number, "")), "stopped")
 
+    def test_words_by_chance(self) -> None:
+        """Whatever words come, it answers, and its count is where the motors are."""
+        self.world.switch(3, PROBE, 0, 1, 3_000)
+        self.started("--untimed")
+        chance = random.Random(65)
+        tokens = ("home", "jog", "seek", "stop", "machine", "X+", "Y-", "Z+", "X", "XZ", "ZZ", "for", "within", "600",
+                  "0.3", "1e3", "-1", "999999999999.999999", "1000000000000", "18446744073709551615", "0", "", "\0", "\xff")
+        for number in range(1, 400):
+            words = [chance.choice(tokens[:5]), str(number)] if chance.random() < 0.8 else []
+            words += [chance.choice(tokens) for _ in range(chance.randint(0, 5))]
+            if chance.random() < 0.4:
+                words = [f"jog {number} {chance.choice('XYZ')}{chance.choice('+-')} 600 for 0.{chance.randint(0, 999)}"]
+            self.link.socket.send(" ".join(words).encode("latin-1"))
+            self.assertEqual(self.link.ask().carried, 0)
+        self.link.stop()
+        self.wait_for("it stands", lambda: self.link.machine().does == "stands")
+        self.assertIsNone(self.child.poll())
+        if not self.link.machine().homed:
+            self.assertEqual(self.at(), tuple(each / 1000 for each in self.world.place))
+
+    def test_two_who_ask(self) -> None:
+        """A move of another asker is one of its own, also with the first numbers that both give."""
+        self.started("--untimed")
+        other = self.linked()
+        for _ in range(3):
+            self.assertEqual(self.how(self.link.jog("X+", "600", "0.1")), "done")
+            self.assertEqual(self.how(other.jog("X+", "600", "0.1")), "done")
+        self.assertEqual(self.at(), (0.6, 0, 0))
+
     def test_half_done(self) -> None:
         """Lines that the last session left are no lines in hand: the count stays, and along them it doesn't go then."""
         Path("out").write_text("P 1 0 0 50\n" * 30)
@@ -352,6 +388,8 @@ class Jogging(Moving):
         self.link.legs("2", "0.010 0 0", 110)
         self.wait_for("legs lead back", lambda: self.at() == (0.01, 0, 0) and self.link.ask().behind == 0)
         self.kept("reference 0.010000 0.000000 0.000000")
+        self.assertEqual(self.how(self.link.jog("Z+", "600", "1")), "done")
+        self.assertEqual(self.how(self.link.jog("Z-", "600", "1")), "done")  # where they left it, on the path again
         self.link.along(330)
         self.wait_for("it goes on along them", lambda: self.link.ask().carried == 30)
         self.assertEqual(self.world.place, (30, 0, 0))
@@ -472,6 +510,46 @@ class Alarms(Moving):
         self.world.set(_TURNED, 1 << X_HIGH)
         self.assertRegex(self.how(self.link.home()), r"^the limit X\+ is on, after line 0: ")
         self.assertEqual(self.world.get(_PULSES), 300)
+
+    def test_at_a_tool_change(self) -> None:
+        """Who is asked for a tool isn't any more, and the line isn't carried out."""
+        self.started(changes="--untimed")
+        self.pipe.write(b"S 0 0.000000 0 0 3 3\nP 1 0 0 50\n")
+        self.wait_for("it waits", lambda: self.link.ask().waits)
+        self.assertEqual(self.how(self.link.jog("X+", "60", "1")), "refused: lines are in hand")
+        self.world.put(STOP, False)
+        self.wait_for("it is an alarm", lambda: self.link.ask().word == "alarm")
+        self.world.put(STOP, True)
+        self.wait_for("it is known", lambda: not self.link.machine().on)
+        self.assertEqual(self.how(self.link.home()), "done")
+        report = self.link.ask()
+        self.assertEqual((report.word, report.waits, report.carried, report.outputs.slot), ("broken", False, 0, 0))
+        self.ended(1)
+
+    def test_on_the_way_back(self) -> None:
+        """Stopped on a way back along OUT the record says how far it came; legs alone lead on after home."""
+        Path("out").write_text("P 1 0 0 50\n" * 3_000)
+        self.child = self.begin("--untimed", "--follow", "--machine", "mill.toml", "--progress", "progress", "out",
+                                "first.toml", "position")
+        self.link = self.linked()
+        self.link.synced(33_000)
+        self.wait_for("it is carried out", lambda: self.link.ask().carried == 3_000)
+        self.world.set(_TURNED, 1 << X_HIGH)
+        self.world.set(_AT_PULSE, 4_200)
+        self.link.along(0)
+        self.wait_for("it stops", lambda: self.link.ask().word == "alarm")
+        self.kept("stopped limit")
+        found = Record.read("position")
+        self.assertEqual((found.lines, found.size, found.at_nm), (1_800, 19_800, (1_800_000, 0, 0)))
+        self.world.set(_AT_PULSE, 0)
+        self.wait_for("it is known", lambda: not self.link.machine().on)
+        self.assertEqual(self.how(self.link.home()), "done")
+        self.link.along(33_000)
+        self.link.synced(33_000)
+        self.assertEqual((self.link.ask().word, self.link.ask().carried, self.at()), ("broken", 1_800, (-8, -7, 9)))
+        self.link.end()
+        self.child.communicate(timeout=PATIENCE_S)
+        self.assertEqual(self.child.returncode, 1)
 
     def test_door(self) -> None:
         """It holds by a ramp, and isn't released while it is open."""

@@ -3,6 +3,7 @@ import os
 import signal
 import sys
 import unittest
+from dataclasses import replace
 from pathlib import Path
 
 sys.path.insert(0, str(Path(__file__).resolve().parent))
@@ -127,6 +128,24 @@ class Moves(Core):
         self.assertEqual(len(said), 1)
         self.assertIn("run goes on", said[0])
         self.assertEqual(self.axes.words, [])
+
+    def test_waits(self) -> None:
+        """It is said what the motors wait for: the spindle's speed, and whoever holds them, as a door does."""
+        self.begin(self.link)
+        before = self.link.ask
+        spindle = "the player waits until the spindle has its speed"
+        held = ("the motors are held, and not from here: a door is open, or the spindle doesn't come to its speed; the"
+                " player says which. Enter holds here too, and then run lets them go on")
+
+        def ask():
+            said = [text for _, text in self.face.said]
+            self.link.lazy = bool(self.out()) and held not in said
+            waits = self.link.lazy and spindle not in said
+            return replace(before(), word="waits spindle" if waits else "works", is_held=self.link.lazy)
+
+        self.link.ask = ask
+        self.assertEqual(self.do("G0 X0.3")[:2], [spindle, held])
+        self.assertEqual(self.status().at[0], "0.300000")
 
     def test_half_done(self) -> None:
         """Over a half-done block too; `recover` is still for what the last session left."""

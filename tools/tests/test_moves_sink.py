@@ -19,16 +19,19 @@ WAITS_MS = 3_000  # as long as words may be late by the real clock
 class OverSink(InC, Moving):
     """A player over a sink whose switches follow its motors."""
 
+    sink: ServedSink | None = None
+
     def setUp(self) -> None:
         """The same switches as those of the simulated machine."""
         super().setUp()
         self.serve()
 
     def serve(self) -> None:
-        """Starts a sink."""
+        """Starts a sink, in the place of another."""
+        if self.sink:
+            self.sink.kill()
         self.sink = ServedSink(WAITS_MS)
-        self.addCleanup(self.sink.child.communicate)
-        self.addCleanup(self.sink.child.kill)
+        self.addCleanup(self.sink.kill)
         Path("mill.toml").write_text(f'{MACHINE}[sink]\nline = "{self.sink.path}"\nbaud = 2000000\n')
         self.high(1 << STOP)
         for number, axis, sign, at in ((X_LOW, 0, -1, -10_000), (Y_LOW, 1, -1, -10_000), (Z_HIGH, 2, 1, 5_000)):

@@ -127,6 +127,14 @@ class Ends(unittest.TestCase):
             self.assertEqual((done.returncode, done.stderr), (status, said), name)
             self.assertFalse(os.path.exists(done.stdout.strip()), name)
 
+    def test_signals_within_finalizers(self) -> None:
+        """A signal that comes while Python takes an object apart, where nothing can be raised, is heeded after it."""
+        body = ("class Held:\n        def __del__(self):\n            os.kill(os.getpid(), signal.{0})\n"
+                "            self.killed = True\n    held = Held()\n    del held\n    signal.pause()")
+        for name, status, said in (("SIGINT", 2, "try: stopped\n"), ("SIGTERM", -15, ""), ("SIGHUP", -1, "")):
+            done = script(body.format(name))
+            self.assertEqual((done.returncode, done.stderr), (status, said), name)
+
     def test_ignored_signals(self) -> None:
         """What the shell made it ignore stays so, as under nohup."""
         done = script("os.kill(os.getpid(), signal.SIGINT); os.kill(os.getpid(), signal.SIGHUP); return 0",

@@ -190,6 +190,38 @@ class Stops(InC, OverSink, unittest.TestCase):
         self.assertIn("stopped silent", record())
         self.assertEqual(made[-1].outputs[:1], (0,))
 
+    def test_killed(self) -> None:
+        """A player that is killed: the sink comes to rest by itself, within what it had in hand, and motors can follow;
+        the next player says so, and one that follows a player with an end says nothing."""
+        sink = self.serve(HASTY_MS)
+        child = self.begun(sink, LONG * 100)
+        child.kill()
+        child.communicate(timeout=PATIENCE_S)
+        counted = int(dict(line.split(" ", 1) for line in record().splitlines())["lines"])
+        Path("out").write_text(LONG * 100 + "D 1\n")  # goes on behind the record: nothing more is looked at
+        killed = self.begin(*self.words())
+        self.assertIn("the sink's last player was killed: the motors may be past its record", killed.stderr.readline())
+        killed.send_signal(signal.SIGTERM)
+        killed.communicate(timeout=PATIENCE_S)
+        Path("out").write_text("D 1\n")
+        done = self.run_player("--anew", *self.words())
+        self.assertEqual((done.returncode, done.stderr), (0, ""))
+        made = [each.tick for each in sink.end() if each.step and any(each.step)]
+        self.assertGreaterEqual(len(made), counted)
+        Path("out").write_text(LONG * 100)
+        self.assertLess(excess(self.timed(made), (200_000,) * 3), 4)
+
+    def test_gone(self) -> None:
+        """The line is gone: it ends with status 2, and says that the motors and the outputs aren't sure."""
+        sink = self.serve()
+        child = self.begun(sink, "P 1 0 0 2000\n" * 100_000)
+        sink.child.kill()
+        _, said = child.communicate(timeout=PATIENCE_S)
+        self.assertEqual(child.returncode, 2)
+        self.assertRegex(said, "^out: the line to the sink is gone, after line [0-9]+: where the motors are isn't sure;"
+                               " the sink doesn't say that spindle and coolant are off: switch them off by hand\n$")
+        self.assertIn("stopped line", record())
+
     def test_no_answer(self) -> None:
         """A sink that says nothing at the start."""
         sink = self.serve()

@@ -76,16 +76,18 @@ class Zero(Core):
                       [text for _, text in self.face.said])
 
     def test_inches(self) -> None:
-        """Under G20 a number says which it is; the line is done in millimetres, and the unit stays."""
+        """Under G20 a number says which it is, and the line has millimetres; the unit stays."""
         self.begin()
         self.do("G0 X2.54", "G20")
         self.assertEqual(self.do("zero X 0.1"), ["inches are in force (G20): write 0.1in, or 0.1mm"])
-        self.assertEqual(self.do("zero X 0.05in")[:2], ["G21 G10 L2 P1 X1.27", "G20"])
-        self.assertEqual((self.origin()[0], self.operator.stored().state.unit), (1_270_000, 20))
+        self.assertEqual(self.do("zero X 0.05in Y2mm")[0], "#5221=1.27 #5222=-2 G10 L2 P1")
+        self.assertEqual((self.origin(), self.operator.stored().state.unit), ((1_270_000, -2_000_000, 0), 20))
         self.do("zero X")
         self.assertEqual(self.origin()[0], 2_540_000)
-        self.assertEqual(self.do("undo")[:2], ["G21 G10 L2 P1 X1.27 Y0 Z0", "G20"])
-        self.assertEqual((self.origin()[0], self.operator.stored().state.unit), (1_270_000, 20))
+        self.assertEqual(self.do("undo")[0], "#5221=1.27 #5222=-2 #5223=0 G10 L2 P1")
+        self.assertEqual(self.origin(), (1_270_000, -2_000_000, 0))
+        self.do("G55", "zero Z 1in")
+        self.assertEqual(self.origin(), (0, 0, -25_400_000))
 
     def test_modes(self) -> None:
         """Incremental distances, inverse time and a cycle's mode change nothing of it, and stay."""

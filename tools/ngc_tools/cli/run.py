@@ -23,6 +23,7 @@ Work = Callable[[argparse.Namespace], int]
 _FAILED = 2
 _OUTPUT = "standard output: "
 _ESCAPES = "backslashreplace"
+_AGAIN_S = 0.005  # by then most finalizers are through
 _FULL = (errno.ENOSPC, errno.EDQUOT, errno.EFBIG, errno.EIO)  # of writing; all files but this one are named
 
 
@@ -34,7 +35,7 @@ def run(parser: argparse.ArgumentParser, work: Work, arguments: list[str] | None
     _open_streams()
     status = ending = 0
     try:
-        with _heeding(), _told_of_threads(parser.prog):
+        with _heeding(), _raised_after_finalizers(), _told_of_threads(parser.prog):
             status = _ended(parser, work, arguments)
     except KeyboardInterrupt:
         status = _say(f"{parser.prog}: stopped")
@@ -161,6 +162,31 @@ def _heeding() -> Iterator[None]:
         for number, handler in before.items():
             if signal.getsignal(number) in (heeded[number], signal.SIG_IGN):
                 signal.signal(number, handler)
+
+
+@contextmanager
+def _raised_after_finalizers() -> Iterator[None]:
+    """A signal that comes within a finalizer, out of which Python raises nothing, ends the work a moment later."""
+    before = sys.unraisablehook
+
+    def raise_later(what: "sys.UnraisableHookArgs") -> None:
+        if not isinstance(what.exc_value, (KeyboardInterrupt, _Killed)):
+            before(what)
+            return
+        ending = type(what.exc_value)(*what.exc_value.args)
+
+        def raise_again(_number: int, _frame: FrameType | None) -> None:
+            raise ending
+
+        signal.signal(signal.SIGALRM, raise_again)
+        signal.setitimer(signal.ITIMER_REAL, _AGAIN_S)
+
+    sys.unraisablehook = raise_later
+    try:
+        yield
+    finally:
+        signal.setitimer(signal.ITIMER_REAL, 0)
+        sys.unraisablehook = before
 
 
 @contextmanager

@@ -94,7 +94,8 @@ class Screen:
         if self.ending:
             raise AskedToEnd(self.ending)
         width = _width() if self.is_terminal else 0
-        *lines, last = _wrapped(text.rstrip(" "), width).split("\n")
+        whole = (_wrapped(line, width) for line in text.rstrip(" ").split("\n"))
+        *lines, last = "\n".join(whole).split("\n")
         self._print("".join(line + "\n" for line in lines))
         self._prompts = True
         try:

@@ -37,10 +37,11 @@ class CannotTouch(Failure):
 
 @dataclass(frozen=True, slots=True)
 class Back:
-    """What `undo` puts back: `command` does, as long as `now` is what the device has of it."""
+    """What `undo` puts back: what `command` says for a unit does, 21 or 20, as long as `now` is what the device has of
+    it."""
 
     name: str
-    command: str
+    command: Callable[[int], str]
     now: tuple[int, ...]
     read: Callable[[Device], tuple[int, ...]]
 
@@ -76,6 +77,16 @@ def origin_of(device: Device, system: int) -> Point:
     return device.parameters[first], device.parameters[first + 1], device.parameters[first + 2]
 
 
+def origin_line(system: int, origin_nm: dict[int, int], unit: int) -> str:
+    """The line that sets axes of a system's origin to machine points. Under G20 the parameters take the numbers, since
+    these are millimetres always."""
+    axes = sorted(origin_nm.items())
+    if unit == 21:
+        return f"G10 L2 P{system} " + " ".join(f"{_AXES[axis]}{trimmed(nm)}" for axis, nm in axes)
+    first = 5221 + 20 * (system - 1)
+    return " ".join(f"#{first + axis}={trimmed(nm)}" for axis, nm in axes) + f" G10 L2 P{system}"
+
+
 def length_in(device: Device, slot: int) -> tuple[int, ...]:
     """The length of a slot in nm; nothing where the table has no such slot."""
     return tuple(device.tools_nm[slot - 1:slot])
@@ -95,7 +106,7 @@ class Touch:
     @property
     def undoes(self) -> str:
         """What `undo` would do; nothing where nothing is to be put back."""
-        return self._back.command if self._back else ""
+        return self._back.command(21) if self._back else ""
 
     def zero(self, rest: str, anyway: bool) -> None:
         """Makes the point where the machine stands X0, Y0, Z0, or what is typed, of the system in force."""
@@ -129,12 +140,11 @@ class Touch:
             self.session.face.say(text, WARNING)
         here, system = in_force_on(device.state).to_program(at), device.state.system
         origin = {axis: device.state.origin_nm[axis] + here[axis] - nm for axis, nm in wanted.items()}
-        words = " ".join(f"{_AXES[axis]}{trimmed(nm)}" for axis, nm in sorted(origin.items()))
-        if not self._line(f"G10 L2 P{system} {words}", device.state.unit):
+        if not self._line(origin_line(system, origin, device.state.unit)):
             return
-        now = self._device()
-        self._back = Back(SYSTEMS[system - 1], f"G10 L2 P{system} {point_words(device.state.origin_nm)}",
-                          origin_of(now, system), lambda device: origin_of(device, system))
+        now, before = self._device(), dict(enumerate(device.state.origin_nm))
+        self._back = Back(SYSTEMS[system - 1], lambda unit: origin_line(system, before, unit), origin_of(now, system),
+                          lambda device: origin_of(device, system))
         Look(self.session).after_work()
         self._say_back(point_words(now.state.origin_nm), point_words(device.state.origin_nm))
 
@@ -155,8 +165,8 @@ class Touch:
         self.session.face.say(command)
         if not taken(self.session, self.session.console.ask(command)[0], command):
             return
-        self._back = Back(f"tool {slot}", f"tool {slot} {trimmed(before[0] if before else 0)}", (z - height,),
-                          lambda device: length_in(device, slot))
+        back = f"tool {slot} {trimmed(before[0] if before else 0)}"
+        self._back = Back(f"tool {slot}", lambda _: back, (z - height,), lambda device: length_in(device, slot))
         self._say_back(trimmed(z - height), trimmed(before[0]) if before else "no slot")
         self.session.face.say(f"G43 H{slot} takes it; a length that is in force stays until then", WHERE)
 
@@ -166,24 +176,21 @@ class Touch:
         if back is None:
             raise CannotTouch("nothing to undo: it takes back the last zero or touch, once")
         device = self._device()
+        command = back.command(device.state.unit)
         if back.read(device) != back.now:
-            raise CannotTouch(f"{back.name} isn't any more what was set: nothing is done. {back.command} puts back what"
-                              " was before")
-        if back.command.startswith("tool"):
-            self.session.face.say(back.command)
-            is_done = taken(self.session, self.session.console.ask(back.command)[0], back.command)
-        elif is_done := self._line(back.command, device.state.unit):
+            raise CannotTouch(f"{back.name} isn't any more what was set: nothing is done. {command} puts back what was"
+                              " before")
+        if command.startswith("tool"):
+            self.session.face.say(command)
+            is_done = taken(self.session, self.session.console.ask(command)[0], command)
+        elif is_done := self._line(command):
             Look(self.session).after_work()
         self._back = None if is_done else back
 
-    def _line(self, text: str, unit: int) -> bool:
-        """Does a line whose numbers are millimetres, whatever unit is in force, and shows it; whether it was taken."""
-        lines = [text] if unit == 21 else [f"G21 {text}", "G20"]
-        for line in lines:
-            self.session.face.say(line)
-            if self.line_done(line, True) is None:
-                return False
-        return True
+    def _line(self, text: str) -> bool:
+        """Does a line, and shows it; whether it was taken."""
+        self.session.face.say(text)
+        return self.line_done(text, True) is not None
 
     def _say_back(self, now: str, before: str) -> None:
         self.session.face.say(f"{self._back.name}: {now} ({before} before). undo puts it back", WHERE)

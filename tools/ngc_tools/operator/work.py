@@ -18,6 +18,10 @@ ENDS = ("idle", "stopped", "held", "refused")
 SINGLE = "single"
 """What ended the work where it is to hold after each line."""
 FIRST_TICKS, MOST_TICKS = 20, 1000
+_HELD_S = 0.5  # of motors that are let go: so long after it they may still say that they are held
+_HELD = ("the motors are held, and not from here: a door is open, or the spindle doesn't come to its speed; the player"
+         " says which. Enter holds here too, and then run lets them go on")
+_SPINDLE = "the player waits until the spindle has its speed"
 
 
 def clock(us: int) -> str:
@@ -69,6 +73,7 @@ class Work:
         self._waited: int | None = None  # the tool that the player was waiting for as it was asked last
         self._is_unwanted = False  # somebody wants to hold
         self._is_within = False  # a line is under way that hands something out
+        self._free_at = 0.0  # when the motors weren't held last, or were held from here
 
     def go(self) -> str | None:
         """Gives ticks until there is nothing to do, or somebody wants to hold.
@@ -78,6 +83,7 @@ class Work:
         self.session.gone = False
         self._waited = None
         self._shown = _NOTHING_SHOWN
+        self._free_at = time.monotonic()
         ended = self._ticks()
         if ended in ("idle", "stopped", "held", SINGLE):
             self.await_motors()
@@ -169,11 +175,24 @@ class Work:
             what = f"tool {report.tool} to be put in" if report.tool else "the tool to be taken out"
             self.session.face.say(f"the player waits for {what}: once that is done, type go here, or press Enter there",
                                   WHERE)
+        self._tell_waits(report)
         self._is_unwanted = not self._wanted()
         return not self._is_unwanted and not self.session.is_in(ALARM, BROKEN)
 
     def _show_messages(self, status: Status, is_through: bool) -> None:
         """Shows the messages of the lines that the place has passed; a program that is through stands at its start."""
+    def _tell_waits(self, report: Report) -> None:
+        """Says what else the motors wait for."""
+        if report.word == "waits spindle":
+            self.session.face.once(_SPINDLE, WHERE)
+        now = time.monotonic()
+        if not report.is_held or self.motors.is_told:
+            self._free_at = now
+        elif now > self._free_at + _HELD_S:
+            self.session.face.once(_HELD)
+
+    def _show_messages(self, status: Status) -> None:
+        """Shows the messages of the lines that the place has passed."""
         session = self.session
         goes_on = status.place > session.told or status.place == session.told and not is_through
         end = status.place if goes_on else len(session.program.text)

@@ -43,6 +43,7 @@
 A console that dies sends no `end`: the player ends with status 1 after the same seconds."""
 import errno
 import os
+import random
 import re
 import socket
 import stat
@@ -227,6 +228,7 @@ class Link:
         self.path = str(path)
         self.patience_s = patience_s
         self.count = 0
+        self._moves = random.randrange(10**12)  # the number of the last move, which no other asker has
         self.socket = socket.socket(socket.AF_UNIX, socket.SOCK_DGRAM)
         self.socket.settimeout(0.05)
         self.socket.bind("")  # a name of its own, which the system chooses, so that it can be answered
@@ -356,13 +358,13 @@ class Link:
         self._send(b"stop")
 
     def _move(self, verb: str, what: str) -> tuple[int, str]:
-        self.count += 1
-        question = f"{verb} {self.count}"
+        self._moves += 1
+        question = f"{verb} {self._moves}"
         self._send(f"{question} {what}".rstrip().encode())
         answer = self._awaited(question.encode()).decode("utf-8", "replace")
         if answer != "taken" and not answer.startswith("refused "):
             raise NoAnswer(f"{self.path}: {_OTHER}")
-        return self.count, "" if answer == "taken" else answer.removeprefix("refused ")
+        return self._moves, "" if answer == "taken" else answer.removeprefix("refused ")
 
     def override(self, percent: int) -> None:
         """Tells a player to go at so many percent of OUT's rates, 1 to 100. Raises NoAnswer."""
