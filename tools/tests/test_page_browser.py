@@ -1,6 +1,7 @@
 """The page in a browser: Chromium without a window. Skipped where there is none: tools/tests/install_browser.sh."""
 import os
 import re
+import signal
 import sys
 import unittest
 from functools import cache
@@ -11,7 +12,7 @@ sys.path.insert(0, str(Path(__file__).resolve().parent))
 from browser_support import Browser, chromium  # noqa: E402
 from machine_support import SocketMachine  # noqa: E402
 from page_support import OTHER, SLOW, Served  # noqa: E402
-from session_support import TOOLS, ngc  # noqa: E402
+from session_support import PATIENCE_S, TOOLS, ngc  # noqa: E402
 
 DOCS = TOOLS.parent / "docs"
 SIZES = ((1280, 800), (1024, 768), (1920, 1080))
@@ -239,6 +240,20 @@ class Work(InBrowser):
         browser.wait("ngc.state.does === 'held' && !ngc.state.busy")
         self.assertEqual(browser.js("document.getElementById('word').textContent"), "Held")
         self.look("held")
+        self.no_complaints()
+
+    def test_again(self) -> None:
+        """Where ngc ended, it is started again from the page, which begins anew."""
+        browser = self.browser
+        before = browser.js("ngc.state.session")
+        for pid in self.children():
+            os.kill(pid, signal.SIGKILL)
+        self.assertEqual(self.player.wait(PATIENCE_S), 1)  # its pipe has ended
+        browser.wait("ngc.state.word === 'Ended'")
+        self.look("ngc has ended")
+        self.begin_player()
+        browser.press("Start ngc again", "#restart")
+        browser.wait(f"ngc.state?.session && ngc.state.session !== '{before}' && ngc.state.word === 'Idle'")
         self.no_complaints()
 
     def test_two_pages(self) -> None:

@@ -13,7 +13,7 @@ import { Setup } from './setup.js';
 import * as sheet from './sheet.js';
 import * as tools from './tools.js';
 
-const app = { state: null, job: null, travel: null, never: [], programId: null, jobId: null, failed: '', asked: 0 };
+const app = { state: null, job: null, travel: null, programId: null, jobId: null, failed: '', asked: 0 };
 window.ngc = app; // for who looks at the page from outside, as tests do
 
 const log = new Log();
@@ -80,8 +80,7 @@ function showControls(s) {
   $('takeover').hidden = s.yours;
   $('load').disabled = !app.isIdle;
   $('quit').disabled = s.busy || !s.yours;
-  const canRestart = s.ended || s.player_gone || s.does === 'broken';
-  $('restart').hidden = !(canRestart && !s.over && s.yours);
+  $('restart').hidden = !(s.yours && !s.over && (s.ended || s.broken));
   for (const one of [$('line'), $('do')]) one.disabled = !(app.isRest && s.does !== 'broken');
   $('hold').disabled = Boolean(s.ended);
   for (const name of ['single', 'optional', 'delete']) {
@@ -172,9 +171,6 @@ async function fetchNew(s) {
   app.job = got.job ? new Job(got.job) : null;
   app.failed = got.failed;
   app.travel = [got.low, got.high];
-  app.never = got.never_cut ?? [];
-  picture.ways = app.never.map(points => ({ points, colour: 'red', isSolid: true }));
-  document.querySelector('#legend .never').hidden = !app.never.length;
   picture.show(app.job, app.travel);
   recovery.job();
   show(app.state);

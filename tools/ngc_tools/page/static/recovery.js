@@ -117,14 +117,13 @@ export class Recovery {
     this.mark();
   }
 
-  // What the picture shows beside the path: where the segment begins, the way there, what was never cut.
+  // What the picture shows beside the path: where the segment begins, and the way there.
   mark() {
     const { picture } = this, { state, job } = this.app, at = job ? job.place(state) : { done: 0, now: -1 };
     const begins = this.plan?.begins ?? this.stored?.begins, label = 'the segment begins';
     picture.marks = begins?.length ? [{ point: micrometres(begins), colour: 'amber', label }] : [];
     const way = this.step >= 2 && this.way();
-    picture.ways = this.app.never.map(points => ({ points, colour: 'red', isSolid: true }));
-    if (way) picture.ways.push({ points: way, colour: 'violet' });
+    picture.ways = way ? [{ points: way, colour: 'violet' }] : [];
     const typed = this.at.every(number => typedNumber(number) !== null) ? this.at : null;
     const here = state.busy ? state.motors ?? state.at : typed;
     picture.zero(zeroOf(state));
