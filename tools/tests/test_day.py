@@ -207,8 +207,8 @@ class Keys(Moving):
     """A jog by keys over tools/player and a simulated machine."""
 
     def test_killed(self) -> None:
-        """As the console is killed while a key is held, the motors come to rest, and the record is true. The player ends
-        with it."""
+        """As the console is killed while a key is held, the motors come to rest, and the record is true. The player
+        ends with it."""
         self.device()
         player = self.begin("--machine", "mill.toml", "--progress", "progress", "axis", "first.toml", "position")
         self.link = self.linked()

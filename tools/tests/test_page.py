@@ -146,7 +146,8 @@ class Who(Served):
                      f"{page.port}\r\nX-Page: {PAGE}\r\nContent-Length: 1000000\r\n\r\nG0 X".encode())
         kept.request("POST", f"/{page.key}/hold", b"{}", given)  # a page's own connection stays
         self.assertEqual(kept.getresponse().read(), b"{}")
-        self.assertEqual(page.until("it is held", lambda state: state["does"] == "held")["word"], "Held")
+        state = page.until("it is held", lambda state: state["does"] == "held" and not state["busy"])
+        self.assertEqual(state["word"], "Held")
         self.assertEqual((page.post("hold"), page.next()["yours"]), ((200, {}), True))
 
 

@@ -1,17 +1,20 @@
-"""The page in a browser: Chromium without a window. Left out where it isn't installed (tools/tests/install_browser.sh)."""
+"""The page in a browser: Chromium without a window. Skipped where there is none: tools/tests/install_browser.sh."""
 import os
 import re
+import signal
 import sys
 import unittest
+from functools import cache
 from pathlib import Path
 
 sys.path.insert(0, str(Path(__file__).resolve().parent))
 
 from browser_support import Browser, chromium  # noqa: E402
 from machine_support import SocketMachine  # noqa: E402
-from page_support import LONG, OTHER, Served  # noqa: E402
-from session_support import ngc  # noqa: E402
+from page_support import OTHER, SLOW, Served  # noqa: E402
+from session_support import PATIENCE_S, TOOLS, ngc  # noqa: E402
 
+DOCS = TOOLS.parent / "docs"
 SIZES = ((1280, 800), (1024, 768), (1920, 1080))
 HOSTILE = "(<img src=x onerror=window.hacked=1>)\n(MSG, <script>window.hacked=1</script>)\nG17 G21 G90 G94\nM0\nM2\n"
 SIGHT = """(() => {
@@ -22,13 +25,20 @@ SIGHT = """(() => {
         const isOut = !scrolls && (box.left < 0 || box.top < 0 || box.right > innerWidth + 0.5
             || box.bottom > innerHeight + 0.5);
         const isSmall = Math.min(box.width, box.height) < 44, isCut = one.scrollWidth > one.clientWidth + 1;
-        return isOut || isSmall || isCut ? [one.id, one.textContent, isOut, isSmall, isCut, box.width, box.height] : null;
+        const says = [one.id, one.textContent, isOut && 'out', isSmall && 'small', isCut && 'cut'];
+        return isOut || isSmall || isCut ? [...says, box.width, box.height] : null;
     }).filter(Boolean);
 })()"""
 """Buttons and entries out of the window, too small for a finger, or with text over their edge."""
-CUT = """[...document.querySelectorAll('.axis output, .axis div, #gauges dd, #word, #risk, #left, nav button, h1, h2, dt, dd')]
+CUT = """[...document.querySelectorAll('.axis output, .axis div, #word, #risk, #left, nav button, h1, h2, dt, dd')]
     .filter(one => one.checkVisibility() && one.scrollWidth > one.clientWidth + 1).map(one => one.textContent)"""
 """What a person reads from afar, and that is cut."""
+FAR = """(() => {
+    document.querySelectorAll('.axis output').forEach(one => { one.textContent = '\\u22121000.000'; });
+    ngc.readout.fit();
+    return %s;
+})()""" % CUT
+"""The same with the longest numbers."""
 CONTRAST = """(() => {
     const canvas = document.createElement('canvas').getContext('2d', { willReadFrequently: true });
     const parts = colour => {
@@ -43,12 +53,13 @@ CONTRAST = """(() => {
         const own = parts(getComputedStyle(one).backgroundColor);
         return own[3] === 1 ? own : over(own, one.parentElement ? ground(one.parentElement) : [255, 255, 255, 1]);
     };
-    const light = ([r, g, b]) => [r, g, b].map(v => v / 255).map(v => v <= 0.04045 ? v / 12.92 : ((v + 0.055) / 1.055) ** 2.4)
-        .reduce((sum, v, i) => sum + v * [0.2126, 0.7152, 0.0722][i], 0);
+    const part = v => v <= 0.04045 ? v / 12.92 : ((v + 0.055) / 1.055) ** 2.4, shares = [0.2126, 0.7152, 0.0722];
+    const light = colour => shares.reduce((sum, share, i) => sum + share * part(colour[i] / 255), 0);
     const walker = document.createTreeWalker(document.body, NodeFilter.SHOW_TEXT), poor = new Set();
     while (walker.nextNode()) {
         const one = walker.currentNode.parentElement, style = getComputedStyle(one);
-        if (!walker.currentNode.data.trim() || !one.checkVisibility() || one.closest(':disabled, .blind, script')) continue;
+        if (!walker.currentNode.data.trim() || !one.checkVisibility()) continue;
+        if (one.closest(':disabled, .blind, script')) continue;
         const back = ground(one), [a, b] = [light(over(parts(style.color), back)), light(back)];
         const ratio = (Math.max(a, b) + 0.05) / (Math.min(a, b) + 0.05), px = parseFloat(style.fontSize);
         const isLarge = px >= 24 || px >= 18.66 && Number(style.fontWeight) >= 700;
@@ -85,22 +96,22 @@ PAN_LONG = """(async () => {
 })()""".replace("FRAME", FRAME)
 
 
+@cache
+def started() -> Browser:
+    """One browser for all tests."""
+    browser = Browser(chromium() or "")
+    unittest.addModuleCleanup(browser.close)
+    return browser
+
+
 @unittest.skipUnless(chromium(), "Chromium isn't installed: tools/tests/install_browser.sh")
 class InBrowser(Served):
-    """One browser for the tests of a class, with the page of a session of its own for each test."""
-
-    browser: Browser
-
-    @classmethod
-    def setUpClass(cls) -> None:
-        """Starts the browser."""
-        super().setUpClass()
-        cls.browser = Browser(chromium() or "")
-        cls.addClassCleanup(cls.browser.close)
+    """The page of a session of its own for each test."""
 
     def setUp(self) -> None:
         """Opens the page."""
         super().setUp()
+        self.browser = started()
         self.addCleanup(self.browser.open, "about:blank")
         self.browser.complaints.clear()
         self.browser.asked.clear()
@@ -139,6 +150,17 @@ class InBrowser(Served):
         self.assertEqual(others, [])
 
 
+class Pictures(unittest.TestCase):
+    """The pictures of docs/PAGE.md."""
+
+    def test_pictures(self) -> None:
+        """Each is there and is shown; together they are below 1.5 MB."""
+        shown = re.findall(r"!\[[^\]]+\]\(page/([a-z]+\.png)\)", (DOCS / "PAGE.md").read_text())
+        found = {path.name: path.stat().st_size for path in (DOCS / "page").iterdir()}
+        self.assertEqual(sorted(shown), sorted(found))
+        self.assertLess(sum(found.values()), 1_500_000)
+
+
 class Looks(InBrowser):
     """How it looks."""
 
@@ -148,11 +170,9 @@ class Looks(InBrowser):
         for tab in ("setup", "tools", "log", "program"):
             browser.js(f"document.querySelector('[data-tab={tab}]').click()")
             self.look(tab)
-        browser.js("[...document.querySelectorAll('.axis output')].forEach(one => { one.textContent = '\u22121000.000'; });"
-                   "document.getElementById('axes').style.setProperty('--fit', 7 / 9)")
         for size in SIZES:
             browser.size(*size)
-            self.assertEqual(browser.js(CUT), [], size)
+            self.assertEqual(browser.js(FAR), [], size)
             digits = browser.js("parseFloat(getComputedStyle(document.querySelector('.axis output')).fontSize)")
             self.assertGreater(digits, 36, size)
         self.choose("G1 X1 Q2 F10\nM0\nX1\n" + "(a very long comment without an end)" * 6 + "\n")
@@ -173,7 +193,8 @@ class Looks(InBrowser):
         browser.wait("ngc.state.program.lines === 5 && document.querySelectorAll('.row').length === 5")
         browser.press("Run", "#run")
         browser.wait("ngc.state.does === 'stopped' && !ngc.state.busy")
-        self.assertEqual(browser.js("document.getElementById('detail').textContent"), "<script>window.hacked=1</script>")
+        said = browser.js("document.getElementById('detail').textContent")
+        self.assertEqual(said, "<script>window.hacked=1</script>")
         self.assertIsNone(browser.js("window.hacked ?? document.querySelector('main img, main b b, main script')"))
         self.look("a stop")
         self.no_complaints()
@@ -206,9 +227,9 @@ class Work(InBrowser):
     """What is done by touch."""
 
     def test_hold(self) -> None:
-        """Hold by the space bar and by the button; jog is there where the machine can; a page that isn't told waits."""
+        """Hold by the space bar, and by the button, and on again."""
         browser = self.browser
-        self.load(LONG, 6)
+        self.load(SLOW, 4)
         browser.press("Run", "#run")
         browser.wait("ngc.state.line === 3 && ngc.state.half === 'program'")
         browser.space()
@@ -221,14 +242,28 @@ class Work(InBrowser):
         self.look("held")
         self.no_complaints()
 
+    def test_again(self) -> None:
+        """Where ngc ended, it is started again from the page, which begins anew."""
+        browser = self.browser
+        before = browser.js("ngc.state.session")
+        for pid in self.children():
+            os.kill(pid, signal.SIGKILL)
+        self.assertEqual(self.player.wait(PATIENCE_S), 1)  # its pipe has ended
+        browser.wait("ngc.state.word === 'Ended'")
+        self.look("ngc has ended")
+        self.begin_player()
+        browser.press("Start ngc again", "#restart")
+        browser.wait(f"ngc.state?.session && ngc.state.session !== '{before}' && ngc.state.word === 'Idle'")
+        self.no_complaints()
+
     def test_two_pages(self) -> None:
         """Where another page took over, this one watches, holds, and takes over again."""
         browser, other = self.browser, self.page(OTHER)
-        self.load(LONG, 6)
+        self.load(SLOW, 4)
         self.assertEqual(other.post("takeover")[0], 200)
         browser.wait("!ngc.state.yours && document.getElementById('takeover').checkVisibility()")
-        self.assertEqual(browser.js("[...document.querySelectorAll('footer button:not(:disabled)')].map(one => one.id)"),
-                         ["hold"])
+        enabled = browser.js("[...document.querySelectorAll('footer button:not(:disabled)')].map(one => one.id)")
+        self.assertEqual(enabled, ["hold"])
         self.assertEqual(other.post("run")[0], 200)
         browser.wait("ngc.state.line === 3")
         browser.press("Hold", "#hold")
@@ -294,11 +329,11 @@ class Power(InBrowser):
     OUT = "out"
 
     def test_recovery(self) -> None:
-        """The page says that it is lost, begins anew with the new session, and leads through the four steps to the end."""
+        """The page says that it is lost, begins anew with the new session, and leads through four steps to the cut."""
         browser = self.browser
-        self.load("M3 S100\n" + LONG, 7)
+        self.load("M3 S100\n" + SLOW, 5)
         browser.press("Run", "#run")
-        browser.wait("ngc.state.line === 4 && ngc.state.motors[0] > 0.5")
+        browser.wait("ngc.state.line === 4 && ngc.state.motors[0] > 0.02")
         before = browser.js("ngc.state.session")
         self.pull()
         browser.wait("document.getElementById('lost').checkVisibility()")
@@ -319,8 +354,8 @@ class Power(InBrowser):
         self.look("the choice")
         browser.press("Go along the path", "#over button")
         self.agree_to_all()
-        browser.wait("ngc.state.finished && !document.getElementById('over').checkVisibility()")
-        self.assertEqual(browser.js("ngc.state.motors"), ["1.000000", "0.000000", "-1.000000"])
+        browser.wait("ngc.state.does === 'running' && ngc.state.motors[0] > 0.02 && ngc.state.spindle === 1")
+        self.assertFalse(browser.js("document.getElementById('over').checkVisibility()"))
         self.no_complaints()
 
     def begin_again(self) -> None:

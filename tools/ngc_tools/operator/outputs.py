@@ -16,8 +16,9 @@ def outputs_agree(session: Session, status: Status) -> bool:
     wanted = outputs_on(device.state)
     if not on_words(wanted) or on_words(wanted) == on_words(seen.outputs):
         return True
-    session.face.say(f"the program goes on with {on_words(wanted)}, and the player has"
-                     f" {on_words(seen.outputs) or 'all of it off'}: {_line(device.state)} first switches it on", WARNING)
+    there = on_words(seen.outputs) or "all of it off"
+    session.face.say(f"the program goes on with {on_words(wanted)}, and the player has {there}:"
+                     f" {_line(device.state)} first switches it on", WARNING)
     return session.agrees("go on all the same? yes goes on: ")
 
 

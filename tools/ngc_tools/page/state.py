@@ -135,6 +135,8 @@ class Pictured:
         return self._at_rest()
 
     def _is_running(self) -> bool:
+        if self.status.does == "held" and self.face.interrupted():
+            return False
         return self.command is not None and (self.command.word in MOVES or self.status.does == "running")
 
     @property

@@ -1,5 +1,5 @@
 // The page: what the server says is shown, what people touch is asked. It decides nothing.
-import { $, el, grouped, lasting, micrometres, point, text } from './dom.js';
+import { $, el, grouped, lasting, micrometres, point, text, zeroOf } from './dom.js';
 import { Job, TRAVERSE } from './job.js';
 import { connect, get, post } from './link.js';
 import { load } from './loader.js';
@@ -13,7 +13,7 @@ import { Setup } from './setup.js';
 import * as sheet from './sheet.js';
 import * as tools from './tools.js';
 
-const app = { state: null, job: null, travel: null, never: [], programId: null, jobId: null, asked: 0 };
+const app = { state: null, job: null, travel: null, programId: null, jobId: null, failed: '', asked: 0 };
 window.ngc = app; // for who looks at the page from outside, as tests do
 
 const log = new Log();
@@ -25,7 +25,7 @@ const picture = new Picture($('canvas'), (um, px) => {
   $('scale').style.width = `${px}px`;
 });
 const recovery = new Recovery(app, asks, log);
-Object.assign(app, { picture, program });
+Object.assign(app, { picture, program, readout });
 
 // Asks the server for something. Gives its answer, or null where it isn't done, which is said.
 async function asks(what, body) {
@@ -80,8 +80,7 @@ function showControls(s) {
   $('takeover').hidden = s.yours;
   $('load').disabled = !app.isIdle;
   $('quit').disabled = s.busy || !s.yours;
-  const canRestart = s.ended || s.player_gone || s.does === 'broken';
-  $('restart').hidden = !(canRestart && !s.over && s.yours);
+  $('restart').hidden = !(s.yours && !s.over && (s.ended || s.broken));
   for (const one of [$('line'), $('do')]) one.disabled = !(app.isRest && s.does !== 'broken');
   $('hold').disabled = Boolean(s.ended);
   for (const name of ['single', 'optional', 'delete']) {
@@ -117,9 +116,9 @@ function showQuestion(s) {
   if (!id) {
     sheet.close();
   } else {
-    const { content, buttons } = question.parts(s.question, s.yours, asks);
     const said = log.since(s.command?.since ?? Infinity, ['said', 'warning', 'refused']);
-    sheet.open('A question', [sheet.lines(said), ...content], [sheet.gap(), ...buttons]);
+    const { content, buttons } = question.parts(s.question, said, s.yours, asks);
+    sheet.open('A question', content, [sheet.gap(), ...buttons]);
   }
   app.asked = id;
 }
@@ -130,7 +129,7 @@ function progress(s) {
   const ahead = 1000 * (s.behind_mm ?? 2) + 1000;
   const reached = place.now >= 0 ? job.reached(place.now, motors, ahead) : { step: -1, share: 0, part: 1 };
   const done = place.now >= 0 ? reached.step : place.done;
-  picture.zero(micrometres(s.work).map((number, i) => motors[i] - number)); // with the tool's length in it
+  picture.zero(zeroOf(s));
   picture.at(done, reached.step, reached.part, motors);
   showTimes(s, done, s.busy || s.does === 'held' ? reached.share : 0);
   return reached;
@@ -139,7 +138,8 @@ function progress(s) {
 function showTimes(s, done, share) {
   const { job } = app;
   if (!job || !s.program.lines) {
-    text($('share'), '');
+    const drawing = app.failed || 'The path is being drawn\u2026';
+    text($('share'), s.command?.word === 'load' ? 'ngc tries the program\u2026' : s.program.lines ? drawing : '');
     text($('left'), '');
     $('bar').style.width = '0';
     return;
@@ -169,10 +169,8 @@ async function fetchNew(s) {
   app.jobId = s.job;
   const got = await get('job');
   app.job = got.job ? new Job(got.job) : null;
+  app.failed = got.failed;
   app.travel = [got.low, got.high];
-  app.never = got.never_cut ?? [];
-  picture.ways = app.never.map(points => ({ points, colour: 'red', isSolid: true }));
-  document.querySelector('#legend .never').hidden = !app.never.length;
   picture.show(app.job, app.travel);
   recovery.job();
   show(app.state);
@@ -208,7 +206,7 @@ async function goOn(s, title) {
     s.restore?.length ? sheet.said(`Restore puts back what your lines left in force: ${s.restore.join(', ')}`) : null,
     sheet.warning(spindle, s.spindle ? 'fine' : ''), sheet.lead(program.line(s.line)),
     sheet.said(`The tool goes on from where it is now: ${point(s.at)}. Look that the way is free.`),
-    sheet.lines(found.lines)],
+    sheet.lines(found.lines.slice(1))],
   [sheet.gap(), sheet.button('Back', sheet.close), s.restore?.length ? sheet.button('Restore', does('restore')) : '',
     sheet.go(title, does('run'))]);
 }
@@ -298,7 +296,8 @@ function lost(isOver) {
   const s = app.state;
   const running = s?.on_loss === 'go' ? 'The job goes on, as was chosen.'
     : 'The machine holds, unless its power is gone too.';
-  const says = isOver ? 'The session has ended.' : !s ? 'The server doesn\u2019t answer.'
+  const silent = 'The server doesn\u2019t answer, or four pages are open already.';
+  const says = isOver ? 'The session has ended.' : !s ? silent
     : s.busy ? running : 'Nothing was running when it was lost.';
   text($('lost-says'), says);
   $('lost').hidden = false;

@@ -9,7 +9,7 @@ import * as paint from './paint.js';
 import { View } from './view.js';
 
 const BANDS = 5, FINE_PX = 0.6, COARSE_PX = 3, SETTLED_MS = 140;
-const NAMES = ['panel', 'line', 'soft', 'faint', 'amber', 'red', 'violet', 'cross', 'grid', 'grid-strong',
+const NAMES = ['panel', 'line', 'soft', 'faint', 'amber', 'violet', 'cross', 'grid', 'grid-strong',
   'path-now', 'path-done', 'path-deep', 'path-left', 'path-rapid'];
 
 export class Picture {
@@ -244,10 +244,10 @@ export class Picture {
     for (const way of this.ways) {
       g.strokeStyle = g.fillStyle = colours[way.colour];
       g.lineWidth = 3.5;
-      g.setLineDash(way.isSolid ? [] : [10, 7]);
+      g.setLineDash([10, 7]);
       paint.line(g, m, way.points);
       g.setLineDash([]);
-      if (!way.isSolid) paint.head(g, m, way.points);
+      paint.head(g, m, way.points);
     }
     for (const mark of this.marks) {
       const [x, y] = paint.place(m, ...mark.point);

@@ -9,17 +9,19 @@ const GO = /, and type go; anything else ([^:]+):\s*$/;
 function read(question) {
   const whole = question.text.replaceAll('\n', ' '), tool = GO.exec(whole), found = tool ?? YES.exec(whole);
   if (!found) return { says: whole.trim().replace(/:$/, ''), yes: 'Yes', no: 'No' };
-  const says = whole.slice(0, found.index).trim() || 'Go on?', [yes, no] = tool ? ['', tool[1]] : found.slice(1, 3);
+  const says = whole.slice(0, found.index).trim(), [yes, no] = tool ? ['', tool[1]] : found.slice(1, 3);
   return { says, isTool: tool !== null, yes: tool ? 'It is done' : `Yes: ${yes.trim()}`,
     no: no ? `No: ${no.trim()}` : 'No' };
 }
 
 // Its last sentence.
-export const short = question => read(question).says.split(/(?<=[.?!]) /).pop();
+export const short = question => read(question).says.split(/(?<=[.?!]) /).pop() || 'Go on?';
 
-// The parts of a sheet for a question: its text, an entry where a number is asked for, and the buttons.
-export function parts(question, canAnswer, asks) {
-  const { says, yes, no, isTool } = read(question), content = [el('p', { class: 'asked' }, says)];
+// The parts of a sheet for a question: what was said before it, its text, an entry where a number is asked for, and the
+// buttons.
+export function parts(question, said, canAnswer, asks) {
+  const { says, yes, no, isTool } = read(question), before = says ? said : said.slice(0, -1);
+  const content = [sheet.lines(before), el('p', { class: 'asked' }, says || said.at(-1) || 'Go on?')];
   const answer = what => asks('answer', { question: question.id, ...what });
   const refuse = sheet.button(no, () => answer({ yes: false }), canAnswer);
   if (question.kind !== 'yes' && !isTool) return entry(content, refuse, canAnswer, answer);

@@ -3,7 +3,6 @@ import { $, AXES, el, grouped, mm, systemName, text } from './dom.js';
 
 const TURNS = ['', '\u21bb', '\u21ba'];
 const APART_MM = 0.0006;
-const DIGITS = 7; // as many as fit at full size
 
 export class Readout {
   // `asks` sends a request: asks('percent', {percent}).
@@ -32,14 +31,24 @@ export class Readout {
   }
 
   show(s, rate) {
-    const longest = Math.max(DIGITS, ...s.work.map(number => mm(number).length));
-    $('axes').style.setProperty('--fit', String(DIGITS / longest));
     this.axes.forEach((axis, i) => this.showAxis(axis, s, i));
+    this.fit();
     this.showGauges(s, rate);
     this.showOverride(s);
     this.showRisk(s);
     const words = [systemName(s.system), `G${s.distance}`, `G${s.unit}`, `G${s.plane}`, `G${s.feed_mode}`];
     text($('modes'), words.join(' ') + (Number(s.tool_length) ? `  length ${mm(s.tool_length)}` : ''));
+  }
+
+  // Makes the numbers as large as the longest lets them be, all three alike.
+  fit() {
+    const works = this.axes.map(axis => axis.work), lengths = works.map(work => work.textContent.length);
+    const key = [Math.max(...lengths), innerWidth, innerHeight].join();
+    if (key === this.fitted) return;
+    this.fitted = key;
+    $('axes').style.setProperty('--fit', '1');
+    const most = Math.max(...works.map(work => work.scrollWidth / work.clientWidth));
+    if (most > 1) $('axes').style.setProperty('--fit', String(0.99 / most));
   }
 
   showAxis(axis, s, i) {
@@ -57,7 +66,7 @@ export class Readout {
   showGauges(s, rate) {
     const { gauges } = this, length = s.tools[s.slot - 1];
     if (rate) fill(gauges.Feed, grouped(Math.round(rate.feed)), rate.isTraverse ? 'mm/min traverse' : 'mm/min');
-    else fill(gauges.Feed, s.feed ? grouped(s.feed) : '\u2013', s.feed ? 'mm/min set' : '', true);
+    else fill(gauges.Feed, s.feed ? grouped(s.feed) : '\u2013', s.feed ? 'set' : '', true);
     fill(gauges.Tool, s.slot ? `T${s.slot}` : 'none', s.slot && length ? `${mm(length)} mm` : '', !s.slot);
     if (s.player_gone) {
       fill(gauges.Spindle, 'not known', '', true);
@@ -84,11 +93,7 @@ export class Readout {
 
   // What a loss of power would cost now: lines that were handed out, and that no motor has carried out.
   showRisk(s) {
-    const box = $('risk');
-    if (s.behind === null || s.behind === undefined) text(box, '');
-    else if (s.keeps) text(box, `A loss of power costs no line${s.behind ? `: ${grouped(s.behind)} stand in OUT` : ''}`);
-    else if (!s.behind) text(box, 'A loss of power costs nothing now');
-    else text(box, `A loss of power costs ${grouped(s.behind)} lines${s.behind_mm ? `, ${mm(s.behind_mm)} mm` : ''}`);
+    text($('risk'), s.behind === null || s.behind === undefined ? '' : `A loss of power costs ${cost(s)}`);
   }
 
   sets(percent) { this.asks('percent', { percent: Math.min(100, Math.max(10, percent)) }); }
@@ -100,4 +105,10 @@ function fill(box, value, small = '', isOff = false) {
   box.dataset.key = key;
   box.className = isOff ? 'off' : '';
   box.replaceChildren(value, small && el('small', {}, small));
+}
+
+function cost(s) {
+  if (s.keeps) return `no line${s.behind ? `: ${grouped(s.behind)} stand in OUT` : ''}`;
+  if (!s.behind) return 'nothing now';
+  return `${grouped(s.behind)} lines${s.behind_mm ? `, ${mm(s.behind_mm)} mm` : ''}`;
 }

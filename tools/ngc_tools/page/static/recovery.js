@@ -1,6 +1,6 @@
 // After a loss of power: what was stored, where the machine is, a rehearsal, and then step by step. Nothing moves and
 // nothing is switched before the last step.
-import { AXES, counted, el, grouped, lasting, micrometres, mm, point, typedNumber } from './dom.js';
+import { AXES, counted, el, grouped, lasting, micrometres, mm, point, typedNumber, zeroOf } from './dom.js';
 import { Picture } from './picture.js';
 import * as question from './question.js';
 import * as sheet from './sheet.js';
@@ -117,17 +117,16 @@ export class Recovery {
     this.mark();
   }
 
-  // What the picture shows beside the path: where the segment begins, the way there, what was never cut.
+  // What the picture shows beside the path: where the segment begins, and the way there.
   mark() {
     const { picture } = this, { state, job } = this.app, at = job ? job.place(state) : { done: 0, now: -1 };
     const begins = this.plan?.begins ?? this.stored?.begins, label = 'the segment begins';
     picture.marks = begins?.length ? [{ point: micrometres(begins), colour: 'amber', label }] : [];
     const way = this.step >= 2 && this.way();
-    picture.ways = this.app.never.map(points => ({ points, colour: 'red', isSolid: true }));
-    if (way) picture.ways.push({ points: way, colour: 'violet' });
+    picture.ways = way ? [{ points: way, colour: 'violet' }] : [];
     const typed = this.at.every(number => typedNumber(number) !== null) ? this.at : null;
-    const here = state.busy ? state.motors ?? state.at : typed, motors = micrometres(state.motors ?? state.at);
-    picture.zero(micrometres(state.work).map((number, i) => motors[i] - number));
+    const here = state.busy ? state.motors ?? state.at : typed;
+    picture.zero(zeroOf(state));
     picture.at(at.done, at.now, 0, here && micrometres(here));
     picture.draw();
   }
@@ -237,10 +236,10 @@ export class Recovery {
   }
 
   questioned(state) {
-    const { content, buttons } = question.parts(state.question, state.yours, this.asks);
     const said = this.log.since(state.command?.since ?? 0, SAID);
+    const { content, buttons } = question.parts(state.question, said, state.yours, this.asks);
     if (state.question.purpose !== 'look') {
-      this.put([sheet.lines(said), ...content], [sheet.gap(AT_ANY_MOMENT), ...buttons]);
+      this.put(content, [sheet.gap(AT_ANY_MOMENT), ...buttons]);
       return;
     }
     this.put([sheet.title('The outputs are switched, and nothing has moved. Look:'), this.looks(state, buttons[1])],
