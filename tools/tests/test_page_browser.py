@@ -317,6 +317,8 @@ class Moves(InBrowser):
         browser.wait("ngc.state.word === 'ALARM'")
         self.look("an alarm")
         browser.press("Home all", "#run")
+        self.assertEqual(browser.js("ngc.state.alarm"), "emergency_stop")
+        browser.press("Home", "#over button")
         browser.wait("ngc.state.alarm === '' && ngc.state.word === 'Idle'")
         self.no_complaints()
 

@@ -100,7 +100,7 @@ function running(s) {
   if (s.question) return ['Answer first', false, null];
   if (isHalf) return ['Recover', s.yours && !recovery.isOpen, () => recovery.begin()];
   if (s.player_gone) return ['Run', false, null];
-  if (s.alarm) return ['Home all', s.yours && !s.busy, () => asks('home', { axes: '' })];
+  if (s.alarm) return ['Home all', s.yours && !s.busy, homeAll];
   if (s.recover?.left && !s.busy && s.half === 'none') return ['Recover', s.yours, takeUpLines];
   if (s.held_motors && s.does !== 'held' && !s.busy) return ['Let go on', s.yours, () => asks('release')];
   if (s.does === 'held') return ['Continue', s.yours && !s.busy, run];
@@ -174,6 +174,12 @@ async function fetchNew(s) {
   picture.show(app.job, app.travel);
   recovery.job();
   show(app.state);
+}
+
+// After an alarm; asked for, since this button was another one a moment before.
+function homeAll() {
+  sheet.ask('Home all axes?', [sheet.said('Each goes to its switch, in the order of the machine\u2019s file. Where the '
+    + 'tool stands in the work, free it by hand first.')], 'Home', () => asks('home', { axes: '' }));
 }
 
 // Lines stand in OUT that no motor carried out, and no block is half-done.
