@@ -1,8 +1,8 @@
 /* Moves without lines of OUT: home, jog and seek, as docs/OUTPUT.md has them.
  *
  * What the record says meanwhile. Its counts stay, and `reference` is where the motors are. With the first pulse of
- * such a move the motors leave the path of OUT, which the record says by `off`, until a line of OUT comes, or they stand
- * where they left it. */
+ * such a move the motors leave the path of OUT, which the record says by `off`, until a line of OUT comes, or they
+ * stand where they left it. */
 #ifndef MANUAL_H
 #define MANUAL_H
 
