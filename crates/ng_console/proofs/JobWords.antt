@@ -115,8 +115,11 @@ distinct dry = (
   (
     apart_distinct _ _ refl,
     (
-      flag_distinct _ _ (record { takes_none = refl; no_place = refl; used = (true, refl); unused = (false, refl) }) refl refl,
-      (apart_distinct _ _ refl, tt),
+      apart_distinct _ _ refl,
+      (
+        flag_distinct _ _ (record { takes_none = refl; no_place = refl; used = (true, refl); unused = (false, refl) }) refl refl,
+        (apart_distinct _ _ refl, tt),
+      ),
     ),
   ),
 )
@@ -188,7 +191,7 @@ none_wanting s words h = (nothing_wanted s (rows_after s.rules [] words) false (
 right : (s : Subcommand) (words : List Text) → level_fault (shape_of s) [] nothing_held words false [] ≡ [] → Has s (rows_after (shape_of s).rules [] words)
 right dry words h =
     let given = all_given (shape_of dry).rules (distinct dry) [] words (none_wanting (shape_of dry) words h) in
-    (given.0.0 refl refl, given.1.1.0.1 refl)
+    (given.0.0 refl refl, given.1.1.1.0.1 refl)
 right format words h =
     let given = all_given (shape_of format).rules (distinct format) [] words (none_wanting (shape_of format) words h) in
     (given.0.0 refl refl, given.1.0.1 refl)
@@ -286,7 +289,7 @@ found_of s words app matches found is_ngc kinds has below named = go (one_met wo
 
 pub is_asked : (words : List Text) (job : Job) (found : List Row) → subcommand_of ngc_app words ≡ Some (subcommand_name job, found)
     → HasFiles found job → HasFlags found job → RequestsJob words job
-is_asked words (Dry file settings_file block_delete) found named files flags = (found, named, files, flags)
+is_asked words (Dry program from settings block_delete) found named files flags = (found, named, files, flags)
 is_asked words (Format device large) found named files flags = (found, named, files, flags)
 is_asked words (Grow device) found named files flags = (found, named, files, flags)
 is_asked words (Run device settings out) found named files flags = (found, named, files, flags)

@@ -4,3 +4,4 @@ mod Got
 mod JobWords
 mod Runs
 mod Headers
+mod Found

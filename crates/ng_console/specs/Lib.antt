@@ -1,6 +1,7 @@
 pub mod Words
 pub mod Chosen
 pub mod Refusals
+pub mod DryRuns
 pub mod Formatting
 pub mod Operating
 pub mod Pacing

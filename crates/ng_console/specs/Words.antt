@@ -10,7 +10,10 @@ use Rattle.ng_console.specs.declared.command_line.Job.TheVariants.{Dry, Format, 
 abbrev pub program_rule : Rule
 program_rule = record (new_rule (codes "PROGRAM")) { action = Some Set; required = true }
 
--- --settings FILE, a file that may be named
+-- --from DEVICE and --settings FILE, files that may be named
+abbrev pub from_rule : Rule
+from_rule = record (new_rule (codes "from")) { long = Some (codes "from"); action = Some Set; value_names = 1 }
+
 abbrev pub settings_rule : Rule
 settings_rule = record (new_rule (codes "settings")) { long = Some (codes "settings"); action = Some Set; value_names = 1 }
 
@@ -18,9 +21,9 @@ settings_rule = record (new_rule (codes "settings")) { long = Some (codes "setti
 abbrev pub block_delete_rule : Rule
 block_delete_rule = record (new_rule (codes "block-delete")) { long = Some (codes "block-delete"); action = Some SetTrue }
 
--- dry PROGRAM [--settings FILE] [--block-delete]
+-- dry PROGRAM [--from DEVICE] [--settings FILE] [--block-delete]
 abbrev pub dry_app : App
-dry_app = with_rule (with_rule (with_rule (new_app (codes "dry")) program_rule) settings_rule) block_delete_rule
+dry_app = with_rule (with_rule (with_rule (with_rule (new_app (codes "dry")) program_rule) from_rule) settings_rule) block_delete_rule
 
 -- DEVICE, a file that has to be named
 abbrev pub device_rule : Rule
@@ -65,15 +68,15 @@ pace_app = with_rule (with_rule (with_rule (new_app (codes "pace")) settings_fil
 abbrev pub only_by_subcommands : App → App
 only_by_subcommands app = record app { top = record app.top { has_version = true; subcommand_required = true; arg_required_else_help = true } }
 
--- ngc dry PROGRAM [--settings FILE] [--block-delete], ngc format DEVICE [--large], ngc grow DEVICE, ngc run DEVICE
--- SETTINGS OUT, or ngc pace SETTINGS MACHINE [--total]
+-- ngc dry PROGRAM [--from DEVICE] [--settings FILE] [--block-delete], ngc format DEVICE [--large], ngc grow DEVICE,
+-- ngc run DEVICE SETTINGS OUT, or ngc pace SETTINGS MACHINE [--total]
 abbrev pub ngc_app : App
 ngc_app =
     with_subcommand (with_subcommand (with_subcommand (with_subcommand (with_subcommand (only_by_subcommands (new_app (codes "ngc"))) dry_app.top) format_app.top) grow_app.top) run_app.top) pace_app.top
 
 -- the name of the job's subcommand
 abbrev pub subcommand_name : Job → Text
-subcommand_name (Dry program settings block_delete) = codes "dry"
+subcommand_name (Dry program from settings block_delete) = codes "dry"
 subcommand_name (Format device large) = codes "format"
 subcommand_name (Grow device) = codes "grow"
 subcommand_name (Run device settings out) = codes "run"
@@ -81,8 +84,9 @@ subcommand_name (Pace settings machine total) = codes "pace"
 
 -- the job's files are those that the subcommand's matches name
 abbrev pub HasFiles : List Row → Job → Type 0
-HasFiles rows (Dry program settings block_delete) =
-    (first_of (codes "PROGRAM") rows ≡ Some program.now) × (first_of (codes "settings") rows ≡ option_map (λ file. file.now) settings)
+HasFiles rows (Dry program from settings block_delete) =
+    (first_of (codes "PROGRAM") rows ≡ Some program.now) × (first_of (codes "from") rows ≡ option_map (λ file. file.now) from)
+    × (first_of (codes "settings") rows ≡ option_map (λ file. file.now) settings)
 HasFiles rows (Format device large) = first_of (codes "DEVICE") rows ≡ Some device.now
 HasFiles rows (Grow device) = first_of (codes "DEVICE") rows ≡ Some device.now
 HasFiles rows (Run device settings out) =
@@ -99,7 +103,7 @@ HasFlag flag rows = (is_on : Bool) × SaysFlag flag rows is_on
 
 -- the job's switches are the flags of the subcommand's matches
 abbrev pub HasFlags : List Row → Job → Type 0
-HasFlags rows (Dry program settings block_delete) = SaysFlag (codes "block-delete") rows block_delete
+HasFlags rows (Dry program from settings block_delete) = SaysFlag (codes "block-delete") rows block_delete
 HasFlags rows (Format device large) = SaysFlag (codes "large") rows large
 HasFlags rows (Grow device) = Unit {0}
 HasFlags rows (Run device settings out) = Unit {0}

@@ -16,7 +16,7 @@ const ENDINGS: &str =
 
 /// The text below the help of `dry`.
 const PROGRAM_ENDINGS: &str =
-    "Exit status:\n  0  the program ran to its end\n  1  a line was refused; the last line printed says which one and why\n  2  the words are wrong, or ask for help; or a file can't be read, the settings\n     are refused, the output can't be written, or there isn't enough memory\n\nRefused settings print why. A file that can't be read prints nothing.";
+    "Exit status:\n  0  the program ran to its end\n  1  a line was refused; the last line printed says which one and why\n  2  the words are wrong, or ask for help; or a file can't be read, the settings\n     or the device are refused, the output can't be written, or there isn't enough\n     memory\n\nRefused settings and devices print why. A file that can't be read prints nothing.";
 
 /// The text below the help of `format`.
 const DEVICE_ENDINGS: &str =
@@ -37,10 +37,12 @@ const PACE_FILES_AND_ENDINGS: &str =
 /// What a command line asks for.
 #[derive(Clone, Copy, Debug, PartialEq, Eq)]
 pub enum Job<'a> {
-    /// `ngc dry PROGRAM [--settings FILE] [--block-delete]`: a dry run of a program.
+    /// `ngc dry PROGRAM [--from DEVICE] [--settings FILE] [--block-delete]`: a dry run of a program.
     Dry {
         /// The path of the program's file.
         program: &'a str,
+        /// The path of the file of the device that it begins from. Without one it begins in the fresh state.
+        from: Option<&'a str>,
         /// The path of the settings file. Without one the default settings are used.
         settings: Option<&'a str>,
         /// Whether lines that begin with a slash are deleted.
@@ -113,11 +115,13 @@ fn dry_job<'a>(matches: &ArgMatches<'a>) -> Job<'a>
     ensures flags { HasFlags (rows_of (found_of matches.now)) result }
     ensures name { subcommand_name result ≡ codes "dry" }
 {
+    let from = matches.get_str("from");
     let settings = matches.get_str("settings");
     let block_delete = matches.get_flag("block-delete");
     match matches.get_str("PROGRAM") {
         Some(program) => Job::Dry {
             program,
+            from,
             settings,
             block_delete,
         },
@@ -226,6 +230,13 @@ fn dry_command<'a>(alloc: Global) -> Result<Command<'a>, AllocError>
         .help("The file of the program: lines of RS274/NGC that end with M2 or M30")
         .action(ArgAction::Set)
         .required(true);
+    let from = Arg::new(alloc, "from")
+        .long("from")
+        .value_name("DEVICE")
+        .help(
+            "The file of a device, which is only read: begin as `run` would begin the program there",
+        )
+        .action(ArgAction::Set);
     let settings = Arg::new(alloc, "settings")
         .long("settings")
         .value_name("FILE")
@@ -239,6 +250,7 @@ fn dry_command<'a>(alloc: Global) -> Result<Command<'a>, AllocError>
         .about("Run a program without a machine and print its canonical text")
         .after_help(PROGRAM_ENDINGS)
         .arg(program)?
+        .arg(from)?
         .arg(settings)?
         .arg(block_delete)
 }

@@ -81,7 +81,7 @@ pub(crate) fn refuse_storage<W: Write>(writer: &mut W, why: io::Error) -> io::Re
 }
 
 /// The fault for an error of an opened file. Being out of memory isn't a failure of the device.
-fn fault_of(error: &io::Error) -> Fault
+pub(crate) fn fault_of(error: &io::Error) -> Fault
     ensures { IsFaultOf error.now result }
 {
     if error.kind() == ErrorKind::OutOfMemory {

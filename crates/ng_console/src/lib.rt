@@ -1,8 +1,8 @@
 //! What the program `ngc` does (NISTIR 6556 in this project's profile), as a library that `main` and tests call.
 //!
 //! The contracts of this crate say what the program writes and how it ends: which job a command line asks for
-//! (`words`); the text and the status of a dry run, given the program's lines and the chosen settings (`run_dry`); that
-//! `format` leaves the device fresh, or writes the line that says why not (`format_rig`); that `grow` appends zeros to
+//! (`words`); the text and the status of a dry run, given the program's lines and the chosen settings (`run_dry`), and the
+//! bytes of a device if it begins from one (`dry_from_device`); that `format` leaves the device fresh, or writes the line that says why not (`format_rig`); that `grow` appends zeros to
 //! what the device held, or writes the line that says why not (`grow_file`); that `run` is the console's conversation
 //! over the device in a file, or writes the line that says why there is none; and that `pace` writes the lines that it
 //! reads, each behind the time at which it is due (`ngc`, for any job).
@@ -16,6 +16,7 @@
 
 mod command_line;
 mod format;
+mod from_device;
 mod grow;
 mod operating;
 mod pacing;
@@ -25,6 +26,7 @@ mod size;
 
 pub use command_line::{Job, words};
 pub use format::format_rig;
+pub use from_device::dry_from_device;
 pub use grow::grow_file;
 pub use operating::operate_device;
 pub use program::{ngc, run_dry, start};

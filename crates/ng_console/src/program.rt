@@ -1,19 +1,21 @@
 //! The program: from its words to its exit status.
 ghost use Rattle.std.specs.Prelude.{ℕ, ◌≡◌, ◌⊎◌, ◌≤◌, List, IfOk, OnOk, map};
 ghost use Rattle.std.specs.Io.KnownBytes.{Appends};
-ghost use Rattle.ng_console.specs.Status.{JobSpec, IsDryRun, RunsChosen, RunsFile, status_of};
+ghost use Rattle.ng_console.specs.DryRuns.{IsDryRun, status_of};
+ghost use Rattle.ng_console.specs.Status.{JobSpec, RunsChosen, RunsFile};
 ghost use Rattle.ng_console.specs.Refusals.{RefusesSettings, refused_text};
 ghost use Rattle.ng_console.specs.Words.{RequestsJob};
 
 use crate::command_line::{Job, words};
 use crate::format::format_opened;
+use crate::from_device::run_from_opened;
 use crate::grow::grow_opened;
 use crate::operating::{are_three_files, operate_chosen};
 use crate::pacing::pace_chosen;
 use crate::settings_file::{NoSettings, chosen_settings};
 use crate::size::wanted_size;
 use ng_dry::{DryFault, Ended, dry};
-use ng_file::{Hold, make_device, open_device};
+use ng_file::{Hold, NoDevice, Storage, make_device, open_device, open_device_to_read};
 use ng_num::Fault;
 use ng_run::{DONE, FAILED};
 use ng_settings::Settings;
@@ -132,6 +134,7 @@ where
     match job {
         Job::Dry {
             program,
+            from,
             settings,
             block_delete,
         } => {
@@ -139,9 +142,13 @@ where
                 Some(path) => Some(fs::open(rt, path)),
                 None => None,
             };
+            let device = match from {
+                Some(path) => Some(open_device_to_read(rt, path)),
+                None => None,
+            };
             let program = fs::open(rt, program);
             let chosen = chosen_settings(rt.alloc(), settings);
-            run_chosen(rt.alloc(), chosen, program, writer, block_delete).unwrap_or(FAILED)
+            run_chosen(rt.alloc(), chosen, device, program, writer, block_delete).unwrap_or(FAILED)
         }
         Job::Format { device, large } => {
             let opened = make_device(rt, device, wanted_size(large));
@@ -176,23 +183,29 @@ where
     }
 }
 
-/// Runs the program of an opened file with the settings that were found, and returns the exit status. If there are
-/// none, the program's file isn't used, and if the settings were refused, their fault is written. The error is the
-/// writer's while it writes that fault.
-fn run_chosen<R: Read + Drop, W: Write, A: Allocator + Copy + Drop>(
+/// Runs the program of an opened file with the settings that were found, from a device if one is given, and returns the
+/// exit status. If there are no settings, no other file is used, and if they were refused, their fault is written. The
+/// error is the writer's while it writes a fault.
+fn run_chosen<S: Storage + Drop, R: Read + Drop, W: Write, A: Allocator + Copy + Drop>(
     alloc: A,
     chosen: Result<Settings, NoSettings>,
+    device: Option<Result<S, NoDevice>>,
     program: io::Result<R>,
     writer: &mut W,
     block_delete: bool,
 ) -> io::Result<u8>
     ensures run { IfOk result
-        (λ status. RunsChosen R.remaining chosen block_delete program (W.contents writer.old)
+        (λ status. RunsChosen R.remaining S.content chosen block_delete device program (W.contents writer.old)
         (W.contents writer.new) status) }
     ensures range { IfOk result (λ status. status ≤ 2) }
 {
     match chosen {
-        Ok(settings) => Ok(run_file(alloc, &settings, program, writer, block_delete)),
+        Ok(settings) => match device {
+            Some(device) => {
+                run_from_opened(alloc, &settings, device, program, writer, block_delete)
+            }
+            None => Ok(run_file(alloc, &settings, program, writer, block_delete)),
+        },
         Err(why) => refuse_settings(writer, why),
     }
 }
@@ -264,7 +277,7 @@ pub fn run_dry<R: Read, W: Write, A: Allocator + Copy + Drop>(
 }
 
 /// The exit status of a dry run.
-fn status(ended: &Result<Ended, DryFault>) -> u8
+pub(crate) fn status(ended: &Result<Ended, DryFault>) -> u8
     ensures { result ≡ status_of ended.now }
 {
     match ended {

@@ -12,6 +12,7 @@ pub returns-clause-files : goal.returns-clause-files
 returns-clause-files c =
     let found = found_of c.args.matches.now in (
       value_is found (codes "PROGRAM") c.get_str.result c.in-Some.program c.get_str.ensures c.in-Some.is,
+      sym (first_value-rows found (codes "from")) ∙ sym c.get_str-from.ensures,
       sym (first_value-rows found (codes "settings")) ∙ sym c.get_str-settings.ensures,
     )
 
