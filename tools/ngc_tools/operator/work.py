@@ -179,8 +179,6 @@ class Work:
         self._is_unwanted = not self._wanted()
         return not self._is_unwanted and not self.session.is_in(ALARM, BROKEN)
 
-    def _show_messages(self, status: Status, is_through: bool) -> None:
-        """Shows the messages of the lines that the place has passed; a program that is through stands at its start."""
     def _tell_waits(self, report: Report) -> None:
         """Says what else the motors wait for."""
         if report.word == "waits spindle":
@@ -191,8 +189,8 @@ class Work:
         elif now > self._free_at + _HELD_S:
             self.session.face.once(_HELD)
 
-    def _show_messages(self, status: Status) -> None:
-        """Shows the messages of the lines that the place has passed."""
+    def _show_messages(self, status: Status, is_through: bool) -> None:
+        """Shows the messages of the lines that the place has passed; a program that is through stands at its start."""
         session = self.session
         goes_on = status.place > session.told or status.place == session.told and not is_through
         end = status.place if goes_on else len(session.program.text)
