@@ -642,8 +642,9 @@ class Files(Moving):
         """Both read the lines that a home and a move without lines leave."""
         whole = Record("/axis", homed="XZ", is_off=True, stopped="limit")
         self.assertEqual(Record.of_text(whole.text(), "position"), whole)
-        longest = Record("/" + "a" * 254, 10**17, 10**17, Switch(2, 9_999_999_999_999, True, True, 128, 128),
-                         (-(10**18 - 1),) * 3, FileMark(2**63 - 1, 2**63 - 1, 2**32 - 1), "emergency", "XYZ", True)
+        longest = Record("/" + "a" * 254, 10**14, 10**14, Switch(2, 9_999_999_999_999, True, True, 128, 128),
+                         (-(10**18 - 1),) * 3, FileMark(2**63 - 1, 2**63 - 1, 2**32 - 1), "emergency", 9999, "XYZ",
+                         True)
         self.assertEqual(Record.of_text(longest.text(), "position"), longest)
         Path("position").write_bytes(longest.text())
         self.assertEqual(self.refused("axis", "first.toml", "position"),

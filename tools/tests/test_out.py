@@ -102,7 +102,8 @@ class Records(InFolder):
     @unittest.skipUnless(shutil.which("cc"), "no C compiler")
     def test_all_lines_in_c(self) -> None:
         """The player in C reads the same record, and writes the same bytes."""
-        sources = [str(TOOLS / "player" / name) for name in ("record.c", "scan.c", "line.c", "cause.c", "utf8.c")]
+        names = ("record.c", "place.c", "scan.c", "line.c", "cause.c", "utf8.c")
+        sources = [str(TOOLS / "player" / name) for name in names]
         Path("copy.c").write_text('''#include "record.h"
 #include <stdio.h>
 int main(void) {
