@@ -1,6 +1,6 @@
 /* Ramps: lines of OUT go in, in order, and come out in that order with the time of each, so that no axis gains or loses
- * more speed than its motor can. No line is shorter than OUT says, at `most_percent` of its rates. The crate ng_pace has
- * the same integers.
+ * more speed than its motor can. No line is shorter than OUT says, at `most_percent` of its rates. The crate ng_pace
+ * has the same integers.
  *
  * A square is that of a rate in pulses a second times 2^8. Nothing is allocated. */
 #ifndef PACE_H

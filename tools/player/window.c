@@ -28,8 +28,8 @@ static uint64_t accel_of(const struct pace_limits *limits, const int step[3]) {
     return accel;
 }
 
-/* How many lines are wanted for such pulses: a stop from their greatest rate takes v^2 / 2a, to which a fifth is added for
- * a plan that isn't of the last moment. */
+/* How many lines are wanted for such pulses: a stop from their greatest rate takes v^2 / 2a, to which a fifth is added
+ * for a plan that isn't of the last moment. */
 static uint64_t lines_for(const struct window *window, const struct line *line) {
     uint64_t rate = PERCENT_US * window->limits->most_percent / most_of(line->us, 1);
     uint64_t stop = 3 * rate * rate / times(5, accel_of(window->limits, line->step));

@@ -128,7 +128,8 @@ static void need_ramp(const struct pace_line *line, uint64_t before, uint64_t wa
     need(pace.square <= wanted || pace.square <= (begun > line->ramp ? begun - line->ramp : 0), "it is above the wish");
 }
 
-/* The time of a line is that of the mean of its rates at both ends, and no less than OUT says at the greatest rate that is wanted. */
+/* The time of a line is that of the mean of its rates at both ends, and no less than OUT says at the greatest rate that
+ * is wanted. */
 static void need_time(const struct pace_line *line, uint64_t before, uint64_t ns) {
     double least_ns = (double)line->us * 100000 / (double)pace.limits.most_percent;
     double begun = sqrt((double)(before != 0 ? before : start_square(line))); /* 2^4 times a rate a second */

@@ -350,7 +350,8 @@ class Jogging(Moving):
         self.started("--untimed")
         chance = random.Random(65)
         tokens = ("home", "jog", "seek", "stop", "machine", "X+", "Y-", "Z+", "X", "XZ", "ZZ", "for", "within", "600",
-                  "0.3", "1e3", "-1", "999999999999.999999", "1000000000000", "18446744073709551615", "0", "", "\0", "\xff")
+                  "0.3", "1e3", "-1", "999999999999.999999", "1000000000000", "18446744073709551615", "0", "", "\0",
+                  "\xff")
         for number in range(1, 400):
             words = [chance.choice(tokens[:5]), str(number)] if chance.random() < 0.8 else []
             words += [chance.choice(tokens) for _ in range(chance.randint(0, 5))]

@@ -3,10 +3,11 @@ from ngc_tools.formats.device import Device
 from ngc_tools.formats.settings import BadSettings
 from ngc_tools.ngc.console import Ended
 from ngc_tools.ngc.copies import CommandRefused, Interrupted
-from ngc_tools.operator.causes import rehearsed
 from ngc_tools.ngc.handed_out import Finder
+from ngc_tools.operator.causes import rehearsed
 from ngc_tools.operator.face import REFUSED, WARNING
 from ngc_tools.operator.rehearsal import Rehearsal
+from ngc_tools.operator.sentences import explained
 from ngc_tools.operator.session import Session
 
 
