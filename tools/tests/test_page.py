@@ -86,7 +86,7 @@ class Who(Served):
         for at in (["1", "2"], ["1", "2", "3\nquit"], ["1", "2", "x"], "123", None, ["1", "2", "3 anyway"], [1, 2, 3]):
             self.assertEqual(page.post("reference", {"at": at})[0], 422, at)
         for what, words in (("tool", {"slot": "1\nquit", "length": "1"}), ("tool", {"slot": True, "length": "1"}),
-                            ("switch", {"name": "load", "on": True}), ("percent", {"percent": 101}),
+                            ("switch", {"name": "load", "on": True}), ("percent", {"percent": 201}),
                             ("switch", {"name": "delete", "on": "on"}), ("answer", {"question": 1, "text": "a\nb"})):
             self.assertEqual(page.post(what, words)[0], 422, words)
         self.assertEqual((self.server.poll(), [entry["kind"] for entry in page.next()["log"]]), (None, ["said"]))
