@@ -1,5 +1,7 @@
 """What tests of the players share: ngc-player, tools/player as a compiler builds it, and as its sanitizers watch it."""
 import atexit
+import fcntl
+import hashlib
 import os
 import re
 import shutil
@@ -39,13 +41,27 @@ def compiled(source: Path, compiler: str, *options: str) -> str:
 
 
 def made(name: str, *command: str) -> str:
-    """The path of what a compiler makes, in a folder of its own."""
+    """The path of what a compiler makes, in a folder of its own; where `.ci/tools` gives one, in a folder that several
+    processes share, and once for all of them."""
+    path = Path(builds(), hashlib.sha256("\0".join(command).encode()).hexdigest()[:16] + "-" + name)
+    with open(f"{path}.lock", "w") as lock:
+        fcntl.flock(lock, fcntl.LOCK_EX)
+        if not path.exists():
+            done = subprocess.run([*command, "-o", f"{path}.part"], capture_output=True, text=True)
+            if done.returncode:
+                raise AssertionError("tools/player isn't built:\n" + done.stderr)
+            os.rename(f"{path}.part", path)
+    return str(path)
+
+
+@cache
+def builds() -> str:
+    """The folder for what compilers make."""
+    if shared := os.environ.get("NGC_BUILDS"):
+        return shared
     folder = tempfile.mkdtemp(prefix="ngc-player-")
     atexit.register(shutil.rmtree, folder)
-    done = subprocess.run([*command, "-o", f"{folder}/{name}"], capture_output=True, text=True)
-    if done.returncode:
-        raise AssertionError("tools/player isn't built:\n" + done.stderr)
-    return f"{folder}/{name}"
+    return folder
 
 
 def sector(*lines: str) -> bytes:

@@ -11,6 +11,7 @@ import threading
 import tty
 import unittest
 from collections.abc import Iterator
+from contextlib import suppress
 from pathlib import Path
 from unittest.mock import patch
 
@@ -840,8 +841,9 @@ def is_alive(process: int) -> bool:
 def processes(parent: int) -> Iterator[tuple[int, list[str]]]:
     """The children of a process, and their words, with empty ones behind them."""
     for path in Path("/proc").glob("[0-9]*"):
-        if int(stat_of(int(path.name))[1]) == parent:
-            yield int(path.name), (path / "cmdline").read_bytes().decode(errors="replace").split("\0") + [""] * 3
+        with suppress(OSError):  # it has ended meanwhile
+            if int(stat_of(int(path.name))[1]) == parent:
+                yield int(path.name), (path / "cmdline").read_bytes().decode(errors="replace").split("\0") + [""] * 3
 
 
 class Lines(unittest.TestCase):
