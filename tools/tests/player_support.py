@@ -43,7 +43,7 @@ def compiled(source: Path, compiler: str, *options: str) -> str:
 def made(name: str, *command: str) -> str:
     """The path of what a compiler makes, in a folder of its own; where `.ci/tools` gives one, in a folder that several
     processes share, and once for all of them."""
-    path = Path(builds(), hashlib.sha256("\0".join(command).encode()).hexdigest()[:16] + "-" + name)
+    path = Path(builds(), hashlib.sha256("\0".join(map(str, command)).encode()).hexdigest()[:16] + "-" + name)
     with open(f"{path}.lock", "w") as lock:
         fcntl.flock(lock, fcntl.LOCK_EX)
         if not path.exists():
