@@ -21,7 +21,7 @@ from ngc_tools.player.source import Source  # noqa: E402
 DOCS = TOOLS.parent / "docs"
 CAM = Path(__file__).resolve().parent / "cam"
 
-_COMMAND = re.compile(r"(?:\$ )?((?:ngc|ngc-\w+|mkfifo|cc|cp|grep|player|exec|echo|\{|tools/\S+) .*?)(?: {2,}[(#].*)?")
+_COMMAND = re.compile(r"(?:\$ )?((?:ngc|ngc-\w+|mkfifo|cc|cp|grep|sed|tail|player|exec|echo|\{|tools/\S+) .*?)(?: {2,}[(#].*)?")
 _INLINE = re.compile(r"`((?:tools/|examples/)?(?:ngc-\w+|grep|\w+\.py) [^`]*)`")
 
 # The chapters with commands; each is tried by a test below.
@@ -36,6 +36,8 @@ CHAPTERS = {
     "RECOVERY.md": ("`recover`: back the way it came", "A half-done block"),
     "POST_PROCESSOR.md": ("",), "OUTPUT.md": (),
     "SESSION.md": ("The device", "A first session"),
+    "TUTORIAL.md": ("1. Look at the program", "2. Make a device", "3. Run it, and lose the power", "4. Power comes back",
+                    "5. Resume"),
 }
 
 
@@ -263,6 +265,19 @@ class Tools(Documents):
         """Its words."""
         text, ((synopsis, _),) = self.chapter("TOOLS.md", "ngc-split")
         self.same_options("ngc-split", text, synopsis)
+
+
+class Tutorial(Documents):
+    """docs/TUTORIAL.md."""
+
+    def test_tutorial(self) -> None:
+        """The program that it shows, and each command, one after the other, with all that it prints."""
+        shutil.copy("examples/mill.ngc", "mill.ngc")
+        self.assertIn(Path("mill.ngc").read_text(), blocks(chapters("TUTORIAL.md")[""]))
+        for title in CHAPTERS["TUTORIAL.md"]:
+            for command, output in self.chapter("TUTORIAL.md", title)[1]:
+                status = int(command == "ngc-check wrong.ngc --settings mill.toml")
+                self.assertEqual(self.shell(command + " 2>&1", status=status), output, command)
 
 
 class Others(Documents):
