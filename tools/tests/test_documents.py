@@ -21,7 +21,8 @@ from ngc_tools.player.source import Source  # noqa: E402
 DOCS = TOOLS.parent / "docs"
 CAM = Path(__file__).resolve().parent / "cam"
 
-_COMMAND = re.compile(r"(?:\$ )?((?:ngc|ngc-\w+|mkfifo|cc|cp|grep|sed|tail|player|exec|echo|\{|tools/\S+) .*?)(?: {2,}[(#].*)?")
+_COMMAND = re.compile(r"(?:\$ )?((?:ngc|ngc-\w+|mkfifo|cc|cp|grep|sed|tail|player|exec|echo|\{|tools/\S+) .*?)"
+                      r"(?: {2,}[(#].*)?")
 _INLINE = re.compile(r"`((?:tools/|examples/)?(?:ngc-\w+|grep|\w+\.py) [^`]*)`")
 
 # The chapters with commands; each is tried by a test below.
@@ -36,8 +37,9 @@ CHAPTERS = {
     "RECOVERY.md": ("`recover`: back the way it came", "A half-done block"),
     "POST_PROCESSOR.md": ("",), "OUTPUT.md": (),
     "SESSION.md": ("The device", "A first session"),
-    "TUTORIAL.md": ("1. Look at the program", "2. Make a device", "3. Run it, and lose the power", "4. Power comes back",
-                    "5. Resume"),
+    "../README.md": ("",),
+    "TUTORIAL.md": ("1. Look at the program", "2. Make a device", "3. Run it, and lose the power",
+                    "4. Power comes back", "5. Resume"),
 }
 
 
@@ -265,6 +267,58 @@ class Tools(Documents):
         """Its words."""
         text, ((synopsis, _),) = self.chapter("TOOLS.md", "ngc-split")
         self.same_options("ngc-split", text, synopsis)
+
+
+class Readme(Documents):
+    """README.md: what stands there side by side, and its job."""
+
+    WIDTH = 29  # of what stands on the left
+
+    def setUp(self) -> None:
+        """Reads what comes before the first chapter."""
+        super().setUp()
+        shutil.copy("examples/mill.ngc", "mill.ngc")
+        self.text, self.tried = self.chapter("../README.md", "")
+        self.sides = [[(line[:self.WIDTH].strip(), line[self.WIDTH:]) for line in block.splitlines()]
+                      for block in blocks(self.text)[:2]]
+
+    def test_dry_run(self) -> None:
+        """The program, whose comment is cut short, and the text of its dry run."""
+        command = "ngc dry mill.ngc --settings mill.toml"
+        self.assertIn(f"`{command}`", self.text)
+        comment, *lines = (line for line, _ in self.sides[0] if line)
+        whole, *program = Path("mill.ngc").read_text().splitlines()
+        self.assertTrue(whole.startswith(comment.removesuffix("..)")))
+        self.assertEqual(lines, program)
+        self.assertEqual([text for _, text in self.sides[0]], self.shell(command).splitlines())
+
+    def test_resume(self) -> None:
+        """The answers to what is typed, after the tutorial's loss of power; then the program goes on to its end."""
+        for title in CHAPTERS["TUTORIAL.md"][1:3]:
+            for command, _ in self.chapter("TUTORIAL.md", title)[1]:
+                self.shell(command if "ngc-player" not in command else "true")
+        typed = "".join(line + "\n" for line, _ in self.sides[1] if line)
+        answers = [re.split(" {2,}", text)[0] for _, text in self.sides[1]]
+        said = self.shell("ngc run mill.dev mill.toml out-2", text=typed).splitlines()
+        self.assertEqual(said[:len(answers)], answers)
+        self.assertEqual(said[-2], "idle")
+
+    def test_job(self) -> None:
+        """Each command, and what is typed at the console, but for the run, which takes a minute."""
+        *before, play, operate = (command for command, _ in self.tried)
+        for command in before:
+            self.shell(command)
+        *words, run = re.search(r"ngc-operate .*\((.*)\)", self.text)[1].split(", ")
+        self.assertEqual(run, "run")
+        player = self.begin(play)
+        terminal = self.operate(operate)
+        shown = b""
+        for line in (*words, "quit"):
+            shown += terminal.read_to(b"ngc> ")
+            terminal.send(f"{line}\n".encode())
+        shown += terminal.read_to(b"never")
+        self.assertEqual((terminal.status(), player.wait(PATIENCE_S)), (0, 0))
+        self.assertIn(b"done 4: mill.ngc, 132 bytes, 10 lines\r\n", shown)
 
 
 class Tutorial(Documents):
