@@ -308,8 +308,8 @@ class Readme(Documents):
         *before, play, operate = (command for command, _ in self.tried)
         for command in before:
             self.shell(command)
-        *words, run = re.search(r"ngc-operate .*\((.*)\)", self.text)[1].split(", ")
-        self.assertEqual(run, "run")
+        *words, run, go = re.search(r"ngc-operate .*\((.*)\)", self.text)[1].split(", ")
+        self.assertEqual((run, go), ("run", "go"))
         player = self.begin(play)
         terminal = self.operate(operate)
         shown = b""
