@@ -50,7 +50,8 @@ def dangers(lines: Lines, run: Run, under: Conditions) -> list[Danger]:
     begins."""
     printed = by_line(lines, run)
     acts = list(acts_of(printed, under.begun, under.beginning.point_nm))
-    found = [*(Danger(0, "device", note) for note in under.beginning.notes), *_too_long(lines, under.is_large),
+    notes = under.beginning.notes_under(under.settings)
+    found = [*(Danger(0, "device", note) for note in notes), *_too_long(lines, under.is_large),
              *_homes(lines, printed), *_dwells(printed), *_full_turns(acts),
              *heights.heights(lines, acts, under.is_placed), *heights.first_descent(lines, acts),
              *cutting.spindle(acts), *cutting.lengths(lines, acts, under.tools_nm), *cutting.tool_changes(acts),

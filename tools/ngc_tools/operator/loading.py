@@ -54,7 +54,7 @@ class Loading:
             face.say(f"it can't be tried by a dry run: {found}", WARNING)
             return self._wanted()
         for note in found.notes:
-            face.say(f"the dry run isn't the machine's: {note}", WARNING)
+            face.say(note, WARNING)
         said = figures(found, self.session.settings)
         face.say("\n    ".join(["by a dry run from here, in machine millimetres:", *said]))
         if found.refused is None:

@@ -8,7 +8,6 @@ from ngc_tools.ngc.beginning import Beginning, CannotSetUp
 from ngc_tools.ngc.console import Console
 from ngc_tools.ngc.run import CannotRun
 from ngc_tools.ngc.settings_report import number
-from ngc_tools.operator.display import in_force_on
 from ngc_tools.scratch import scratch_file
 
 
@@ -19,7 +18,7 @@ def breach_of_line(console: Console, device: Device, settings: Settings, text: b
         beginning = Beginning.of(device)
         with scratch_file(widest(settings).text(), "settings", ".toml") as path:
             return breach(Lines(text), line, lambda part: beginning.dry(console.ngc, part, path)[1], settings,
-                          in_force_on(device.state), device.state.point_nm)
+                          beginning.on_device, beginning.point_nm)
     except (CannotSetUp, NoDevice, BadText, CannotRun, BadSettings, OSError):
         return ""
 

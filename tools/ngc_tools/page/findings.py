@@ -13,7 +13,6 @@ from ngc_tools.job.refused import Finding, Lines, find_all
 from ngc_tools.ngc import cures, faults
 from ngc_tools.ngc.beginning import Beginning
 from ngc_tools.ngc.run import Refusal, refusal
-from ngc_tools.operator.display import in_force_on
 
 MOST = 20
 """So many refusals are looked for."""
@@ -58,7 +57,7 @@ class Check:
         return {"unreadable": why, "refusals": refusals, "more": more, "warnings": warnings}
 
     def _conditions(self, device: Device, beginning: Beginning) -> Conditions:
-        return Conditions(beginning, in_force_on(device.state), Settings.read(self.settings), device.is_large, True)
+        return Conditions(beginning, beginning.on_device, Settings.read(self.settings), device.is_large, True)
 
 
 def find(check: Check, data: bytes) -> dict:
