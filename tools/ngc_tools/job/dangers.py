@@ -58,7 +58,8 @@ def dangers(lines: Lines, run: Run, under: Conditions) -> list[Danger]:
              *_other_lengths(lines, acts, under),
              *(cutting.capped(acts, under.settings) if under.settings else ()),
              *(cutting.too_fast_to_stop(acts, under.motion) if under.motion else ()),
-             *reliance.modes(lines, printed, run, under.beginning.modes), *reliance.after_stops(lines, printed, run),
+             *reliance.modes(lines, printed, run, under.beginning.modes), *reliance.motion(lines, printed, run),
+             *reliance.after_stops(lines, printed, run),
              *reliance.dropped_offset(lines, printed, run, under.beginning.g92_nm),
              *reliance.place(lines, acts, run, under.beginning.point_nm, under.beginning.modes[0])]
     return sorted(found, key=lambda warning: warning.line)

@@ -1,10 +1,10 @@
 """Which axis leaves the travel, and where: what X2 doesn't say of a line, or of a point that is told."""
 from ngc_tools.formats.canonical import BadText
 from ngc_tools.formats.device import Device, NoDevice
-from ngc_tools.formats.settings import AXES, BadSettings, Settings
+from ngc_tools.formats.settings import AXES, Settings
 from ngc_tools.job.outside import breach, widest
 from ngc_tools.job.refused import Lines
-from ngc_tools.ngc.beginning import Beginning, CannotSetUp
+from ngc_tools.ngc.beginning import Beginning
 from ngc_tools.ngc.console import Console
 from ngc_tools.ngc.run import CannotRun
 from ngc_tools.ngc.settings_report import number
@@ -19,7 +19,7 @@ def breach_of_line(console: Console, device: Device, settings: Settings, text: b
         with scratch_file(widest(settings).text(), "settings", ".toml") as path:
             return breach(Lines(text), line, lambda part: beginning.dry(console.ngc, part, path)[1], settings,
                           beginning.on_device, beginning.point_nm)
-    except (CannotSetUp, NoDevice, BadText, CannotRun, BadSettings, OSError):
+    except (NoDevice, BadText, CannotRun, OSError):
         return ""
 
 

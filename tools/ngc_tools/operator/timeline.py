@@ -59,8 +59,7 @@ def _last(numbers: dict[int, object] | dict[int, int], most: int) -> int:
 
 
 def timeline(console: Console, device: Device, text: bytes, settings: Settings, block_delete: bool) -> Timeline:
-    """The timeline of a program that begins as the device stands now. Raises CannotSetUp, NoDevice, BadText, CannotRun,
-    OSError, BadSettings."""
+    """The timeline of a program that begins as the device stands now. Raises NoDevice, BadText, CannotRun, OSError."""
     beginning = Beginning.of(device)
 
     def run(part: bytes) -> bytes:

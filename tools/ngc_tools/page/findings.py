@@ -31,8 +31,8 @@ class Check:
     block_delete: bool
 
     def find(self, data: bytes) -> dict:
-        """Each refused line with its carets, the cause, and what to write; each warning. Raises CannotSetUp, NoDevice,
-        OSError, CannotRun, BadSettings."""
+        """Each refused line with its carets, the cause, and what to write; each warning. Raises NoDevice, OSError,
+        CannotRun, BadSettings."""
         device = Device(self.image)
         beginning = Beginning.of(device)
 
