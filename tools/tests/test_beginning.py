@@ -7,10 +7,11 @@ sys.path.insert(0, str(Path(__file__).resolve().parent))
 
 from session_support import FIRST, InFolder, ngc  # noqa: E402
 
-from ngc_tools.formats.canonical import MOTIONS, Command, read_commands  # noqa: E402
+from ngc_tools.formats.canonical import MOTIONS, read_commands  # noqa: E402
 from ngc_tools.formats.device import Device, NoDevice  # noqa: E402
 from ngc_tools.formats.out import Dwell, Pulse, Switch, read_line  # noqa: E402
 from ngc_tools.formats.settings import DEFAULT, Settings  # noqa: E402
+from ngc_tools.job.in_force import InForce  # noqa: E402
 from ngc_tools.ngc.beginning import Beginning, CannotSetUp  # noqa: E402
 from ngc_tools.ngc.console import Console  # noqa: E402
 from ngc_tools.ngc.run import dry, refusal  # noqa: E402
@@ -38,6 +39,8 @@ STATES = {
     "after a program's end": "mdi F500 G1 X0.5\nmdi M2",
     "an origin that was set after it was taken": "mdi G10 L2 P1 X5\nmdi #5221=7 #5241=2",
     "a spindle that turns, and coolant": "mdi S1000 M4\nmdi M8\nmdi M7",
+    "a cycle in force": "mdi G81 X1 Z-0.5 R0.5 F60",
+    "an arc's motion mode": "mdi G2 X0.5 I0.25 F60",
 }
 
 
@@ -96,9 +99,9 @@ class SameAsRun(InFolder):
         said = begun.dry(ngc(), b"G86 X0 Z-1 R1 F100\nM2\n", "first.toml")
         self.assertEqual(said[0], 0)
         self.assertIn(b"START_SPINDLE_COUNTERCLOCKWISE()\n", said[1])
-        self.assertEqual(begun.set_up(ngc(), "first.toml"), [
-            Command("SELECT_TOOL", (1,)), Command("CHANGE_TOOL", (1,)), Command("SET_SPINDLE_SPEED", (800_000_000,)),
-            Command("START_SPINDLE_COUNTERCLOCKWISE"), Command("FLOOD_ON")])
+        self.assertEqual(begun.in_force(ngc(), "first.toml"),
+                         InForce(spindle="START_SPINDLE_COUNTERCLOCKWISE", speed=800_000_000, flood=True, selected=1,
+                                 tool=1))
         Path("out").write_bytes(b"")
         self.run_ngc("load 3\nM5\nstart\ntick 10\n")
         self.assertEqual(read_line(Path("out").read_bytes().splitlines()[0], 1), Switch(0, 800_000_000, 0, 1, 1, 1))
@@ -123,7 +126,7 @@ class Lines(InFolder):
         """From the fresh state it is `ngc dry`."""
         for begun in (Beginning(), Beginning.of_origin(0, 0, 0)):
             self.assertEqual(begun.dry(ngc(), b"G0 X1\nM2\n"), dry(ngc(), b"G0 X1\nM2\n"))
-            self.assertEqual(begun.set_up(ngc()), [])
+            self.assertEqual(begun.in_force(ngc()), InForce())
         self.device()
         self.assertEqual(Beginning.of_device("mill.dev").dry(ngc(), b"G0 X1\nM2\n"), dry(ngc(), b"G0 X1\nM2\n"))
 
@@ -141,25 +144,40 @@ class Lines(InFolder):
                          [b"USE_TOOL_LENGTH_OFFSET(20.000000)", b"STRAIGHT_TRAVERSE(0.000000, 0.000000, 21.000000)"])
 
     def test_notes(self) -> None:
-        """A half-done block, a point that isn't known, a motion mode that no line sets."""
+        """A half-done block, a point that isn't known, a point outside the travel."""
         self.device()
-        self.run_ngc("mdi G81 X1 Z-0.005 R0 F60\ntick 1000000\n")
-        self.assertEqual(Beginning.of_device("mill.dev").notes, (
-            "G81 is in force on the device, and the dry run begins with G80: a line with axes and no G word is refused"
-            " here (B7), and not by the machine",))
+        self.run_ngc("mdi G0 X0.5\ntick 1000\n")
+        begun = Beginning.of_device("mill.dev")
+        self.assertEqual(begun.notes_under(Settings.read("first.toml")), ())
+        Path("none.toml").write_text(FIRST.replace("[1000000000, 1", "[0, 1"))
+        self.assertEqual(begun.notes_under(Settings.read("none.toml")), (
+            "the machine stands at X0.500000 Y0.000000 Z0.000000, outside the travel of the settings. Are they those of"
+            " this machine?",))
         self.run_ngc("mdi G0 X2\ntick 10\nquit\n")
         self.assertIn("half-done", Beginning.of_device("mill.dev").notes[0])
         self.run_ngc("abandon\n")
         self.assertIn("reference X Y Z", Beginning.of_device("mill.dev").notes[0])
 
-    def test_not_set_up(self) -> None:
-        """The machine's point outside the travel of the settings; no device."""
+    def test_after_lines(self) -> None:
+        """Lines before a program are of the dry run alone, over a device too."""
         self.device()
-        self.run_ngc("mdi G0 X0.5\ntick 1000\n")
-        Path("none.toml").write_text(FIRST.replace("[1000000000, 1", "[0, 1"))
-        with self.assertRaisesRegex(CannotSetUp, "^the dry run can't begin with the machine at X0.500000 Y0.000000"
-                                    " Z0.000000: X2 OutsideTravel. Are the settings those of this machine\\?$"):
-            Beginning.of_device("mill.dev").dry(ngc(), b"M2\n", "none.toml")
+        self.run_ngc("mdi G10 L2 P1 X5\ntick 9\nmdi G91\ntick 9\n")
+        stored, begun = Path("mill.dev").read_bytes(), Beginning.of_device("mill.dev")
+        self.assertEqual(begun.dry(ngc(), b"G0 X1\nG0 X1\nQ1\n"),
+                         (1, b"STRAIGHT_TRAVERSE(1.000000, 0.000000, 0.000000)\n"
+                             b"STRAIGHT_TRAVERSE(2.000000, 0.000000, 0.000000)\nREFUSED line 3: B12 UnusedWord\n"))
+        after = begun.after(["G90", "G18"], "the modes")
+        self.assertEqual(after.dry(ngc(), b"G0 X1\nG0 X1\nQ1\n"),
+                         (1, b"STRAIGHT_TRAVERSE(6.000000, 0.000000, 0.000000)\n"
+                             b"STRAIGHT_TRAVERSE(6.000000, 0.000000, 0.000000)\nREFUSED line 3: B12 UnusedWord\n"))
+        self.assertEqual(after.in_force(ngc()), InForce(plane="XZ", origin=(5_000_000, 0, 0)))
+        self.assertEqual(Path("mill.dev").read_bytes(), stored)
+
+    def test_not_set_up(self) -> None:
+        """A line before the program that is refused; no device."""
+        with self.assertRaisesRegex(CannotSetUp, "^the dry run can't begin with the modes: B14 BadSlot. Are the"
+                                    " settings those of this machine\\?$"):
+            Beginning().after(["G90", "T99"], "the modes").dry(ngc(), b"M2\n", "first.toml")
         with self.assertRaisesRegex(NoDevice, "^first.toml: not a device: [0-9]+ bytes"):
             Beginning.of_device("first.toml")
         with self.assertRaises(FileNotFoundError):

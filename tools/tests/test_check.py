@@ -524,6 +524,25 @@ class FromDevice(Warned):
             "2: warning: relies on the unit: the dry run begins with G20",
             "2: warning: relies on the distance mode: the dry run begins with G91"])
 
+    def test_motion(self) -> None:
+        """A cycle that is in force on the device, which a line without a motion word goes on with."""
+        self.device()
+        self.run_ngc("mdi G81 X1 Z-0.005 R0 F60\ntick 100000\n")
+        said = "1: warning: relies on the motion mode, which is what the last block left on the device; write G0 or G1"
+        program = "S1 M3 G21 G90 G17 G98 G54 G94 X5 Y0\nM2\n"
+        self.assertEqual([line[:len(said)] for line in self.warnings(program, "--device", "mill.dev")], [said])
+        self.assertEqual(self.warnings(f"G80 {program.replace('X5 Y0', '')}", "--device", "mill.dev"), [])
+
+    def test_outside(self) -> None:
+        """A machine that stands outside the travel of the settings, which may be another machine's."""
+        self.device()
+        self.run_ngc("mdi G0 X0.5\ntick 1000\n")
+        Path("other.toml").write_text(FIRST.replace("[1000000000, 1", "[0, 1"))
+        words = ("--device", "mill.dev", "--settings", "other.toml")
+        self.assertEqual(self.warnings(HEAD + "G0 X0 Y0\nM2\n", *words), [
+            " warning: the machine stands at X0.500000 Y0.000000 Z0.000000, outside the travel of the settings. Are they"
+            " those of this machine?"])
+
     def test_slots(self) -> None:
         """Lengths that differ from those of the settings, where the program takes one."""
         self.device()

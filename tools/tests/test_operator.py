@@ -443,6 +443,27 @@ class LeftBehind(Core):
         self.assertEqual(self.do("run", answers=("no",))[1:],
                          ["in force now: G81 (G1 before)", "restore types: F1 G53 G1 X0.001000; F600"])
 
+    def test_cycle_that_goes_on(self) -> None:
+        """A cycle that is still in force is no question by itself: it is asked where a hole comes elsewhere."""
+        self.begin()
+        self.load("G21 G90 F600\nG81 X0 Z-0.01 R0.005\nM0\nG90 X0.002\nM0\nX0.003\nM2\n")
+        self.do("run", "G91", "run")
+        self.assertEqual(self.face.asked, [])
+        self.do("G91")
+        self.assertEqual(self.do("run", answers=("no",))[1:], ["in force now: G91 (G90 before)", "restore types: G90"])
+
+    def test_other_tool(self) -> None:
+        """Another tool in the spindle as a program begins is no question, another one that is selected is."""
+        self.begin()
+        self.do("tool 1 0.001", "tool 2 0.003", "T1 M6")
+        self.load("G21 G90 G0 X0.002\nM2\n")
+        self.do("run", "T2 M6", "run")
+        self.load("M6\nM2\n")
+        self.do("run")
+        self.assertEqual(self.face.asked, [])
+        self.do("T1")
+        self.assertEqual(self.do("run", answers=("no",)), ["in force now: T1 (T2 before)", "restore types: T2"])
+
     def test_other_words_of_a_cycle(self) -> None:
         """A cycle that goes on with other words than the program gave it is asked about, and isn't put back."""
         self.begin()

@@ -15,7 +15,7 @@ def add_beginning(parser: argparse.ArgumentParser) -> None:
 
 
 def chosen_beginning(args: argparse.Namespace) -> Beginning:
-    """What the words say. Raises NoDevice, CannotSetUp, OSError."""
+    """What the words say. Raises NoDevice, OSError."""
     if args.device is not None:
         return Beginning.of_device(args.device)
     return Beginning.of_origin(*args.origin) if args.origin else Beginning()

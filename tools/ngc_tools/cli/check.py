@@ -15,7 +15,6 @@ from ngc_tools.formats.settings import DEFAULT, Settings
 from ngc_tools.formats.text import shown
 from ngc_tools.job.danger import Danger
 from ngc_tools.job.dangers import Conditions, dangers
-from ngc_tools.job.in_force import InForce
 from ngc_tools.job.marked import carets, goes_on
 from ngc_tools.job.moves import of_canonical
 from ngc_tools.job.outside import breach, widest
@@ -128,10 +127,7 @@ class DryRun:
         self.beginning = chosen_beginning(args)
         self.is_placed = args.device is not None or args.origin is not None
         self.settings = Settings.read(args.settings) if args.settings else None
-        self.before = self.beginning.set_up(ngc, args.settings)
-        self.begun = InForce()
-        for command in self.before:
-            self.begun = self.begun.after(command)
+        self.begun = self.beginning.in_force(ngc, args.settings)
 
     def run(self, text: bytes) -> bytes:
         """What `ngc dry` prints of a text."""
@@ -158,7 +154,7 @@ class DryRun:
     def times(self, text: bytes) -> str:
         """How long a valid program takes, without ramps and with them. Raises OSError."""
         try:
-            steps = list(of_canonical(read_commands(self.run(text)), self.before))
+            steps = list(of_canonical(read_commands(self.run(text)), self.begun, self.beginning.point_nm))
             files = (self.args.settings, self.args.machine)
             return times_words(with_ramps(self.ngc, *files, steps, Progress("ngc-check")))
         except (BadText, BadLine, NotTimed) as error:

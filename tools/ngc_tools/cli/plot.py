@@ -16,6 +16,7 @@ from ngc_tools.formats.position import nanometres
 from ngc_tools.formats.settings import DEFAULT, Settings
 from ngc_tools.formats.text import shown
 from ngc_tools.job import figures, moves
+from ngc_tools.job.in_force import InForce
 from ngc_tools.job.picture import picture
 from ngc_tools.ngc import faults
 from ngc_tools.ngc.beginning import Beginning
@@ -135,17 +136,17 @@ def _paced(args: argparse.Namespace, text: bytes) -> Pacing:
 
 def _of_program(args: argparse.Namespace, text: bytes, of: str) -> Drawn:
     """A program, or what was printed of one. Raises BadText, NotTimed and the failures of a dry run."""
-    before: list[Command] = []
+    begun, at = InForce(), (0, 0, 0)
     is_program = text != b"" and not _CANONICAL.fullmatch(text.partition(b"\n")[0])
     if is_program:
         ngc, begin = find_ngc(args.ngc), chosen_beginning(args)
-        before = begin.set_up(ngc, args.settings)
+        begun, at = begin.in_force(ngc, args.settings), begin.point_nm
         status, text = begin.dry(ngc, text, args.settings, args.block_delete)
         refusal(status, text)  # a dry run that was none is raised
     elif args.device or args.origin or args.block_delete:
         raise WrongWords("--device, --origin and --block-delete are of a program, and this is canonical text")
     commands = read_commands(text)
-    steps = list(moves.of_canonical(commands, before))
+    steps = list(moves.of_canonical(commands, begun, at))
     pacing = None
     if args.settings:
         steps = timed(find_ngc(args.ngc), args.settings, steps)
@@ -154,7 +155,7 @@ def _of_program(args: argparse.Namespace, text: bytes, of: str) -> Drawn:
     last = commands[-1] if commands else Command("")
     is_cut = last.name == "REFUSED"
     notes = (_refused(args, of, last, is_program),) if is_cut else ()
-    return Drawn(steps, moves.work_zeros(commands, before), bool(args.settings), notes, is_cut, pacing)
+    return Drawn(steps, moves.work_zeros(commands, begun), bool(args.settings), notes, is_cut, pacing)
 
 
 def _refused(args: argparse.Namespace, of: str, last: Command, is_program: bool) -> str:

@@ -50,14 +50,16 @@ def dangers(lines: Lines, run: Run, under: Conditions) -> list[Danger]:
     begins."""
     printed = by_line(lines, run)
     acts = list(acts_of(printed, under.begun, under.beginning.point_nm))
-    found = [*(Danger(0, "device", note) for note in under.beginning.notes), *_too_long(lines, under.is_large),
+    notes = under.beginning.notes_under(under.settings)
+    found = [*(Danger(0, "device", note) for note in notes), *_too_long(lines, under.is_large),
              *_homes(lines, printed), *_dwells(printed), *_full_turns(acts),
              *heights.heights(lines, acts, under.is_placed), *heights.first_descent(lines, acts),
              *cutting.spindle(acts), *cutting.lengths(lines, acts, under.tools_nm), *cutting.tool_changes(acts),
              *_other_lengths(lines, acts, under),
              *(cutting.capped(acts, under.settings) if under.settings else ()),
              *(cutting.too_fast_to_stop(acts, under.motion) if under.motion else ()),
-             *reliance.modes(lines, printed, run, under.beginning.modes), *reliance.after_stops(lines, printed, run),
+             *reliance.modes(lines, printed, run, under.beginning.modes), *reliance.motion(lines, printed, run),
+             *reliance.after_stops(lines, printed, run),
              *reliance.dropped_offset(lines, printed, run, under.beginning.g92_nm),
              *reliance.place(lines, acts, run, under.beginning.point_nm, under.beginning.modes[0])]
     return sorted(found, key=lambda warning: warning.line)

@@ -1,16 +1,22 @@
-"""What is in force after commands of canonical text."""
+"""What is in force on a device, and after commands of canonical text."""
 from dataclasses import dataclass, replace
 
 from ngc_tools.formats.canonical import MOTIONS, Command
-from ngc_tools.job.moves import Point
+from ngc_tools.formats.device import State
+
+Point = tuple[int, int, int]
+
+SPINDLE = ("STOP_SPINDLE_TURNING", "START_SPINDLE_CLOCKWISE", "START_SPINDLE_COUNTERCLOCKWISE")
+"""The commands of the spindle, by what a device stores of it."""
+_PLANES = {17: "XY", 18: "XZ", 19: "YZ"}
 
 
 @dataclass(frozen=True, slots=True)
 class InForce:
-    """What canonical text says is in force: the plane, the unit, the feed in millionths of a millimetre a minute,
-    `inverse` in millionths, 0 for none, the spindle's command, its speed in millionths, mist, flood, the tool that is
-    selected and the one in the spindle, 0 for none. `length` is the tool length, `origin` the machine point of the
-    program's zero without that length, both in nm."""
+    """What a device or canonical text says is in force: the plane, the unit, the feed in millionths of a millimetre a
+    minute, `inverse` in millionths, 0 for none, the spindle's command, its speed in millionths, mist, flood, the tool
+    that is selected and the one in the spindle, 0 for none. `length` is the tool length, `origin` the machine point of
+    the program's zero without that length, both in nm."""
 
     plane: str = "XY"
     unit: str = "MM"
@@ -64,3 +70,11 @@ class InForce:
     def without_offsets(self) -> "InForce":
         """The same, whatever the work offset and the tool length are."""
         return replace(self, length=0, origin=(0, 0, 0))
+
+
+def in_force_on(state: State) -> InForce:
+    """What is in force on a device."""
+    x, y, z = (origin + offset for origin, offset in zip(state.origin_nm, state.g92_nm, strict=True))
+    return InForce(plane=_PLANES[state.plane], unit="MM" if state.unit == 21 else "INCHES", feed=state.feed_nm_per_min,
+                   spindle=SPINDLE[state.spindle], speed=state.speed, mist=bool(state.mist), flood=bool(state.flood),
+                   selected=state.selected, tool=state.slot, length=state.tool_length_nm, origin=(x, y, z))

@@ -8,6 +8,7 @@ from ngc_tools.formats.canonical import MOTIONS, Command
 from ngc_tools.formats.out import Dwell, Pulse, Switch, read_line
 from ngc_tools.formats.position import rounded
 from ngc_tools.formats.settings import Settings
+from ngc_tools.job.in_force import InForce
 
 Point = tuple[int, int, int]
 Pair = tuple[int, int]
@@ -76,21 +77,9 @@ def distance(a: Point, b: Point) -> int:
     return isqrt((s - p) * (s - p) + (t - q) * (t - q) + (u - r) * (u - r))
 
 
-def of_canonical(commands: Iterable[Command], before: Iterable[Command] = ()) -> Iterator[Step]:
-    """The moves and dwells of a dry run. It begins where the commands `before` it end, with what they set; else at
-    machine 0."""
-    at: Point = (0, 0, 0)
-    plane, feed, inverse, tool = "XY", 0, 0, 0
-    for command in before:
-        match command.name:
-            case "SELECT_PLANE":
-                plane = str(command.args[0])
-            case "SET_FEED_RATE":
-                feed = int(command.args[0])
-            case "CHANGE_TOOL":
-                tool = int(command.args[0])
-            case name if name in MOTIONS:
-                at = command.point
+def of_canonical(commands: Iterable[Command], begun: InForce = InForce(), at: Point = (0, 0, 0)) -> Iterator[Step]:
+    """The moves and dwells of a dry run, which begins at a machine point, with what is in force there."""
+    plane, feed, inverse, tool = begun.plane, begun.feed, begun.inverse, begun.tool
     for command, rests in _resting(commands):
         match command.name:
             case "SELECT_PLANE":
@@ -124,12 +113,12 @@ def _resting(commands: Iterable[Command]) -> Iterator[tuple[Command, bool]]:
         rests = rests and command.name not in ("DWELL", *MOTIONS)
 
 
-def work_zeros(commands: Iterable[Command], before: Iterable[Command] = ()) -> list[Point]:
+def work_zeros(commands: Iterable[Command], begun: InForce = InForce()) -> list[Point]:
     """Where the program's zero is while something is cut, each place once: the origin, and above it the tool's length,
-    since the points of the moves are the spindle's."""
+    since the points of the moves are the spindle's. `begun` is what is in force before the commands."""
     found: dict[Point, None] = {}
-    origin, length = (0, 0, 0), 0
-    for command in (*before, *commands):
+    origin, length = begun.origin, begun.length
+    for command in commands:
         match command.name:
             case "SET_ORIGIN_OFFSETS":
                 origin = command.point

@@ -51,6 +51,14 @@ def modes(lines: Lines, printed: Printed, run: Run, begun: tuple[int, ...]) -> I
         yield Danger(first, "mode", text)
 
 
+def motion(lines: Lines, printed: Printed, run: Run) -> Iterator[Danger]:
+    """A motion mode that the program begins with and doesn't set."""
+    first = _first_other(printed, by_line(lines, run, b"G80\n"))
+    if first is not None:
+        yield Danger(first, "mode", f"relies on {_MOTION.name}, which is what the last block left on the device; write"
+                     f" {_MOTION.write} before it")
+
+
 def after_stops(lines: Lines, printed: Printed, run: Run) -> Iterator[Danger]:
     """Modes that the program goes on with after a stop, where an operator may have typed others."""
     stops = [number for number, commands in printed.items() if any(command.name in _STOPS for command in commands)]

@@ -41,14 +41,16 @@ def find_ngc(option: str | None) -> str:
 
 
 def dry(ngc: str | Path, program: bytes | str | Path, settings: str | Path | None = None,
-        block_delete: bool = False) -> tuple[int, bytes]:
-    """The exit status and the standard output of `ngc dry`. `program` is its text, or the path of its file.
+        block_delete: bool = False, device: str | Path | None = None) -> tuple[int, bytes]:
+    """The exit status and the standard output of `ngc dry`. `program` is its text, or the path of its file; it begins
+    from the device at this path, or in the fresh state.
 
     Raises OSError if `ngc` can't be started or the text can't be kept in a file."""
     if isinstance(program, bytes):
         with scratch_file(program, "dry", ".ngc") as path:
-            return dry(ngc, path, settings, block_delete)
+            return dry(ngc, path, settings, block_delete, device)
     words = [str(ngc), "dry", str(program)]
+    words += ["--from", str(device)] if device is not None else []
     words += ["--settings", str(settings)] if settings is not None else []
     words += ["--block-delete"] if block_delete else []
     done = subprocess.run(words, stdin=subprocess.DEVNULL, stdout=subprocess.PIPE, check=False)

@@ -4,21 +4,11 @@ from collections.abc import Iterator
 from ngc_tools.formats.device import State
 from ngc_tools.formats.out import Switch
 from ngc_tools.job.figures import millimetres as rounded
-from ngc_tools.job.in_force import InForce
+from ngc_tools.job.in_force import SPINDLE, InForce
 from ngc_tools.job.moves import Point
 from ngc_tools.operator.modes import SYSTEMS, point_words, trimmed
 
-_SPINDLE = ("STOP_SPINDLE_TURNING", "START_SPINDLE_CLOCKWISE", "START_SPINDLE_COUNTERCLOCKWISE")
 _TURNS = ("stands", "clockwise", "counter-clockwise")
-_PLANES = {17: "XY", 18: "XZ", 19: "YZ"}
-
-
-def in_force_on(state: State) -> InForce:
-    """What is in force on a device."""
-    x, y, z = (origin + offset for origin, offset in zip(state.origin_nm, state.g92_nm, strict=True))
-    return InForce(plane=_PLANES[state.plane], unit="MM" if state.unit == 21 else "INCHES", feed=state.feed_nm_per_min,
-                   spindle=_SPINDLE[state.spindle], speed=state.speed, mist=bool(state.mist), flood=bool(state.flood),
-                   selected=state.selected, tool=state.slot, length=state.tool_length_nm, origin=(x, y, z))
 
 
 def outputs_on(state: State) -> Switch:
@@ -35,8 +25,8 @@ def work_words(in_force: InForce, machine_nm: Point) -> str:
 def short_words(in_force: InForce) -> Iterator[str]:
     """Feed, spindle, coolant, tool, as short as can be."""
     yield f"F{trimmed(in_force.feed)}"
-    if in_force.spindle != _SPINDLE[0]:
-        yield f"S{trimmed(in_force.speed)}" + (" M4" if in_force.spindle == _SPINDLE[2] else "")
+    if in_force.spindle != SPINDLE[0]:
+        yield f"S{trimmed(in_force.speed)}" + (" M4" if in_force.spindle == SPINDLE[2] else "")
     yield from (name for name, is_on in (("mist", in_force.mist), ("flood", in_force.flood)) if is_on)
     if in_force.tool:
         yield f"T{in_force.tool}"

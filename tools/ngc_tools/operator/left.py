@@ -1,15 +1,14 @@
 """How the program left the machine for its next line, and what lines of one's own, `abandon` and `reference` changed of
 it since: that is what `run` asks about."""
-from copy import copy
 from dataclasses import replace
 
 from ngc_tools.formats.canonical import BadText, read_commands
 from ngc_tools.formats.device import Device, NoDevice, State
-from ngc_tools.formats.settings import BadSettings
 from ngc_tools.job.figures import millimetres as rounded
 from ngc_tools.job.moves import distance
 from ngc_tools.ngc.beginning import Beginning, CannotSetUp
 from ngc_tools.ngc.console import Status
+from ngc_tools.ngc.run import CannotRun, refusal
 from ngc_tools.operator.face import WARNING, axes
 from ngc_tools.operator.modes import Difference, Restoring, differences, point_words, restoring
 from ngc_tools.operator.session import Session
@@ -19,7 +18,6 @@ _TOLD = ("unit", "feed_mode", "plane", "distance", "retract", "system", "path_mo
 """What is said after a line of one's own; the rest where the program goes on and it matters."""
 _SET_UP = ("origin", "system", "g92", "tool_length")
 """What people set on purpose before a program begins."""
-_PUT = {0, 1, 80}  # the motion modes that a dry run can begin with
 _FEEDS = ("STRAIGHT_FEED", "ARC_FEED", "SET_FEED_RATE")
 
 
@@ -121,23 +119,27 @@ class Left:
                 f" {rounded(distance(begins, at))} mm away, and the line would go from there"]
 
     def _matters(self, before: Device, now: Device, found: list[Difference]) -> bool:
-        """Whether what is in force makes the rest of the program another one: by a dry run of it with both, from where
-        the machine is now."""
+        """Whether what is in force makes the rest of the program another one: by a dry run of it from the device as it
+        stands, and by one after the lines that put back what was in force. No device holds that state before they are
+        typed."""
         names = {difference.name for difference in found}
-        motions = {before.state.motion, now.state.motion}
-        if _stopped(before.state, now.state) or not motions <= _PUT:
+        back = _back(before.state, now)
+        if _stopped(before.state, now.state) or back.left:
             return True
         try:
-            said = [self._rest(device, now) for device in (_moved(before, now), now)]
+            here = Beginning.of(now)
+            said = [self._rest(begin, now) for begin in (here.after(back.lines, "what was in force"), here)]
             first = next((command.name for command in read_commands(said[1]) if command.name in _FEEDS), "")
-        except (CannotSetUp, NoDevice, BadSettings, BadText, OSError):
+        except (CannotSetUp, CannotRun, NoDevice, BadText, OSError):
             return True
         return said[0] != said[1] or "feed" in names and first in ("STRAIGHT_FEED", "ARC_FEED")
 
-    def _rest(self, device: Device, now: Device) -> bytes:
-        """What the program does from the place on where it goes on, by a dry run that begins as a device stands."""
+    def _rest(self, begin: Beginning, now: Device) -> bytes:
+        """What the program does from the place on where it goes on, by a dry run. Raises CannotSetUp, CannotRun."""
         console, text = self.session.console, self.session.program.text[now.state.place:]
-        return Beginning.of(device).dry(console.ngc, text, console.settings, self.session.delete)[1]
+        status, said = begin.dry(console.ngc, text, console.settings, self.session.delete)
+        refusal(status, said)  # a dry run that was none is raised
+        return said
 
 
 def _goes_on(before: State, now: State) -> bool:
@@ -146,15 +148,15 @@ def _goes_on(before: State, now: State) -> bool:
     return before.place == now.place != 0 and bool(now.point_known)
 
 
-def _moved(before: Device, now: Device) -> Device:
-    """What stood before, with the machine where it is now; where a program begins, with the offsets that it has now."""
-    moved, state = copy(before), now.state
-    moved.state = replace(before.state, point_nm=state.point_nm)
+def _back(before: State, now: Device) -> Restoring:
+    """The lines by which a dry run from the device has what was in force before; where a program begins, with the
+    offsets that it has now. Of the tool in the spindle no line prints anything."""
+    state = now.state
+    wanted = replace(before, slot=state.slot)
     if not state.place:
-        moved.state = replace(moved.state, origin_nm=state.origin_nm, system=state.system, g92_nm=state.g92_nm,
-                              tool_length_nm=state.tool_length_nm)
-        moved.parameters, moved.tools_nm = now.parameters, now.tools_nm
-    return moved
+        wanted = replace(wanted, origin_nm=state.origin_nm, system=state.system, g92_nm=state.g92_nm,
+                         tool_length_nm=state.tool_length_nm)
+    return restoring(wanted, state, now.tools_nm)
 
 
 def _stopped(before: State, now: State) -> bool:

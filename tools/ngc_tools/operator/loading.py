@@ -5,10 +5,10 @@ from ngc_tools.formats.canonical import BadText
 from ngc_tools.formats.device import MOST_LARGE_PROGRAM, MOST_PROGRAM, Device, NoDevice
 from ngc_tools.formats.lines import Program
 from ngc_tools.formats.program_text import NotText, ProgramText
-from ngc_tools.formats.settings import BadSettings, Settings
+from ngc_tools.formats.settings import Settings
 from ngc_tools.job.figures import Box, duration
 from ngc_tools.job.figures import millimetres as rounded
-from ngc_tools.ngc.beginning import Beginning, CannotSetUp
+from ngc_tools.ngc.beginning import Beginning
 from ngc_tools.ngc.run import CannotRun
 from ngc_tools.operator.face import REFUSED, WARNING
 from ngc_tools.operator.ramp_times import RampTimes
@@ -54,7 +54,7 @@ class Loading:
             face.say(f"it can't be tried by a dry run: {found}", WARNING)
             return self._wanted()
         for note in found.notes:
-            face.say(f"the dry run isn't the machine's: {note}", WARNING)
+            face.say(note, WARNING)
         said = figures(found, self.session.settings)
         face.say("\n    ".join(["by a dry run from here, in machine millimetres:", *said]))
         if found.refused is None:
@@ -85,14 +85,14 @@ class Loading:
             return "the device can't be read meanwhile"
         try:
             beginning = Beginning.of(device)
-        except (CannotSetUp, NoDevice) as error:
+        except NoDevice as error:
             return str(error)
         last = self._tried
         if last is None or (last.text, last.beginning, last.delete) != (text, beginning, session.delete):
             try:
                 found: Timeline | str = timeline(session.console, device, text, session.settings, session.delete)
                 found = self._with_ramps(found, text, device)
-            except (CannotSetUp, NoDevice, BadText, CannotRun, BadSettings, OSError) as error:
+            except (NoDevice, BadText, CannotRun, OSError) as error:
                 found = str(error)
             self.close()
             last = self._tried = _Tried(text, beginning, session.delete, found)

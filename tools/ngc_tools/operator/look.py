@@ -3,9 +3,10 @@ from collections.abc import Iterator
 
 from ngc_tools.formats.device import Device
 from ngc_tools.formats.position import nanometres
+from ngc_tools.job.in_force import in_force_on
 from ngc_tools.ngc.console import Status
 from ngc_tools.operator.face import WHERE, axes
-from ngc_tools.operator.display import in_force_on, offsets_words, outputs_on, outputs_words, work_words
+from ngc_tools.operator.display import offsets_words, outputs_on, outputs_words, work_words
 from ngc_tools.operator.modes import trimmed
 from ngc_tools.operator.motors import behind, manner
 from ngc_tools.operator.session import Session, place

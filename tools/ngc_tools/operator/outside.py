@@ -1,14 +1,13 @@
 """Which axis leaves the travel, and where: what X2 doesn't say of a line, or of a point that is told."""
 from ngc_tools.formats.canonical import BadText
 from ngc_tools.formats.device import Device, NoDevice
-from ngc_tools.formats.settings import AXES, BadSettings, Settings
+from ngc_tools.formats.settings import AXES, Settings
 from ngc_tools.job.outside import breach, widest
 from ngc_tools.job.refused import Lines
-from ngc_tools.ngc.beginning import Beginning, CannotSetUp
+from ngc_tools.ngc.beginning import Beginning
 from ngc_tools.ngc.console import Console
 from ngc_tools.ngc.run import CannotRun
 from ngc_tools.ngc.settings_report import number
-from ngc_tools.operator.display import in_force_on
 from ngc_tools.scratch import scratch_file
 
 
@@ -19,8 +18,8 @@ def breach_of_line(console: Console, device: Device, settings: Settings, text: b
         beginning = Beginning.of(device)
         with scratch_file(widest(settings).text(), "settings", ".toml") as path:
             return breach(Lines(text), line, lambda part: beginning.dry(console.ngc, part, path)[1], settings,
-                          in_force_on(device.state), device.state.point_nm)
-    except (CannotSetUp, NoDevice, BadText, CannotRun, BadSettings, OSError):
+                          beginning.on_device, beginning.point_nm)
+    except (NoDevice, BadText, CannotRun, OSError):
         return ""
 
 

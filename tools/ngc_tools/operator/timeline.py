@@ -12,7 +12,6 @@ from ngc_tools.job.refused import Lines
 from ngc_tools.ngc.beginning import Beginning
 from ngc_tools.ngc.console import Console
 from ngc_tools.ngc.run import Refusal, refusal
-from ngc_tools.operator.display import in_force_on
 from ngc_tools.operator.outside import breach_of_line
 from ngc_tools.operator.ramp_times import RampTimes
 
@@ -21,8 +20,8 @@ from ngc_tools.operator.ramp_times import RampTimes
 class Timeline:
     """`views` has what is in force on each line that prints something, and `ends_us` when it ends, by its number from
     1. `extents` are those of all moves; `refused` is the line at which `ngc` would stop, `breach` where it leaves the
-    travel, if that is why; `notes` are what the dry run couldn't begin with. `ramps` has the times with ramps, where
-    these are wanted."""
+    travel, if that is why; `notes` are those of where it begins. `ramps` has the times with ramps, where these are
+    wanted."""
 
     views: dict[int, InForce]
     ends_us: dict[int, int]
@@ -60,20 +59,19 @@ def _last(numbers: dict[int, object] | dict[int, int], most: int) -> int:
 
 
 def timeline(console: Console, device: Device, text: bytes, settings: Settings, block_delete: bool) -> Timeline:
-    """The timeline of a program that begins as the device stands now. Raises CannotSetUp, NoDevice, BadText, CannotRun,
-    OSError, BadSettings."""
+    """The timeline of a program that begins as the device stands now. Raises NoDevice, BadText, CannotRun, OSError."""
     beginning = Beginning.of(device)
 
     def run(part: bytes) -> bytes:
         """A dry run from there."""
         return beginning.dry(console.ngc, part, console.settings, block_delete)[1]
 
-    acts = acts_of(by_line(Lines(text), run), in_force_on(device.state), device.state.point_nm)
+    acts = acts_of(by_line(Lines(text), run), beginning.on_device, beginning.point_nm)
     refused = refusal(*beginning.dry(console.ngc, text, console.settings, block_delete))
     breach = ""
     if refused and refused.code == "X2":
         breach = breach_of_line(console, device, settings, text, refused.line)
-    return _folded(acts, settings, (refused, breach, beginning.notes))
+    return _folded(acts, settings, (refused, breach, beginning.notes_under(settings)))
 
 
 def _folded(acts: Iterable[Act], settings: Settings, said: tuple[Refusal | None, str, tuple[str, ...]]) -> Timeline:

@@ -15,8 +15,7 @@ _SLACK_US = 200_000  # by which times may differ, with a fiftieth of the whole
 
 def differences(source: Source, job: Job, now: Device, line: int, rest_us: int, drawn: bytes) -> Iterator[str]:
     """What is otherwise, from a line on, if the program goes on as a device stands now. `drawn` is the job with its
-    exact times, in JSON; without them times aren't compared. Raises CannotSetUp, NoDevice, BadText, OSError,
-    BadSettings."""
+    exact times, in JSON; without them times aren't compared. Raises NoDevice, BadText, OSError."""
     yield from _path(source, job, now, line)
     told = json.loads(drawn)
     if not told["exact"]:

@@ -26,7 +26,7 @@ SWITCH = -1
 """Stands for a segment that is a switch of the outputs."""
 
 
-_FRESH = {"unit": 21, "distance": 90, "plane": 17, "feed_mode": 94, "retract": 98}
+_FRESH = "G17 G21 G90 G94 G98"
 """The modes that a program's end leaves: those of a program of which nothing tells how it was begun."""
 
 
@@ -117,9 +117,9 @@ def draw_exactly(source: Source) -> Drawing:
 def job_of(source: Source) -> Job:
     """The job; its moves have no times yet. Raises what `draw` raises."""
     device = Device(source.image)
-    if not source.is_begun_there:
-        device.state = replace(device.state, **_FRESH)
     beginning, text = Beginning.of(device), device.program
+    if not source.is_begun_there:
+        beginning = beginning.after([_FRESH], "the modes")
 
     def run(part: bytes) -> bytes:
         """A dry run from there."""
@@ -129,7 +129,8 @@ def job_of(source: Source) -> Job:
     refused = refusal(*beginning.dry(source.ngc, text, source.settings, source.block_delete))
     is_known = source.is_begun_there and bool(device.state.point_known)
     numbered = [(number, command) for number in sorted(printed) for command in printed[number]]
-    steps = list(of_canonical((command for _, command in numbered), beginning.set_up(source.ngc, source.settings)))
+    begun = beginning.in_force(source.ngc, source.settings)
+    steps = list(of_canonical((command for _, command in numbered), begun, beginning.point_nm))
     lines = [number for number, command in numbered if command.name in _STEPS]
     if not is_known and steps and isinstance(steps[0], Move):  # nobody knows where the machine stood before it
         steps[0] = replace(steps[0], points=(steps[0].points[-1],) * 2, arc=None)

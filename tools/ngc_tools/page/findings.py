@@ -13,7 +13,6 @@ from ngc_tools.job.refused import Finding, Lines, find_all
 from ngc_tools.ngc import cures, faults
 from ngc_tools.ngc.beginning import Beginning
 from ngc_tools.ngc.run import Refusal, refusal
-from ngc_tools.operator.display import in_force_on
 
 MOST = 20
 """So many refusals are looked for."""
@@ -32,8 +31,8 @@ class Check:
     block_delete: bool
 
     def find(self, data: bytes) -> dict:
-        """Each refused line with its carets, the cause, and what to write; each warning. Raises CannotSetUp, NoDevice,
-        OSError, CannotRun, BadSettings."""
+        """Each refused line with its carets, the cause, and what to write; each warning. Raises NoDevice, OSError,
+        CannotRun, BadSettings."""
         device = Device(self.image)
         beginning = Beginning.of(device)
 
@@ -58,7 +57,7 @@ class Check:
         return {"unreadable": why, "refusals": refusals, "more": more, "warnings": warnings}
 
     def _conditions(self, device: Device, beginning: Beginning) -> Conditions:
-        return Conditions(beginning, in_force_on(device.state), Settings.read(self.settings), device.is_large, True)
+        return Conditions(beginning, beginning.on_device, Settings.read(self.settings), device.is_large, True)
 
 
 def find(check: Check, data: bytes) -> dict:

@@ -3,8 +3,9 @@ from ngc_tools.formats.device import Device
 from ngc_tools.formats.lines import Program
 from ngc_tools.formats.position import millimetres, nanometres
 from ngc_tools.formats.text import shown_line
+from ngc_tools.job.in_force import in_force_on
 from ngc_tools.ngc.console import Status
-from ngc_tools.operator.display import in_force_on, outputs_on
+from ngc_tools.operator.display import outputs_on
 from ngc_tools.operator.motors import way_nm
 from ngc_tools.operator.session import ALARM, BROKEN
 from ngc_tools.page.face import LOOKS
