@@ -3,6 +3,7 @@ import sys
 import unittest
 from dataclasses import replace
 from pathlib import Path
+from unittest import mock
 
 sys.path.insert(0, str(Path(__file__).resolve().parent))
 
@@ -242,6 +243,17 @@ class Faces(Core):
         status, report = operator.look()
         self.assertEqual((status.at[0], status.does, report), ("0.100000", "idle", None))
         self.assertEqual(operator.stored().program, text)
+
+    def test_messages(self) -> None:
+        """Each message comes once, however many ticks are given at a time: the end of a program may be the last of them,
+        and a program may be through within them."""
+        self.begin()
+        for count in (1, 2, 3, 5, 8, 1000):
+            self.load("G21 G90\n(MSG, one)\nG0 X0.1\nX0\n(MSG, two)\nM2\n")
+            with mock.patch.object(self.operator.work, "room", lambda: count):
+                said = self.do("run")
+            self.assertEqual([text for text in said if "message" in text],
+                             ["message, line 2: one", "message, line 5: two"], count)
 
 
 class Places(Core):

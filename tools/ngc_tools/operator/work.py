@@ -100,7 +100,7 @@ class Work:
             self.chunk.lasted(time.monotonic() - begun)
             status = self._status = session.console.status()
             session.passed(status)
-            self._show_messages(status, "idle" in replies and not session.own)
+            self._show_messages(status, any(reply.startswith("done") for reply in replies) and not session.own)
             if ended := self._ended(replies, status):
                 self._shown = _Shown(status.place, "all is handed out", None, ())
                 return ended
@@ -189,11 +189,13 @@ class Work:
         elif now > self._free_at + _HELD_S:
             self.session.face.once(_HELD)
 
-    def _show_messages(self, status: Status, is_through: bool) -> None:
-        """Shows the messages of the lines that the place has passed; a program that is through stands at its start."""
+    def _show_messages(self, status: Status, is_done: bool) -> None:
+        """Shows the messages of the lines that the place has passed. `is_done`: a line of the program was carried out; if
+        the place is its start then, it is through."""
         session = self.session
-        goes_on = status.place > session.told or status.place == session.told and not is_through
-        end = status.place if goes_on else len(session.program.text)
+        begins = status.place == session.told == 0 and status.half == "none"
+        is_through = status.place < session.told or is_done and begins
+        end = len(session.program.text) if is_through else status.place
         for number, message in session.program.messages(session.told, end, session.delete):
             session.face.say(f"message, line {number}: {message}", MESSAGE)
         session.told = status.place
