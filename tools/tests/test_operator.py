@@ -245,8 +245,8 @@ class Faces(Core):
         self.assertEqual(operator.stored().program, text)
 
     def test_messages(self) -> None:
-        """Each message comes once, however many ticks are given at a time: the end of a program may be the last of them,
-        and a program may be through within them."""
+        """Each message comes once, however many ticks are given at a time: the end of a program may be the last of
+        them, and a program may be through within them."""
         self.begin()
         for count in (1, 2, 3, 5, 8, 1000):
             self.load("G21 G90\n(MSG, one)\nG0 X0.1\nX0\n(MSG, two)\nM2\n")

@@ -428,7 +428,7 @@ class BeyondTheRecord(InFolder):
         self.assertEqual(self.past(b"P 1 1 0 500\n" * 2, 0, 0, 10), (2, 2 * 1414, True))
 
     def test_override(self) -> None:
-        """At 200 percent a line takes half its time: 41 of 500 us in 10 ms, or 401 of 50 us; 9 ms of waiting take 4.5."""
+        """At 200 percent a line takes half its time: 41 of 500 us in 10 ms, or 401 of 50 us; 9 ms of waiting 4.5."""
         slow = b"P 1 0 0 500\n"
         self.assertEqual(self.past(slow * 99, 40, 480, 10, 200), (41, 41_000, True))
         self.assertEqual(self.past(slow + b"D 9000\n" + slow * 99, 0, 0, 10, 200), (24, 23_000, True))

@@ -190,8 +190,8 @@ class Work:
             self.session.face.once(_HELD)
 
     def _show_messages(self, status: Status, is_done: bool) -> None:
-        """Shows the messages of the lines that the place has passed. `is_done`: a line of the program was carried out; if
-        the place is its start then, it is through."""
+        """Shows the messages of the lines that the place has passed. `is_done`: a line of the program was carried out;
+        if the place is its start then, it is through."""
         session = self.session
         begins = status.place == session.told == 0 and status.half == "none"
         is_through = status.place < session.told or is_done and begins
