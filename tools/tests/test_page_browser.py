@@ -11,7 +11,7 @@ sys.path.insert(0, str(Path(__file__).resolve().parent))
 
 from browser_support import Browser, chromium  # noqa: E402
 from machine_support import SocketMachine  # noqa: E402
-from page_support import OTHER, SLOW, Served  # noqa: E402
+from page_support import OTHER, SHORT, SLOW, Served  # noqa: E402
 from session_support import PATIENCE_S, TOOLS, ngc  # noqa: E402
 
 DOCS = TOOLS.parent / "docs"
@@ -141,6 +141,16 @@ class InBrowser(Served):
             self.assertEqual(self.browser.js(CONTRAST), [], what)
             self.browser.js("document.getElementById('theme').click()")
         self.browser.size(*SIZES[0])
+
+    def begin_again(self) -> None:
+        """Power comes back: the page is served at the same address."""
+        port, key = re.fullmatch(r"http://127\.0\.0\.1:(\d+)/(.*)/", self.address).groups()
+        os.environ["NGC_PAGE_KEY"] = key
+        self.addCleanup(os.environ.pop, "NGC_PAGE_KEY")
+        self.begin_player()
+        self.server = self.start("ngc-page", "mill.dev", "first.toml", self.OUT, "--player", "progress", "--ngc", ngc(),
+                                 "--listen", f"127.0.0.1:{port}")
+        self.assertEqual(self.server.stdout.readline().strip(), self.address)
 
     def no_complaints(self) -> None:
         """The page logged nothing, and asked nobody else; a server that is gone may be missed."""
@@ -358,16 +368,6 @@ class Power(InBrowser):
         self.assertFalse(browser.js("document.getElementById('over').checkVisibility()"))
         self.no_complaints()
 
-    def begin_again(self) -> None:
-        """Power comes back: the page is served at the same address."""
-        port, key = re.fullmatch(r"http://127\.0\.0\.1:(\d+)/(.*)/", self.address).groups()
-        os.environ["NGC_PAGE_KEY"] = key
-        self.addCleanup(os.environ.pop, "NGC_PAGE_KEY")
-        self.begin_player()
-        self.server = self.start("ngc-page", "mill.dev", "first.toml", self.OUT, "--player", "progress", "--ngc", ngc(),
-                                 "--listen", f"127.0.0.1:{port}")
-        self.assertEqual(self.server.stdout.readline().strip(), self.address)
-
     def agree_to_all(self) -> None:
         """Answers each question by a yes, up to the one before which one has to look."""
         browser, last = self.browser, 0
@@ -385,6 +385,34 @@ class Power(InBrowser):
         browser.wait(f"ngc.state.now > {seen} + 1")
         self.assertEqual(browser.js("document.querySelectorAll('#over .look [aria-pressed=true]').length"), 3)
         browser.press("Yes", "#over .go")
+
+
+class PowerOverPipe(InBrowser):
+    """Power is lost with a pipe as OUT: what no motor carried out is never cut."""
+
+    def test_never_cut(self) -> None:
+        """It is red in both pictures, and said where the way is rehearsed."""
+        browser = self.browser
+        self.load(SHORT, SHORT.count("\n"))
+        browser.press("Run", "#run")
+        browser.wait("ngc.state.motors[0] > 0.05")
+        before = browser.js("ngc.state.session")
+        self.pull()
+        self.begin_again()
+        browser.wait(f"ngc.state?.session && ngc.state.session !== '{before}' && ngc.neverCut")
+        browser.wait("document.querySelector('#over .bad')?.textContent.includes('NEVER CUT')")
+        self.assertTrue(browser.js("ngc.picture.lost.length > 1 && !document.getElementById('never-cut').hidden"))
+        self.look("what was never cut")
+        browser.press("Next", "#over button")
+        for _ in range(3):
+            browser.press("Confirm", "#over button")
+        browser.press("Next", "#over button")
+        browser.wait("document.querySelector('#over details')")
+        self.assertIn("Red in the picture. NEVER CUT", browser.js("document.querySelector('#over .bad').textContent"))
+        self.look("a rehearsal of what was never cut")
+        if os.environ.get("NGC_SHOT"):
+            browser.shoot(os.environ["NGC_SHOT"])
+        self.no_complaints()
 
 
 if __name__ == "__main__":

@@ -57,6 +57,17 @@ class _Lines:
     ahead: Run | None = None
 
 
+@dataclass(frozen=True, slots=True)
+class NeverCut:
+    """Lines of OUT that lead from the motors to where the half-done segment begins, `text`, some `most` of them: they
+    were handed out, no motor carried them out, and nothing makes them again. The motors may have stood at the end of
+    fewer, `least`, where their path comes to the same place more than once."""
+
+    text: bytes
+    most: int
+    least: int
+
+
 class _Text(Copy):
     """A copy that keeps all that is handed out."""
 
@@ -114,6 +125,22 @@ class Finder:
             raise CannotTell(f"{out} doesn't end with lines of the half-done block: it isn't the OUT of this device, or"
                              " the record isn't that of this OUT")
         return self._beginning(size, own, at, False)
+
+    def never_cut(self, at: list[str], ahead: int) -> NeverCut:
+        """What was handed out before the half-done segment and not carried out: the motors are at `at`, in machine
+        millimetres, and OUT was ahead of them by so many lines at most. Raises CannotTell if they aren't on the path
+        that was handed out last, CommandRefused, Ended, OSError."""
+        lines, ends = self._by_log(), self._steps(at)
+        if lines is None:
+            raise CannotTell("the log doesn't tell what was handed out before the half-done block")
+        end = len(lines.before)
+        places = list(_places(lines.before + lines.own, lines.start, ends))
+        if not places:
+            raise CannotTell("the motors aren't on the path that was handed out last")
+        window = end - sum(map(len, lines.before[-ahead * LONGEST_LINE:].splitlines(True)[-ahead:]))
+        near = [place for place in places if place >= window] or places[-1:]
+        text = lines.before[near[0]:]
+        return NeverCut(text, text.count(b"\n"), lines.before.count(b"\n", min(near[-1], end)))
 
     def _off(self, text: "bytes | mmap.mmap", size: int, whole: bytes, lines: _Lines) -> int | None:
         """The beginning of the lines with which OUT ends, wherever the motors are; None if there isn't one alone, by

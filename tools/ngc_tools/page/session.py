@@ -24,6 +24,7 @@ from ngc_tools.page.drawer import Drawer
 from ngc_tools.page.drawing import Source, as_begun
 from ngc_tools.page.face import PageFace
 from ngc_tools.page.findings import Check, find
+from ngc_tools.page.never_cut import Asked, NeverCutSearch
 from ngc_tools.page.jog import HeldJog
 from ngc_tools.page.stand import Kept, Stand, recovery_of
 from ngc_tools.player.progress import Link, NoAnswer
@@ -89,6 +90,7 @@ class Session:
         self.over = threading.Event()
         self.name, self.program_id, self.ended = "", 1, "it isn't begun yet"
         self.drawer = Drawer(self.aside, face.publish)
+        self.never_cut = NeverCutSearch(self.aside, face)
         self.started = 0.0  # when the program was started in this session, in seconds since 1970
         self.is_finished = False  # it ran to its end, and nothing was begun since
         self._next: Command | None = None
@@ -121,6 +123,16 @@ class Session:
         self.drawer.begin(self._source_of(begun or self.kept.device))
         self.face.look = self._look
         self._look()
+        self._find_never_cut()
+
+    def _find_never_cut(self) -> None:
+        """Finds what the last session left uncut. Of a file that is followed no line is lost."""
+        meter, report, found = self.operator.session.meter, self.stand.report, self.opened.found
+        self.never_cut.forget()
+        if meter and report and found and self.operator.recover.found is None:
+            console = self.operator.console
+            self.never_cut.begin(Asked(console.ngc, console.settings, found.image, report.at.split(),
+                                       meter.most_ahead(report)))
 
     # what pages ask for
 
@@ -191,6 +203,7 @@ class Session:
             self.face.message = ""
             if not self.stand.status.place and self.stand.status.does == "idle":
                 self.started = time.time()
+                self.never_cut.forget()
                 if not self.drawer.is_of(self.kept.device):
                     self._draw()
             self.operator.do(line)
@@ -203,6 +216,7 @@ class Session:
             if not self.operator.load(name, text):
                 return False
             self.name, self.program_id, self.started = name, self.program_id + 1, 0.0
+            self.never_cut.forget()
             self.face.message = ""
             self._draw()
             return True

@@ -95,7 +95,8 @@ class Pictured:
         session, setter_nm = self.session, self.operator.touch.setter_nm
         return {"session": session.ident, "ended": session.ended, "over": session.over.is_set(),
                 "program": {"id": session.program_id, "name": session.name, "lines": self.program.count},
-                "job": session.drawer.count, "finished": session.is_finished, "started": session.started,
+                "job": session.drawer.count + session.never_cut.count,
+                "finished": session.is_finished, "started": session.started,
                 "left_at": session.opened.left_at, "broken": self.stand.is_broken, "undo": self.operator.touch.undoes,
                 "setter": None if setter_nm is None else millimetres(setter_nm),
                 "typed": self.stand.typed, "restore": self.stand.restore}
