@@ -9,10 +9,12 @@ sys.path.insert(0, str(Path(__file__).resolve().parent))
 from page_support import SHORT, Page, Served  # noqa: E402
 from session_support import InFolder, ngc  # noqa: E402
 
+from ngc_tools.job.moves import CUT, TRAVERSE, Move  # noqa: E402
 from ngc_tools.ngc.carried import CannotTell  # noqa: E402
 from ngc_tools.ngc.console import Console  # noqa: E402
 from ngc_tools.ngc.handed_out import Finder  # noqa: E402
 from ngc_tools.page.never_cut import Asked, found  # noqa: E402
+from ngc_tools.page.rehearse import finished  # noqa: E402
 
 BACK = "G21 G90 G94\nG1 X0.01 F60\nX0\nX0.02\nM2\n"
 """Ten pulses on, ten back, and twenty on."""
@@ -57,6 +59,20 @@ class Found(InFolder):
             told = found(Asked(ngc(), "first.toml", self.image, [x, "0.000000", "0.000000"], 10))
             self.assertEqual((told["lines"], told["points"][:1] + told["points"][-1:]), (lines, ends))
             self.assertIn(words, told["words"])
+
+
+class Finished(unittest.TestCase):
+    """What counts as cut where the way back is looked at."""
+
+    def test_finished(self) -> None:
+        """Not what a loss of power left uncut, whose first move may be cut in part; nor traverses."""
+        moves = [Move(CUT, ((0, 0, 0), (1000, 0, 0))), Move(TRAVERSE, ((1000, 0, 0), (2000, 0, 0))),
+                 Move(CUT, ((2000, 0, 0), (900_000, 0, 0)))]
+        for lost, points in ((None, [moves[0].points, moves[2].points]),
+                             (((500_000, 0, 0), 400_000), [moves[0].points, ((2000, 0, 0), (500_000, 0, 0))]),
+                             (((9_000_000, 0, 0), 400_000), [moves[0].points]),
+                             (((9_000_000, 0, 0), 900_000), [])):
+            self.assertEqual([move.points for move in finished(moves, lost)], points, lost)
 
 
 class OverPipe(Served):

@@ -41,12 +41,12 @@ def found(asked: Asked) -> dict:
     x, y, z = map(nanometres, asked.at)
     moves = [move for move in of_out(lost.text, Settings.read(asked.settings), (x, y, z)) if isinstance(move, Move)]
     if not moves:
-        return {"words": _KEPT, "lines": 0, "points": []}
+        return {"words": _KEPT, "lines": 0, "length_nm": 0, "points": []}
     may = _MAY.format(least=f"{lost.least:,}") if lost.least < lost.most else ""
-    length = rounded(sum(move.length for move in moves))
+    length = sum(move.length for move in moves)
     points = [list(map(micrometres, point)) for move in moves for point in move.points]
-    return {"words": _LEFT.format(lines=_counted(lost.most), length=length, may=may), "lines": lost.most,
-            "points": points}
+    words = _LEFT.format(lines=_counted(lost.most), length=rounded(length), may=may)
+    return {"words": words, "lines": lost.most, "length_nm": length, "points": points}
 
 
 def _counted(lines: int) -> str:
@@ -62,13 +62,21 @@ class NeverCutSearch:
         self.count = 0
         self._aside, self._face = aside, face
         self._asked: Asked | None = None
+        self._thread = threading.Thread()
 
     def begin(self, asked: Asked) -> None:
         """Finds it, if a block of the device is half-done."""
         self.forget()
         if Device(asked.image).state.half:
             self._asked = asked
-            threading.Thread(target=self._find, args=[asked], daemon=True).start()
+            self._thread = threading.Thread(target=self._find, args=[asked], daemon=True)
+            self._thread.start()
+
+    def awaited(self) -> dict | None:
+        """What is found, once it is."""
+        if self._thread.ident is not None:
+            self._thread.join()
+        return self.found
 
     def forget(self) -> None:
         """Another program is loaded, or this one begins anew."""
@@ -79,7 +87,7 @@ class NeverCutSearch:
         try:
             told = self._aside.call(found, asked)
         except (NotDone, OSError) as error:
-            told = {"words": _UNKNOWN.format(why=error), "lines": 0, "points": []}
+            told = {"words": _UNKNOWN.format(why=error), "lines": 0, "length_nm": 0, "points": []}
         if asked is self._asked:
             self._take(told)
             self._face.say(told["words"], SAID if told["words"] == _KEPT else WARNING)

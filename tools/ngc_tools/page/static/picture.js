@@ -246,7 +246,7 @@ export class Picture {
     if (!this.lost.length) return;
     g.strokeStyle = this.colours.red;
     g.lineJoin = g.lineCap = 'round';
-    g.lineWidth = 5;
+    g.lineWidth = 9;
     paint.line(g, this.m, this.lost);
     g.lineWidth = 2.5;
     paint.ring(g, ...paint.place(this.m, ...this.lost[0]), 6);
