@@ -353,6 +353,7 @@ class Power(InBrowser):
         self.look("what was stored")
         browser.press("Next", "#over button")
         self.assertTrue(browser.js("document.querySelector('#over .foot .go').disabled"))
+        self.assertIn("they make at most", browser.js("document.querySelector('#over .warn').textContent"))
         for _ in range(3):
             browser.press("Confirm", "#over button")
         self.look("where it stands")
@@ -376,6 +377,7 @@ class Power(InBrowser):
             last = question["id"]
             if question["purpose"] == "look":
                 break
+            self.assertNotIn("Do they stand there?", question["text"])  # each axis is confirmed
             browser.press("Yes", "#over .go")
         browser.wait("document.querySelectorAll('#over .look button').length === 3")
         self.assertTrue(browser.js("document.querySelector('#over .foot .go').disabled"))

@@ -1,23 +1,34 @@
 """The page after a loss of power: what was never cut, and the steps back to the job, at many moments of it."""
 import json
+import os
 import sys
 import unittest
+from collections.abc import Callable
 from pathlib import Path
+from unittest.mock import patch
 
 sys.path.insert(0, str(Path(__file__).resolve().parent))
 
 from page_support import SHORT, Page, Served  # noqa: E402
 from session_support import InFolder, ngc  # noqa: E402
 
+from ngc_tools.cli.page import Opener, make_parser  # noqa: E402
+from ngc_tools.failure import Failure  # noqa: E402
 from ngc_tools.job.moves import CUT, TRAVERSE, Move  # noqa: E402
 from ngc_tools.ngc.carried import CannotTell  # noqa: E402
 from ngc_tools.ngc.console import Console  # noqa: E402
 from ngc_tools.ngc.handed_out import Finder  # noqa: E402
+from ngc_tools.page.aside import Aside, NotDone  # noqa: E402
+from ngc_tools.page.face import LOOKS, PageFace  # noqa: E402
 from ngc_tools.page.never_cut import Asked, found  # noqa: E402
-from ngc_tools.page.rehearse import finished  # noqa: E402
+from ngc_tools.page.rehearse import finished, rehearse  # noqa: E402
+from ngc_tools.page.session import Session  # noqa: E402
+from ngc_tools.player.progress import Report  # noqa: E402
 
 BACK = "G21 G90 G94\nG1 X0.01 F60\nX0\nX0.02\nM2\n"
 """Ten pulses on, ten back, and twenty on."""
+JOB = "G17 G21 G90 G94\nM3 S100\nG0 X1\nG1 Z-1 F600\nX3\nG2 X1 Y2 I-2 F900\nG1 X0 Y0\nM2\n"
+"""18,000 pulses or so: a traverse, a plunge, lines, an arc."""
 
 
 class Found(InFolder):
@@ -106,6 +117,149 @@ class OverPipe(Served):
     def never_cut(page: Page) -> dict | None:
         """What is told of it."""
         return json.loads(page.get("job")[1])["never_cut"]
+
+
+class Task:
+    """Work aside that is done within this process."""
+
+    def __init__(self, function: Callable, given: tuple) -> None:
+        self.function, self.given = function, given
+
+    def result(self) -> object:
+        """Does it. Raises NotDone."""
+        try:
+            return self.function(*self.given)
+        except (Failure, OSError) as error:
+            raise NotDone(str(error)) from None
+
+    def give_up(self) -> None:
+        """It isn't wanted any more."""
+
+
+class Here(Aside):
+    """Does work aside within this process, which costs less."""
+
+    def begin(self, function: Callable, *given: object) -> Task:
+        """What is to be done."""
+        return Task(function, given)
+
+
+class Moments(InFolder):
+    """Power is lost at moments of one job, so many as NGC_PAGE_MOMENTS says, and the four steps lead to its end."""
+
+    def setUp(self) -> None:
+        """The device with the job, and what OUT is to hold in the end: that of a run that nothing disturbs."""
+        super().setUp()
+        self.device()
+        self.run_ngc(f"load {len(JOB)}\n{JOB}")
+        self.image = Path("mill.dev").read_bytes()
+        self.run_ngc("start\ntick 99999\n", "whole")
+        self.pulses = pulses_of("whole")
+        (patched := patch("ngc_tools.page.session.Aside", Here)).start()
+        self.addCleanup(patched.stop)
+
+    def test_moments(self) -> None:
+        """Each time all pulses of the job are carried out, in turn, none is missing and none comes twice."""
+        count = int(os.environ.get("NGC_PAGE_MOMENTS", "20"))
+        halves = 0
+        for number in range(count):
+            lost_at = len(self.pulses) * (2 * number + 1) // (2 * count)
+            self.begin_anew()
+            self.lose_power(lost_at)
+            halves += self.go_back()
+            self.assertTrue(pulses_of("out") == self.pulses, f"lost at {lost_at}")
+        self.assertGreater(halves, count // 2)
+
+    def begin_anew(self) -> None:
+        """The device as the job was loaded, and nothing carried out."""
+        Path("mill.dev").write_bytes(self.image)
+        Path("out").write_bytes(b"")
+        Path("position").unlink(missing_ok=True)
+
+    def session(self) -> Session:
+        """A player, and a session of a page."""
+        self.player = self.start("ngc-player", "out", "first.toml", "position", "--progress", "progress", "--follow",
+                                 "--untimed")
+        self.wait_for("the player listens", lambda: os.path.exists("progress"))
+        words = ["mill.dev", "first.toml", "out", "--player", "progress", "--ngc", ngc()]
+        session = Session(Opener(ngc(), make_parser().parse_args(words)), PageFace())
+        self.addCleanup(session.leave)
+        self.addCleanup(session.operator.console.kill)
+        return session
+
+    def lose_power(self, lost_at: int) -> None:
+        """Starts the job, and ends `ngc` and the player once so many lines are carried out."""
+        session = self.session()
+        link, ask = session.operator.session.meter.link, session.operator.session.meter.link.ask
+
+        def asked() -> Report:
+            """Power is lost right behind an answer of the player."""
+            report = ask()
+            if report.carried >= lost_at:
+                self.player.kill()
+                session.operator.console.child.kill()
+            return report
+
+        link.ask = asked
+        session.run("run")
+        self.wait_for("power is lost", lambda: session.ended != "")
+        session.leave()
+        session.operator.console.kill()
+        self.end_player()
+
+    def end_player(self) -> None:
+        """Ends the player as a loss of power does."""
+        self.player.kill()
+        self.player.wait()
+        os.unlink("progress")
+
+    def go_back(self) -> bool:
+        """Through the four steps, where the page leads through them, and on to the end; whether it did."""
+        session = self.session()
+        status, stands = session.stand.status, session.face.report.at.split()
+        is_half = status.half != "none"
+        if is_half:
+            self.assertIn("they make at most", session.past)
+            rehearsed = rehearse(session, stands, True)
+            self.assertEqual((rehearsed["refused"], session.stand.recovery["problem"]), ("", ""))
+        if is_half or session.stand.recovery["left"]:
+            session.recover(stands)
+            asked = self.agrees(session)
+            self.assertEqual([text for text in asked if "Do they stand there?" in text], [])
+            self.assertEqual(sum(text in LOOKS for text in asked), is_half)
+        if not session.is_finished:
+            session.run("run")
+            self.agrees(session)
+        self.assertEqual(session.face.report.at, "0.000000 0.000000 -1.000000")
+        session.quit()
+        self.agrees(session)
+        self.wait_for("it is over", session.over.is_set)
+        self.end_player()
+        return is_half
+
+    def agrees(self, session: Session) -> list[str]:
+        """Agrees to all that is asked until nothing is under way; what was asked."""
+        asked: list[str] = []
+        seen = 0
+        while True:
+            self.wait_for("it asks, or is through", lambda seen=seen: not session.is_busy or is_new(session, seen))
+            question = session.face.question
+            if question is None or question.id == seen:
+                return asked
+            seen = question.id
+            asked.append(question.text)
+            session.face.answer(seen, "yes" if question.kind == "yes" else "1")
+
+
+def is_new(session: Session, seen: int) -> bool:
+    """Whether something is asked that wasn't before."""
+    question = session.face.question
+    return question is not None and question.id != seen
+
+
+def pulses_of(out: str) -> list[bytes]:
+    """The pulses of a file of OUT."""
+    return [line for line in Path(out).read_bytes().splitlines() if line.startswith(b"P")]
 
 
 if __name__ == "__main__":

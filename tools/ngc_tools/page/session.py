@@ -14,6 +14,7 @@ from typing import Any
 
 from ngc_tools.failure import Failure
 from ngc_tools.formats.device import Device
+from ngc_tools.formats.position import nanometres
 from ngc_tools.formats.settings import Settings
 from ngc_tools.ngc.console import Ended, Status
 from ngc_tools.operator.face import REFUSED, WARNING
@@ -91,6 +92,7 @@ class Session:
         self.name, self.program_id, self.ended = "", 1, "it isn't begun yet"
         self.drawer = Drawer(self.aside, face.publish)
         self.never_cut = NeverCutSearch(self.aside, face)
+        self.past = ""  # how far the motors may be past the player's record
         self.started = 0.0  # when the program was started in this session, in seconds since 1970
         self.is_finished = False  # it ran to its end, and nothing was begun since
         self._next: Command | None = None
@@ -123,7 +125,20 @@ class Session:
         self.drawer.begin(self._source_of(begun or self.kept.device))
         self.face.look = self._look
         self._look()
+        self.past = self._found_past()
         self._find_never_cut()
+
+    def _found_past(self) -> str:
+        """How old the player's record was, and how far the motors may be past it, in words; nothing where nothing was
+        left by the last session, or that isn't known."""
+        recovery = self.stand.recovery
+        is_left = self.stand.status.half != "none" or recovery is not None and recovery["left"]
+        if not is_left or self.operator.session.report() is None:
+            return ""
+        try:
+            return self.operator.recover.past().words()
+        except (NoAnswer, OSError):
+            return ""
 
     def _find_never_cut(self) -> None:
         """Finds what the last session left uncut. Of a file that is followed no line is lost."""
@@ -208,6 +223,15 @@ class Session:
                     self._draw()
             self.operator.do(line)
         self.give("run", does)
+
+    def recover(self, stands: list[str] | None) -> None:
+        """Does `recover`. A person has confirmed that the motors stand there, in machine millimetres; None where nobody
+        was asked. Raises Busy."""
+        def does() -> None:
+            """By the operator's core."""
+            self.operator.recover.confirmed_nm = tuple(map(nanometres, stands)) if stands else None
+            self.operator.do("recover")
+        self.give("recover", does)
 
     def load(self, name: str, text: bytes) -> bool:
         """Stores a program that people call `name`; whether it was taken. Raises Busy."""

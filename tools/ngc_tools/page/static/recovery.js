@@ -178,9 +178,10 @@ export class Recovery {
     this.put([sheet.title('Where does the machine stand now?'),
       sheet.said('Machine coordinates in mm. Look at the machine, and confirm each axis.'),
       ...AXES.map((_, i) => this.confirm(i, enable)),
-      state.can?.home && sheet.said('Where steps may be lost, choose Back and Later, and home the machine: Setup.'),
-      sheet.soft('The player\u2019s record is older than the loss of power by up to 20 ms and a sync, and a motor that '
-        + `turned went on for a while.${age} If you freed the tool by hand, write where it is now.`)],
+      state.machine && sheet.said('Where steps may be lost, choose Back and Later, and home the machine: Setup.'),
+      state.past && sheet.warning(`By the player\u2019s record. ${state.past}; and a motor that turned went on for a `
+        + 'while.'),
+      sheet.soft(`If you freed the tool by hand, write where it is now.${age}`)],
     [this.back(0), sheet.gap(), next]);
     enable();
   }
@@ -281,7 +282,8 @@ export class Recovery {
     const { recover, player } = this.app.state, canResume = Boolean(this.plan?.approach) && !recover?.left;
     const offered = this.along ? ['along'] : player ? ['legs'] : [];
     if (canResume) offered.push('straight');
-    const does = { along: () => this.asks('recover'), legs: () => this.asks('recover'), straight: () => this.resume() };
+    const recovers = () => this.asks('recover', { at: this.at });
+    const does = { along: recovers, legs: recovers, straight: () => this.resume() };
     const buttons = offered.map((name, i) => (i === (this.along ? 0 : offered.length - 1) ? sheet.go : sheet.button)(
       CHOICES[name][0], does[name], this.app.state.yours));
     this.put([sheet.title('Take the line up, or give it up'),
