@@ -35,14 +35,18 @@ class Found(InFolder):
     """What is found in the log, for a place of the motors."""
 
     def setUp(self) -> None:
-        """Power is lost in line 4 of BACK."""
+        """A device."""
         super().setUp()
         self.device()
+
+    def lose_power(self, program: str, at: str, block_delete: str = "off") -> None:
+        """Power is lost in the line of a program that begins so."""
         console = Console(ngc(), "mill.dev", "first.toml", "out")
         self.addCleanup(console.kill)
-        console.load(BACK.encode())
+        console.load(program.encode())
+        console.ask(f"delete {block_delete}")
         console.ask("start")
-        while console.status().place != BACK.index("X0.02") or console.status().half == "none":
+        while console.status().place != program.index(at) or console.status().half == "none":
             console.ask("tick 1")
         console.kill()
         self.image = Path("mill.dev").read_bytes()
@@ -55,6 +59,7 @@ class Found(InFolder):
 
     def test_places(self) -> None:
         """Where the path comes to the place more than once, the first of those counts that OUT could be ahead of."""
+        self.lose_power(BACK, "X0.02")
         for x, ahead, lost in (("0.004000", 100, (16, 0)), ("0.004000", 10, (4, 0)), ("0.010000", 100, (10, 0)),
                                ("0.015000", 100, (0, 0))):
             self.assertEqual(self.lost(x, ahead), lost, (x, ahead))
@@ -63,13 +68,20 @@ class Found(InFolder):
 
     def test_words(self) -> None:
         """What is said of it, and its points."""
+        self.lose_power(BACK, "X0.02")
         for x, lines, ends, words in (
                 ("0.004000", 4, [[4, 0, 0], [0, 0, 0]], "NEVER CUT: 4 lines handed out before the half-done segment,"
                  " 0.004 mm, which no motor carried out"),
-                ("0.015000", 0, [], "No line is missing: by the record the motors were in the half-done segment")):
+                ("0.015000", 0, [], "This loss of power left nothing uncut before the half-done segment")):
             told = found(Asked(ngc(), "first.toml", self.image, [x, "0.000000", "0.000000"], 10))
             self.assertEqual((told["lines"], told["points"][:1] + told["points"][-1:]), (lines, ends))
             self.assertIn(words, told["words"])
+
+
+    def test_block_delete(self) -> None:
+        """Lines with a slash that were left out aren't on the path."""
+        self.lose_power("G21 G90 G94\n/G1 Y0.02 F60\nG1 X0.04 F60\nX0.06\nM2\n", "X0.06", "on")
+        self.assertEqual(self.lost("0.030000", 100), (10, 10))
 
 
 class Finished(unittest.TestCase):

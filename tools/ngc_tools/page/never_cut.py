@@ -15,7 +15,9 @@ from ngc_tools.page.aside import Aside, NotDone
 from ngc_tools.page.face import PageFace
 
 _UNKNOWN = "What was handed out before the half-done segment and never cut can't be told: {why}"
-_KEPT = "No line is missing: by the record the motors were in the half-done segment, which is made again"
+_KEPT = """\
+This loss of power left nothing uncut before the half-done segment, which is made again: by the record the motors were \
+in it, or on the way to it"""
 _LEFT = """\
 NEVER CUT: {lines} handed out before the half-done segment, {length} mm, which no motor carried out by the record. \
 Nothing makes them: cut them by lines of your own first, or live with it{may}"""
