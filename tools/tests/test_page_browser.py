@@ -405,7 +405,7 @@ class Power(InBrowser):
         self.look("what was stored")
         browser.press("Next", "#over button")
         self.assertTrue(browser.js("document.querySelector('#over .foot .go').disabled"))
-        self.assertIn("they make at most", browser.js("document.querySelector('#over .warn').textContent"))
+        self.assertIn("they make at most", browser.js("document.querySelector('#over .words').textContent"))
         for _ in range(3):
             browser.press("Confirm", "#over button")
         self.look("where it stands")

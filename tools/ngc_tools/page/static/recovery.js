@@ -175,13 +175,13 @@ export class Recovery {
     const { state } = this.app, next = this.next('Next: rehearsal', () => this.rehearsal());
     const enable = () => { next.disabled = !(state.yours && this.sure.every(Boolean)); };
     const age = state.left_at ? ` The device was written last ${lasting(1e6 * (state.now - state.left_at))} ago.` : '';
+    const past = state.past && `By the player\u2019s record. ${state.past}; and a motor that turned went on for a `
+      + 'while. ';
     this.put([sheet.title('Where does the machine stand now?'),
       sheet.said('Machine coordinates in mm. Look at the machine, and confirm each axis.'),
       ...AXES.map((_, i) => this.confirm(i, enable)),
       state.machine && sheet.said('Where steps may be lost, choose Back and Later, and home the machine: Setup.'),
-      state.past && sheet.warning(`By the player\u2019s record. ${state.past}; and a motor that turned went on for a `
-        + 'while.'),
-      sheet.soft(`If you freed the tool by hand, write where it is now.${age}`)],
+      sheet.soft(`${past}If you freed the tool by hand, write where it is now.${age}`)],
     [this.back(0), sheet.gap(), next]);
     enable();
   }
