@@ -449,7 +449,7 @@ class PowerOverPipe(InBrowser):
         browser = self.browser
         self.load(SHORT, SHORT.count("\n"))
         browser.press("Run", "#run")
-        browser.wait("ngc.state.motors[0] > 0.05")
+        browser.wait("ngc.state.motors[0] > 0.05 && ngc.state.behind > 60")
         before = browser.js("ngc.state.session")
         self.pull()
         self.begin_again()

@@ -107,7 +107,7 @@ class OverPipe(Served):
         page = self.page()
         self.load(page, SHORT)
         self.assertEqual(page.post("run"), (200, {}))
-        page.until("it cuts", lambda state: float(state["motors"][0]) > 0.05)
+        page.until("it cuts", lambda state: float(state["motors"][0]) > 0.05 and state["behind"] > 60)
         self.pull()
         self.begin()
         page = self.page()

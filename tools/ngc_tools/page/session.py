@@ -92,7 +92,7 @@ class Session:
         self.name, self.program_id, self.ended = "", 1, "it isn't begun yet"
         self.drawer = Drawer(self.aside, face.publish)
         self.never_cut = NeverCutSearch(self.aside, face)
-        self.past = ""  # how far the motors may be past the player's record
+        self.past, self.past_at = "", ""  # how far the motors may be past the player's record, which has them there
         self.started = 0.0  # when the program was started in this session, in seconds since 1970
         self.is_finished = False  # it ran to its end, and nothing was begun since
         self._next: Command | None = None
@@ -125,7 +125,7 @@ class Session:
         self.drawer.begin(self._source_of(begun or self.kept.device))
         self.face.look = self._look
         self._look()
-        self.past = self._found_past()
+        self.past, self.past_at = self._found_past(), self.stand.report.at if self.stand.report else ""
         self._find_never_cut()
 
     def _found_past(self) -> str:

@@ -81,7 +81,7 @@ class Pictured:
         said = {"player": meter is not None, "player_gone": self.stand.gone, "motors": report and report.at.split(),
                 "speed": out.speed / 10**6, "spindle": out.spindle, "mist": out.mist, "flood": out.flood,
                 "slot": out.slot, "selected": out.selected, "recover": self.stand.recovery,
-                "past": self.session.past}
+                "past": self.session.past if report and report.at == self.session.past_at else ""}
         if not report or not meter:
             return said | {"behind": None, "waits": False, "ahead": None, "percent": 100, "has_percent": False,
                            "held_motors": False, "behind_mm": None, "keeps": False}
