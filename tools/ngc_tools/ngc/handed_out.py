@@ -11,7 +11,7 @@ from dataclasses import dataclass, replace
 from pathlib import Path
 
 from ngc_tools.formats.device import Device, State
-from ngc_tools.formats.out import LONGEST_LINE, Pulse, Switch, read_line
+from ngc_tools.formats.out import LONGEST_LINE, Switch, read_line
 from ngc_tools.formats.position import nanometres, rounded
 from ngc_tools.formats.settings import Settings
 from ngc_tools.ngc.carried import CannotTell, Run, is_within, runs
