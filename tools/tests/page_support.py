@@ -17,6 +17,8 @@ SLOW = "G17 G21 G90 G94\nG0 X0 Y0 Z0\nG1 X2 F3\nM2\n"
 """Its line 3 is a cut of 40 s, which no test sees the end of."""
 CUT = "M3 S100\nG17 G21 G90 G94\nG0 X0 Y0 Z0\nG1 X2 F600\nG1 X0 Z-1 F12\nM2\n"
 """Its line 5 is a cut of 11 s, which is taken back in the same time."""
+SHORT = "G17 G21 G90 G94\n" + "".join(f"G1 X{hundredths / 100:.2f} F3\n" for hundredths in range(2, 80, 2)) + "M2\n"
+"""Cuts of twenty pulses, 0.4 s each: `ngc` is 100 pulses ahead of a player without ramps, which is five lines."""
 
 
 class Page:

@@ -181,6 +181,22 @@ class Work(Served):
         self.assertTrue(page.last()["over"])
         self.assertEqual((self.server.wait(PATIENCE_S), self.player.wait(PATIENCE_S)), (0, 0))
 
+    def test_tool(self) -> None:
+        """While a tool is wanted what is in force is that of the tool before, though `ngc` is some lines ahead."""
+        page = self.page()
+        for slot, length in ((1, "50"), (2, "62.5")):
+            self.assertEqual(page.post("tool", {"slot": slot, "length": length}), (200, {}))
+        self.load(page, "G17 G21 G90 G94\nT1 M6\nG43 H1\nG0 Z1\nT2 M6\nG43 H2\nG0 Z1.05\nM0\nM2\n")
+        page.until("it is drawn", lambda state: page.job())
+        self.assertEqual(page.post("run"), (200, {}))
+        for line, length, z, tool in ((2, "0.000000", "0.000000", 1), (5, "50.000000", "1.000000", 2)):
+            state = page.until("it waits", lambda state, tool=tool: state["waits"] and state["waits_tool"] == tool and
+                               state["half"] == "program")
+            self.assertEqual((state["line"], state["tool_length"], state["work"][2]), (line, length, z))
+            self.assertEqual(page.post("go"), (200, {}))
+        state = page.until("it stopped", lambda state: state["does"] == "stopped" and not state["busy"])
+        self.assertEqual((state["tool_length"], state["work"][2]), ("62.500000", "1.050000"))
+
     def test_hold(self) -> None:
         """Hold is heeded within a line; what is asked meanwhile is refused; it goes on."""
         page = self.page()
@@ -474,14 +490,19 @@ class PowerOfFile(Served):
         self.pull()
         self.begin()
         page = self.page()
-        recover = page.next()["recover"]
+        state = page.next()
+        recover = state["recover"]
+        self.assertIn("they make at most", state["past"])
         self.assertEqual((recover["way"]["back"], recover["problem"], recover["at"]),
                          (True, "", ["2.000000", "0.000000", "0.000000"]))
         said = page.post("rehearse", {"recover": True})[1]
         stands = [round(1000 * float(number)) for number in recover["stands"]]
         self.assertEqual((said["along"][0], said["along"][-1], said["approach"]["length"], said["refused"]),
                          (stands, [2000, 0, 0], "0.000", ""))
-        self.assertEqual(page.post("recover")[0], 200)
+        self.assertEqual(page.post("recover", {"at": ["0", "0", "0"]})[0], 200)
+        state = page.asked()  # that isn't where the record has them
+        self.assertIn("Do they stand there?", state["question"]["text"])
+        page.agree(state)
         state = self.look(page)
         self.assertEqual((state["motors"], state["spindle"]), (["2.000000", "0.000000", "0.000000"], 1))
         page.agree(state)
@@ -498,32 +519,6 @@ class PowerOfFile(Served):
                 return state
             self.assertFalse(state["moving"])
             page.agree(state, "1" if state["question"]["kind"] == "text" else "")
-
-    def test_moments(self) -> None:
-        """Power lost at moments spread over a job of 6,000 lines, so many as NGC_PAGE_MOMENTS says: each time it is
-        recovered, and goes on to its end."""
-        text = "G17 G21 G90 G94\nM3 S100\nG0 X1\nG1 Z-1 F600\nX3\nG2 X1 Y2 I-2 F900\nG1 X0 Y0\nM2\n"
-        moments = int(os.environ.get("NGC_PAGE_MOMENTS", "2"))
-        page = self.page()
-        self.load(page, text)
-        for number in range(moments):
-            page.post("run")
-            begun = self.link.ask().carried
-            until = begun + 6000 * (2 * number + 1) // (2 * moments)
-            self.wait_for("it is there", lambda until=until: self.link.ask().carried >= until)
-            self.pull()
-            self.begin()
-            page = self.page()
-            state = page.next()
-            if state["half"] != "none" or state["recover"]["left"]:
-                self.assertEqual(page.post("recover")[0], 200)
-                if self.look(page)["question"]:
-                    page.agree(page.asked())
-                page.until("it stands", lambda state: not state["busy"])
-            if not (state := page.rested())["finished"]:
-                self.assertEqual(page.post("run")[0], 200)
-                state = page.until("it is through", lambda state: state["finished"] and not state["busy"])
-            self.assertEqual(state["motors"], ["0.000000", "0.000000", "-1.000000"], number)
 
 
 class Jobs(InFolder):

@@ -1,7 +1,9 @@
 """The page in a browser: Chromium without a window. Skipped where there is none: tools/tests/install_browser.sh."""
+import json
 import os
 import re
 import signal
+import subprocess
 import sys
 import unittest
 from functools import cache
@@ -11,8 +13,9 @@ sys.path.insert(0, str(Path(__file__).resolve().parent))
 
 from browser_support import Browser, chromium  # noqa: E402
 from machine_support import SocketMachine  # noqa: E402
-from page_support import OTHER, SLOW, Served  # noqa: E402
+from page_support import OTHER, SHORT, SLOW, Served  # noqa: E402
 from session_support import PATIENCE_S, TOOLS, ngc  # noqa: E402
+from test_moves import MACHINE, PROBE, World, program  # noqa: E402
 
 DOCS = TOOLS.parent / "docs"
 SIZES = ((1280, 800), (1024, 768), (1920, 1080))
@@ -141,6 +144,16 @@ class InBrowser(Served):
             self.assertEqual(self.browser.js(CONTRAST), [], what)
             self.browser.js("document.getElementById('theme').click()")
         self.browser.size(*SIZES[0])
+
+    def begin_again(self) -> None:
+        """Power comes back: the page is served at the same address."""
+        port, key = re.fullmatch(r"http://127\.0\.0\.1:(\d+)/(.*)/", self.address).groups()
+        os.environ["NGC_PAGE_KEY"] = key
+        self.addCleanup(os.environ.pop, "NGC_PAGE_KEY")
+        self.begin_player()
+        self.server = self.start("ngc-page", "mill.dev", "first.toml", self.OUT, "--player", "progress", "--ngc", ngc(),
+                                 "--listen", f"127.0.0.1:{port}")
+        self.assertEqual(self.server.stdout.readline().strip(), self.address)
 
     def no_complaints(self) -> None:
         """The page logged nothing, and asked nobody else; a server that is gone may be missed."""
@@ -323,6 +336,55 @@ class Moves(InBrowser):
         self.no_complaints()
 
 
+class Setting(InBrowser):
+    """A tool and the work are set up over the simulated machine, by tools/player."""
+
+    def begin_player(self) -> None:
+        """The player, and a machine whose probe is on from machine Z 2 down, once it is homed."""
+        world = World()
+        self.addCleanup(world.close)
+        world.switch(3, PROBE, 2, -1, -3_000)  # home is at 4,000 steps of its own, which is Z 9
+        Path("mill.toml").write_text(MACHINE)
+        self.player = subprocess.Popen([program(), "--untimed", "--no-ask-tool", "--machine", "mill.toml", "--progress",
+                                        "progress", "axis", "first.toml", "position"], stdin=subprocess.DEVNULL,
+                                       stdout=subprocess.PIPE, stderr=subprocess.PIPE, text=True)
+        self.addCleanup(self._end, self.player)
+        self.wait_for("the player listens", lambda: os.path.exists("progress"))
+
+    def test_tool(self) -> None:
+        """A length is typed, the tool put in, the machine homed, the probe sought; the tool's length and the work's
+        zero are taken from where it was touched."""
+        browser = self.browser
+        browser.press("Tools", "nav button")
+        self.type("#tab-tools input", "1.5")
+        browser.press("Add", "#tab-tools button")
+        browser.wait("ngc.state.tools[0] === '1.500000' && !ngc.state.busy")
+        self.type("#line", "T1 M6")
+        browser.press("Do", "#do")
+        browser.wait("ngc.state.slot === 1 && !ngc.state.busy")
+        browser.press("Setup", "nav button")
+        browser.press("Home all", "#tab-setup button")
+        browser.wait("ngc.state.homed === 'XYZ' && !ngc.state.busy && ngc.state.at[2] === '9.000000'")
+        browser.press("Z\u2212", "#tab-setup .five button")
+        browser.wait("ngc.state.touched?.[2] === '2.000000' && !ngc.state.busy")
+        self.look("the probe was touched")
+        browser.press("Where the probe was touched", "#tab-setup button")
+        self.type("input[aria-label='Machine Z of the setter, in mm']", "-48")
+        browser.press("Tool 1 stands on the setter", "#tab-setup button")
+        browser.wait("ngc.state.tools[0] === '50.000000' && !ngc.state.busy")
+        browser.press("Set Z", "#tab-setup button")
+        browser.wait("ngc.state.origin[2] === '2.000000' && !ngc.state.busy")
+        browser.press("Undo: G10", "#tab-setup button")
+        browser.wait("ngc.state.origin[2] === '0.000000' && !ngc.state.busy")
+        self.no_complaints()
+
+    def type(self, entry: str, text: str) -> None:
+        """Types into an entry."""
+        self.browser.js(f"(() => {{ const entry = document.querySelector({json.dumps(entry)}); entry.focus();"
+                        " entry.select(); })()")
+        self.browser.call("Input.insertText", text=text)
+
+
 class Power(InBrowser):
     """Power is lost, and comes back."""
 
@@ -343,6 +405,7 @@ class Power(InBrowser):
         self.look("what was stored")
         browser.press("Next", "#over button")
         self.assertTrue(browser.js("document.querySelector('#over .foot .go').disabled"))
+        self.assertIn("they make at most", browser.js("document.querySelector('#over .words').textContent"))
         for _ in range(3):
             browser.press("Confirm", "#over button")
         self.look("where it stands")
@@ -358,16 +421,6 @@ class Power(InBrowser):
         self.assertFalse(browser.js("document.getElementById('over').checkVisibility()"))
         self.no_complaints()
 
-    def begin_again(self) -> None:
-        """Power comes back: the page is served at the same address."""
-        port, key = re.fullmatch(r"http://127\.0\.0\.1:(\d+)/(.*)/", self.address).groups()
-        os.environ["NGC_PAGE_KEY"] = key
-        self.addCleanup(os.environ.pop, "NGC_PAGE_KEY")
-        self.begin_player()
-        self.server = self.start("ngc-page", "mill.dev", "first.toml", self.OUT, "--player", "progress", "--ngc", ngc(),
-                                 "--listen", f"127.0.0.1:{port}")
-        self.assertEqual(self.server.stdout.readline().strip(), self.address)
-
     def agree_to_all(self) -> None:
         """Answers each question by a yes, up to the one before which one has to look."""
         browser, last = self.browser, 0
@@ -376,6 +429,7 @@ class Power(InBrowser):
             last = question["id"]
             if question["purpose"] == "look":
                 break
+            self.assertNotIn("Do they stand there?", question["text"])  # each axis is confirmed
             browser.press("Yes", "#over .go")
         browser.wait("document.querySelectorAll('#over .look button').length === 3")
         self.assertTrue(browser.js("document.querySelector('#over .foot .go').disabled"))
@@ -385,6 +439,34 @@ class Power(InBrowser):
         browser.wait(f"ngc.state.now > {seen} + 1")
         self.assertEqual(browser.js("document.querySelectorAll('#over .look [aria-pressed=true]').length"), 3)
         browser.press("Yes", "#over .go")
+
+
+class PowerOverPipe(InBrowser):
+    """Power is lost with a pipe as OUT: what no motor carried out is never cut."""
+
+    def test_never_cut(self) -> None:
+        """It is red in both pictures, and said where the way is rehearsed."""
+        browser = self.browser
+        self.load(SHORT, SHORT.count("\n"))
+        browser.press("Run", "#run")
+        browser.wait("ngc.state.motors[0] > 0.05 && ngc.state.behind > 60")
+        before = browser.js("ngc.state.session")
+        self.pull()
+        self.begin_again()
+        browser.wait(f"ngc.state?.session && ngc.state.session !== '{before}' && ngc.neverCut")
+        browser.wait("document.querySelector('#over .bad')?.textContent.includes('NEVER CUT')")
+        self.assertTrue(browser.js("ngc.picture.lost.length > 1 && !document.getElementById('never-cut').hidden"))
+        self.look("what was never cut")
+        browser.press("Next", "#over button")
+        for _ in range(3):
+            browser.press("Confirm", "#over button")
+        browser.press("Next", "#over button")
+        browser.wait("document.querySelector('#over details')")
+        self.assertIn("Red in the picture. NEVER CUT", browser.js("document.querySelector('#over .bad').textContent"))
+        self.look("a rehearsal of what was never cut")
+        if os.environ.get("NGC_SHOT"):
+            browser.shoot(os.environ["NGC_SHOT"])
+        self.no_complaints()
 
 
 if __name__ == "__main__":

@@ -11,7 +11,7 @@ from dataclasses import dataclass, replace
 from pathlib import Path
 
 from ngc_tools.formats.device import Device, State
-from ngc_tools.formats.out import LONGEST_LINE, Pulse, Switch, read_line
+from ngc_tools.formats.out import LONGEST_LINE, Switch, read_line
 from ngc_tools.formats.position import nanometres, rounded
 from ngc_tools.formats.settings import Settings
 from ngc_tools.ngc.carried import CannotTell, Run, is_within, runs
@@ -22,6 +22,8 @@ Steps = tuple[int, int, int]
 _PIECE = 4096  # lines that are looked at, at once
 _HEAD = 1024  # bytes by which a place in OUT is known
 _TAIL = 65536  # the same, of what was handed out before
+_SAME: tuple[str, ...] = ()
+_DELETES = ("delete on",)
 
 
 @dataclass(frozen=True, slots=True)
@@ -55,6 +57,17 @@ class _Lines:
     before: bytes
     own: bytes = b""
     ahead: Run | None = None
+
+
+@dataclass(frozen=True, slots=True)
+class NeverCut:
+    """Lines of OUT that lead from the motors to where the half-done segment begins, `text`, some `most` of them: they
+    were handed out, no motor carried them out, and nothing makes them again. The motors may have stood at the end of
+    fewer, `least`, where their path comes to the same place more than once."""
+
+    text: bytes
+    most: int
+    least: int
 
 
 class _Text(Copy):
@@ -115,6 +128,22 @@ class Finder:
                              " the record isn't that of this OUT")
         return self._beginning(size, own, at, False)
 
+    def never_cut(self, at: list[str], ahead: int) -> NeverCut:
+        """What was handed out before the half-done segment and not carried out: the motors are at `at`, in machine
+        millimetres, and OUT was ahead of them by so many lines at most. Raises CannotTell if they aren't on the path
+        that was handed out last, CommandRefused, Ended, OSError."""
+        lines, ends = self._by_log(_SAME) or self._by_log(_DELETES), self._steps(at)
+        if lines is None:
+            raise CannotTell("the log doesn't tell what was handed out before the half-done block")
+        end = len(lines.before)
+        places = list(_places(lines.before + lines.own, lines.start, ends))
+        if not places:
+            raise CannotTell("the motors aren't on the path that was handed out last")
+        window = end - sum(map(len, lines.before[-ahead * LONGEST_LINE:].splitlines(True)[-ahead:]))
+        near = [place for place in places if place >= window] or places[-1:]
+        text = lines.before[near[0]:]
+        return NeverCut(text, text.count(b"\n"), lines.before.count(b"\n", min(near[-1], end)))
+
     def _off(self, text: "bytes | mmap.mmap", size: int, whole: bytes, lines: _Lines) -> int | None:
         """The beginning of the lines with which OUT ends, wherever the motors are; None if there isn't one alone, by
         itself or behind what was handed out before. Raises OSError."""
@@ -147,13 +176,14 @@ class Finder:
         return Beginning(size - at + before, _moved(lines.start, lines.before), lines.before[at:], is_off,
                          at == 0 and before > 0)
 
-    def _by_log(self) -> _Lines | None:
-        """What the log says; None if it says nothing of what is half-done now."""
+    def _by_log(self, how: tuple[str, ...] | None = None) -> _Lines | None:
+        """What the log says; None if it says nothing of what is half-done now. `how` are commands that are given
+        before: then all that is done again has to be as the log has it."""
         for device in self._devices():
             try:
                 if parts := list(runs(device, within=True)):
                     ahead = parts[-2] if len(parts) > 1 else None
-                    return replace(self._again(device, self._begun(device, parts[-1])), ahead=ahead)
+                    return replace(self._again(device, self._begun(device, parts[-1]), how), ahead=ahead)
             except (CannotTell, CommandRefused):
                 continue
         return None
@@ -178,17 +208,19 @@ class Finder:
         ends = None if run.ends is None else run.ends + 2
         return Run(run.image, (f"reference {' '.join(at)}", "resume"), 0, ends)
 
-    def _again(self, device: Device, run: Run) -> _Lines:
+    def _again(self, device: Device, run: Run, how: tuple[str, ...] | None) -> _Lines:
         """The lines of a run again. Raises CannotTell if it does other moves."""
         last, more = device.state, 2 if run.commands[0].startswith("reference") else 0
         key = (last.entries + more, last.segment + 1) if run.ends is None else (run.ends, 0)
 
         def make(_: bool) -> Copy:
-            return _Text(self.ngc, self.settings, run.image, list(run.commands))
+            return _Text(self.ngc, self.settings, run.image, [*run.commands[:-1], *(how or ()), run.commands[-1]])
 
         with first(make, lambda status: _key(status) >= key) as copy:
-            before, status, start = bytes(copy.text), copy.console.status(), copy.start.at
+            before, status, start, again = bytes(copy.text), copy.console.status(), copy.start.at, copy.device()
         is_right = _key(status) == key if run.ends is None else status.entries == run.ends
+        if how is not None and not more:
+            is_right = is_right and _is_as_logged(again, device, run.record)
         if not is_right or status.place != last.place:
             raise CannotTell("ngc run does other moves than the session did: were the settings others?")
         own = b""
@@ -230,6 +262,11 @@ def _same(one: State, other: State) -> bool:
     """Whether both have the same block half-done, or the same place without one."""
     return (one.entries, one.place, one.half, one.half_text, one.segment) == (
         other.entries, other.place, other.half, other.half_text, other.segment)
+
+
+def _is_as_logged(again: Device, device: Device, begin: int) -> bool:
+    """Whether what was done again is what the log of a device has from a record on."""
+    return all(mine.state == record.state for mine, record in zip(again.records, device.records[begin:]))
 
 
 def _key(status: Status) -> tuple[int, int]:

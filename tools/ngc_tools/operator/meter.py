@@ -43,6 +43,10 @@ class Meter:
         most = self.most or LIMITS[-1]
         return max(LIMITS[0], min(report.wants or self.most or LIMIT, most))
 
+    def most_ahead(self, report: Report) -> int:
+        """How many lines OUT may ever have been ahead of such a player."""
+        return self.most or (LIMITS[-1] if report.wants else LIMIT)
+
     def room(self, go_on: Callable[[Report], bool] = always) -> int:
         """Waits until a sixteenth of the lines is carried out, and returns how many ticks may be given; 0 if `go_on`,
         which sees each report, says no. Raises NoAnswer if the player is gone."""

@@ -53,12 +53,15 @@ by legs then: straight up, over, and down to {at}. Up to which Z, in machine mm?
 
 class Recover:
     """What `recover` and `drop` do. `found` is what the session found of OUT, a file; None where OUT is none.
-    `most_percent` is the most that an override may be, by the machine's file; without one what any file may say."""
+    `most_percent` is the most that an override may be, by the machine's file; without one what any file may say.
+    `confirmed_nm` is where a person, who was told of `past`, has confirmed that the motors stand: by the record at that
+    very place they aren't asked about again, once."""
 
     def __init__(self, session: Session) -> None:
         self.session = session
         self.found: Found | None = None
         self.most_percent = MOST_PERCENTS[-1]
+        self.confirmed_nm: tuple[int, ...] | None = None
         self._entries: int | None = None  # as the session began
 
     def forbids(self, word: str, is_line: bool) -> bool:
@@ -208,13 +211,16 @@ class Recover:
         """Whether a person says that the motors are where the record has them, once it is said how far they may be past
         it."""
         report = self.session.report()
+        confirmed_nm, self.confirmed_nm = self.confirmed_nm, None
         if report is None:
             return False
+        if confirmed_nm == tuple(map(nanometres, report.at.split())):
+            return True
         at, line = axes(report.at.split()), report.carried
-        return self.session.agrees(STANDS.format(at=at, line=line, past=self._past().words()))
+        return self.session.agrees(STANDS.format(at=at, line=line, past=self.past().words()))
 
-    def _past(self) -> Past:
-        """How far the motors may be past the record. Raises NoAnswer."""
+    def past(self) -> Past:
+        """How far the motors may be past the record. Raises NoAnswer, OSError."""
         settings, age_ms = self.session.settings, self.session.meter.link.age_ms()
         percent = self.most_percent if self.session.seen and self.session.seen.wants else 100  # else it has no override
         if self.found is None:

@@ -161,6 +161,10 @@ def _answer(given: Given) -> dict:
     return {"taken": given.session.face.answer(given.count("question", 10**9), text)}
 
 
+def _recover(given: Given) -> None:
+    given.session.recover(given.point("at") if given.words.get("at") is not None else None)
+
+
 def _rehearse(given: Given) -> dict:
     at = given.point("at") if given.words.get("at") is not None else None
     return rehearse(given.session, at, given.flag("recover"))
@@ -169,11 +173,11 @@ def _rehearse(given: Given) -> dict:
 DEEDS: dict[str, Callable[[Given], dict | None]] = {
     "load": _load, "mdi": _mdi, "reference": _reference, "tool": _tool, "switch": _switch, "answer": _answer,
     "rehearse": _rehearse, "home": _home, "jog": _jog, "seek": _seek, "zero": _zero, "touch": _touch,
+    "recover": _recover,
     "jogstop": lambda given: given.session.jogs.let_go(given.count("press", _MOST_PRESSES)),
     "undo": lambda given: given.session.type("undo"),
     "run": lambda given: given.session.run("run" + given.anyway()),
     "resume": lambda given: given.session.type("resume" + given.anyway()),
-    "recover": lambda given: given.session.type("recover"),
     "drop": lambda given: given.session.type("drop"),
     "restore": lambda given: given.session.type("restore"),
     "release": lambda given: given.session.type("release"),

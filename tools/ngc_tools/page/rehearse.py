@@ -1,5 +1,5 @@
 """What `resume` or `run` would do, for a page: done aside over a copy of the device, with what lies in the way."""
-from dataclasses import dataclass
+from dataclasses import dataclass, replace
 
 from ngc_tools.failure import Failure
 from ngc_tools.formats.device import Device
@@ -38,7 +38,8 @@ class Along:
 @dataclass(frozen=True, slots=True)
 class Asked:
     """What is rehearsed: by which `ngc` and settings, over which image, from where, with what is drawn, where the
-    motors are, if that is known, and the way of `recover` along OUT, if it goes so."""
+    motors are, if that is known, and the way of `recover` along OUT, if it goes so. `lost` is what a loss of power left
+    uncut: where it begins, and how long it is in nm."""
 
     ngc: str
     settings: str
@@ -47,6 +48,7 @@ class Asked:
     drawing: Drawing | None
     motors: list[str] | None
     along: Along | None = None
+    lost: tuple[Point, int] | None = None
 
 
 def rehearse(session: Session, at: list[str] | None, by_recover: bool = False) -> dict:
@@ -59,8 +61,17 @@ def rehearse(session: Session, at: list[str] | None, by_recover: bool = False) -
     if found is not None and found.recovery.beginning is not None:
         at = list(map(millimetres, found.recovery.at_nm))
     motors, along = report.at.split() if report else None, _along(found) if found else None
-    asked = Asked(console.ngc, console.settings, image, at, session.drawer.drawing, motors, along)
+    asked = Asked(console.ngc, console.settings, image, at, session.drawer.drawing, motors, along, _lost(session))
     return session.aside.call(rehearsed, asked)
+
+
+def _lost(session: Session) -> tuple[Point, int] | None:
+    """What a loss of power left uncut, once that is known."""
+    found = session.never_cut.awaited()
+    if not found or not found["points"]:
+        return None
+    x, y, z = (1000 * um for um in found["points"][0])
+    return (x, y, z), found["length_nm"]
 
 
 def _along(found: Found) -> Along | None:
@@ -163,12 +174,12 @@ class _Cut:
         end = next((number for number in own[state.segment:] if number >= 0), None)
         cuts = [(step, number) for step, number in zip(job.steps, job.lines, strict=True)
                 if isinstance(step, Move) and step.kind == CUT]
-        done = [step for step in job.steps[:end] if isinstance(step, Move) and step.kind == CUT]
         top = max((max(point[2] for point in step.points) for step, number in cuts if number <= line), default=0)
-        chords = [(p, q) for step in done for p, q in zip(step.points, step.points[1:])]
+        done = [step for step in job.steps[:end] if isinstance(step, Move)]
+        chords = [chord for step in finished(done, asked.lost) for chord in _chords(step)]
         under = job.steps[end] if end is not None else None
         if isinstance(under, Move) and under.kind == CUT and asked.motors:
-            chords += _up_to(list(zip(under.points, under.points[1:])), _point(asked.motors))
+            chords += _up_to(_chords(under), _point(asked.motors))
         return _Cut(chords, top)
 
     def beside(self, a: Point, b: Point) -> tuple[int, int]:
@@ -188,6 +199,22 @@ class _Cut:
     def _nearest(self, at: Point) -> int | None:
         """How far the nearest finished cut is that is as deep, seen from above; None if there is none."""
         return min((_apart(at, p, q) for p, q in self.chords if min(p[2], q[2]) <= at[2]), default=None)
+
+
+def _chords(move: Move) -> list[tuple[Point, Point]]:
+    return list(zip(move.points, move.points[1:]))
+
+
+def finished(moves: list[Move], lost: tuple[Point, int] | None) -> list[Move]:
+    """The cuts among moves that are done, without the last ones, which a loss of power left uncut."""
+    kept, left = list(moves), lost[1] if lost else 0
+    while kept and left > 0:
+        last = kept.pop()
+        left -= last.length
+        if cut := _up_to(_chords(last), lost[0]):
+            kept.append(replace(last, points=(cut[0][0], *(end for _, end in cut))))
+            break
+    return [move for move in kept if move.kind == CUT]
 
 
 def _up_to(chords: list[tuple[Point, Point]], here: Point) -> list[tuple[Point, Point]]:

@@ -14,6 +14,7 @@ from typing import Any
 
 from ngc_tools.failure import Failure
 from ngc_tools.formats.device import Device
+from ngc_tools.formats.position import nanometres
 from ngc_tools.formats.settings import Settings
 from ngc_tools.ngc.console import Ended, Status
 from ngc_tools.operator.face import REFUSED, WARNING
@@ -24,6 +25,7 @@ from ngc_tools.page.drawer import Drawer
 from ngc_tools.page.drawing import Source, as_begun
 from ngc_tools.page.face import PageFace
 from ngc_tools.page.findings import Check, find
+from ngc_tools.page.never_cut import Asked, NeverCutSearch
 from ngc_tools.page.jog import HeldJog
 from ngc_tools.page.stand import Kept, Stand, recovery_of
 from ngc_tools.player.progress import Link, NoAnswer
@@ -89,6 +91,8 @@ class Session:
         self.over = threading.Event()
         self.name, self.program_id, self.ended = "", 1, "it isn't begun yet"
         self.drawer = Drawer(self.aside, face.publish)
+        self.never_cut = NeverCutSearch(self.aside, face)
+        self.past, self.past_at = "", ""  # how far the motors may be past the player's record, which has them there
         self.started = 0.0  # when the program was started in this session, in seconds since 1970
         self.is_finished = False  # it ran to its end, and nothing was begun since
         self._next: Command | None = None
@@ -121,6 +125,29 @@ class Session:
         self.drawer.begin(self._source_of(begun or self.kept.device))
         self.face.look = self._look
         self._look()
+        self.past, self.past_at = self._found_past(), self.stand.report.at if self.stand.report else ""
+        self._find_never_cut()
+
+    def _found_past(self) -> str:
+        """How old the player's record was, and how far the motors may be past it, in words; nothing where nothing was
+        left by the last session, or that isn't known."""
+        recovery = self.stand.recovery
+        is_left = self.stand.status.half != "none" or recovery is not None and recovery["left"]
+        if not is_left or self.operator.session.report() is None:
+            return ""
+        try:
+            return self.operator.recover.past().words()
+        except (NoAnswer, OSError):
+            return ""
+
+    def _find_never_cut(self) -> None:
+        """Finds what the last session left uncut. Of a file that is followed no line is lost."""
+        meter, report, found = self.operator.session.meter, self.stand.report, self.opened.found
+        self.never_cut.forget()
+        if meter and report and found and self.operator.recover.found is None:
+            console = self.operator.console
+            self.never_cut.begin(Asked(console.ngc, console.settings, found.image, report.at.split(),
+                                       meter.most_ahead(report)))
 
     # what pages ask for
 
@@ -191,10 +218,20 @@ class Session:
             self.face.message = ""
             if not self.stand.status.place and self.stand.status.does == "idle":
                 self.started = time.time()
+                self.never_cut.forget()
                 if not self.drawer.is_of(self.kept.device):
                     self._draw()
             self.operator.do(line)
         self.give("run", does)
+
+    def recover(self, stands: list[str] | None) -> None:
+        """Does `recover`. A person has confirmed that the motors stand there, in machine millimetres; None where nobody
+        was asked. Raises Busy."""
+        def does() -> None:
+            """By the operator's core."""
+            self.operator.recover.confirmed_nm = tuple(map(nanometres, stands)) if stands else None
+            self.operator.do("recover")
+        self.give("recover", does)
 
     def load(self, name: str, text: bytes) -> bool:
         """Stores a program that people call `name`; whether it was taken. Raises Busy."""
@@ -203,6 +240,7 @@ class Session:
             if not self.operator.load(name, text):
                 return False
             self.name, self.program_id, self.started = name, self.program_id + 1, 0.0
+            self.never_cut.forget()
             self.face.message = ""
             self._draw()
             return True

@@ -1,5 +1,5 @@
 """What pages show and what changes, as JSON has it."""
-from ngc_tools.formats.device import Device
+from ngc_tools.formats.device import Device, State
 from ngc_tools.formats.lines import Program
 from ngc_tools.formats.position import millimetres, nanometres
 from ngc_tools.formats.text import shown_line
@@ -39,12 +39,28 @@ class Pictured:
 
     @property
     def number(self) -> int:
-        """The line under way, from 1. `ngc` is some lines ahead of a player that waits for a tool."""
+        """The line under way, from 1: of a player that waits for a tool that of the change."""
+        return self.program.number(self.status.place) if self._change is None else self._change
+
+    @property
+    def _change(self) -> int | None:
+        """The line of the program at which the player waits for a tool, since `ngc` is some lines ahead; None where it
+        waits for none, or that can't be told."""
+        drawing, report = self.session.drawer.drawing, self.report
+        if report is None or not report.waits or drawing is None or self.operator.session.own:
+            return None
         number = self.program.number(self.status.place)
-        if self.report and self.report.waits and self.session.drawer.drawing:
-            changes = [line for line in self.session.drawer.drawing.tools if line <= number]
-            return max(changes, default=number)
-        return number
+        return max((line for line, slot in drawing.tools.items() if line <= number and slot == report.tool),
+                   default=None)
+
+    @property
+    def _state(self) -> State:
+        """What is in force where the motors are: while they wait for a tool not what comes after the change."""
+        line, state = self._change, self.device.state
+        if line is None:
+            return state
+        states = [self.device.snapshot, *(record.state for record in self.device.records)]
+        return next((one for one in reversed(states) if self.program.number(one.place) <= line), state)
 
     def _machine(self) -> dict:
         status, face = self.status, self.face
@@ -65,7 +81,8 @@ class Pictured:
         out = report.outputs if report else outputs_on(self.device.state)
         said = {"player": meter is not None, "player_gone": self.stand.gone, "motors": report and report.at.split(),
                 "speed": out.speed / 10**6, "spindle": out.spindle, "mist": out.mist, "flood": out.flood,
-                "slot": out.slot, "selected": out.selected, "recover": self.stand.recovery}
+                "slot": out.slot, "selected": out.selected, "recover": self.stand.recovery,
+                "past": self.session.past if report and report.at == self.session.past_at else ""}
         if not report or not meter:
             return said | {"behind": None, "waits": False, "ahead": None, "percent": 100, "has_percent": False,
                            "held_motors": False, "behind_mm": None, "keeps": False}
@@ -84,7 +101,7 @@ class Pictured:
                 "touched": touched}
 
     def _in_force(self) -> dict:
-        state = self.device.state
+        state = self._state
         in_force = in_force_on(state)
         x, y, z = map(nanometres, self.report.at.split() if self.report else self.status.at)
         return {"work": list(map(millimetres, in_force.to_program((x, y, z)))), "feed": state.feed_nm_per_min / 10**6,
@@ -96,7 +113,8 @@ class Pictured:
         session, setter_nm = self.session, self.operator.touch.setter_nm
         return {"session": session.ident, "ended": session.ended, "over": session.over.is_set(),
                 "program": {"id": session.program_id, "name": session.name, "lines": self.program.count},
-                "job": session.drawer.count, "finished": session.is_finished, "started": session.started,
+                "job": session.drawer.count + session.never_cut.count,
+                "finished": session.is_finished, "started": session.started,
                 "left_at": session.opened.left_at, "broken": self.stand.is_broken, "undo": self.operator.touch.undoes,
                 "setter": None if setter_nm is None else millimetres(setter_nm),
                 "typed": self.stand.typed, "restore": self.stand.restore}

@@ -13,7 +13,9 @@ import { Setup } from './setup.js';
 import * as sheet from './sheet.js';
 import * as tools from './tools.js';
 
-const app = { state: null, job: null, travel: null, programId: null, jobId: null, failed: '', asked: 0 };
+const app = {
+  state: null, job: null, neverCut: null, travel: null, programId: null, jobId: null, failed: '', asked: 0,
+};
 window.ngc = app; // for who looks at the page from outside, as tests do
 
 const log = new Log();
@@ -171,6 +173,9 @@ async function fetchNew(s) {
   app.job = got.job ? new Job(got.job) : null;
   app.failed = got.failed;
   app.travel = [got.low, got.high];
+  app.neverCut = got.never_cut;
+  picture.lost = app.neverCut?.points ?? [];
+  $('never-cut').hidden = !picture.lost.length;
   picture.show(app.job, app.travel);
   recovery.job();
   show(app.state);

@@ -9,7 +9,7 @@ import * as paint from './paint.js';
 import { View } from './view.js';
 
 const BANDS = 5, FINE_PX = 0.6, COARSE_PX = 3, SETTLED_MS = 140;
-const NAMES = ['panel', 'line', 'soft', 'faint', 'amber', 'violet', 'cross', 'grid', 'grid-strong',
+const NAMES = ['panel', 'line', 'soft', 'faint', 'amber', 'violet', 'red', 'cross', 'grid', 'grid-strong',
   'path-now', 'path-done', 'path-deep', 'path-left', 'path-rapid'];
 
 export class Picture {
@@ -28,6 +28,7 @@ export class Picture {
     this.motors = null;
     this.marks = [];         // {point, colour, label}
     this.ways = [];          // {points, colour}
+    this.lost = [];          // points of what was handed out and never cut
     this.painted = 0;        // steps that the layer shows as done
     this.isFitted = false;
     this.isAsked = false;
@@ -124,6 +125,7 @@ export class Picture {
     g.setTransform(ratio, 0, 0, ratio, 0, 0);
     g.font = `${this.em}px ${getComputedStyle(document.body).fontFamily}`;
     this.paintNow(g);
+    this.paintLost(g);
     this.paintWays(g);
     this.paintMotors(g);
   }
@@ -237,6 +239,17 @@ export class Picture {
     g.globalAlpha = 1;
     if (this.motors && this.part) paint.line(g, this.m, [...points.slice(0, this.part), this.motors]);
     g.setLineDash([]);
+  }
+
+  // From above what goes straight down is a dot: a ring is seen.
+  paintLost(g) {
+    if (!this.lost.length) return;
+    g.strokeStyle = this.colours.red;
+    g.lineJoin = g.lineCap = 'round';
+    g.lineWidth = 9;
+    paint.line(g, this.m, this.lost);
+    g.lineWidth = 2.5;
+    paint.ring(g, ...paint.place(this.m, ...this.lost[0]), 6);
   }
 
   paintWays(g) {

@@ -113,7 +113,9 @@ export class Recovery {
 
   job() {
     if (!this.isOpen) return;
+    this.picture.lost = this.app.neverCut?.points ?? [];
     this.picture.show(this.app.job, this.app.travel);
+    if (this.step === 0 || this.step === 2) this.go(this.step); // what was never cut is known by now
     this.mark();
   }
 
@@ -160,6 +162,7 @@ export class Recovery {
         ['From there to the end', found?.rest_us && lasting(found.rest_us)]]),
       found ? null : sheet.soft('ngc rehearses it over a copy of the device\u2026'),
       found?.refused && sheet.warning(found.refused, 'bad'),
+      ways.neverCut(this.app.neverCut),
       sheet.soft('In the picture solid is done, amber was under way, pale is left. The amber segment is made again '
         + 'from its beginning.')],
     [sheet.button('Later', () => this.later()), sheet.gap('Nothing moves, and nothing is switched.'),
@@ -172,12 +175,13 @@ export class Recovery {
     const { state } = this.app, next = this.next('Next: rehearsal', () => this.rehearsal());
     const enable = () => { next.disabled = !(state.yours && this.sure.every(Boolean)); };
     const age = state.left_at ? ` The device was written last ${lasting(1e6 * (state.now - state.left_at))} ago.` : '';
+    const past = state.past && `By the player\u2019s record. ${state.past}; and a motor that turned went on for a `
+      + 'while. ';
     this.put([sheet.title('Where does the machine stand now?'),
       sheet.said('Machine coordinates in mm. Look at the machine, and confirm each axis.'),
       ...AXES.map((_, i) => this.confirm(i, enable)),
-      state.can?.home && sheet.said('Where steps may be lost, choose Back and Later, and home the machine: Setup.'),
-      sheet.soft('The player\u2019s record is older than the loss of power by up to 20 ms and a sync, and a motor that '
-        + `turned went on for a while.${age} If you freed the tool by hand, write where it is now.`)],
+      state.machine && sheet.said('Where steps may be lost, choose Back and Later, and home the machine: Setup.'),
+      sheet.soft(`${past}If you freed the tool by hand, write where it is now.${age}`)],
     [this.back(0), sheet.gap(), next]);
     enable();
   }
@@ -217,7 +221,8 @@ export class Recovery {
   third() {
     const { plan } = this;
     if (plan) {
-      this.put(ways.told(this.along, plan, this.app.state.recover), [this.back(1), sheet.gap('Nothing has moved.'),
+      const said = ways.told(this.along, plan, this.app.state.recover);
+      this.put([ways.neverCut(this.app.neverCut), ...said], [this.back(1), sheet.gap('Nothing has moved.'),
         this.next('Next: step by step', () => this.go(3))]);
       return;
     }
@@ -277,7 +282,8 @@ export class Recovery {
     const { recover, player } = this.app.state, canResume = Boolean(this.plan?.approach) && !recover?.left;
     const offered = this.along ? ['along'] : player ? ['legs'] : [];
     if (canResume) offered.push('straight');
-    const does = { along: () => this.asks('recover'), legs: () => this.asks('recover'), straight: () => this.resume() };
+    const recovers = () => this.asks('recover', { at: this.at });
+    const does = { along: recovers, legs: recovers, straight: () => this.resume() };
     const buttons = offered.map((name, i) => (i === (this.along ? 0 : offered.length - 1) ? sheet.go : sheet.button)(
       CHOICES[name][0], does[name], this.app.state.yours));
     this.put([sheet.title('Take the line up, or give it up'),

@@ -7,6 +7,12 @@ const FREE = 'Z isn\u2019t lifted first: it goes through whatever stands between
 const LEFT = 'Lines stand in OUT that no motor carried out, and recover goes by the place of the record. Home the '
   + 'machine, and start the player anew with --at and the coordinates of its home.';
 
+// What was handed out before the segment and never cut: red in the picture, if it is anything.
+export function neverCut(found) {
+  if (!found) return null;
+  return found.lines ? sheet.warning(`Red in the picture. ${found.words}.`, 'bad') : sheet.soft(`${found.words}.`);
+}
+
 // `along` is what recover would do, or null; `plan` the rehearsal of a resume.
 export function told(along, plan, recover) {
   const way = along ? alongOut(along, plan) : plan.approach ? straight(plan) : [];

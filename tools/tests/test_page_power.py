@@ -1,0 +1,278 @@
+"""The page after a loss of power: what was never cut, and the steps back to the job, at many moments of it."""
+import json
+import os
+import sys
+import unittest
+from collections.abc import Callable
+from pathlib import Path
+from unittest.mock import patch
+
+sys.path.insert(0, str(Path(__file__).resolve().parent))
+
+from page_support import SHORT, Page, Served  # noqa: E402
+from session_support import InFolder, ngc  # noqa: E402
+
+from ngc_tools.cli.page import Opener, make_parser  # noqa: E402
+from ngc_tools.failure import Failure  # noqa: E402
+from ngc_tools.job.moves import CUT, TRAVERSE, Move  # noqa: E402
+from ngc_tools.ngc.carried import CannotTell  # noqa: E402
+from ngc_tools.ngc.console import Console  # noqa: E402
+from ngc_tools.ngc.handed_out import Finder  # noqa: E402
+from ngc_tools.page.aside import Aside, NotDone  # noqa: E402
+from ngc_tools.page.face import LOOKS, PageFace  # noqa: E402
+from ngc_tools.page.never_cut import Asked, found  # noqa: E402
+from ngc_tools.page.rehearse import finished, rehearse  # noqa: E402
+from ngc_tools.page.session import Session  # noqa: E402
+from ngc_tools.player.progress import Report  # noqa: E402
+
+BACK = "G21 G90 G94\nG1 X0.01 F60\nX0\nX0.02\nM2\n"
+"""Ten pulses on, ten back, and twenty on."""
+JOB = "G17 G21 G90 G94\nM3 S100\nG0 X1\nG1 Z-1 F600\nX3\nG2 X1 Y2 I-2 F900\nG1 X0 Y0\nM2\n"
+"""18,000 pulses or so: a traverse, a plunge, lines, an arc."""
+
+
+class Found(InFolder):
+    """What is found in the log, for a place of the motors."""
+
+    def setUp(self) -> None:
+        """A device."""
+        super().setUp()
+        self.device()
+
+    def lose_power(self, program: str, at: str, block_delete: str = "off") -> None:
+        """Power is lost in the line of a program that begins so."""
+        console = Console(ngc(), "mill.dev", "first.toml", "out")
+        self.addCleanup(console.kill)
+        console.load(program.encode())
+        console.ask(f"delete {block_delete}")
+        console.ask("start")
+        while console.status().place != program.index(at) or console.status().half == "none":
+            console.ask("tick 1")
+        console.kill()
+        self.image = Path("mill.dev").read_bytes()
+
+    def lost(self, x: str, ahead: int) -> tuple[int, int]:
+        """How many lines at most, and at least."""
+        lost = Finder(ngc(), "first.toml", self.image).never_cut([x, "0.000000", "0.000000"], ahead)
+        self.assertEqual(lost.text.count(b"\n"), lost.most)
+        return lost.most, lost.least
+
+    def test_places(self) -> None:
+        """Where the path comes to the place more than once, the first of those counts that OUT could be ahead of."""
+        self.lose_power(BACK, "X0.02")
+        for x, ahead, lost in (("0.004000", 100, (16, 0)), ("0.004000", 10, (4, 0)), ("0.010000", 100, (10, 0)),
+                               ("0.015000", 100, (0, 0))):
+            self.assertEqual(self.lost(x, ahead), lost, (x, ahead))
+        with self.assertRaises(CannotTell):
+            self.lost("0.021000", 100)
+
+    def test_words(self) -> None:
+        """What is said of it, and its points."""
+        self.lose_power(BACK, "X0.02")
+        for x, lines, ends, words in (
+                ("0.004000", 4, [[4, 0, 0], [0, 0, 0]], "NEVER CUT: 4 lines handed out before the half-done segment,"
+                 " 0.004 mm, which no motor carried out"),
+                ("0.015000", 0, [], "This loss of power left nothing uncut before the half-done segment")):
+            told = found(Asked(ngc(), "first.toml", self.image, [x, "0.000000", "0.000000"], 10))
+            self.assertEqual((told["lines"], told["points"][:1] + told["points"][-1:]), (lines, ends))
+            self.assertIn(words, told["words"])
+
+
+    def test_block_delete(self) -> None:
+        """Lines with a slash that were left out aren't on the path."""
+        self.lose_power("G21 G90 G94\n/G1 Y0.02 F60\nG1 X0.04 F60\nX0.06\nM2\n", "X0.06", "on")
+        self.assertEqual(self.lost("0.030000", 100), (10, 10))
+
+
+class Finished(unittest.TestCase):
+    """What counts as cut where the way back is looked at."""
+
+    def test_finished(self) -> None:
+        """Not what a loss of power left uncut, whose first move may be cut in part; nor traverses."""
+        moves = [Move(CUT, ((0, 0, 0), (1000, 0, 0))), Move(TRAVERSE, ((1000, 0, 0), (2000, 0, 0))),
+                 Move(CUT, ((2000, 0, 0), (900_000, 0, 0)))]
+        for lost, points in ((None, [moves[0].points, moves[2].points]),
+                             (((500_000, 0, 0), 400_000), [moves[0].points, ((2000, 0, 0), (500_000, 0, 0))]),
+                             (((9_000_000, 0, 0), 400_000), [moves[0].points]),
+                             (((9_000_000, 0, 0), 900_000), [])):
+            self.assertEqual([move.points for move in finished(moves, lost)], points, lost)
+
+
+class OverPipe(Served):
+    """Power is lost with a pipe as OUT."""
+
+    def test_never_cut(self) -> None:
+        """All between the motors and the half-done segment is told, in words and as a line from the one to the other;
+        once the program begins anew it isn't any more."""
+        page = self.page()
+        self.load(page, SHORT)
+        self.assertEqual(page.post("run"), (200, {}))
+        page.until("it cuts", lambda state: float(state["motors"][0]) > 0.05 and state["behind"] > 60)
+        self.pull()
+        self.begin()
+        page = self.page()
+        state = page.until("it is found", lambda _: self.never_cut(page))
+        begins = round(1000 * float(page.post("rehearse")[1]["begins"][0]))
+        stands = round(1000 * float(state["motors"][0]))
+        told = self.never_cut(page)
+        self.assertGreater(begins, stands)
+        self.assertEqual((told["lines"], told["points"][0], told["points"][-1]),
+                         (begins - stands, [stands, 0, 0], [begins, 0, 0]))
+        page.until("it is said", lambda _: f"NEVER CUT: {begins - stands} lines handed out" in page.said())
+        self.assertEqual(page.post("reference", {"at": state["motors"]})[0], 200)
+        self.assertEqual(page.post("abandon")[0], 200)
+        self.assertEqual(self.never_cut(page), told)
+        self.load(page, "M2\n")
+        self.assertIsNone(self.never_cut(page))
+
+    @staticmethod
+    def never_cut(page: Page) -> dict | None:
+        """What is told of it."""
+        return json.loads(page.get("job")[1])["never_cut"]
+
+
+class Task:
+    """Work aside that is done within this process."""
+
+    def __init__(self, function: Callable, given: tuple) -> None:
+        self.function, self.given = function, given
+
+    def result(self) -> object:
+        """Does it. Raises NotDone."""
+        try:
+            return self.function(*self.given)
+        except (Failure, OSError) as error:
+            raise NotDone(str(error)) from None
+
+    def give_up(self) -> None:
+        """It isn't wanted any more."""
+
+
+class Here(Aside):
+    """Does work aside within this process, which costs less."""
+
+    def begin(self, function: Callable, *given: object) -> Task:
+        """What is to be done."""
+        return Task(function, given)
+
+
+class Moments(InFolder):
+    """Power is lost at moments of one job, so many as NGC_PAGE_MOMENTS says, and the four steps lead to its end."""
+
+    def setUp(self) -> None:
+        """The device with the job, and what OUT is to hold in the end: that of a run that nothing disturbs."""
+        super().setUp()
+        self.device()
+        self.run_ngc(f"load {len(JOB)}\n{JOB}")
+        self.image = Path("mill.dev").read_bytes()
+        self.run_ngc("start\ntick 99999\n", "whole")
+        self.pulses = pulses_of("whole")
+        (patched := patch("ngc_tools.page.session.Aside", Here)).start()
+        self.addCleanup(patched.stop)
+
+    def test_moments(self) -> None:
+        """Each time all pulses of the job are carried out, in turn, none is missing and none comes twice."""
+        count = int(os.environ.get("NGC_PAGE_MOMENTS", "20"))
+        halves = 0
+        for number in range(count):
+            lost_at = len(self.pulses) * (2 * number + 1) // (2 * count)
+            self.begin_anew()
+            self.lose_power(lost_at)
+            halves += self.go_back()
+            self.assertTrue(pulses_of("out") == self.pulses, f"lost at {lost_at}")
+        self.assertGreater(halves, count // 2)
+
+    def begin_anew(self) -> None:
+        """The device as the job was loaded, and nothing carried out."""
+        Path("mill.dev").write_bytes(self.image)
+        Path("out").write_bytes(b"")
+        Path("position").unlink(missing_ok=True)
+
+    def session(self) -> Session:
+        """A player, and a session of a page."""
+        self.player = self.start("ngc-player", "out", "first.toml", "position", "--progress", "progress", "--follow",
+                                 "--untimed")
+        self.wait_for("the player listens", lambda: os.path.exists("progress"))
+        words = ["mill.dev", "first.toml", "out", "--player", "progress", "--ngc", ngc()]
+        session = Session(Opener(ngc(), make_parser().parse_args(words)), PageFace())
+        self.addCleanup(session.leave)
+        self.addCleanup(session.operator.console.kill)
+        return session
+
+    def lose_power(self, lost_at: int) -> None:
+        """Starts the job, and ends `ngc` and the player once so many lines are carried out."""
+        session = self.session()
+        link, ask = session.operator.session.meter.link, session.operator.session.meter.link.ask
+
+        def asked() -> Report:
+            """Power is lost right behind an answer of the player."""
+            report = ask()
+            if report.carried >= lost_at:
+                self.player.kill()
+                session.operator.console.child.kill()
+            return report
+
+        link.ask = asked
+        session.run("run")
+        self.wait_for("power is lost", lambda: session.ended != "")
+        session.leave()
+        session.operator.console.kill()
+        self.end_player()
+
+    def end_player(self) -> None:
+        """Ends the player as a loss of power does."""
+        self.player.kill()
+        self.player.wait()
+        os.unlink("progress")
+
+    def go_back(self) -> bool:
+        """Through the four steps, where the page leads through them, and on to the end; whether it did."""
+        session = self.session()
+        status, stands = session.stand.status, session.face.report.at.split()
+        is_half = status.half != "none"
+        if is_half:
+            self.assertIn("they make at most", session.past)
+            rehearsed = rehearse(session, stands, True)
+            self.assertEqual((rehearsed["refused"], session.stand.recovery["problem"]), ("", ""))
+        if is_half or session.stand.recovery["left"]:
+            session.recover(stands)
+            asked = self.agrees(session)
+            self.assertEqual([text for text in asked if "Do they stand there?" in text], [])
+            self.assertEqual(sum(text in LOOKS for text in asked), is_half)
+        if not session.is_finished:
+            session.run("run")
+            self.agrees(session)
+        self.assertEqual(session.face.report.at, "0.000000 0.000000 -1.000000")
+        session.quit()
+        self.agrees(session)
+        self.wait_for("it is over", session.over.is_set)
+        self.end_player()
+        return is_half
+
+    def agrees(self, session: Session) -> list[str]:
+        """Agrees to all that is asked until nothing is under way; what was asked."""
+        asked: list[str] = []
+        seen = 0
+        while True:
+            self.wait_for("it asks, or is through", lambda seen=seen: not session.is_busy or is_new(session, seen))
+            question = session.face.question
+            if question is None or question.id == seen:
+                return asked
+            seen = question.id
+            asked.append(question.text)
+            session.face.answer(seen, "yes" if question.kind == "yes" else "1")
+
+
+def is_new(session: Session, seen: int) -> bool:
+    """Whether something is asked that wasn't before."""
+    question = session.face.question
+    return question is not None and question.id != seen
+
+
+def pulses_of(out: str) -> list[bytes]:
+    """The pulses of a file of OUT."""
+    return [line for line in Path(out).read_bytes().splitlines() if line.startswith(b"P")]
+
+
+if __name__ == "__main__":
+    unittest.main()
