@@ -138,10 +138,6 @@ class MachineLink:
         self.outputs = OFF if self.axes.word == "alarm" else self.outputs
         return Report(self.carried, len(lines), False, str(position), "out", self.outputs, word=self.axes.word)
 
-    def age_ms(self) -> int:
-        """How old a record ever was: that isn't known."""
-        return 0
-
     def machine(self) -> Machine:
         """What moves without lines."""
         if not self.knows:
