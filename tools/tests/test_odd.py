@@ -78,6 +78,7 @@ def begin(name: str, words: Iterable[str], before: Callable[[], object]) -> int:
             setattr(sys, stream, open(number, mode, closefd=False))
         warnings.simplefilter("ignore")  # as outside of tests
         tempfile.mkdtemp, tempfile.tempdir = noted(tempfile.mkdtemp), os.path.abspath("tmp")
+        signal.pthread_sigmask(signal.SIG_UNBLOCK, {signal.SIGINT})  # not before all of this is done
         before()
         own = ("--ngc", ngc()) if name in ASKS else ()
         status = MAINS[name]([*words, *own])
