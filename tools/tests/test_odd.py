@@ -65,8 +65,10 @@ class Ended:
 def begin(name: str, words: Iterable[str], before: Callable[[], object]) -> int:
     """Starts a tool in a fork with a process group of its own, its outputs in files; `before` is done in it first."""
     gc.freeze()
+    signal.pthread_sigmask(signal.SIG_BLOCK, {signal.SIGINT})
     child = os.fork()
     if child:
+        signal.pthread_sigmask(signal.SIG_UNBLOCK, {signal.SIGINT})
         return child
     try:
         gc.disable()  # a page that nobody touches isn't copied
