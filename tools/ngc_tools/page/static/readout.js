@@ -14,6 +14,7 @@ export class Readout {
     $('slower').onclick = () => this.sets(this.percent - 10);
     $('faster').onclick = () => this.sets(this.percent + 10);
     $('percent').onclick = () => this.sets(100);
+    window.addEventListener('resize', () => this.fit());
   }
 
   axis(name) {
