@@ -175,7 +175,8 @@ impl Scratch {
     }
 }
 
-/// What a line does in a state, or its first fault: `Scratch::execute`, in a scratch space of its own.
+/// What a line does in a state, or its first fault: `Scratch::execute`, in a scratch space of its own. For callers of
+/// one line: the programs keep a `Scratch`.
 pub fn execute<A: Allocator + Copy + Drop>(
     state: &State<A>,
     text: &[u8],

@@ -145,7 +145,8 @@ impl Values {
     }
 }
 
-/// The values of a line: `Values::evaluate_into` into new storage, with the same faults. Only the dry run calls it.
+/// The values of a line: `Values::evaluate_into` into new storage, with the same faults. For callers of this crate
+/// alone: the programs keep their `Values`.
 pub fn evaluate<A: Allocator + Copy + Drop>(
     line: &Line,
     params: &Params<A>,

@@ -184,8 +184,8 @@ pub(crate) fn value_on<A: Allocator + Copy + Drop>(
 
 /// The value of a tree, given a table of parameters (NISTIR 6556, 3.3.2.2 to 3.3.2.4). E3 if a number or an
 /// intermediate value is out of range, E4 if an index isn't that of a parameter, E5 if an operation or a function has
-/// no result; of two faults the one further to the left counts. The dry run does the same walk on a stack that it
-/// keeps.
+/// no result; of two faults the one further to the left counts. For callers of this crate alone: the programs do
+/// the same walk on a stack that they keep.
 pub fn value<A: Allocator + Copy + Drop>(tree: &Tree<'_>, params: &Params<A>) -> Result<Num, Fault>
     ensures { result ≡ value (tree_by tree.now) params.now }
 {

@@ -119,7 +119,8 @@ impl Sorted {
 }
 
 /// What a line asks for, given the modes before it and the number of tool slots, or the first of B1 to B19 whose cause
-/// holds (NISTIR 6556, 3.3 to 3.7; numbers own).
+/// holds (NISTIR 6556, 3.3 to 3.7; numbers own). It is for callers of this crate alone: the programs keep what
+/// this makes, and check into it.
 pub fn check(values: &Values, modes: &Modes, slots: u8) -> Result<Block, Fault>
     ensures value { result ≡ checked values.now.words.items modes.now slots }
     ensures least { MatchResult result

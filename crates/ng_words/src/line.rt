@@ -157,7 +157,7 @@ pub fn is_too_long(text: &[u8]) -> bool
     text.len() > BYTES
 }
 
-/// Reads a line, without its line end, into a new `Line`. Only the dry run calls it.
+/// Reads a line, without its line end, into a new `Line`: for callers of this crate alone. The programs keep a `Line`.
 ///
 /// E2 if the text has over 256 bytes, else E1 if it isn't in the grammar. Source: NISTIR 6556, 3.3; the faults are own.
 pub fn read_line(text: &[u8]) -> Result<Line, Fault>
