@@ -1,7 +1,9 @@
 /* Paces a file of OUT by the pacer of tools/player, for bench/ramps.py: the words are the file, the acceleration of all
- * axes in steps a second, each second, and the lines in hand: N, 0 for as many as tools/player wants, or - for as many
- * as go in, without a count of them. It prints the lines, the nanoseconds that OUT says, those with ramps, those of the
- * processor, and of the lines in hand, weighted by time, the median, the greatest of 99 % of the time and of all. */
+ * axes in steps a second, each second, and the lines in hand: - for as many as go in, without a count of them; or N, 0
+ * for as many as tools/player wants, and the file of what each tick made. It prints the lines, the nanoseconds that OUT
+ * says, those with ramps and those of the processor; and, weighted by time, of the lines in hand and then of those that
+ * a loss of power costs the least, the median, the greatest of 99 % of the time and of all; at last the thousandths of
+ * the time in which it costs any. */
 #include <inttypes.h>
 #include <stdio.h>
 #include <stdlib.h>
@@ -11,11 +13,26 @@
 #include "pace.h"
 #include "window.h"
 
+enum { AT_ONCE = 200 /* ticks that ngc-operate gives, at most */, PARTS = 16 /* of the lines wanted: one is free */ };
+
+/* After a tick so many lines stand in OUT, and a session that follows a loss of power goes on with the line `next`. */
+struct tick {
+    uint32_t lines;
+    uint32_t next;
+};
+
+/* How long there were so many lines, in nanoseconds. */
+struct spread {
+    uint64_t ns[PACE_ROOM + 1];
+};
+
 static struct pace pace;
 static struct window window;
 static struct line lines[PACE_ROOM];
-static uint64_t hand_ns[PACE_ROOM + 1]; /* how long so many lines were in hand */
-static bool counts;
+static struct spread in_hand;
+static struct spread lost;
+static FILE *ticks; /* NULL where the lines in hand aren't counted: each line is a tick then */
+static struct tick made;
 static bool is_over;
 static uint64_t out_ns;
 static uint64_t paced_ns;
@@ -33,20 +50,36 @@ static bool read_one(FILE *file) {
     }
     pace_push(&pace, line);
     out_ns += line->kind == 'S' ? 0 : line->us * 1000;
-    if (counts) {
+    if (ticks != NULL) {
         window_take(&window, line);
     }
     return true;
 }
 
-/* Reads whenever a sixteenth of what is wanted is free. */
-static void refill(FILE *file) {
-    uint64_t wanted = counts ? window_lines(&window) : PACE_ROOM;
-    if (pace.known - pace.first > wanted - wanted / 16) {
-        return;
+/* Makes what the next tick makes; false if that was the last. */
+static bool tick(FILE *file) {
+    made.lines = (uint32_t)pace.known + 1;
+    if (ticks != NULL && fread(&made, sizeof made, 1, ticks) != 1) {
+        return false;
     }
-    while (!is_over && pace.known - pace.first < wanted) {
-        is_over = !read_one(file);
+    return made.lines == pace.known || read_one(file);
+}
+
+/* How many ticks are given: none until a sixteenth of the lines that are wanted is free. */
+static uint64_t room(void) {
+    uint64_t wanted = ticks != NULL ? window_lines(&window) : PACE_ROOM;
+    uint64_t hand = pace.known - pace.first;
+    uint64_t part = wanted < PARTS ? 1 : wanted / PARTS;
+    uint64_t free = hand < wanted ? wanted - hand : 0;
+    uint64_t most = ticks != NULL && free > AT_ONCE ? AT_ONCE : free;
+    return free < part ? 0 : most;
+}
+
+static void refill(FILE *file) {
+    uint64_t left = room();
+    while (!is_over && left > 0) {
+        is_over = !tick(file);
+        left = left > 1 ? left - 1 : room();
     }
 }
 
@@ -58,43 +91,56 @@ static void give(void) {
         return;
     }
     paced_ns += ns;
-    if (counts) {
-        hand_ns[hand] += ns;
+    if (ticks != NULL) {
+        in_hand.ns[hand] += ns;
+        lost.ns[made.next > pace.first ? made.next - pace.first : 0] += ns;
         window_leave(&window, pace.first);
     }
 }
 
-/* The lines that are in hand for so many thousandths of the time, at most. */
-static uint64_t hand_of(uint64_t thousandths) {
-    uint64_t sum = 0;
-    uint64_t hand = 0;
-    while (hand < PACE_ROOM && sum + hand_ns[hand] < paced_ns / 1000 * thousandths) {
-        sum += hand_ns[hand];
-        hand++;
+/* The lines that there are for so many thousandths of the time, at most; for none of it the least. */
+static uint64_t lines_of(const struct spread *spread, uint64_t thousandths) {
+    uint64_t least = paced_ns / 1000 * thousandths;
+    uint64_t sum = spread->ns[0];
+    uint64_t count = 0;
+    while (count < PACE_ROOM && (sum == 0 || sum < least)) {
+        count++;
+        sum += spread->ns[count];
     }
-    return hand;
+    return count;
 }
 
-static uint64_t greatest_hand(void) {
-    uint64_t hand = PACE_ROOM;
-    while (hand > 0 && hand_ns[hand] == 0) {
-        hand--;
+static uint64_t most_of_all(const struct spread *spread) {
+    uint64_t count = PACE_ROOM;
+    while (count > 0 && spread->ns[count] == 0) {
+        count--;
     }
-    return hand;
+    return count;
+}
+
+static void print_spread(const struct spread *spread) {
+    printf(" %" PRIu64 " %" PRIu64 " %" PRIu64 " %" PRIu64, lines_of(spread, 0), lines_of(spread, 500),
+           lines_of(spread, 990), most_of_all(spread));
+}
+
+/* Opens a file; the program ends where that isn't possible. */
+static FILE *opened(const char *path) {
+    FILE *file = fopen(path, "rb");
+    if (file == NULL) {
+        perror(path);
+        exit(2);
+    }
+    return file;
 }
 
 int main(int count, char **given) {
-    if (count != 4) {
+    if (count != 4 && count != 5) {
         return 2;
     }
     uint64_t accel = strtoull(given[2], NULL, 10);
     const struct pace_limits limits = {.accel = {accel, accel, accel}, .half = 64, .slack = 2, .most_percent = 100};
-    FILE *file = fopen(given[1], "r");
-    if (file == NULL) {
-        perror(given[1]);
-        return 2;
-    }
-    counts = given[3][0] != '-';
+    FILE *file = opened(given[1]);
+    ticks = count == 5 ? opened(given[4]) : NULL;
     pace_begin(&pace, &limits);
     window_begin(&window, &limits, strtoull(given[3], NULL, 10));
     clock_t begun = clock();
@@ -103,7 +149,9 @@ int main(int count, char **given) {
         give();
     }
     uint64_t cpu_ns = (uint64_t)((double)(clock() - begun) * 1e9 / CLOCKS_PER_SEC);
-    printf("%" PRIu64 " %" PRIu64 " %" PRIu64 " %" PRIu64 " %" PRIu64 " %" PRIu64 " %" PRIu64 "\n", pace.known, out_ns,
-           paced_ns, cpu_ns, hand_of(500), hand_of(990), greatest_hand());
+    printf("%" PRIu64 " %" PRIu64 " %" PRIu64 " %" PRIu64, pace.known, out_ns, paced_ns, cpu_ns);
+    print_spread(&in_hand);
+    print_spread(&lost);
+    printf(" %" PRIu64 "\n", (paced_ns - lost.ns[0]) * 1000 / paced_ns);
     return 0;
 }

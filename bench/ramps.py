@@ -12,8 +12,11 @@ of 2 um, and 120 corners of 90 degrees with a helix; all at F3000. `ngc run` han
   and paces it by tools/player's pacer, and of `ngc pace --total`.
 - Times are those of OUT, those with ramps, and a bound below which none can be: OUT's, and at each rest, at the ends
   and at waits and switches, what a ramp at that acceleration takes beyond it, v / 2a. It counts no corner.
-- Lines in hand are those that a loss of power costs at a moment by chance: with 2,000, and with as many as tools/player
-  wants, where a sixteenth that is free is filled at once.
+- Lines in hand are those that were handed out and aren't carried out: with 2,000, and with as many as tools/player
+  wants. Ticks are given as ngc-operate gives them, where a sixteenth is free, and at once.
+- Lines lost are those that no motor ever carries out where power is lost, over a pipe: those in hand before the segment
+  with which the next session goes on. A session of a tick and a status at a time tells that one after each tick. Both
+  are of all moments of the job, weighted by time.
 - A line of 100 mm and full circles are compared with the ideal of their shape: the trapezoid, and the greatest rate at
   each place of the smooth circle, in the pulses of a stepper, whose axes have that acceleration.
 - The same line is paced with other numbers of lines in hand.
@@ -25,6 +28,7 @@ import math
 import os
 import random
 import resource
+import struct
 import subprocess
 import sys
 import tempfile
@@ -83,6 +87,25 @@ def jobs():
         yield make.__name__, f"{HEAD}{make()}M2\n"
 
 
+def made_by_ticks(replies):
+    """Of each tick of a session of a tick and a status at a time: how many lines stand in OUT after it, and the number
+    of the one, from 0, with which a session goes on after a loss of power: the first of the open segment, or the next
+    one where none is open. A tick that leaves a segment open hands out a line of it."""
+    lines = begins = 0
+    segment = None
+    for reply in replies:
+        words = reply.split()
+        if words[0] != "status":
+            continue
+        place, before, segment = words[4], segment, None
+        if words[-3] == "program":
+            segment = place, words[-2]
+        is_line = segment is not None and segment == before
+        lines += is_line
+        begins = begins if is_line else lines
+        yield lines, begins
+
+
 class Bench:
     """What is run in a folder."""
 
@@ -96,23 +119,42 @@ class Bench:
         subprocess.run(["cc", "-std=c11", "-O2", HERE / "bench" / "ramps.c", *sources, "-I", player, "-o",
                         self.folder / "ramps"], check=True)
 
-    def hand_out(self, program):
-        """Makes a new OUT of a program; returns its path."""
-        device, out = self.folder / "mill.dev", self.folder / "out"
+    def run(self, program, ticks, out, said):
+        """Does a program over a new device, by these commands behind `start`; what is answered goes to a file."""
+        device = self.folder / "mill.dev"
         out.unlink(missing_ok=True)
         device.unlink(missing_ok=True)
         subprocess.run([self.ngc, "format", device], check=True)
-        ticks = ("tick 1000000\n" * 3 + "continue\n") * 3
         commands = f"tool 1 50\ntool 2 62.5\ntool 3 0\nload {len(program.encode())}\n{program}start\n{ticks}"
         words = [self.ngc, "run", device, self.folder / "mill.toml", out]
-        said = subprocess.run(words, input=commands, capture_output=True, text=True).stdout
-        if not said.endswith("idle\n") and "\nidle\n" not in said:
-            sys.exit(f"ngc run doesn't come to the end: {said[-300:]}")
-        return out
+        with open(said, "w") as file:
+            subprocess.run(words, input=commands, stdout=file, text=True)
 
-    def paced(self, out, hand):
+    def hand_out(self, program):
+        """Makes a new OUT of a program; returns its path, and the number of ticks that it took."""
+        out, said = self.folder / "out", self.folder / "said"
+        self.run(program, ("tick 1000000\n" * 3 + "continue\n") * 3, out, said)
+        replies = said.read_text().splitlines()
+        if "idle" not in replies:
+            sys.exit(f"ngc run doesn't come to the end: {replies[-3:]}")
+        return out, sum(int(reply[6:]) for reply in replies if reply.startswith("ticks "))
+
+    def ticks(self, program, count, lines):
+        """Does a program a tick at a time, and writes what each of so many ticks made, for bench/ramps.c; returns the
+        file's path. OUT has to have so many lines then."""
+        made, said = self.folder / "ticks", self.folder / "said"
+        self.run(program, "tick 1\nstatus\n" * count, self.folder / "again", said)
+        with open(made, "wb") as file, open(said) as replies:
+            last = (0, 0)
+            for last in made_by_ticks(replies):
+                file.write(struct.pack("=II", *last))
+        if last[0] != lines:
+            sys.exit(f"by the status {last[0]} lines were handed out, and OUT has {lines}")
+        return made
+
+    def paced(self, out, hand="-", *ticks):
         """What bench/ramps.c prints."""
-        words = [self.folder / "ramps", out, str(ACCEL), str(hand)]
+        words = [self.folder / "ramps", out, str(ACCEL), str(hand), *ticks]
         return list(map(int, subprocess.run(words, capture_output=True, text=True, check=True).stdout.split()))
 
     def seconds_of_ngc(self, out):
@@ -199,11 +241,11 @@ def ideal_circle_s(radius, parts=4000):
 def show_shapes(bench):
     """A line and circles beside their ideals."""
     print("\nshape               ramps s   ideal s   factor")
-    straight = bench.paced(bench.hand_out(f"{HEAD}G1 X100\nM2\n"), "-")[2] / 1e9
+    straight = bench.paced(bench.hand_out(f"{HEAD}G1 X100\nM2\n")[0])[2] / 1e9
     rows = [("line of 100 mm", straight, 100 * 400 / FASTEST + FASTEST / ACCEL)]
     for radius in RADII_MM:
-        out = bench.hand_out(f"G17 G21 G90 G94\nF3000\nG3 X0 Y0 I{-radius} J0\nM2\n")
-        rows.append((f"circle, R {radius} mm", bench.paced(out, "-")[2] / 1e9, ideal_circle_s(int(400 * radius))))
+        out = bench.hand_out(f"G17 G21 G90 G94\nF3000\nG3 X0 Y0 I{-radius} J0\nM2\n")[0]
+        rows.append((f"circle, R {radius} mm", bench.paced(out)[2] / 1e9, ideal_circle_s(int(400 * radius))))
     for name, took, ideal in rows:
         print(f"{name:18} {took:8.3f} {ideal:9.3f} {took / ideal:8.3f}")
 
@@ -211,21 +253,26 @@ def show_shapes(bench):
 def show_windows(bench):
     """A line with few lines in hand and with many."""
     print("\nlines in hand  line of 100 mm, seconds")
-    out = bench.hand_out(f"{HEAD}G1 X100\nM2\n")
+    program = f"{HEAD}G1 X100\nM2\n"
+    out, count = bench.hand_out(program)
+    ticks = bench.ticks(program, count, bench.paced(out)[0])
     for hand in (50, 100, 200, 400, 800, 1200, 1600, FIXED):
-        print(f"{hand:13,} {bench.paced(out, hand)[2] / 1e9:10.3f}")
+        print(f"{hand:13,} {bench.paced(out, hand, ticks)[2] / 1e9:10.3f}")
 
 
-def show(bench, name, out, rounds):
-    """A job's row."""
-    lines, out_ns, paced_ns = bench.paced(out, "-")[:3]
-    best = min(bench.paced(out, "-")[3] for _ in range(rounds)) / 1e9
+def show(bench, name, program, rounds):
+    """A job's row, and that of its lines in hand and lost."""
+    out, count = bench.hand_out(program)
+    lines, out_ns, paced_ns = bench.paced(out)[:3]
+    best = min(bench.paced(out)[3] for _ in range(rounds)) / 1e9
     best_ngc = min(bench.seconds_of_ngc(out) for _ in range(rounds))
-    fixed, wanted = bench.paced(out, FIXED), bench.paced(out, 0)
     print(f"{name:11} {lines:9,} {lines / best / 1e6:6.1f} {lines / best_ngc / 1e6:6.1f}  {out_ns / 1e9:8.3f}"
-          f" {bound_ns(out) / 1e9:8.3f} {paced_ns / 1e9:8.3f} {paced_ns / out_ns:6.3f}"
-          f"  {fixed[2] / 1e9:8.3f} {fixed[4]:5} {fixed[5]:5} {fixed[6]:5}"
-          f"  {wanted[2] / 1e9:8.3f} {wanted[4]:5} {wanted[5]:5} {wanted[6]:5}", flush=True)
+          f" {bound_ns(out) / 1e9:8.3f} {paced_ns / 1e9:8.3f} {paced_ns / out_ns:6.3f}", flush=True)
+    ticks = bench.ticks(program, count, lines)
+    for hand in (FIXED, 0):
+        _, _, paced_ns, _, *counts, thousandths = bench.paced(out, hand, ticks)
+        print(f"{f'  {hand:,} in hand' if hand else '  as wanted':34} {paced_ns / 1e9:8.3f}"
+              f" {''.join(f'{count:7,}' for count in counts)}  {thousandths / 10:5.1f} %", flush=True)
 
 
 def main():
@@ -239,13 +286,13 @@ def main():
         dry = ["rt", "run", "--", "dry", HERE / "examples/first.ngc"]
         subprocess.run(dry, cwd=HERE / "crates/ngc", stdout=subprocess.DEVNULL, stderr=subprocess.DEVNULL)
     print(f"load {os.getloadavg()[0]:.1f}")
-    print("            lines   M lines a second   seconds                      factor"
-          f"  {FIXED} lines: s, median, 99 %, most  as wanted: the same")
+    print("            lines   M lines a second   seconds                      factor")
     print("job                      C    ngc       OUT    bound    ramps")
+    print("  seconds; lines in hand: least, median, 99 %, most; lines lost: the same, and in how much of the time any")
     with tempfile.TemporaryDirectory(prefix="ngc-ramps-") as folder:
         bench = Bench(ngc, folder)
         for name, program in jobs():
-            show(bench, name, bench.hand_out(program), given.rounds)
+            show(bench, name, program, given.rounds)
         show_shapes(bench)
         show_windows(bench)
     print(f"load {os.getloadavg()[0]:.1f}")

@@ -3,9 +3,10 @@
 ever carries out.
 
     pulled_plug.py --ngc PATH [--moments N] [--ahead LINES | --unmetered] [--pipe BYTES] [--player PATH] [--seed N]
-                   [--machine FILE]
+                   [--machine FILE] [--program FILE] [--settings FILE]
 
-A job cuts 80 short blocks, an arc and a drilled hole. A tick and a status at a time give its lines and where each
+A job cuts 80 short blocks, an arc and a drilled hole, or it is a program without tool lengths whose lines each name
+their motion. A tick and a status at a time give its lines and where each
 segment of it begins, uncut. Then it is run over a named pipe by a player that keeps the times, and cut, and taken up
 again, until it is at its end. After each cut the new session says which segment comes next: what lies between the last
 line that the pins got and that segment's first line was handed out, and is never carried out."""
@@ -20,6 +21,7 @@ import sys
 import tempfile
 import threading
 import time
+import tomllib
 from dataclasses import dataclass, field
 from pathlib import Path
 
@@ -28,7 +30,7 @@ sys.path.insert(0, str(Path(__file__).resolve().parent))
 from session_support import FIRST  # noqa: E402
 
 from ngc_tools.ngc.console import Console, Ended, Status  # noqa: E402
-from ngc_tools.operator.meter import Meter  # noqa: E402
+from ngc_tools.operator.meter import LIMITS, Meter  # noqa: E402
 from ngc_tools.formats.out import read_line  # noqa: E402
 from ngc_tools.cli.player import main as play  # noqa: E402
 from ngc_tools.formats.position import Position, millimetres  # noqa: E402
@@ -106,7 +108,7 @@ def run_uncut(ngc: str, folder: Path, text: bytes) -> Uncut:
 
 @dataclass
 class Options:
-    """How a job is run: metered by `ahead` lines, or not at all."""
+    """How a job is run: metered by `ahead` lines, by as many as the player wants where that is 0, or not at all."""
 
     ngc: str
     ahead: int | None
@@ -114,6 +116,16 @@ class Options:
     player: str | None
     longest_s: float
     machine: str | None = None  # what the motors allow, for ramps
+    settings: str = FIRST  # the text of the file
+
+    @property
+    def bound(self) -> int | None:
+        """The most lines that OUT may be ahead of the player; None where there is no bound."""
+        return LIMITS[-1] if self.ahead == 0 else self.ahead
+
+    def nanometres(self, steps: tuple[int, ...]) -> tuple[int, ...]:
+        """A point in nm."""
+        return tuple(count * step for count, step in zip(steps, tomllib.loads(self.settings)["step_nm"]))
 
 
 @dataclass
@@ -171,8 +183,8 @@ class Job:
         """Notes how many lines the last cut lost. Raises Wrong where it is more than the bound."""
         lost = max(0, begins - self.done)
         result.lost.append(lost)
-        if self.options.ahead and lost > self.options.ahead:
-            raise Wrong(f"{lost} lines before line {begins} are never carried out; the bound is {self.options.ahead}")
+        if self.options.bound and lost > self.options.bound:
+            raise Wrong(f"{lost} lines before line {begins} are never carried out; the bound is {self.options.bound}")
         self.done = max(self.done, begins)
 
     def _next_line(self, status: Status) -> int:
@@ -196,7 +208,7 @@ class Job:
             return 0
         there = self.uncut.at(begins)
         way = max(abs(a - b) for a, b in zip(self.stands, there))
-        place = " ".join(millimetres(count * step) for count, step in zip(self.stands, STEP_NM))
+        place = " ".join(map(millimetres, self.options.nanometres(self.stands)))
         session.expect(console.ask("reference " + place)[0].split()[0], "done")
         if status.half == "program":
             session.expect(console.ask("resume")[0], "going")
@@ -238,11 +250,10 @@ class Session:
         for path in (self.fifo, self.socket, self.log):
             path.unlink(missing_ok=True)
         os.mkfifo(self.fifo)
-        at_nm = tuple(count * step for count, step in zip(stands, STEP_NM))
-        self.record.write_bytes(Record(str(self.fifo), at_nm=at_nm).text())
+        self.record.write_bytes(Record(str(self.fifo), at_nm=options.nanometres(stands)).text())
         self.player = self._start_player()
         self.link = self._linked()
-        self.meter = Meter(self.link, options.ahead) if options.ahead else None
+        self.meter = None if options.ahead is None else Meter(self.link, options.ahead or None)
         self.console = Console(options.ngc, device, folder / "settings.toml", self.fifo)
         self.timer: threading.Timer | None = None
         self.over = False
@@ -366,19 +377,19 @@ class Session:
         if record.lines > len(got):
             raise Wrong(f"the record counts {record.lines} lines, and the pins got {len(got)}")
         steps = steps_after(got[:record.lines], stood)
-        if record.at_nm != tuple(count * step for count, step in zip(steps, STEP_NM)):
+        if record.at_nm != self.options.nanometres(steps):
             raise Wrong(f"the record says {record.at_nm} nm after {record.lines} lines, and they lead to {steps}")
 
 
-def pull(options: Options, moments: int, seed: int, blocks: int = 80) -> Result:
-    """Runs jobs until so many moments were seen. Raises Wrong."""
+def pull(options: Options, moments: int, seed: int, text: bytes = program(80)) -> Result:
+    """Runs jobs of a program until so many moments were seen. Raises Wrong."""
     result = Result()
     chance = random.Random(seed)
     base = "/dev/shm" if os.access("/dev/shm", os.W_OK) else None
     with tempfile.TemporaryDirectory(prefix="ngc-plug-", dir=base) as name:
         folder = Path(name)
-        (folder / "settings.toml").write_text(FIRST)
-        uncut = run_uncut(options.ngc, folder, program(blocks))
+        (folder / "settings.toml").write_text(options.settings)
+        uncut = run_uncut(options.ngc, folder, text)
         while len(result.lost) < moments:
             for path in ("job.dev", "record"):
                 (folder / path).unlink(missing_ok=True)
@@ -393,17 +404,21 @@ def main() -> int:
     parser.add_argument("--moments", type=int, default=200)
     parser.add_argument("--seed", type=int, default=1)
     parser.add_argument("--blocks", type=int, default=80)
-    parser.add_argument("--ahead", type=int, default=100)
+    parser.add_argument("--ahead", type=int, default=100, help="lines; 0 for as many as the player wants")
     parser.add_argument("--unmetered", action="store_true")
     parser.add_argument("--pipe", type=int, default=4096)
     parser.add_argument("--player", help="the player of tools/player, in place of ngc-player")
     parser.add_argument("--machine", help="the file of the player's ramps: it makes none without")
+    parser.add_argument("--program", type=Path, help="another job")
+    parser.add_argument("--settings", type=Path, help="others than those of docs/SESSION.md's first session")
     parser.add_argument("--longest", type=float, default=0.3, help="a cut comes after so many seconds at most")
     given = parser.parse_args()
     ahead = None if given.unmetered else given.ahead
-    options = Options(given.ngc, ahead, given.pipe, given.player, given.longest, given.machine)
+    settings = given.settings.read_text() if given.settings else FIRST
+    options = Options(given.ngc, ahead, given.pipe, given.player, given.longest, given.machine, settings)
+    text = given.program.read_bytes() if given.program else program(given.blocks)
     begun = time.monotonic()
-    result = pull(options, given.moments, given.seed, given.blocks)
+    result = pull(options, given.moments, given.seed, text)
     lost = sorted(result.lost)
     print(f"{len(lost)} moments in {time.monotonic() - begun:.0f} s; never carried out: {lost[0]} to {lost[-1]} lines,"
           f" median {statistics.median(lost):.0f}; {sum(map(bool, lost))} moments with any;"
