@@ -13,7 +13,7 @@ use Rattle.ng_text.specs.LinesBefore.{IsTrueOf}
 use Rattle.ng_text.specs.Percent.{first_kind}
 use Rattle.ng_text.specs.Programs.{ProgramLineModel, program_line_at, lines_before}
 use Rattle.ng_journal.specs.Journal.{JournalModel, IsDurablyAt, IsBrokenBy, CountsFailure}
-use Rattle.ng_journal.specs.Storing.{ledger_of}
+use Rattle.ng_journal.specs.Storing.{Ledger, ledger_of}
 use Rattle.ng_canon.specs.declared.geometry.Geometry.{Geometry}
 use Rattle.ng_session.specs.Entries.{done_of}
 use Rattle.ng_session.specs.Session.{SessionModel, Transition, step, begin, begin_by, is_running, session_status, TakesMemory, AsksDevice, NeedsProgramLine}
@@ -23,13 +23,15 @@ use Rattle.ng_session.specs.declared.reply.Reply.{Reply}
 use Rattle.ng_session.specs.declared.reply.Reply.TheVariants as reply
 use Rattle.ng_layout.specs.declared.half.Source.TheVariants as source
 use Rattle.ng_block.specs.Effects.{Done}
-use Rattle.ng_core.specs.Model.{ControllerModel, IsAtRestWith, durable_state_of}
+use Rattle.ng_core.specs.Model.{ControllerModel, durable_state_of}
 use Rattle.ng_session.specs.Runs.{crash_in, session_of_transition}
+use Rattle.ng_core.specs.Causes.{stored_for}
 use Rattle.ng_core.specs.Needs.{needs, needs_line}
-use Rattle.ng_core.specs.Events.{IsCrashOfEither, program_session_of, CarriesOut, CarriesOutEvent, IsAnsweredBy, IsAnsweredAnyway, IsAnsweredByLine}
+use Rattle.ng_core.specs.Events.{IsCrashOfEither, program_session_of, CallsFor, IsKeptAfter, CarriesOut, CarriesOutEvent, IsAnsweredBy, IsAnsweredAnyway, IsAnsweredByLine}
 use Rattle.ng_core.specs.Private.Ahead.{PlansAhead}
 use Rattle.ng_core.proofs.Acting.{acts_unread}
-use Rattle.ng_core.proofs.Beginning.{Finding, Reading, FindingBoth, does_begin, begun_line, by_running}
+use Rattle.ng_core.proofs.Calling.{calls_none, calls_quiet, quiet_calls, ledger_quiet}
+use Rattle.ng_core.proofs.Beginning.{FindingBoth, does_begin, begun_line, by_running}
 use Rattle.ng_core.proofs.AnyLines.{has_kind}
 use Rattle.ng_core.proofs.Hindering.{unused_begin}
 use Rattle.ng_core.proofs.Quiet.{still_begin}
@@ -64,8 +66,10 @@ module _ {R : Type 0} (seen : R → Device) where
     does = meaning c.does (λ f program rests.
         let a = f program (rests.0, still program rests.1) in
         record { comes = answered_from answer (out program) old new known a.comes; stops = a.stops; leaves = a.leaves; untouched = a.untouched });
+    calls = c.calls;
     comes = anyway_from reads answer out old new known c.comes;
     line = λ read. line_from answer out old new known (c.line read);
+    ledger = c.ledger;
     hindered = c.hindered;
     broken = c.broken;
     geometry = c.geometry;
@@ -105,9 +109,13 @@ module _ {R : Type 0} (seen : R → Device) where
       subst (λ (j : JournalModel R). FindingBoth seen p.first (Some line) old.lines p.place old.journal j) (sym same) (finding_ahead old.lines new.lines p old.journal b.front) in
       record {
         does = does_begin seen told p.first (Some line) p.place old new b.place found (λ program known at kind. still_lines program old.lines new.lines p b.front b.before known) b.told_is b.next;
+        calls = calls_quiet seen told (λ program. begin old.geometry program old.session (program_line_at program old.session.stored.place)) old new
+            (λ program. still_begin old.geometry program old.session (program_line_at program old.session.stored.place)) (λ h. ap (λ (j : JournalModel R). (seen j.rig).trace) same);
         comes = λ none. absurd (none tt);
         line = λ read. begun_line told (λ (program : List ℕ). begin old.geometry program old.session (program_line_at program old.session.stored.place)) p.first (Some line) p.place old new runs b.place b.beginning b.told_is b.next
             (ap (λ (j : JournalModel R). ledger_of j) same);
+        ledger = ledger_quiet seen (λ program. begin old.geometry program old.session (program_line_at program old.session.stored.place)) old new
+            (λ program. still_begin old.geometry program old.session (program_line_at program old.session.stored.place)) (ap (λ (j : JournalModel R). ledger_of j) same);
         hindered = tt;
         broken = ap (λ (j : JournalModel R). j.broken) same ∙ whole;
         geometry = geometry;
@@ -119,7 +127,8 @@ module _ {R : Type 0} (seen : R → Device) where
 
   pub plans_none : (c : ControllerModel R) → c.journal.broken ≡ false → PlansAhead seen (Ok tt) c c
   plans_none c whole = record {
-    does = record { keeps = λ h. h; back = λ h. h; holds = λ h program rests. record { same = refl; rests = rests } };
+    does = record { keeps = λ h. h; back = λ h. h; holds = λ h program rests. rests };
+    unwritten = λ h. refl;
     session = refl;
     ledger = refl;
     errors = tt;
@@ -132,18 +141,16 @@ module _ {R : Type 0} (seen : R → Device) where
   -- both reads succeeded
   pub plans_found : (first : LineKind) (line : Option ProgramLineModel) (place : ℕ) (old new : ControllerModel R) → FindingBoth seen first line old.lines place old.journal new.journal
       → ((program : List ℕ) → IsKnownOf program old.lines → line ≡ program_line_at program place → first ≡ first_kind (lines_before program place) → IsKnownOf program new.lines)
-      → new.session ≡ old.session → new.geometry ≡ old.geometry → ledger_of new.journal ≡ ledger_of old.journal → new.journal.broken ≡ false
+      → ((seen old.journal.rig).honest → (seen new.journal.rig).trace ≡ (seen old.journal.rig).trace) → new.session ≡ old.session → new.geometry ≡ old.geometry → ledger_of new.journal ≡ ledger_of old.journal → new.journal.broken ≡ false
       → (seen new.journal.rig).sectors ≡ (seen old.journal.rig).sectors → (seen new.journal.rig).failed ≡ (seen old.journal.rig).failed → PlansAhead seen (Ok tt) old new
-  plans_found first line place old new p known same geometry ledger whole size failures = record {
+  plans_found first line place old new p known unwritten same geometry ledger whole size failures = record {
+    unwritten = unwritten;
     does = record {
       keeps = p.keeps;
       back = p.back;
       holds = λ h program rests.
           let f = p.holds h (durable_state_of program old.session) rests.0 rests.1 in
-          record {
-            same = f.same;
-            rests = (subst (λ (s : SessionModel). IsDurablyAt (seen new.journal.rig).trace new.journal (durable_state_of program s)) (sym same) f.at, known program rests.1 f.line_is f.first_is);
-          };
+          (subst (λ (s : SessionModel). IsDurablyAt (seen new.journal.rig).trace new.journal (durable_state_of program s)) (sym same) f.at, known program rests.1 f.line_is f.first_is);
     };
     session = same;
     ledger = ledger;
@@ -156,12 +163,13 @@ module _ {R : Type 0} (seen : R → Device) where
 
   -- the device failed
   pub plans_lost : (fault e : Fault) (old new : ControllerModel R) → fault ≡ e
-      → IfHonest (seen old.journal.rig) (seen new.journal.rig) ((program : List ℕ) → IsAtRestWith (seen old.journal.rig).trace old program → (seen new.journal.rig).trace ≡ (seen old.journal.rig).trace)
+      → IfHonest (seen old.journal.rig) (seen new.journal.rig) ((seen new.journal.rig).trace ≡ (seen old.journal.rig).trace)
       → e ≡ DeviceFailed → new.session ≡ old.session → new.geometry ≡ old.geometry → ledger_of new.journal ≡ ledger_of old.journal → IsBrokenBy {T = Unit {0}} (Err e) new.journal.broken
       → (seen new.journal.rig).sectors ≡ (seen old.journal.rig).sectors → CountsFailure {T = Unit {0}} (Err e) (seen old.journal.rig).failed (seen new.journal.rig).failed → PlansAhead seen (Err fault) old new
   plans_lost fault e old new is p lost same geometry ledger broken size failures =
       subst (λ (f : Fault). PlansAhead seen (Err f) old new) (sym is) (record {
-        does = meaning p (λ f program rests. record { same = f program rests; rests = tt });
+        does = meaning p (λ still program rests. tt);
+        unwritten = p.holds;
         session = same;
         ledger = ledger;
         errors = lost;
@@ -170,23 +178,6 @@ module _ {R : Type 0} (seen : R → Device) where
         size = size;
         failures = failures;
       })
-
-  -- in the first read, or in the second
-  pub unread_first : (e : Fault) (place : ℕ) (old : ControllerModel R) (new : JournalModel R) → Finding {E = Fault} seen (Err e) old.lines.before place old.journal new
-      → IfHonest (seen old.journal.rig) (seen new.rig) ((program : List ℕ) → IsAtRestWith (seen old.journal.rig).trace old program → (seen new.rig).trace ≡ (seen old.journal.rig).trace)
-  unread_first e place old new p = meaning p (λ f program rests. (f (durable_state_of program old.session) rests.0 rests.1.0).same)
-
-  pub unread_line : (first : LineKind) (e : Fault) (place : ℕ) (old : ControllerModel R) (mid new : JournalModel R) → Finding {E = Fault} seen (Ok first) old.lines.before place old.journal mid
-      → Reading {E = Fault} seen (Err e) place mid new
-      → IfHonest (seen old.journal.rig) (seen new.rig) ((program : List ℕ) → IsAtRestWith (seen old.journal.rig).trace old program → (seen new.rig).trace ≡ (seen old.journal.rig).trace)
-  unread_line first e place old mid new p q = record {
-    keeps = λ h. q.keeps (p.keeps h);
-    back = λ h. p.back (q.back h);
-    holds = λ h program rests.
-        let f = p.holds h (durable_state_of program old.session) rests.0 rests.1.0 in
-        let l = q.holds (p.keeps h) (durable_state_of program old.session) f.at in
-        l.same ∙ f.same;
-  }
 
   -- ---- a line is begun, and then more are planned
 
@@ -199,16 +190,18 @@ module _ {R : Type 0} (seen : R → Device) where
       back = λ h. c.does.back (p.does.back h);
       holds = λ h program rests.
           let a = c.does.holds h program rests in
-          let b = p.does.holds (c.does.keeps h) (out program).program a.leaves.0 in
+          let same : (seen new.journal.rig).trace ≡ (seen mid.journal.rig).trace = p.unwritten (c.does.keeps h) in
           record {
             comes = (a.comes.0, p.session ∙ a.comes.1);
-            stops = subst (λ (l : Trace). IsContinuation (seen old.journal.rig).trace l (IsCrashOfEither (crash_in (program_session_of program old) (items (seen old.journal.rig).trace)) (crash_in (session_of_transition (out program)) (items (seen old.journal.rig).trace ++ (out program).items)))) (sym b.same) a.stops;
-            leaves = (b.rests, ap items b.same ∙ a.leaves.1);
-            untouched = λ nothing. b.same ∙ a.untouched nothing;
+            stops = subst (λ (l : Trace). IsContinuation (seen old.journal.rig).trace l (IsCrashOfEither (crash_in (program_session_of program old) (items (seen old.journal.rig).trace)) (crash_in (session_of_transition (out program)) (items (seen old.journal.rig).trace ++ (out program).items)))) (sym same) a.stops;
+            leaves = (p.does.holds (c.does.keeps h) (out program).program a.leaves.0, ap items same ∙ a.leaves.1);
+            untouched = λ nothing. same ∙ a.untouched nothing;
           };
     };
+    calls = λ h program. subst (λ (t : Trace). CallsFor (Ok told) (out program) (seen old.journal.rig).sectors (ledger_of old.journal) (seen old.journal.rig).trace t) (sym (p.unwritten (c.does.keeps h))) (c.calls h program);
     comes = λ none program. let x = c.comes none program in (x.0, p.session ∙ x.1);
     line = λ read. let l = c.line read in record { program = l.program; line = l.line; comes = (l.comes.0, p.session ∙ l.comes.1); ledger = p.ledger ∙ l.ledger };
+    ledger = λ program. subst (λ (l : Ledger). IsKeptAfter (stored_for (out program) (out program).reply) (seen old.journal.rig).sectors (ledger_of old.journal) l) (sym p.ledger) (c.ledger program);
     hindered = tt;
     broken = p.broken;
     geometry = p.geometry ∙ c.geometry;
@@ -244,11 +237,14 @@ module _ {R : Type 0} (seen : R → Device) where
           back = λ h. c.does.back (p.does.back h);
           holds = λ h program rests.
               let a = c.does.holds h program rests in
-              let b = p.does.holds (c.does.keeps h) (begins program).program a.leaves.0 in
-              acts_unread fault (begins program) program old new (seen old.journal.rig).trace (seen new.journal.rig).trace lost (b.same ∙ a.untouched tt) status;
+              acts_unread fault (begins program) program old new (seen old.journal.rig).trace (seen new.journal.rig).trace lost (p.unwritten (c.does.keeps h) ∙ a.untouched tt) status;
         };
+        calls = calls_none seen fault begins old new (λ h. p.unwritten (c.does.keeps h)
+            ∙ quiet_calls reply.Begun [] old.session.stored (begins []) (seen old.journal.rig).sectors (ledger_of old.journal) (seen old.journal.rig).trace (seen mid.journal.rig).trace
+            (still_begin old.geometry [] old.session (program_line_at [] old.session.stored.place)) (c.calls h []));
         comes = record { status = status; session = λ other. absurd (other lost); ledger = λ other. absurd (other lost); journal = λ other. absurd (other lost) };
         line = λ read. tt;
+        ledger = tt;
         hindered = inr (inr (lost, tt, λ program used. unused_begin old.geometry program old.session (program_line_at program old.session.stored.place) (ledger_of old.journal) used));
         broken = subst (λ (f : Fault). IsBrokenBy {T = Reply} (Err f) new.journal.broken) (sym is) p.broken;
         geometry = p.geometry ∙ c.geometry;

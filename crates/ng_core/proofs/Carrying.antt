@@ -9,19 +9,20 @@ use Rattle.ng_canon.specs.declared.item.Item.{Item}
 use Rattle.ng_rig.specs.Device.{Device}
 use Rattle.ng_journal.specs.Journal.{JournalModel, CountsFailure, IsBrokenBy}
 use Rattle.ng_journal.specs.Storing.{Ledger, ledger_of}
-use Rattle.ng_session.specs.Session.{CurrentBlockModel, SessionModel, Transition, IsBetweenLines, has_work, is_running, refuses, tick, open_next, item_of, handed, opening_of, session_status}
+use Rattle.ng_session.specs.Session.{CurrentBlockModel, SessionModel, Transition, IsBetweenLines, has_work, is_running, refuses, answers, tick, open_next, item_of, handed, opening_of, session_status}
 use Rattle.ng_session.specs.declared.reply.Reply.{Reply}
 use Rattle.ng_session.specs.declared.reply.Reply.TheVariants as reply
 use Rattle.ng_core.specs.Model.{ControllerModel}
 use Rattle.ng_core.specs.Needs.{Needs, needs, needs_device, needs_of_work}
-use Rattle.ng_core.specs.Events.{CarriesOut, IsAnsweredByLine, IsCarriedOutIfHonest, handing}
+use Rattle.ng_core.specs.Events.{CarriesOut, CallsIfHonest, IsAnsweredByLine, IsCarriedOutIfHonest, handing}
 use Rattle.ng_core.specs.Causes.{UsesUpCounter, IsCausedBy}
 use Rattle.ng_core.proofs.Anyway.{stays_same, unless_lost, comes_by, comes_to, comes_held, comes_item}
+use Rattle.ng_core.proofs.Calling.{MakesIfHonest, calls_none, calls_on, calls_quiet, ledger_on, ledger_quiet}
 use Rattle.ng_core.proofs.Choosing.{with_session, does_item}
 use Rattle.ng_core.proofs.Doing.{does_still, does_aside}
 use Rattle.ng_core.proofs.Hindering.{hindered_as, busy_block, busy_unread}
 use Rattle.ng_core.proofs.Quiet.{IsStill, still}
-use Rattle.ng_core.proofs.Ticks.{does_on, does_held, tick_item, tick_none}
+use Rattle.ng_core.proofs.Ticks.{does_on, does_held, tick_held, tick_item, tick_none}
 
 -- what a Tick needs
 abbrev needs_of_tick : SessionModel → Needs
@@ -43,8 +44,10 @@ module _ {R : Type 0} (seen : R → Device) where
       → CarriesOut seen (needs memory device reads) out answer old new → CarriesOut seen (needs m d e) wanted answer old new
   carried_to memory m device d reads e out wanted answer old new f g h back equal c = record {
     does = does_on seen answer out wanted old old new refl equal c.does;
+    calls = calls_on seen answer out wanted old new equal c.calls;
     comes = comes_to reads e answer out wanted old new h equal c.comes;
     line = λ read. subst (λ (f : List ℕ → Transition). IfOk answer (λ r. IsAnsweredByLine r f old new)) (λ i program. equal program i) (c.line (back read));
+    ledger = ledger_on seen answer out wanted old new equal c.ledger;
     hindered = IfErr-weaker answer (IsCausedBy memory device (ledger_of old.journal) out) (IsCausedBy m d (ledger_of old.journal) wanted)
         (hindered_as {m = memory} {n = m} {d = device} {e = d} (ledger_of old.journal) out wanted f g equal) c.hindered;
     broken = c.broken;
@@ -63,8 +66,10 @@ module _ {R : Type 0} (seen : R → Device) where
       → CarriesOut seen (needs memory device reads) out (Ok r) old new
   carried_still memory device reads r out old new whole unread quiet same lines geometry replied next = record {
     does = does_still seen r out old new quiet same lines replied next;
+    calls = calls_quiet seen r out old new quiet (λ h. ap (λ (j : JournalModel R). (seen j.rig).trace) same);
     comes = comes_by reads r out old new replied next;
     line = λ read. absurd (unread read);
+    ledger = ledger_quiet seen out old new quiet (ap (λ (j : JournalModel R). ledger_of j) same);
     hindered = tt;
     broken = ap (λ (j : JournalModel R). j.broken) same ∙ whole;
     geometry = geometry;
@@ -78,7 +83,7 @@ module _ {R : Type 0} (seen : R → Device) where
       → CarriesOut seen (needs memory device reads) out (Ok (reply.Refused fault)) c c
   carried_refused memory device reads fault out c whole unread equal =
       carried_to memory memory device device reads reads (λ program. refuses program fault c.session) out (Ok (reply.Refused fault)) c c (λ m. m) (λ d. d) (λ e. e) (λ e. e) equal
-      (carried_still memory device reads (reply.Refused fault) (λ program. refuses program fault c.session) c c whole unread (λ program. still refl refl refl) refl refl refl (λ program. refl) (λ program. refl))
+      (carried_still memory device reads (reply.Refused fault) (λ program. refuses program fault c.session) c c whole unread (λ program. still refl refl refl refl) refl refl refl (λ program. refl) (λ program. refl))
 
   -- there was no memory
   pub carried_short : (memory device reads : Type 0) (fault : Fault) (out : List ℕ → Transition) (old new : ControllerModel R)
@@ -88,8 +93,10 @@ module _ {R : Type 0} (seen : R → Device) where
   carried_short memory device reads fault out old new whole is taken same lines geometry kept =
       let short : CarriesOut seen (needs memory device reads) out (Err OutOfMemory) old new = record {
         does = does_aside seen OutOfMemory out old new (inl refl) same lines kept;
+        calls = calls_none seen OutOfMemory out old new (λ h. ap (λ (j : JournalModel R). (seen j.rig).trace) same);
         comes = stays_same reads OutOfMemory old new kept (λ other. same);
         line = λ read. tt;
+        ledger = tt;
         hindered = inl (refl, taken);
         broken = ap (λ (j : JournalModel R). j.broken) same ∙ whole;
         geometry = geometry;
@@ -104,8 +111,10 @@ module _ {R : Type 0} (seen : R → Device) where
       → CarriesOut seen (needs memory device reads) out (Err CountersUsed) c c
   carried_used memory device reads out c whole hindered = record {
     does = does_aside seen CountersUsed out c c (inr refl) refl refl refl;
+    calls = calls_none seen CountersUsed out c c (λ h. refl);
     comes = stays_same reads CountersUsed c c refl (λ other. refl);
     line = λ read. tt;
+    ledger = tt;
     hindered = hindered;
     broken = whole;
     geometry = refl;
@@ -117,15 +126,20 @@ module _ {R : Type 0} (seen : R → Device) where
 
   -- to store something: a counter is used up, or the device failed
   pub carried_failed : (memory device reads : Type 0) (fault e : Fault) (out : List ℕ → Transition) (old new : ControllerModel R)
-      → fault ≡ e → IsCarriedOutIfHonest seen (Err e) out old new → (e ≡ CountersUsed) ⊎ (e ≡ DeviceFailed) → (e ≡ CountersUsed → new.journal ≡ old.journal)
+      → fault ≡ e → IsCarriedOutIfHonest seen (Err e) out old new → MakesIfHonest seen (Err e) out old new → (e ≡ CountersUsed) ⊎ (e ≡ DeviceFailed) → (e ≡ CountersUsed → new.journal ≡ old.journal)
       → new.geometry ≡ old.geometry → new.session ≡ old.session → IsCausedBy memory device (ledger_of old.journal) out e
       → IsBrokenBy {T = Reply} (Err e) new.journal.broken → (seen new.journal.rig).sectors ≡ (seen old.journal.rig).sectors → CountsFailure {T = Reply} (Err e) (seen old.journal.rig).failed (seen new.journal.rig).failed
       → CarriesOut seen (needs memory device reads) out (Err fault) old new
-  carried_failed memory device reads fault e out old new is does which unchanged geometry kept hindered broken size failures =
+  carried_failed memory device reads fault e out old new is does made which unchanged geometry kept hindered broken size failures =
       let there : CarriesOut seen (needs memory device reads) out (Err e) old new = record {
         does = does;
+        calls = λ h program. record {
+          calls = made h program;
+          unchanged = λ other. ap (λ (j : JournalModel R). (seen j.rig).trace) (unless_lost e old.journal new.journal which unchanged other);
+        };
         comes = stays_same reads e old new kept (unless_lost e old.journal new.journal which unchanged);
         line = λ read. tt;
+        ledger = tt;
         hindered = hindered;
         broken = broken;
         geometry = geometry;
@@ -136,15 +150,17 @@ module _ {R : Type 0} (seen : R → Device) where
 
   -- for something that uses up no counter, and the device failed
   pub carried_lost : (memory device reads : Type 0) (fault e : Fault) (out : List ℕ → Transition) (old new : ControllerModel R)
-      → fault ≡ e → IsCarriedOutIfHonest seen (Err e) out old new → e ≡ DeviceFailed → device → ((program : List ℕ) → UsesUpCounter (ledger_of old.journal) (out program) → ⊥)
+      → fault ≡ e → IsCarriedOutIfHonest seen (Err e) out old new → CallsIfHonest seen (Err e) out old new → e ≡ DeviceFailed → device → ((program : List ℕ) → UsesUpCounter (ledger_of old.journal) (out program) → ⊥)
       → new.geometry ≡ old.geometry → new.session ≡ old.session
       → IsBrokenBy {T = Reply} (Err e) new.journal.broken → (seen new.journal.rig).sectors ≡ (seen old.journal.rig).sectors → CountsFailure {T = Reply} (Err e) (seen old.journal.rig).failed (seen new.journal.rig).failed
       → CarriesOut seen (needs memory device reads) out (Err fault) old new
-  carried_lost memory device reads fault e out old new is does lost asked unused geometry kept broken size failures =
+  carried_lost memory device reads fault e out old new is does calls lost asked unused geometry kept broken size failures =
       let there : CarriesOut seen (needs memory device reads) out (Err e) old new = record {
         does = does;
+        calls = calls;
         comes = stays_same reads e old new kept (λ other. absurd (other lost));
         line = λ read. tt;
+        ledger = tt;
         hindered = inr (inr (lost, asked, unused));
         broken = broken;
         geometry = geometry;
@@ -155,14 +171,16 @@ module _ {R : Type 0} (seen : R → Device) where
 
   -- for a line of the program, and then there was no memory
   pub carried_read : (memory device reads : Type 0) (fault : Fault) (out : List ℕ → Transition) (old new : ControllerModel R)
-      → fault ≡ OutOfMemory → memory → IsCarriedOutIfHonest seen (Err fault) out old new
+      → fault ≡ OutOfMemory → memory → IsCarriedOutIfHonest seen (Err fault) out old new → ((seen old.journal.rig).honest → (seen new.journal.rig).trace ≡ (seen old.journal.rig).trace)
       → new.geometry ≡ old.geometry → new.session ≡ old.session → ledger_of new.journal ≡ ledger_of old.journal → ((reads → ⊥) → new.journal ≡ old.journal)
       → new.journal.broken ≡ false → (seen new.journal.rig).sectors ≡ (seen old.journal.rig).sectors → (seen new.journal.rig).failed ≡ (seen old.journal.rig).failed
       → CarriesOut seen (needs memory device reads) out (Err fault) old new
-  carried_read memory device reads fault out old new is taken does geometry kept ledger unread whole size failures = record {
+  carried_read memory device reads fault out old new is taken does unwritten geometry kept ledger unread whole size failures = record {
     does = does;
+    calls = calls_none seen fault out old new unwritten;
     comes = record { status = ap session_status kept; session = λ other. kept; ledger = λ other. ledger; journal = λ other none. unread none };
     line = λ read. tt;
+    ledger = tt;
     hindered = inl (is, taken);
     broken = subst (λ (f : Fault). IsBrokenBy {T = Reply} (Err f) new.journal.broken) (sym is) whole;
     geometry = geometry;
@@ -176,8 +194,11 @@ module _ {R : Type 0} (seen : R → Device) where
       → CarriesOut seen (needs memory device reads) (λ program. tick c.geometry program c.session) (Ok reply.Held) c c
   carried_held memory device reads c whole unread held = record {
     does = does_held seen c held;
+    calls = calls_on seen (Ok reply.Held) (λ program. answers program reply.Held c.session) (λ program. tick c.geometry program c.session) c c (λ program. sym (tick_held c.geometry program c.session held))
+        (calls_quiet seen reply.Held (λ program. answers program reply.Held c.session) c c (λ program. still refl refl refl refl) (λ h. refl));
     comes = comes_held reads c held;
     line = λ read. absurd (unread read);
+    ledger = ledger_on seen (Ok reply.Held) (λ program. answers program reply.Held c.session) (λ program. tick c.geometry program c.session) c c (λ program. sym (tick_held c.geometry program c.session held)) (λ program. refl);
     hindered = tt;
     broken = whole;
     geometry = refl;
@@ -205,8 +226,12 @@ module _ {R : Type 0} (seen : R → Device) where
       IfErr-weaker answer (IsCausedBy ⊥ (Unit {0}) ledger (λ program. handing item program taken)) (λ e. e ≡ DeviceFailed) (lost_alone ledger item taken) c.hindered in
       record {
         does = does_item seen answer item old new taken held is next errors c.does;
+        calls = calls_on seen answer (λ program. handing item program taken) (λ program. tick old.geometry program old.session) old new
+            (λ program. ap (handing item program) next ∙ sym (tick_item old.geometry program old.session item held (sym is))) c.calls;
         comes = comes_item ((old.session.held ≡ false) × IsBetweenLines old.session) answer item old new taken held is next errors c.comes;
         line = λ read. absurd (busy_unread old.session (some_item old.session.current item is) read.1);
+        ledger = ledger_on seen answer (λ program. handing item program taken) (λ program. tick old.geometry program old.session) old new
+            (λ program. ap (handing item program) next ∙ sym (tick_item old.geometry program old.session item held (sym is))) c.ledger;
         hindered = IfErr-weaker answer (λ e. e ≡ DeviceFailed)
             (IsCausedBy ((old.session.held ≡ false) × IsBetweenLines old.session) ((old.session.held ≡ false) × (has_work old.session ≡ true)) ledger (λ program. tick old.geometry program old.session))
             (λ e lost. inr (inr (

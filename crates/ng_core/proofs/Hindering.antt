@@ -43,7 +43,7 @@ hindered_storing T e ledger told s (inr lost) iff stores =
     inr (inr (lost, tt, λ program used. differ T e lost (iff.1 (subst (λ (o : Option Storing). IsSomeAnd o (UsesUp ledger)) (stores program) used))))
 
 -- the half-done block that is stored when something opens
-stored_opening : (out : Transition) (n : ℕ) (o : Option Opened) → stored_for out (opening_reply n o) ≡ option_map Open out.next.stored.half
+pub stored_opening : (out : Transition) (n : ℕ) (o : Option Opened) → stored_for out (opening_reply n o) ≡ option_map Open out.next.stored.half
 stored_opening out n None = refl
 stored_opening out n (Some open_part.Segment) = refl
 stored_opening out n (Some open_part.Approach) = refl
@@ -60,13 +60,16 @@ entry_commits x c (stage.ToApproach a) = refl
 entry_commits x c (stage.OnApproach a) = refl
 entry_commits x c stage.OnBlock = refl
 
+pub stored_end : (q : Geometry) (P : List ℕ) (s : SessionModel) (saved : StoredModel) (due : IsDue s saved) → stored_for (end q P s s.current) (end q P s s.current).reply ≡ Some (Commit saved)
+stored_end q P s saved due =
+    ap (λ (o : Option CurrentBlockModel). stored_for (end q P s o) (end q P s o).reply) due.current
+    ∙ ap (λ (x : Storing). Some x) (entry_commits (committed s due.block).stored due.block due.block.stage) ∙ ap (λ (x : StoredModel). Some (Commit x)) (sym due.after)
+
 pub hindered_entry : (T : Type 0) (e : Fault) (q : Geometry) (s : SessionModel) (ledger : Ledger) (saved : StoredModel) (due : IsDue s saved) → (e ≡ CountersUsed) ⊎ (e ≡ DeviceFailed)
     → (let answered : Result T Fault = Err e in IsErrOf answered CountersUsed ↔ UsesUp ledger (Commit saved))
     → IsCausedBy ⊥ (Unit {0}) ledger (λ program. end q program s s.current) e
 hindered_entry T e q s ledger saved due which iff =
-    hindered_storing T e ledger (λ program. end q program s s.current) (Commit saved) which iff
-    (λ program. ap (λ (o : Option CurrentBlockModel). stored_for (end q program s o) (end q program s o).reply) due.current
-    ∙ ap (λ (x : Storing). Some x) (entry_commits (committed s due.block).stored due.block due.block.stage) ∙ ap (λ (x : StoredModel). Some (Commit x)) (sym due.after))
+    hindered_storing T e ledger (λ program. end q program s s.current) (Commit saved) which iff (λ program. stored_end q program s saved due)
 
 -- the entry of a program
 pub hindered_load : (T : Type 0) (e : Fault) (room : ℕ) (s : SessionModel) (saved : StoredModel) (text : List ℕ) (ledger : Ledger) → load_refusal s text ≡ None → length text ≤ room → saved ≡ after_load s.stored (length text)

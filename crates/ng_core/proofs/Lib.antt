@@ -19,6 +19,7 @@ pub mod AnyLines
 pub mod Failing
 pub mod Anyway
 pub mod Hindering
+pub mod Calling
 pub mod Carrying
 pub mod Answering
 pub mod Powering

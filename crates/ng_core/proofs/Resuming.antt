@@ -55,22 +55,22 @@ finds_next seen line next s old new half later p =
 -- ---- nothing is stored
 
 still_by : (P : List ℕ) (s : SessionModel) (half : HalfModel) (from : Point) (done : Result Done Fault) → IsStill P s.stored (resume_by P s half from done)
-still_by P s half from (Err fault) = still refl refl refl
-still_by P s half from (Ok done) = still refl refl refl
+still_by P s half from (Err fault) = still refl refl refl refl
+still_by P s half from (Ok done) = still refl refl refl refl
 
 still_from : (q : Geometry) (P : List ℕ) (s : SessionModel) (half : HalfModel) (from : Option Point) → IsStill P s.stored (resume_from q P s half from)
-still_from q P s half None = still refl refl refl
+still_from q P s half None = still refl refl refl refl
 still_from q P s half (Some from) = still_by P s half from (done_again q s.stored half.text)
 
 still_half : (q : Geometry) (P : List ℕ) (s : SessionModel) (half : Option HalfModel) → IsStill P s.stored (resume_half q P s half)
-still_half q P s None = still refl refl refl
+still_half q P s None = still refl refl refl refl
 still_half q P s (Some half) = still_from q P s half half.at
 
 pub still_resume : (q : Geometry) (P : List ℕ) (s : SessionModel) → IsStill P s.stored (resume q P s)
 still_resume q P s = by (not (is_at_rest s))
   where
     by : (b : Bool) → IsStill P s.stored (if b then refuses P fault.Busy s else resume_half q P s s.stored.half)
-    by true = still refl refl refl
+    by true = still refl refl refl refl
     by false = still_half q P s s.stored.half
 
 -- ---- it doesn't go on
@@ -81,7 +81,7 @@ pub does_not_resume : {R : Type 0} (seen : R → Device) (fault : Fault) (old ne
 does_not_resume seen fault old new is journal lines same =
     does_on seen (Ok (reply.Refused fault)) (λ program. refuses program fault old.session) (λ program. resume old.geometry program old.session) old old new refl
     (λ program. sym (refused_again old.geometry program old.session fault is))
-    (does_still seen (reply.Refused fault) (λ program. refuses program fault old.session) old new (λ program. still refl refl refl) journal lines (λ program. refl) (λ program. same))
+    (does_still seen (reply.Refused fault) (λ program. refuses program fault old.session) old new (λ program. still refl refl refl refl) journal lines (λ program. refl) (λ program. same))
 
 pub comes_not_resumed : {R : Type 0} (reads : Type 0) (fault : Fault) (old new : ControllerModel R) → Some fault ≡ resume_refusal old.geometry old.session → new.session ≡ old.session
     → IsAnsweredAnyway reads (Ok (reply.Refused fault)) (λ program. resume old.geometry program old.session) old new

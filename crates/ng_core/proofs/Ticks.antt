@@ -18,7 +18,7 @@ use Rattle.ng_session.specs.declared.reply.Reply.TheVariants as reply
 use Rattle.ng_core.specs.Model.{ControllerModel, durable_state_of}
 use Rattle.ng_core.specs.Events.{IsCarriedOutIfHonest, TouchesNothing, handing}
 use Rattle.ng_core.proofs.Acting.{known_as}
-use Rattle.ng_core.proofs.Quiet.{still}
+use Rattle.ng_core.proofs.Quiet.{still, still_rest}
 use Rattle.ng_core.proofs.Doing.{does_still, does_moved, does_unmoved, does_handed, does_unhanded, Storing}
 
 -- for an equal controller and an equal outcome
@@ -37,7 +37,7 @@ pub does_held : {R : Type 0} (seen : R → Device) (c : ControllerModel R) → c
     → IsCarriedOutIfHonest seen (Ok reply.Held) (λ program. tick c.geometry program c.session) c c
 does_held seen c held =
     does_on seen (Ok reply.Held) (λ program. answers program reply.Held c.session) (λ program. tick c.geometry program c.session) c c c refl (λ program. sym (tick_held c.geometry program c.session held))
-    (does_still seen reply.Held (λ program. answers program reply.Held c.session) c c (λ program. still refl refl refl) refl refl (λ program. refl) (λ program. refl))
+    (does_still seen reply.Held (λ program. answers program reply.Held c.session) c c (λ program. still refl refl refl refl) refl refl (λ program. refl) (λ program. refl))
 
 -- what is known of the lines is unchanged
 pub kept : (k l : KnownModel) → l ≡ k → (program : List ℕ) → IsKnownOf program k → IsKnownOf program l
@@ -159,4 +159,4 @@ pub does_rest : {R : Type 0} (seen : R → Device) (r : Reply) (c : ControllerMo
     → IsCarriedOutIfHonest seen (Ok r) (λ program. end c.geometry program c.session c.session.current) c c
 does_rest seen r c none idle replied =
     does_on seen (Ok r) (λ program. rest program c.session) _ c c c refl (λ program. sym (rests_there c.geometry program c.session none idle))
-    (does_still seen r (λ program. rest program c.session) c c (λ program. still refl refl refl) refl refl replied (λ program. refl))
+    (does_still seen r (λ program. rest program c.session) c c (λ program. still_rest program c.session) refl refl replied (λ program. refl))

@@ -1,14 +1,16 @@
 -- What an event does to a controller and to its device (own).
-use Rattle.std.specs.Prelude.{◌≡◌, ◌≢◌, ◌⊎◌, ℕ, ◌+◌, ◌%◌, ◌^◌, if◌then◌else◌, List, [], ◌∷◌, ◌++◌, Option, Result, Ok, Err, IfOk, IfErr, MatchResult}
+use Rattle.std.specs.Prelude.{◌≡◌, ◌≢◌, ◌⊎◌, ℕ, ◌+◌, ◌%◌, ◌^◌, if◌then◌else◌, List, [], ◌∷◌, ◌++◌, Option, Some, None, Result, Ok, Err, IfOk, IfErr, MatchResult}
 use Rattle.ng_num.specs.declared.fault.Fault.{Fault}
 use Rattle.ng_num.specs.declared.fault.Fault.TheVariants.{DeviceFailed, Broken}
 use Rattle.ng_canon.specs.declared.item.Item.{Item}
 use Rattle.ng_rig.specs.Device.{Device}
-use Rattle.ng_rig.specs.Trace.{Image, Trace, items}
+use Rattle.ng_rig.specs.Trace.{Image, Trace, Handed, items}
 use Rattle.ng_rig.specs.Calls.{IfHonest}
 use Rattle.ng_rig.specs.Continuation.{IsContinuation}
+use Rattle.ng_layout.specs.Areas.{is_large_size, spare_area}
 use Rattle.ng_journal.specs.Journal.{StandsFor, IsBrokenBy, CountsFailure}
-use Rattle.ng_journal.specs.Storing.{ledger_of}
+use Rattle.ng_journal.specs.Loads.{StoresLoad}
+use Rattle.ng_journal.specs.Storing.{Ledger, Storing, Commit, Open, Load, StoresRecord, IsLedgerAfter, with_program, ledger_of}
 use Rattle.ng_text.specs.Programs.{ProgramLineModel}
 use Rattle.ng_session.specs.Session.{SessionModel, Transition, begin, is_running, session_status}
 use Rattle.ng_session.specs.Runs.{ProgramSession, CrashState, crash_in, session_of_transition}
@@ -18,7 +20,7 @@ use Rattle.ng_session.specs.declared.reply.Reply.{Reply}
 use Rattle.ng_session.specs.declared.reply.Reply.TheVariants as reply
 use Rattle.ng_session.specs.declared.reply.Status.{Status}
 use Rattle.ng_session.specs.declared.reply.Condition.TheVariants as condition
-use Rattle.ng_core.specs.Causes.{IsCausedBy, transition_of}
+use Rattle.ng_core.specs.Causes.{IsCausedBy, stored_for, transition_of}
 use Rattle.ng_core.specs.Model.{ControllerModel, IsAtRestWith}
 use Rattle.ng_core.specs.Needs.{Needs, needs_of}
 
@@ -106,17 +108,62 @@ IsCarriedOutIfHonest seen answer out old new =
     IfHonest (seen old.journal.rig) (seen new.journal.rig) ((program : List ℕ) → IsAtRestWith (seen old.journal.rig).trace old program
     → IsCarriedOut answer (out program) program old new (seen old.journal.rig).trace (seen new.journal.rig).trace)
 
+-- these items are handed out one after another, and nothing else is called
+abbrev pub handed_all : List Item → Trace → Trace
+handed_all [] trace = trace
+handed_all (item ∷ items) trace = handed_all items (Handed item trace)
+
+-- after a failure all of them or none
+abbrev pub HandsAll : {T E : Type 0} → Result T E → List Item → Trace → Trace → Type 0
+HandsAll (Ok _) items old new = new ≡ handed_all items old
+HandsAll (Err _) items old new = (new ≡ old) ⊎ (new ≡ handed_all items old)
+
+-- What is called for an outcome of which this is to be stored: only that is written, and nothing is handed out. If
+-- nothing is to be stored, nothing is written, and the items of the outcome are handed out.
+abbrev pub MakesCalls : {T E : Type 0} → Result T E → Option Storing → Transition → (sectors : ℕ) → Ledger → Trace → Trace → Type 0
+MakesCalls answer None out sectors ledger old new = HandsAll answer out.items old new
+MakesCalls answer (Some (Commit saved)) out sectors ledger old new = StoresRecord answer ledger saved old new
+MakesCalls answer (Some (Open half)) out sectors ledger old new = StoresRecord answer ledger (record ledger.saved { half = Some half }) old new
+MakesCalls answer (Some (Load saved)) out sectors ledger old new =
+    StoresLoad answer (spare_area (is_large_size sectors) ledger.header.area) ledger.header (record { saved = saved; program = out.program }) old new
+
+-- What is called for the answer to an outcome. Unless it is answered or the device failed, the device is unchanged.
+pub record CallsFor (answer : Result Reply Fault) (out : Transition) (sectors : ℕ) (ledger : Ledger) (old new : Trace) : Type 0 where
+  pub calls : MakesCalls answer (stored_for out out.reply) out sectors ledger old new
+  pub unchanged : IfErr answer (λ fault. fault ≢ DeviceFailed → new ≡ old)
+
+-- Whatever an honest device stands for, it is called for the outcome. What that stores and hands out is the same for
+-- each program.
+abbrev pub CallsIfHonest : {R : Type 0} → (R → Device) → Result Reply Fault → (List ℕ → Transition) → ControllerModel R → ControllerModel R → Type 0
+CallsIfHonest seen answer out old new = (seen old.journal.rig).honest → (program : List ℕ)
+    → CallsFor answer (out program) (seen old.journal.rig).sectors (ledger_of old.journal) (seen old.journal.rig).trace (seen new.journal.rig).trace
+
+-- what a journal keeps afterwards, if this was to be stored
+abbrev pub IsKeptAfter : Option Storing → (sectors : ℕ) → Ledger → Ledger → Type 0
+IsKeptAfter None sectors old new = new ≡ old
+IsKeptAfter (Some (Commit saved)) sectors old new = IsLedgerAfter old saved new
+IsKeptAfter (Some (Open half)) sectors old new = IsLedgerAfter old (record old.saved { half = Some half }) new
+IsKeptAfter (Some (Load saved)) sectors old new = new ≡ with_program (spare_area (is_large_size sectors) old.header.area) old saved
+
+-- With any device, the journal keeps what the outcome stores, which is the same for each program.
+abbrev pub KeepsLedger : {R : Type 0} → (R → Device) → (List ℕ → Transition) → ControllerModel R → ControllerModel R → Type 0
+KeepsLedger seen out old new = (program : List ℕ)
+    → IsKeptAfter (stored_for (out program) (out program).reply) (seen old.journal.rig).sectors (ledger_of old.journal) (ledger_of new.journal)
+
 -- an item of the open segment is handed out, which this session took from it
 abbrev pub handing : Item → List ℕ → SessionModel → Transition
 handing item program s = record { reply = reply.Moved; items = item ∷ []; entries = []; program = program; next = s }
 
--- The answer to an outcome and what it leaves, of an honest device and of any. If a line is read for it, it is that
--- line's. An error has its cause, depending on what the answer needs. The journal is broken, and the device counted a
--- failure, exactly if the device failed. The device keeps its size.
+-- The answer to an outcome and what it leaves, of an honest device and of any; what an honest device is called for, and
+-- what the journal keeps then. If a line is read for it, it is that line's. An error has its cause, depending on what the
+-- answer needs. The journal is broken, and the device counted a failure, exactly if the device failed. The device keeps
+-- its size.
 pub record CarriesOut {R : Type 0} (seen : R → Device) (needs : Needs) (out : List ℕ → Transition) (answer : Result Reply Fault) (old new : ControllerModel R) : Type 0 where
   pub does : IsCarriedOutIfHonest seen answer out old new
+  pub calls : CallsIfHonest seen answer out old new
   pub comes : IsAnsweredAnyway needs.reads answer out old new
   pub line : needs.reads → IfOk answer (λ r. IsAnsweredByLine r out old new)
+  pub ledger : IfOk answer (λ r. KeepsLedger seen out old new)
   pub hindered : IfErr answer (IsCausedBy needs.memory needs.device (ledger_of old.journal) out)
   pub broken : IsBrokenBy answer new.journal.broken
   pub geometry : new.geometry ≡ old.geometry

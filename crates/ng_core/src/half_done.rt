@@ -30,6 +30,8 @@ fn next_line<R: Rig, A: Allocator + Copy + Drop>(
     ensures next { IfHonest (R.seen journal.old.rig) (R.seen journal.new.rig) ((standing : DurableState)
         → IsDurablyAt (R.seen journal.old.rig).trace journal.old standing
         → NextLineSpec result journal.new standing session.now (R.seen journal.old.rig).trace (R.seen journal.new.rig).trace) }
+    ensures unwritten { IfHonest (R.seen journal.old.rig) (R.seen journal.new.rig)
+        ((R.seen journal.new.rig).trace ≡ (R.seen journal.old.rig).trace) }
     ensures within { IfOk result (λ next. next ≤ session.now.stored.length) }
     // Also for a device that isn't honest.
     ensures beyond { IfOk result (λ next. session.now.stored.place ≤ next) }

@@ -46,6 +46,8 @@ fn first_kind_before<R: Rig, A: Allocator + Copy + Drop>(
     ensures kind { IfHonest (R.seen journal.old.rig) (R.seen journal.new.rig) ((standing : DurableState)
         → IsDurablyAt (R.seen journal.old.rig).trace journal.old standing → IsTrueOf standing.program known.now.before
         → FirstKindSpec result journal.new standing place (R.seen journal.old.rig).trace (R.seen journal.new.rig).trace) }
+    ensures unwritten { IfHonest (R.seen journal.old.rig) (R.seen journal.new.rig)
+        ((R.seen journal.new.rig).trace ≡ (R.seen journal.old.rig).trace) }
     // Also for a device that isn't honest.
     ensures beginning { place ≡ 0 → IfOk result (λ kind. kind ≡ LineKind.Blank) }
     ensures ledger { ledger_of journal.new ≡ ledger_of journal.old }

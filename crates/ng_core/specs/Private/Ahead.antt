@@ -3,21 +3,17 @@ use Rattle.std.specs.Prelude.{◌≡◌, ℕ, List, Result, IfOk, IfErr}
 use Rattle.ng_num.specs.declared.fault.Fault.{Fault}
 use Rattle.ng_num.specs.declared.fault.Fault.TheVariants.{DeviceFailed}
 use Rattle.ng_rig.specs.Device.{Device}
-use Rattle.ng_rig.specs.Trace.{Trace}
 use Rattle.ng_rig.specs.Calls.{IfHonest}
 use Rattle.ng_journal.specs.Journal.{IsBrokenBy, CountsFailure}
 use Rattle.ng_journal.specs.Storing.{ledger_of}
 use Rattle.ng_core.specs.Model.{ControllerModel, IsAtRestWith}
 
--- nothing is stored and nothing handed out; the controller is at rest as before, unless the device failed
-pub record StaysAtRest {R : Type 0} (answer : Result Unit Fault) (program : List ℕ) (new : ControllerModel R) (trace_old trace_new : Trace) : Type 0 where
-  pub same : trace_new ≡ trace_old
-  pub rests : IfOk answer (λ _. IsAtRestWith trace_new new program)
-
--- The session is unchanged, and what was read is the program's. An error is the device's.
+-- The session is unchanged, what was read is the program's, and the controller is at rest as before, unless the device
+-- failed. Whatever an honest device stands for, nothing is stored and nothing handed out. An error is the device's.
 pub record PlansAhead {R : Type 0} (seen : R → Device) (answer : Result Unit Fault) (old new : ControllerModel R) : Type 0 where
   pub does : IfHonest (seen old.journal.rig) (seen new.journal.rig) ((program : List ℕ) → IsAtRestWith (seen old.journal.rig).trace old program
-      → StaysAtRest answer program new (seen old.journal.rig).trace (seen new.journal.rig).trace)
+      → IfOk answer (λ _. IsAtRestWith (seen new.journal.rig).trace new program))
+  pub unwritten : (seen old.journal.rig).honest → (seen new.journal.rig).trace ≡ (seen old.journal.rig).trace
   pub session : new.session ≡ old.session
   pub ledger : ledger_of new.journal ≡ ledger_of old.journal
   pub errors : IfErr answer (λ e. e ≡ DeviceFailed)

@@ -32,3 +32,12 @@ pub returns-in_err-line-clause-next : goal.returns-in_err-line-clause-next
 returns-in_err-line-clause-next g c =
     let p = err_from_is_err_and c.from_residual.result c.from_residual.ensures.1 in
     rw p.1 (meaning c.program_line.ensures.line (λ f. λ standing rest. let r = f standing rest in record { same = r.same; at = r.at; next = tt }))
+
+pub returns-in-Some-clause-unwritten : goal.returns-in-Some-clause-unwritten
+returns-in-Some-clause-unwritten g c = meaning c.in_ok-line.ensures.reads (λ read. read.same)
+
+pub returns-in-None-clause-unwritten : goal.returns-in-None-clause-unwritten
+returns-in-None-clause-unwritten g c = meaning c.in_ok-line.ensures.reads (λ read. read.same)
+
+pub returns-in_err-line-clause-unwritten : goal.returns-in_err-line-clause-unwritten
+returns-in_err-line-clause-unwritten g c = meaning c.in_err-line.ensures.reads (λ read. read.same)

@@ -1,4 +1,5 @@
-use Rattle.std.proofs.Common.{sym, subst}
+use Rattle.std.proofs.Common.{refl, sym, subst}
+use Rattle.ng_rig.proofs.Promise.{promised, meaning}
 use Rattle.ng_text.specs.LinesBefore.{IsTrueOf}
 use Rattle.ng_core.proofs.Beginning.{finds_known, finds_asked}
 use Rattle.ng_core.proofs.ticking.first_kind_before.Goals as goal
@@ -9,3 +10,9 @@ returns-in-Some-clause-kind g c = finds_known g.R.Rig.seen c.args.known.now.befo
 
 pub returns-in-None-clause-kind : goal.returns-in-None-clause-kind
 returns-in-None-clause-kind g c = finds_asked g.R.Rig.seen c.first_kind.result c.args.known.now.before c.args.place c.args.journal.now c.first_kind.new.self c.first_kind.ensures.kind
+
+pub returns-in-Some-clause-unwritten : goal.returns-in-Some-clause-unwritten
+returns-in-Some-clause-unwritten g c = promised refl
+
+pub returns-in-None-clause-unwritten : goal.returns-in-None-clause-unwritten
+returns-in-None-clause-unwritten g c = meaning c.first_kind.ensures.reads (λ read. read.same)

@@ -1,5 +1,6 @@
-use Rattle.std.proofs.Common.{ℕ, List, Ok, subst}
+use Rattle.std.proofs.Common.{ℕ, List, Ok, Err, sym, subst}
 use Rattle.std.proofs.lemmas.Result.{err_from_is_err_and}
+use Rattle.ng_num.specs.declared.fault.Fault.{Fault}
 use Rattle.ng_text.specs.Programs.{program_line_at}
 use Rattle.ng_session.specs.Session.{Transition, begin}
 use Rattle.ng_session.specs.declared.reply.Reply.{Reply}
@@ -9,6 +10,13 @@ use Rattle.ng_core.specs.Events.{CarriesOut}
 use Rattle.ng_core.specs.Model.{ControllerModel}
 use Rattle.ng_core.proofs.Ahead.{carried_planned, carried_unplanned}
 use Rattle.ng_core.proofs.controller.Controller.begin_next.Goals as goal
+
+pub returns-in_err-reply : goal.returns-in_err-reply
+returns-in_err-reply g c =
+    let p = err_from_is_err_and c.from_residual.result c.from_residual.ensures.1 in
+    let old : ControllerModel g.row.R.Denot = c.args.self.now in
+    let begins : List ℕ → Transition = λ program. begin old.geometry program old.session (program_line_at program old.session.stored.place) in
+    rw (p.1) (subst (λ (f : Fault). CarriesOut g.R.Rig.seen needs_line begins (Err f) old c.begin.new.self) (sym p.2) c.in_err-reply.ensures)
 
 pub returns-in_err-plan-in-Begun : goal.returns-in_err-plan-in-Begun
 returns-in_err-plan-in-Begun g c =

@@ -12,6 +12,8 @@ use Rattle.ng_session.specs.declared.reply.Reply.{Reply}
 use Rattle.ng_core.specs.Model.{ControllerModel}
 use Rattle.ng_core.proofs.Beginning.{Reading, finding_both, does_begin, does_begin_short, does_begin_unfound, does_begin_unread, begun_line, known_after}
 use Rattle.ng_core.proofs.Carrying.{carried_as, carried_lost, carried_read}
+use Rattle.ng_core.proofs.Calling.{calls_none, calls_quiet, ledger_quiet}
+use Rattle.ng_core.proofs.Quiet.{still_begin}
 use Rattle.ng_core.proofs.Hindering.{unused_begin}
 use Rattle.ng_core.proofs.controller.Controller.begin_read.Goals as goal
 
@@ -44,6 +46,7 @@ returns-in_err-first g c =
     rw (p.1) (carried_as g.R.Rig.seen (λ (x : ControllerModel g.row.R.Denot). Unit {0}) (λ (x : ControllerModel g.row.R.Denot). Unit {0}) (λ (x : ControllerModel g.row.R.Denot). Unit {0}) (λ (x : ControllerModel g.row.R.Denot) (program : List ℕ). begin x.geometry program x.session (program_line_at program x.session.stored.place)) (Err p.0) c.args.self.now old new c.self.view_is
     (carried_lost g.R.Rig.seen (Unit {0}) (Unit {0}) (Unit {0}) p.0 e (λ (program : List ℕ). begin geometry program old.session (program_line_at program old.session.stored.place)) old new p.2
     (does_begin_unfound {E = Fault} g.R.Rig.seen e e c.place-place.result (λ (program : List ℕ). begin geometry program old.session (program_line_at program old.session.stored.place)) old new c.in_err-first.ensures.kind c.in_err-first.ensures.errors refl)
+    (calls_none g.R.Rig.seen e (λ (program : List ℕ). begin geometry program old.session (program_line_at program old.session.stored.place)) old new c.in_err-first.ensures.unwritten.holds)
     c.in_err-first.ensures.errors tt (λ program used. unused_begin geometry program old.session (program_line_at program old.session.stored.place) (ledger_of old.journal) used) refl refl c.in_err-first.ensures.broken c.in_err-first.ensures.size c.in_err-first.ensures.failures))
 
 pub returns-in_err-line : goal.returns-in_err-line
@@ -57,6 +60,8 @@ returns-in_err-line g c =
     (carried_lost g.R.Rig.seen (Unit {0}) (Unit {0}) (Unit {0}) p.0 e (λ (program : List ℕ). begin geometry program old.session (program_line_at program old.session.stored.place)) old new p.2
     (does_begin_unread {E = Fault} {F = Fault} g.R.Rig.seen e c.in_ok-first.first e c.place-place.result (λ (program : List ℕ). begin geometry program old.session (program_line_at program old.session.stored.place)) old new c.first_kind_before.new.journal
     c.in_ok-first.ensures.kind c.in_err-line.ensures.line c.in_err-line.ensures.errors refl)
+    (calls_none g.R.Rig.seen e (λ (program : List ℕ). begin geometry program old.session (program_line_at program old.session.stored.place)) old new
+    (λ h. (c.in_err-line.ensures.reads.holds (c.in_ok-first.ensures.kind.keeps h)).same ∙ c.in_ok-first.ensures.unwritten.holds h))
     c.in_err-line.ensures.errors tt (λ program used. unused_begin geometry program old.session (program_line_at program old.session.stored.place) (ledger_of old.journal) used) refl refl c.in_err-line.ensures.broken (c.in_err-line.ensures.size ∙ c.in_ok-first.ensures.size)
     (subst (λ (n : ℕ). CountsFailure {T = Reply} (Err e) n (g.R.Rig.seen c.program_line.new.self.rig).failed) c.in_ok-first.ensures.failures c.in_err-line.ensures.failures)))
 
@@ -71,6 +76,7 @@ returns-in_err-reply-in-Some g c =
     (does_begin_short g.R.Rig.seen p.0 c.in_ok-first.first c.in_ok-line.field-0 c.place-place.result (λ (program : List ℕ). begin geometry program old.session (program_line_at program old.session.stored.place)) old new
     (finding_both {E = Fault} {F = Fault} g.R.Rig.seen c.in_ok-first.first c.in_ok-line.field-0 c.self.inside.lines c.place-place.result c.self.inside.journal c.first_kind_before.new.journal c.program_line.new.self
     c.in_ok-first.ensures.kind c.in_ok-line.ensures.line) p.2 c.in_err-reply-in-Some.ensures.err refl)
+    (λ h. (c.in_ok-line.ensures.reads.holds (c.in_ok-first.ensures.kind.keeps h)).same ∙ c.in_ok-first.ensures.unwritten.holds h)
     refl c.in_err-reply-in-Some.ensures.err (c.in_ok-line.ensures.ledger ∙ c.in_ok-first.ensures.ledger) (λ none. absurd (none tt))
     c.in_ok-line.ensures.broken (c.in_ok-line.ensures.size ∙ c.in_ok-first.ensures.size) (c.in_ok-line.ensures.failures ∙ c.in_ok-first.ensures.failures)))
 
@@ -89,9 +95,14 @@ returns-in_ok-reply-in-Some g c =
           c.in_ok-first.ensures.kind reading)
           (λ program known at kind. subst (λ (k : KnownModel). IsKnownOf program k) (sym c.set_before.ensures)
           (known_after c.self.inside.lines c.lines_after-before.result c.place-place.result c.in_ok-first.first line c.lines_after-before.ensures program known at kind)) c.in_ok-reply-in-Some.ensures.reply c.in_ok-reply-in-Some.ensures.next;
+      calls = calls_quiet g.R.Rig.seen c.in_ok-reply-in-Some.reply (λ (program : List ℕ). begin geometry program old.session (program_line_at program old.session.stored.place)) old new
+          (λ program. still_begin geometry program old.session (program_line_at program old.session.stored.place))
+          (λ h. (c.in_ok-line.ensures.reads.holds (c.in_ok-first.ensures.kind.keeps h)).same ∙ c.in_ok-first.ensures.unwritten.holds h);
       comes = λ none. absurd (none tt);
       line = λ read. begun_line c.in_ok-reply-in-Some.reply (λ (program : List ℕ). begin geometry program old.session (program_line_at program old.session.stored.place)) c.in_ok-first.first (Some line) c.place-place.result old new (ap (λ (x : ControllerModel g.row.R.Denot). is_running x.session.activity) c.self.view_is ∙ c.requires.runs) c.place-place.ensures.value
           c.in_ok-first.ensures.beginning c.in_ok-reply-in-Some.ensures.reply c.in_ok-reply-in-Some.ensures.next (c.in_ok-line.ensures.ledger ∙ c.in_ok-first.ensures.ledger);
+      ledger = ledger_quiet g.R.Rig.seen (λ (program : List ℕ). begin geometry program old.session (program_line_at program old.session.stored.place)) old new
+          (λ program. still_begin geometry program old.session (program_line_at program old.session.stored.place)) (c.in_ok-line.ensures.ledger ∙ c.in_ok-first.ensures.ledger);
       hindered = tt;
       broken = c.in_ok-line.ensures.broken;
       geometry = refl;
@@ -109,9 +120,14 @@ returns-in-None g c =
       does = does_begin g.R.Rig.seen c.break_off.result c.in_ok-first.first None c.place-place.result old new c.place-place.ensures.value
           (finding_both {E = Fault} {F = Fault} g.R.Rig.seen c.in_ok-first.first None c.self.inside.lines c.place-place.result c.self.inside.journal c.first_kind_before.new.journal c.program_line.new.self
           c.in_ok-first.ensures.kind reading) (λ program true_of _ _. true_of) c.break_off.ensures.reply (λ program _. c.break_off.ensures.next program);
+      calls = calls_quiet g.R.Rig.seen c.break_off.result (λ (program : List ℕ). begin geometry program old.session (program_line_at program old.session.stored.place)) old new
+          (λ program. still_begin geometry program old.session (program_line_at program old.session.stored.place))
+          (λ h. (c.in_ok-line.ensures.reads.holds (c.in_ok-first.ensures.kind.keeps h)).same ∙ c.in_ok-first.ensures.unwritten.holds h);
       comes = λ none. absurd (none tt);
       line = λ read. begun_line c.break_off.result (λ (program : List ℕ). begin geometry program old.session (program_line_at program old.session.stored.place)) c.in_ok-first.first None c.place-place.result old new (ap (λ (x : ControllerModel g.row.R.Denot). is_running x.session.activity) c.self.view_is ∙ c.requires.runs) c.place-place.ensures.value
           c.in_ok-first.ensures.beginning c.break_off.ensures.reply (λ program kind. c.break_off.ensures.next program) (c.in_ok-line.ensures.ledger ∙ c.in_ok-first.ensures.ledger);
+      ledger = ledger_quiet g.R.Rig.seen (λ (program : List ℕ). begin geometry program old.session (program_line_at program old.session.stored.place)) old new
+          (λ program. still_begin geometry program old.session (program_line_at program old.session.stored.place)) (c.in_ok-line.ensures.ledger ∙ c.in_ok-first.ensures.ledger);
       hindered = tt;
       broken = c.in_ok-line.ensures.broken;
       geometry = refl;

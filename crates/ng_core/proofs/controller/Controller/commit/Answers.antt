@@ -8,10 +8,12 @@ use Rattle.ng_canon.specs.declared.geometry.Geometry.{Geometry}
 use Rattle.ng_session.specs.Planned.{base_of}
 use Rattle.ng_session.proofs.Ahead.{committed_base, plan_as}
 use Rattle.ng_session.specs.Session.{SessionModel, end}
+use Rattle.ng_session.specs.declared.reply.Reply.TheVariants as reply
 use Rattle.ng_core.specs.Model.{ControllerModel}
 use Rattle.ng_core.proofs.Anyway.{comes_commit}
 use Rattle.ng_core.proofs.Carrying.{carried_as, carried_failed}
-use Rattle.ng_core.proofs.Hindering.{hindered_entry}
+use Rattle.ng_core.proofs.Calling.{calls_made, makes_entry, ledger_entry}
+use Rattle.ng_core.proofs.Hindering.{hindered_entry, stored_end}
 use Rattle.ng_core.proofs.Storing.{kept_whole}
 use Rattle.ng_core.proofs.Ticks.{IsDue, does_commit, does_not_commit}
 use Rattle.ng_core.proofs.controller.Controller.commit.Goals as goal
@@ -44,6 +46,8 @@ returns-in_err-commit g c =
     rw (p.1) (carried_as g.R.Rig.seen (λ (x : ControllerModel g.row.R.Denot). ⊥) (λ (x : ControllerModel g.row.R.Denot). Unit {0}) (λ (x : ControllerModel g.row.R.Denot). ⊥) (λ (x : ControllerModel g.row.R.Denot) (program : List ℕ). end x.geometry program x.session x.session.current) (Err p.0) c.args.self.now old new c.self.view_is
     (carried_failed g.R.Rig.seen ⊥ (Unit {0}) ⊥ p.0 e (λ (program : List ℕ). end geometry program old.session old.session.current) old new p.2
     (does_not_commit g.R.Rig.seen e e (kept_by old.journal c.in-Some.after.now) old new due_kept refl c.in_err-commit.ensures.errors unchanged c.in_err-commit.ensures.stops refl)
+    (makes_entry {T = Unit {0}} g.R.Rig.seen (Err e) reply.Idle (kept_by old.journal c.in-Some.after.now) (kept_by old.journal c.in-Some.after.now) (λ (program : List ℕ). end geometry program old.session old.session.current) old new refl
+    (λ program. stored_end geometry program old.session (kept_by old.journal c.in-Some.after.now) due_kept) c.in_err-commit.ensures.stores)
     c.in_err-commit.ensures.errors unchanged refl refl
     (hindered_entry (Unit {0}) e geometry old.session (ledger_of old.journal) c.in-Some.after.now due c.in_err-commit.ensures.errors c.in_err-commit.ensures.used_up)
     c.in_err-commit.ensures.broken c.in_err-commit.ensures.size c.in_err-commit.ensures.failures))
@@ -61,8 +65,13 @@ returns g c =
     carried_as g.R.Rig.seen (λ (x : ControllerModel g.row.R.Denot). ⊥) (λ (x : ControllerModel g.row.R.Denot). Unit {0}) (λ (x : ControllerModel g.row.R.Denot). ⊥) (λ (x : ControllerModel g.row.R.Denot) (program : List ℕ). end x.geometry program x.session x.session.current) (Ok c.commit-2.result) c.args.self.now old new c.self.view_is (record {
       does = does_commit g.R.Rig.seen c.in_ok-commit.field-0 c.commit-2.result (kept_by old.journal c.in-Some.after.now) old new due_kept
           (c.commit-2.ensures.reply block.0 block.1) (c.commit-2.ensures.next block.0 block.1) c.in_ok-commit.ensures.stops refl;
+      calls = calls_made g.R.Rig.seen c.commit-2.result (λ (program : List ℕ). end geometry program old.session old.session.current) old new
+          (makes_entry g.R.Rig.seen (Ok c.in_ok-commit.field-0) c.commit-2.result (kept_by old.journal c.in-Some.after.now) (kept_by old.journal c.in-Some.after.now) (λ (program : List ℕ). end geometry program old.session old.session.current) old new refl
+          (λ program. stored_end geometry program old.session (kept_by old.journal c.in-Some.after.now) due_kept) c.in_ok-commit.ensures.stores);
       comes = comes_commit ⊥ c.commit-2.result c.in-Some.after.now old new due (c.commit-2.ensures.reply block.0 block.1) (c.commit-2.ensures.next block.0 block.1);
       line = λ none. absurd none;
+      ledger = ledger_entry g.R.Rig.seen (kept_by old.journal c.in-Some.after.now) (kept_by old.journal c.in-Some.after.now) (λ (program : List ℕ). end geometry program old.session old.session.current) old new refl
+          (λ program. stored_end geometry program old.session (kept_by old.journal c.in-Some.after.now) due_kept) c.in_ok-commit.ensures.ledger;
       hindered = tt;
       broken = c.in_ok-commit.ensures.broken;
       geometry = refl;

@@ -2,7 +2,7 @@ use Rattle.std.proofs.Common.{◌≡◌, ℕ, true, false, List, Option, Ok, ref
 use Rattle.std.specs.Option.{is_some}
 use Rattle.ng_text.specs.Programs.{program_line_at}
 use Rattle.ng_canon.specs.declared.geometry.Geometry.{Geometry}
-use Rattle.ng_session.specs.Session.{CurrentBlockModel, end, begin, is_running, has_work, IsBetweenLines}
+use Rattle.ng_session.specs.Session.{CurrentBlockModel, end, begin, is_running, rest, has_work, IsBetweenLines}
 use Rattle.ng_core.specs.Model.{ControllerModel}
 use Rattle.ng_core.specs.Needs.{needs_of_work}
 use Rattle.ng_core.specs.Events.{CarriesOut}
@@ -10,7 +10,9 @@ use Rattle.ng_core.proofs.Anyway.{comes_rest}
 use Rattle.ng_core.proofs.Carrying.{carried_to, by_some}
 use Rattle.ng_core.proofs.Choosing.{begins_there, by_none}
 use Rattle.ng_core.proofs.Hindering.{busy_block, busy_unread, busy_running}
-use Rattle.ng_core.proofs.Ticks.{does_rest}
+use Rattle.ng_core.proofs.Calling.{calls_on, calls_quiet, ledger_on, ledger_quiet}
+use Rattle.ng_core.proofs.Quiet.{still_rest}
+use Rattle.ng_core.proofs.Ticks.{does_rest, rests_there}
 use Rattle.ng_core.proofs.controller.Controller.end.Goals as goal
 
 pub returns-then-is_some : goal.returns-then-is_some
@@ -40,8 +42,14 @@ returns g c =
     subst (λ (x : ControllerModel g.row.R.Denot). CarriesOut g.R.Rig.seen (needs_of_work x.session) (λ (program : List ℕ). end x.geometry program x.session x.session.current) (Ok c.rest.result) x x) c.self.view_is
     (record {
       does = does_rest g.R.Rig.seen c.rest.result old none (sym c.if-is_running.ensures) c.rest.ensures;
+      calls = calls_on g.R.Rig.seen (Ok c.rest.result) (λ (program : List ℕ). rest program old.session) (λ (program : List ℕ). end geometry program old.session old.session.current) old old
+          (λ program. sym (rests_there geometry program old.session none (sym c.if-is_running.ensures)))
+          (calls_quiet g.R.Rig.seen c.rest.result (λ (program : List ℕ). rest program old.session) old old (λ program. still_rest program old.session) (λ h. refl));
       comes = comes_rest (IsBetweenLines old.session) c.rest.result old none (sym c.if-is_running.ensures) c.rest.ensures;
       line = λ read. absurd (let z : false ≡ true = c.if-is_running.ensures ∙ read.1 in cc);
+      ledger = ledger_on g.R.Rig.seen (Ok c.rest.result) (λ (program : List ℕ). rest program old.session) (λ (program : List ℕ). end geometry program old.session old.session.current) old old
+          (λ program. sym (rests_there geometry program old.session none (sym c.if-is_running.ensures)))
+          (ledger_quiet g.R.Rig.seen (λ (program : List ℕ). rest program old.session) old old (λ program. still_rest program old.session) refl);
       hindered = tt;
       broken = whole;
       geometry = refl;

@@ -11,6 +11,7 @@ use Rattle.ng_session.specs.declared.reply.Reply.TheVariants as reply
 use Rattle.ng_core.specs.Model.{ControllerModel}
 use Rattle.ng_core.proofs.Anyway.{comes_by}
 use Rattle.ng_core.proofs.Carrying.{carried_as, carried_failed}
+use Rattle.ng_core.proofs.Calling.{calls_made, makes_entry, ledger_entry}
 use Rattle.ng_core.proofs.Hindering.{hindered_storing}
 use Rattle.ng_core.proofs.Reporting.{keeps, keeps_none}
 use Rattle.ng_core.proofs.Storing.{kept_whole}
@@ -40,8 +41,13 @@ returns-in-Ok g c = λ entry committed.
     ap (λ (x : StoredModel). reply.Done x.entries) (c.behind-self.view_is ∙ c.stored-in-Ok.ensures.value ∙ ap (λ (s : SessionModel). s.stored) c.exchange-before.ensures.next) in
     carried_as g.R.Rig.seen (λ (x : ControllerModel g.row.R.Denot). ⊥) (λ (x : ControllerModel g.row.R.Denot). Unit {0}) (λ (x : ControllerModel g.row.R.Denot). ⊥) (λ (x : ControllerModel g.row.R.Denot) (program : List ℕ). commits program entry (record x.session { stored = with_decoded_state x.session.stored c.args.report x.session.stored.length })) (Ok (reply.Done c.behind-self.inside.entries)) c.args.self.now old new c.self.view_is (record {
       does = keeps g.R.Rig.seen c.in-Ok.field-0 (reply.Done c.behind-self.inside.entries) (kept_by old.journal c.stored-2.result.now) entry next old new (kept ∙ stored) counted c.exchange-before.ensures.next c.in-Ok.ensures.stops refl;
+      calls = calls_made g.R.Rig.seen (reply.Done c.behind-self.inside.entries) (λ (program : List ℕ). commits program entry next) old new
+          (makes_entry g.R.Rig.seen (Ok c.in-Ok.field-0) (reply.Done c.behind-self.inside.entries) (kept_by old.journal c.stored-2.result.now) next.stored (λ (program : List ℕ). commits program entry next) old new (kept ∙ stored)
+          (λ program. ap (λ (x : Storing). Some x) (committed next.stored)) c.in-Ok.ensures.stores);
       comes = comes_by ⊥ (reply.Done c.behind-self.inside.entries) (λ program. commits program entry next) old new (λ program. counted) (λ program. c.exchange-before.ensures.next);
       line = λ none. absurd none;
+      ledger = ledger_entry g.R.Rig.seen (kept_by old.journal c.stored-2.result.now) next.stored (λ (program : List ℕ). commits program entry next) old new (kept ∙ stored)
+          (λ program. ap (λ (x : Storing). Some x) (committed next.stored)) c.in-Ok.ensures.ledger;
       hindered = tt;
       broken = c.in-Ok.ensures.broken;
       geometry = refl;
@@ -64,6 +70,8 @@ returns-in-Err g c = λ entry committed.
     carried_as g.R.Rig.seen (λ (x : ControllerModel g.row.R.Denot). ⊥) (λ (x : ControllerModel g.row.R.Denot). Unit {0}) (λ (x : ControllerModel g.row.R.Denot). ⊥) (λ (x : ControllerModel g.row.R.Denot) (program : List ℕ). commits program entry (record x.session { stored = with_decoded_state x.session.stored c.args.report x.session.stored.length })) (Err c.in-Err.fault) c.args.self.now old new c.self.view_is
     (carried_failed g.R.Rig.seen ⊥ (Unit {0}) ⊥ c.in-Err.fault c.in-Err.fault (λ (program : List ℕ). commits program entry next) old new refl
     (keeps_none g.R.Rig.seen c.in-Err.fault (kept_by old.journal c.stored-2.result.now) entry next old new (kept ∙ stored) same c.in-Err.ensures.errors unchanged c.in-Err.ensures.stops refl)
+    (makes_entry {T = Unit {0}} g.R.Rig.seen (Err c.in-Err.fault) reply.Idle (kept_by old.journal c.stored-2.result.now) next.stored (λ (program : List ℕ). commits program entry next) old new (kept ∙ stored)
+    (λ program. ap (λ (x : Storing). Some x) (committed next.stored)) c.in-Err.ensures.stores)
     c.in-Err.ensures.errors unchanged refl same
     (hindered_storing (Unit {0}) c.in-Err.fault (ledger_of old.journal) (λ (program : List ℕ). commits program entry next) (Commit c.stored-2.result.now) c.in-Err.ensures.errors c.in-Err.ensures.used_up
     (λ program. ap (λ (x : Storing). Some x) (committed next.stored) ∙ ap (λ (x : StoredModel). Some (Commit x)) (sym stored)))

@@ -9,8 +9,10 @@ use Rattle.ng_canon.specs.declared.geometry.Geometry.{Geometry}
 use Rattle.ng_session.proofs.Ahead.{plan_none}
 use Rattle.ng_session.specs.Session.{SessionModel, load, load_unless, load_refusal, loaded}
 use Rattle.ng_session.specs.declared.reply.Reply.{Reply}
+use Rattle.ng_session.specs.declared.reply.Reply.TheVariants as reply
 use Rattle.ng_core.specs.Model.{ControllerModel}
 use Rattle.ng_core.proofs.Answering.{does_load, does_not_load, not_too_long}
+use Rattle.ng_core.proofs.Calling.{calls_made, makes_load, ledger_load}
 use Rattle.ng_core.proofs.Hindering.{hindered_load}
 use Rattle.ng_core.proofs.Storing.{kept_whole, kept_failed}
 use Rattle.ng_core.proofs.Anyway.{comes_load}
@@ -68,6 +70,7 @@ returns-in_err-load_program g c =
     (carried_failed g.R.Rig.seen (load_refusal old.session c.args.text.now ≡ None) (load_refusal old.session c.args.text.now ≡ None) ⊥ p.0 e
     (λ (program : List ℕ). load program old.session c.args.text.now) old new p.2
     (does_not_load g.R.Rig.seen e e (kept_by old.journal c.in_ok-stored.stored) c.args.text.now old new free (kept ∙ c.in_ok-stored.ensures.value) refl which unchanged c.in_err-load_program.ensures.stops refl)
+    (makes_load {T = Unit {0}} g.R.Rig.seen (Err e) reply.Idle (kept_by old.journal c.in_ok-stored.stored) c.args.text.now old new free (kept ∙ c.in_ok-stored.ensures.value) c.in_err-load_program.ensures.stores)
     which unchanged refl refl
     (hindered_load (Unit {0}) e c.self.inside.journal.saved.room old.session c.in_ok-stored.stored c.args.text.now (ledger_of old.journal) free small c.in_ok-stored.ensures.value which c.in_err-load_program.ensures.used_up)
     c.in_err-load_program.ensures.broken c.in_err-load_program.ensures.size c.in_err-load_program.ensures.failures))
@@ -83,8 +86,11 @@ returns g c =
     carried_as g.R.Rig.seen (λ (x : ControllerModel g.row.R.Denot). load_refusal x.session c.args.text.now ≡ None) (λ (x : ControllerModel g.row.R.Denot). load_refusal x.session c.args.text.now ≡ None) (λ (x : ControllerModel g.row.R.Denot). ⊥) (λ (x : ControllerModel g.row.R.Denot) (program : List ℕ). load program x.session c.args.text.now) (Ok c.load.result) c.args.self.now old new c.self.view_is (record {
       does = does_load g.R.Rig.seen c.in_ok-load_program.field-0 c.load.result (kept_by old.journal c.in_ok-stored.stored) c.args.text.now old new free (kept ∙ c.in_ok-stored.ensures.value)
           c.load.ensures.reply (c.load.ensures.next ∙ ap (loaded old.session) (sym kept)) c.in_ok-load_program.ensures.stops (c.forget.ensures.holds c.args.text.now);
+      calls = calls_made g.R.Rig.seen c.load.result (λ (program : List ℕ). load program old.session c.args.text.now) old new
+          (makes_load g.R.Rig.seen (Ok c.in_ok-load_program.field-0) c.load.result (kept_by old.journal c.in_ok-stored.stored) c.args.text.now old new free (kept ∙ c.in_ok-stored.ensures.value) c.in_ok-load_program.ensures.stores);
       comes = comes_load ⊥ c.load.result c.in_ok-stored.stored c.args.text.now old new free c.in_ok-stored.ensures.value c.load.ensures.reply c.load.ensures.next;
       line = λ none. absurd none;
+      ledger = ledger_load g.R.Rig.seen (kept_by old.journal c.in_ok-stored.stored) c.args.text.now old new free (kept ∙ c.in_ok-stored.ensures.value) c.in_ok-load_program.ensures.ledger;
       hindered = tt;
       broken = c.in_ok-load_program.ensures.broken;
       geometry = refl;

@@ -10,10 +10,12 @@ use Rattle.ng_session.specs.Session.{SessionModel}
 use Rattle.ng_session.specs.Planned.{base_of}
 use Rattle.ng_session.proofs.Ahead.{opened_base, plan_as}
 use Rattle.ng_core.proofs.Ahead.{some_of}
+use Rattle.ng_session.specs.declared.reply.Reply.TheVariants as reply
 use Rattle.ng_core.specs.Model.{ControllerModel}
 use Rattle.ng_core.proofs.Anyway.{comes_by}
 use Rattle.ng_core.proofs.Carrying.{carried_as, carried_failed}
-use Rattle.ng_core.proofs.Hindering.{hindered_opening}
+use Rattle.ng_core.proofs.Calling.{calls_made, makes_opening, ledger_opening}
+use Rattle.ng_core.proofs.Hindering.{hindered_opening, stored_opening}
 use Rattle.ng_core.proofs.Ticks.{opening, opens, opens_none}
 use Rattle.ng_core.proofs.controller.Controller.open.Goals as goal
 
@@ -29,6 +31,8 @@ returns-in_err-open_segment g c =
     rw (p.1) (carried_as g.R.Rig.seen (λ (x : ControllerModel g.row.R.Denot). ⊥) (λ (x : ControllerModel g.row.R.Denot). Unit {0}) (λ (x : ControllerModel g.row.R.Denot). ⊥) (λ (x : ControllerModel g.row.R.Denot) (program : List ℕ). opening c.args.half program x.geometry x.session) (Err p.0) c.args.self.now old new c.self.view_is
     (carried_failed g.R.Rig.seen ⊥ (Unit {0}) ⊥ p.0 e (λ (program : List ℕ). opening c.args.half program geometry old.session) old new p.2
     (opens_none g.R.Rig.seen e e c.args.half old new refl (c.self.invariant.saved whole) c.in_err-open_segment.ensures.errors unchanged c.in_err-open_segment.ensures.stops refl)
+    (makes_opening {T = Unit {0}} g.R.Rig.seen (Err e) reply.Idle c.args.half (λ (program : List ℕ). opening c.args.half program geometry old.session) old new
+    (λ program. stored_opening (opening c.args.half program geometry old.session) c.args.half.index c.args.half.opened) c.in_err-open_segment.ensures.stores)
     c.in_err-open_segment.ensures.errors unchanged refl refl
     (hindered_opening (Unit {0}) e geometry old.session (ledger_of old.journal) c.args.half c.in_err-open_segment.ensures.errors c.in_err-open_segment.ensures.used_up)
     c.in_err-open_segment.ensures.broken c.in_err-open_segment.ensures.size c.in_err-open_segment.ensures.failures))
@@ -41,8 +45,13 @@ returns g c =
     let whole = ap (λ (x : ControllerModel g.row.R.Denot). x.journal.broken) c.self.view_is ∙ c.requires.whole in
     carried_as g.R.Rig.seen (λ (x : ControllerModel g.row.R.Denot). ⊥) (λ (x : ControllerModel g.row.R.Denot). Unit {0}) (λ (x : ControllerModel g.row.R.Denot). ⊥) (λ (x : ControllerModel g.row.R.Denot) (program : List ℕ). opening c.args.half program x.geometry x.session) (Ok c.open.result) c.args.self.now old new c.self.view_is (record {
       does = opens g.R.Rig.seen c.in_ok-open_segment.field-0 c.open.result c.args.half old new c.open.ensures.reply c.open.ensures.next (c.self.invariant.saved whole) c.in_ok-open_segment.ensures.stops refl;
+      calls = calls_made g.R.Rig.seen c.open.result (λ (program : List ℕ). opening c.args.half program geometry old.session) old new
+          (makes_opening g.R.Rig.seen (Ok c.in_ok-open_segment.field-0) c.open.result c.args.half (λ (program : List ℕ). opening c.args.half program geometry old.session) old new
+          (λ program. stored_opening (opening c.args.half program geometry old.session) c.args.half.index c.args.half.opened) c.in_ok-open_segment.ensures.stores);
       comes = comes_by ⊥ c.open.result (λ program. opening c.args.half program geometry old.session) old new (λ program. c.open.ensures.reply) (λ program. c.open.ensures.next);
       line = λ none. absurd none;
+      ledger = ledger_opening g.R.Rig.seen c.args.half (λ (program : List ℕ). opening c.args.half program geometry old.session) old new
+          (λ program. stored_opening (opening c.args.half program geometry old.session) c.args.half.index c.args.half.opened) c.in_ok-open_segment.ensures.ledger;
       hindered = tt;
       broken = c.in_ok-open_segment.ensures.broken;
       geometry = refl;

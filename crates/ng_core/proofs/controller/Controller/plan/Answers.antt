@@ -1,6 +1,7 @@
 use Rattle.std.proofs.Common.{◌≡◌, ℕ, Option, Some, None, Ok, Err, refl, sym, ◌∙◌, ap, subst}
 use Rattle.std.proofs.lemmas.Result.{err_from_is_err_and}
 use Rattle.ng_num.specs.declared.fault.Fault.{Fault}
+use Rattle.ng_rig.proofs.Promise.{onto}
 use Rattle.ng_journal.specs.Journal.{CountsFailure}
 use Rattle.ng_text.specs.LinesBefore.{IsTrueOf, IsLineBetween}
 use Rattle.ng_text.specs.Programs.{ProgramLineModel}
@@ -9,7 +10,7 @@ use Rattle.ng_canon.specs.declared.geometry.Geometry.{Geometry}
 use Rattle.ng_session.specs.Planned.{KnownModel, IsKnownOf}
 use Rattle.ng_core.specs.Model.{ControllerModel}
 use Rattle.ng_core.specs.Private.Ahead.{PlansAhead}
-use Rattle.ng_core.proofs.Ahead.{plans_found, plans_lost, unread_first, unread_line}
+use Rattle.ng_core.proofs.Ahead.{plans_found, plans_lost}
 use Rattle.ng_core.proofs.Beginning.{Reading, finding_both}
 use Rattle.ng_core.proofs.controller.Controller.plan.Goals as goal
 
@@ -21,7 +22,7 @@ returns-in_err-first g c =
     let old : ControllerModel g.row.R.Denot = record { journal = c.self.inside.journal; session = c.self.inside.session; lines = c.self.inside.lines; geometry = geometry } in
     let new : ControllerModel g.row.R.Denot = record { journal = c.first_kind_before.new.journal; session = c.self.inside.session; lines = c.self.inside.lines; geometry = geometry } in
     rw (p.1) (subst (λ (x : ControllerModel g.row.R.Denot). PlansAhead g.R.Rig.seen (Err p.0) x new) c.self.view_is
-    (plans_lost g.R.Rig.seen p.0 e old new p.2 (unread_first g.R.Rig.seen e c.in-Some.place old new.journal c.in_err-first.ensures.kind) c.in_err-first.ensures.errors refl refl c.in_err-first.ensures.ledger
+    (plans_lost g.R.Rig.seen p.0 e old new p.2 c.in_err-first.ensures.unwritten c.in_err-first.ensures.errors refl refl c.in_err-first.ensures.ledger
     c.in_err-first.ensures.broken c.in_err-first.ensures.size c.in_err-first.ensures.failures))
 
 pub returns-in_err-line : goal.returns-in_err-line
@@ -32,7 +33,7 @@ returns-in_err-line g c =
     let old : ControllerModel g.row.R.Denot = record { journal = c.self.inside.journal; session = c.self.inside.session; lines = c.self.inside.lines; geometry = geometry } in
     let new : ControllerModel g.row.R.Denot = record { journal = c.program_line.new.self; session = c.self.inside.session; lines = c.self.inside.lines; geometry = geometry } in
     rw (p.1) (subst (λ (x : ControllerModel g.row.R.Denot). PlansAhead g.R.Rig.seen (Err p.0) x new) c.self.view_is
-    (plans_lost g.R.Rig.seen p.0 e old new p.2 (unread_line g.R.Rig.seen c.in_ok-first.first e c.in-Some.place old c.first_kind_before.new.journal new.journal c.in_ok-first.ensures.kind c.in_err-line.ensures.line)
+    (plans_lost g.R.Rig.seen p.0 e old new p.2 (onto _ c.in_ok-first.ensures.unwritten c.in_err-line.ensures.reads (λ first line. line.same ∙ first))
     c.in_err-line.ensures.errors refl refl (c.in_err-line.ensures.ledger ∙ c.in_ok-first.ensures.ledger)
     c.in_err-line.ensures.broken (c.in_err-line.ensures.size ∙ c.in_ok-first.ensures.size)
     (subst (λ (n : ℕ). CountsFailure {T = Unit {0}} (Err e) n (g.R.Rig.seen c.program_line.new.self.rig).failed) c.in_ok-first.ensures.failures c.in_err-line.ensures.failures)))
@@ -55,6 +56,7 @@ returns-in-Some-2 g c =
     let before = c.lines_after-before.ensures program (subst (λ (k : LinesBefore). IsTrueOf program k) (sym c.plan.ensures.before) known.0) between in
     let ahead = c.plan.ensures.holds program known.1 (subst (λ (n : ℕ). IsLineBetween program n c.in_ok-first.first line.text line.next) c.in-Some.ensures.place between) in
     subst (λ (k : KnownModel). IsKnownOf program k) (sym c.set_before.ensures) (before, ahead))
+    (λ h. (c.in_ok-line.ensures.reads.holds (c.in_ok-first.ensures.kind.keeps h)).same ∙ c.in_ok-first.ensures.unwritten.holds h)
     c.plan.ensures.session refl (c.in_ok-line.ensures.ledger ∙ c.in_ok-first.ensures.ledger) c.in_ok-line.ensures.broken
     (c.in_ok-line.ensures.size ∙ c.in_ok-first.ensures.size) (c.in_ok-line.ensures.failures ∙ c.in_ok-first.ensures.failures))
 
@@ -69,5 +71,6 @@ returns-in-None g c =
     (finding_both {E = Fault} {F = Fault} g.R.Rig.seen c.in_ok-first.first None c.self.inside.lines c.in-Some.place c.self.inside.journal c.first_kind_before.new.journal c.program_line.new.self
     c.in_ok-first.ensures.kind reading)
     (λ program known at kind. subst (λ (k : KnownModel). IsKnownOf program k) (sym c.end.ensures) known)
+    (λ h. (c.in_ok-line.ensures.reads.holds (c.in_ok-first.ensures.kind.keeps h)).same ∙ c.in_ok-first.ensures.unwritten.holds h)
     refl refl (c.in_ok-line.ensures.ledger ∙ c.in_ok-first.ensures.ledger) c.in_ok-line.ensures.broken
     (c.in_ok-line.ensures.size ∙ c.in_ok-first.ensures.size) (c.in_ok-line.ensures.failures ∙ c.in_ok-first.ensures.failures))

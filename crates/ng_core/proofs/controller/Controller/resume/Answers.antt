@@ -3,12 +3,15 @@ use Rattle.std.proofs.lemmas.Result.{err_from_is_err_and}
 use Rattle.ng_num.specs.declared.fault.Fault.{Fault}
 use Rattle.ng_journal.specs.Storing.{ledger_of}
 use Rattle.ng_canon.specs.declared.geometry.Geometry.{Geometry}
-use Rattle.ng_session.specs.Session.{SessionModel, resume, resume_refusal, IsProgramsLine}
+use Rattle.ng_session.specs.Session.{SessionModel, refuses, resume, resume_refusal, IsProgramsLine}
 use Rattle.ng_session.specs.declared.reply.Reply.TheVariants as reply
 use Rattle.ng_core.specs.Model.{ControllerModel}
 use Rattle.ng_core.proofs.Carrying.{carried_as, carried_lost, carried_read}
+use Rattle.ng_session.proofs.Refusing.{refused_again}
+use Rattle.ng_core.proofs.Calling.{calls_none, calls_on, calls_quiet, ledger_on, ledger_quiet}
+use Rattle.ng_core.proofs.Quiet.{still}
 use Rattle.ng_core.proofs.Hindering.{unused_resume}
-use Rattle.ng_core.proofs.Resuming.{does_not_resume, comes_not_resumed, does_resume, comes_resume, refused_unread, resumed_line, does_resume_short, does_resume_unread}
+use Rattle.ng_core.proofs.Resuming.{still_resume, does_not_resume, comes_not_resumed, does_resume, comes_resume, refused_unread, resumed_line, does_resume_short, does_resume_unread}
 use Rattle.ng_core.proofs.controller.Controller.resume.Goals as goal
 
 pub returns-in-Some : goal.returns-in-Some
@@ -19,8 +22,13 @@ returns-in-Some g c =
     let whole = ap (λ (x : ControllerModel g.row.R.Denot). x.journal.broken) c.self.view_is ∙ c.requires.whole in
     carried_as g.R.Rig.seen (λ (x : ControllerModel g.row.R.Denot). resume_refusal x.geometry x.session ≡ None) (λ (x : ControllerModel g.row.R.Denot). (resume_refusal x.geometry x.session ≡ None) × IsProgramsLine x.session.stored.half) (λ (x : ControllerModel g.row.R.Denot). (resume_refusal x.geometry x.session ≡ None) × IsProgramsLine x.session.stored.half) (λ (x : ControllerModel g.row.R.Denot) (program : List ℕ). resume x.geometry program x.session) (Ok (reply.Refused c.in-Some.fault)) c.args.self.now old new c.self.view_is (record {
       does = does_not_resume g.R.Rig.seen c.in-Some.fault old new c.in-Some.ensures.refusal refl refl c.in-Some.ensures.same;
+      calls = calls_on g.R.Rig.seen (Ok (reply.Refused c.in-Some.fault)) (λ (program : List ℕ). refuses program c.in-Some.fault old.session) (λ (program : List ℕ). resume geometry program old.session) old new
+          (λ program. sym (refused_again geometry program old.session c.in-Some.fault c.in-Some.ensures.refusal))
+          (calls_quiet g.R.Rig.seen (reply.Refused c.in-Some.fault) (λ (program : List ℕ). refuses program c.in-Some.fault old.session) old new (λ program. still refl refl refl refl) (λ h. refl));
       comes = comes_not_resumed ((resume_refusal geometry old.session ≡ None) × IsProgramsLine old.session.stored.half) c.in-Some.fault old new c.in-Some.ensures.refusal c.in-Some.ensures.same;
       line = λ read. absurd (refused_unread (resume_refusal geometry old.session) c.in-Some.fault c.in-Some.ensures.refusal read.0);
+      ledger = ledger_on g.R.Rig.seen (Ok (reply.Refused c.in-Some.fault)) (λ (program : List ℕ). refuses program c.in-Some.fault old.session) (λ (program : List ℕ). resume geometry program old.session) old new
+          (λ program. sym (refused_again geometry program old.session c.in-Some.fault c.in-Some.ensures.refusal)) (λ program. refl);
       hindered = tt;
       broken = whole;
       geometry = refl;
@@ -39,6 +47,7 @@ returns-in_err-next g c =
     rw (p.1) (carried_as g.R.Rig.seen (λ (x : ControllerModel g.row.R.Denot). resume_refusal x.geometry x.session ≡ None) (λ (x : ControllerModel g.row.R.Denot). (resume_refusal x.geometry x.session ≡ None) × IsProgramsLine x.session.stored.half) (λ (x : ControllerModel g.row.R.Denot). (resume_refusal x.geometry x.session ≡ None) × IsProgramsLine x.session.stored.half) (λ (x : ControllerModel g.row.R.Denot) (program : List ℕ). resume x.geometry program x.session) (Err p.0) c.args.self.now old new c.self.view_is
     (carried_lost g.R.Rig.seen (resume_refusal geometry old.session ≡ None) ((resume_refusal geometry old.session ≡ None) × IsProgramsLine old.session.stored.half) ((resume_refusal geometry old.session ≡ None) × IsProgramsLine old.session.stored.half) p.0 e (λ (program : List ℕ). resume geometry program old.session) old new p.2
     (does_resume_unread {E = Fault} g.R.Rig.seen e e c.resume_refusal.new.self (λ (program : List ℕ). resume geometry program old.session) old new c.in_err-next.ensures.next c.in_err-next.ensures.errors.0 c.in_default.ensures.same)
+    (calls_none g.R.Rig.seen e (λ (program : List ℕ). resume geometry program old.session) old new c.in_err-next.ensures.unwritten.holds)
     c.in_err-next.ensures.errors.0 (sym c.in_default.ensures.refusal, line) (λ program used. unused_resume geometry program old.session (ledger_of old.journal) used)
     refl c.in_default.ensures.same c.in_err-next.ensures.broken c.in_err-next.ensures.size c.in_err-next.ensures.failures))
 
@@ -52,6 +61,7 @@ returns-in_err-resume g c =
     rw (p.1) (carried_as g.R.Rig.seen (λ (x : ControllerModel g.row.R.Denot). resume_refusal x.geometry x.session ≡ None) (λ (x : ControllerModel g.row.R.Denot). (resume_refusal x.geometry x.session ≡ None) × IsProgramsLine x.session.stored.half) (λ (x : ControllerModel g.row.R.Denot). (resume_refusal x.geometry x.session ≡ None) × IsProgramsLine x.session.stored.half) (λ (x : ControllerModel g.row.R.Denot) (program : List ℕ). resume x.geometry program x.session) (Err p.0) c.args.self.now old new c.self.view_is
     (carried_read g.R.Rig.seen (resume_refusal geometry old.session ≡ None) ((resume_refusal geometry old.session ≡ None) × IsProgramsLine old.session.stored.half) ((resume_refusal geometry old.session ≡ None) × IsProgramsLine old.session.stored.half) p.0 (λ (program : List ℕ). resume geometry program old.session) old new p.2 (sym c.in_default.ensures.refusal)
     (does_resume_short {E = Fault} g.R.Rig.seen p.0 c.in_ok-next.next c.resume_refusal.new.self (λ (program : List ℕ). resume geometry program old.session) old new c.in_ok-next.ensures.next p.2 same refl)
+    c.in_ok-next.ensures.unwritten.holds
     refl same c.in_ok-next.ensures.ledger
     (λ none. (c.in_ok-next.ensures.unread (λ line. none (sym c.in_default.ensures.refusal, subst (λ (s : SessionModel). IsProgramsLine s.stored.half) c.in_default.ensures.same line))).0)
     c.in_ok-next.ensures.broken c.in_ok-next.ensures.size c.in_ok-next.ensures.failures))
@@ -64,10 +74,12 @@ returns g c =
     carried_as g.R.Rig.seen (λ (x : ControllerModel g.row.R.Denot). resume_refusal x.geometry x.session ≡ None) (λ (x : ControllerModel g.row.R.Denot). (resume_refusal x.geometry x.session ≡ None) × IsProgramsLine x.session.stored.half) (λ (x : ControllerModel g.row.R.Denot). (resume_refusal x.geometry x.session ≡ None) × IsProgramsLine x.session.stored.half) (λ (x : ControllerModel g.row.R.Denot) (program : List ℕ). resume x.geometry program x.session) (Ok c.in_ok-resume.field-0) c.args.self.now old new c.self.view_is (record {
       does = does_resume {E = Fault} g.R.Rig.seen c.in_ok-resume.field-0 c.in_ok-next.next old new c.resume_refusal.new.self c.in_default.ensures.same c.in_ok-next.ensures.next refl
           (λ program is. (c.in_ok-resume.ensures.reply program is, c.in_ok-resume.ensures.next program is));
+      calls = calls_quiet g.R.Rig.seen c.in_ok-resume.field-0 (λ (program : List ℕ). resume geometry program old.session) old new (λ program. still_resume geometry program old.session) c.in_ok-next.ensures.unwritten.holds;
       comes = comes_resume c.in_ok-resume.field-0 c.in_ok-next.next old new c.resume_refusal.new.self c.in_default.ensures.same c.in_default.ensures.refusal (λ other. (c.in_ok-next.ensures.unread other).1)
           (λ program is. (c.in_ok-resume.ensures.reply program is, c.in_ok-resume.ensures.next program is));
       line = λ read. resumed_line c.in_ok-resume.field-0 c.in_ok-next.next old new c.resume_refusal.new.self c.in_default.ensures.same read.0 read.1 c.in_ok-next.ensures.beyond
           (λ program is. (c.in_ok-resume.ensures.reply program is, c.in_ok-resume.ensures.next program is)) c.in_ok-next.ensures.ledger;
+      ledger = ledger_quiet g.R.Rig.seen (λ (program : List ℕ). resume geometry program old.session) old new (λ program. still_resume geometry program old.session) c.in_ok-next.ensures.ledger;
       hindered = tt;
       broken = c.in_ok-next.ensures.broken;
       geometry = refl;
