@@ -89,8 +89,8 @@ fn take_steps(text: &[u8]) -> Option<(Pulse, &[u8])>
     }
 }
 
-/// The pulse whose line a text begins with, and what follows the line, in one pass (own). `None` exactly if the text
-/// begins with no pulse's line; it may be that another item's begins it, or that more has to come.
+/// The pulse whose line a text begins with, and what follows the line (own). `None` exactly if the text begins with no
+/// pulse's line: it may be that another item's begins it, or that more has to come.
 #[inline(always)]
 pub fn take_pulse(text: &[u8]) -> Option<(Pulse, &[u8])>
     ensures found { IfSome result (λ r. text.now ≡ pulse_line r.0 ++ r.1.now) }
