@@ -9,7 +9,7 @@
 #   --instructions also counts the instructions of a line (callgrind of valgrind), as the difference of all lines and of
 #                  the first half
 #   OUT..          files of OUT; without any, it makes three of a million lines each from a fixed seed: straight moves
-#                  of 1,000 pulses to all sides, moves of 30 pulses, and pulses by chance, each of which is a corner
+#                  of 1,000 pulses to all sides, moves of 30 pulses, and pulses by chance, one in seven at a corner
 #
 # The processor time is that of the whole process. Steps are of 2.5 um, the motors' acceleration 500 mm/s2.
 set -eu

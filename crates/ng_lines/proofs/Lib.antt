@@ -1,5 +1,5 @@
 pub mod DigitLemmas
-pub mod BlankLemmas
+pub mod ByteLemmas
 pub mod MillionthLemmas
 pub mod NumberLemmas
 pub mod LineLemmas

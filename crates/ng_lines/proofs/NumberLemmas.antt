@@ -9,8 +9,8 @@ use Rattle.std.specs.Fmt.{decimal}
 use Rattle.ng_num.specs.Range.{IsCount, greatest, in_range}
 use Rattle.ng_num.specs.Text.{number_text, six_digits}
 use Rattle.ng_num.specs.declared.fault.Fault.TheVariants.{OutOfRange}
-use Rattle.ng_lines.specs.Parts.{HasNoBlank, size_text}
-use Rattle.ng_lines.proofs.BlankLemmas.{HasNoBlank-append, digits_no_blank}
+use Rattle.ng_lines.specs.Parts.{HasNone, size_text}
+use Rattle.ng_lines.proofs.ByteLemmas.{HasNone-append, digits_have_none}
 use Rattle.ng_lines.proofs.DigitLemmas.{own}
 use Rattle.ng_lines.proofs.MillionthLemmas.{six_digits_digits}
 
@@ -56,15 +56,18 @@ first_digit n small is =
 pub no_minus : (n : ℕ) (more : List ℕ) → n ≤ greatest → size_text n ≡ 45 ∷ more → ⊥
 no_minus n more small is = first_digit n small (ap (λ (l : List ℕ). get_or l 0 0) is)
 
-size_no_blank : (n : ℕ) → n ≤ greatest → HasNoBlank (size_text n)
+pub decimal_has_none : (e n : ℕ) → e < 48 → n < 2 ^ 64 → HasNone e (decimal n)
+decimal_has_none e n small fits = digits_have_none e _ small (digits_decimal own n fits)
+
+size_no_blank : (n : ℕ) → n ≤ greatest → HasNone 32 (size_text n)
 size_no_blank n small =
-    HasNoBlank-append (decimal (n / 1_000_000)) (46 ∷ six_digits n) (digits_no_blank _ (digits_decimal own (n / 1_000_000) (omega (arith, small))))
-    ((λ is. omega (arith, is)), digits_no_blank (six_digits n) (six_digits_digits n))
+    HasNone-append 32 (decimal (n / 1_000_000)) (46 ∷ six_digits n) (decimal_has_none 32 (n / 1_000_000) (omega arith) (omega (arith, small)))
+    ((λ is. omega (arith, is)), digits_have_none 32 (six_digits n) (omega arith) (six_digits_digits n))
 
 -- no blank is in the text of a number
-pub number_no_blank : (z : ℤ) → IsCount z → HasNoBlank (number_text z)
-number_no_blank (pos n) small = subst HasNoBlank (sym (text_pos n)) (size_no_blank n small)
-number_no_blank (negsuc n) small = subst HasNoBlank (sym (text_negsuc n)) ((λ is. omega (arith, is)), size_no_blank (suc n) small)
+pub number_no_blank : (z : ℤ) → IsCount z → HasNone 32 (number_text z)
+number_no_blank (pos n) small = subst (HasNone 32) (sym (text_pos n)) (size_no_blank n small)
+number_no_blank (negsuc n) small = subst (HasNone 32) (sym (text_negsuc n)) ((λ is. omega (arith, is)), size_no_blank (suc n) small)
 
 -- numbers that are written so are read so
 pub read_signed : (z : ℤ) (text size : List ℕ) (r : Option ℤ) → IsCount z → number_text z ≡ text → text ≡ 45 ∷ size
@@ -83,6 +86,3 @@ same_size m n is = ap (λ (o : Option ℕ). unwrap_or o m) is
 
 pub same_number : (y z : ℤ) → Some y ≡ Some z → y ≡ z
 same_number y z is = ap (λ (o : Option ℤ). unwrap_or o y) is
-
-pub decimal_no_blank : (n : ℕ) → n < 2 ^ 64 → HasNoBlank (decimal n)
-decimal_no_blank n fits = digits_no_blank _ (digits_decimal own n fits)

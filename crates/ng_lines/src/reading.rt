@@ -8,8 +8,8 @@ ghost use Rattle.ng_canon.specs.declared.item.Item.{Item};
 ghost use Rattle.ng_canon.specs.declared.item.Pulse.{Pulse};
 ghost use Rattle.ng_canon.specs.declared.outputs.Outputs.{Outputs};
 ghost use Rattle.ng_canon.specs.declared.outputs.Spindle.{Spindle};
-ghost use Rattle.ng_lines.specs.Lines.{IsItem, item_line, spindle_text, step_text, truth_digit};
-ghost use Rattle.ng_lines.specs.Parts.{HasNoBlank, outputs_rest, pulse_rest};
+ghost use Rattle.ng_lines.specs.Lines.{IsItem, item_line, pulse_line, spindle_text, step_text, truth_digit};
+ghost use Rattle.ng_lines.specs.Parts.{HasNone, outputs_rest, pulse_onward, pulse_rest};
 
 use crate::number::number_in;
 use crate::whole::whole_in;
@@ -51,6 +51,58 @@ fn read_pulse(text: &[u8]) -> Option<Pulse>
     }
 }
 
+/// The period at the end of a pulse's line, and what follows its newline.
+#[inline(always)]
+fn take_period(text: &[u8]) -> Option<(u64, &[u8])>
+    ensures found { IfSome result (λ r. text.now ≡ decimal r.0 ++ 10 ∷ r.1.now) }
+    ensures only { (period : ℕ) (more : List ℕ) → period < 2 ^ 64 → text.now ≡ decimal period ++ 10 ∷ more
+        → IsSomeAnd result (λ r. (r.0 ≡ period) × (r.1.now ≡ more)) }
+{
+    let Some((front, after)) = split_at_byte(text, b'\n') else {
+        return None;
+    };
+    match whole_in(front) {
+        Some(period) => Some((period, after)),
+        None => None,
+    }
+}
+
+/// A pulse, of the text of its line after the letter and a blank, and what follows the line.
+#[inline(always)]
+fn take_steps(text: &[u8]) -> Option<(Pulse, &[u8])>
+    ensures found { IfSome result (λ r. text.now ≡ pulse_onward r.0 r.1.now) }
+    ensures only { (p : Pulse) (more : List ℕ) → p.period_us < 2 ^ 64 → text.now ≡ pulse_onward p more
+        → IsSomeAnd result (λ r. (r.0 ≡ p) × (r.1.now ≡ more)) }
+{
+    let Some((x, text)) = take_step(text) else {
+        return None;
+    };
+    let Some((y, text)) = take_step(text) else {
+        return None;
+    };
+    let Some((z, text)) = take_step(text) else {
+        return None;
+    };
+    match take_period(text) {
+        Some((period_us, after)) => Some((Pulse { x, y, z, period_us }, after)),
+        None => None,
+    }
+}
+
+/// The pulse whose line a text begins with, and what follows the line (own). `None` exactly if the text begins with no
+/// pulse's line: it may be that another item's begins it, or that more has to come.
+#[inline(always)]
+pub fn take_pulse(text: &[u8]) -> Option<(Pulse, &[u8])>
+    ensures found { IfSome result (λ r. text.now ≡ pulse_line r.0 ++ r.1.now) }
+    ensures only { (p : Pulse) (more : List ℕ) → p.period_us < 2 ^ 64 → text.now ≡ pulse_line p ++ more
+        → IsSomeAnd result (λ r. (r.0 ≡ p) × (r.1.now ≡ more)) }
+{
+    match text {
+        [b'P', b' ', steps @ ..] => take_steps(steps),
+        _ => None,
+    }
+}
+
 /// How the spindle turns, and what follows that and a blank.
 fn take_spindle(text: &[u8]) -> Option<(Spindle, &[u8])>
     ensures found { IfSome result (λ r. text.now ≡ spindle_text r.0 ++ 32 ∷ r.1.now) }
@@ -78,12 +130,14 @@ fn take_truth(text: &[u8]) -> Option<(bool, &[u8])>
     }
 }
 
-/// What is before the first blank, and what is after it.
-fn split_blank(text: &[u8]) -> Option<(&[u8], &[u8])>
-    ensures { MatchOption result (HasNoBlank text.now) (λ r. HasNoBlank r.0.now × (text.now ≡ r.0.now ++ 32 ∷ r.1.now)) }
+/// What is before the first such byte, and what is after it.
+#[inline(always)]
+fn split_at_byte(text: &[u8], byte: u8) -> Option<(&[u8], &[u8])>
+    ensures { MatchOption result (HasNone byte text.now)
+        (λ r. HasNone byte r.0.now × (text.now ≡ r.0.now ++ byte ∷ r.1.now)) }
 {
-    for (at, byte) in text.iter().enumerate() {
-        if *byte == b' ' {
+    for (at, next) in text.iter().enumerate() {
+        if *next == byte {
             return Some((&text[..at], &text[at + 1..]));
         }
     }
@@ -96,7 +150,7 @@ fn take_number(text: &[u8]) -> Option<(Num, &[u8])>
     ensures only { (number : ℤ) (more : List ℕ) → IsCount number → text.now ≡ number_text number ++ 32 ∷ more
         → IsSomeAnd result (λ r. (r.0 ≡ number) × (r.1.now ≡ more)) }
 {
-    let Some((front, after)) = split_blank(text) else {
+    let Some((front, after)) = split_at_byte(text, b' ') else {
         return None;
     };
     match number_in(front) {
@@ -122,7 +176,7 @@ fn take_slot(text: &[u8]) -> Option<(u8, &[u8])>
     ensures only { (slot : ℕ) (more : List ℕ) → slot < 2 ^ 8 → text.now ≡ decimal slot ++ 32 ∷ more
         → IsSomeAnd result (λ r. (r.0 ≡ slot) × (r.1.now ≡ more)) }
 {
-    let Some((front, after)) = split_blank(text) else {
+    let Some((front, after)) = split_at_byte(text, b' ') else {
         return None;
     };
     match slot_in(front) {

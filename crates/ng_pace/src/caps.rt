@@ -18,6 +18,7 @@ impl Caps {
 }
 
 /// What an axis allows along a slope, in parts of 2^20.
+#[inline(always)]
 fn axis_along(limits: &Limits, axis: usize, slope: u64) -> Caps
     requires axis { axis < 3 }
     requires accel { slice_index limits.now.accel axis ≤ 1000000000 }
@@ -55,7 +56,9 @@ fn square_of(rate: u64) -> u64
     rate * rate * PULSE
 }
 
-/// What the axes allow along their slopes, in parts of 2^20.
+/// What the axes allow along their slopes, in parts of 2^20. It is inlined since a corner needs no ramp of it, and then
+/// divides for none.
+#[inline(always)]
 pub(crate) fn along(limits: &Limits, slope: &[u64; 3]) -> Caps
     requires { AreLimits limits.now }
     ensures ramp { IsFullRamp limits.now slope.now STEP result.ramp }

@@ -132,7 +132,8 @@ fn axis_ramp(limits: &Limits, axis: usize, slope: u64, turn: u64, pulses: u64, m
         return GREATEST;
     }
     let accel = limits.accel[axis];
-    let used = ((most / PULSE + 1) * turn).div_ceil(pulses.saturating_mul(STEP));
+    // By 2^20 first: the rest is short, as a rule, and divided sooner.
+    let used = ((most / PULSE + 1) * turn).div_ceil(STEP).div_ceil(pulses);
     let left = accel.saturating_sub(used).max(accel / 4);
     (left.saturating_mul(2 * STEP) / slope).saturating_mul(PULSE)
 }

@@ -2,6 +2,8 @@
 ghost use Rattle.std.specs.Prelude.{◌<◌, ◌^◌, IsTrue};
 ghost use Rattle.ng_pace.specs.Interval.{IsRoot};
 
+use std::num::{nearest_u64_to_f64, saturating_f64_to_u64};
+
 /// Whether this is the whole root.
 fn is_root(square: u64, root: u64) -> bool
     requires { root < 2 ^ 32 }
@@ -10,25 +12,21 @@ fn is_root(square: u64, root: u64) -> bool
     root * root <= square && square - root * root <= 2 * root
 }
 
-/// The whole root. It is found at once from a guess near it.
-pub(crate) fn root_near(square: u64, guess: u64) -> u64
+/// What the processor takes for the root, as a rule the whole one: that is tested, and costs less than to find it.
+fn guessed_root(square: u64) -> u64
+    ensures { result < 2 ^ 32 }
+{
+    saturating_f64_to_u64(nearest_u64_to_f64(square).sqrt()).min(0xFFFF_FFFF)
+}
+
+/// The whole root.
+pub(crate) fn whole_root(square: u64) -> u64
     ensures root { IsRoot square result }
     ensures size { result < 2 ^ 32 }
 {
-    if guess == 0 {
-        return square.isqrt();
-    }
-    let near = (guess / 2)
-        .saturating_add(square / guess / 2)
-        .min(0xFFFF_FFFF);
-    let below = near.saturating_sub(1);
-    let above = near.saturating_add(1).min(0xFFFF_FFFF);
-    if is_root(square, near) {
-        near
-    } else if is_root(square, below) {
-        below
-    } else if is_root(square, above) {
-        above
+    let guess = guessed_root(square);
+    if is_root(square, guess) {
+        guess
     } else {
         square.isqrt()
     }
@@ -44,6 +42,6 @@ pub(crate) fn root_of(square: u64, known: u64, root: u64) -> u64
     if square == known {
         root
     } else {
-        root_near(square, root)
+        whole_root(square)
     }
 }

@@ -85,13 +85,22 @@ module _ {Z : Type 0} where
   StopSpec-more limits start w bytes more s (stop.Halted why) h = HaltSpec-more limits start w bytes more s why h
 
   -- a line that was stopped at is within more bytes
-  pub stops_within : (limits : Limits) (start w : Option (List ℕ)) (before taken line after bytes left : List ℕ) (s : Schedule Z) (why : Stop) → bytes ≡ taken ++ left → left ≡ line ++ 10 ∷ after
-      → StopSpec limits start w ((before ++ taken) ++ (line ++ end)) s why → StopSpec limits start w (before ++ bytes) s why
+  pub stops_within : (limits : Limits) (start w : Option (List ℕ)) (before taken line after bytes left : List ℕ) (s : Schedule Z) (why : Stop) → bytes ≡ taken ++ left → left ≡ line ++ after
+      → StopSpec limits start w ((before ++ taken) ++ line) s why → StopSpec limits start w (before ++ bytes) s why
   stops_within limits start w before taken line after bytes left s why all first h =
       subst (λ (b : List ℕ). StopSpec limits start w b s why)
-      (append_assoc (before ++ taken) (line ++ end) after ∙ ap (λ l. (before ++ taken) ++ l) (append_assoc line end after) ∙ append_assoc before taken (line ++ 10 ∷ after)
-      ∙ ap (λ l. before ++ (taken ++ l)) (sym first) ∙ ap (λ l. before ++ l) (sym all))
-      (StopSpec-more limits start w ((before ++ taken) ++ (line ++ end)) after s why h)
+      (append_assoc (before ++ taken) line after ∙ append_assoc before taken (line ++ after) ∙ ap (λ l. before ++ (taken ++ l)) (sym first) ∙ ap (λ l. before ++ l) (sym all))
+      (StopSpec-more limits start w ((before ++ taken) ++ line) after s why h)
+
+  -- where nothing is kept
+  pub with_nothing : (limits : Limits) (start w : Option (List ℕ)) (bytes kept : List ℕ) (s : Schedule Z) → kept ≡ [] → IsUnderWay limits start w bytes kept s → IsUnderWay limits start w bytes [] s
+  with_nothing limits start w bytes kept s none here = subst (λ (k : List ℕ). IsUnderWay limits start w bytes k s) none here
+
+  -- the next line is taken, where nothing is kept
+  pub goes_on : (limits : Limits) (start w : Option (List ℕ)) (before taken line kept : List ℕ) (s : Schedule Z) → kept ≡ [] → IsUnderWay limits start w ((before ++ taken) ++ line) [] s
+      → IsUnderWay limits start w (before ++ (taken ++ line)) kept s
+  goes_on limits start w before taken line kept s none here =
+      subst (λ (k : List ℕ). IsUnderWay limits start w (before ++ (taken ++ line)) k s) (sym none) (subst (λ (b : List ℕ). IsUnderWay limits start w b [] s) (append_assoc before taken line) here)
 
 -- there is no room for it
 pub no_room : (xs ys : List ℕ) → (length xs + length ys ≤ 128 → false ≡ true) → 128 < length (xs ++ ys)

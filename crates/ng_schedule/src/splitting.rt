@@ -1,5 +1,6 @@
 //! Splitting the bytes of OUT into lines as they come.
 ghost use Rattle.std.specs.Prelude.{◌≡◌, ◌∷◌, ◌++◌, [], List, Option, ℕ};
+ghost use Rattle.ng_lines.specs.Lines.{item_line};
 ghost use Rattle.ng_pace.specs.declared.limits.Limits.{Limits};
 ghost use Rattle.ng_text.specs.Newlines.{HasNoNewline};
 ghost use Rattle.ng_schedule.specs.Private.Parts.{IsUnderWay, StopSpec, TakeSpec};
@@ -7,7 +8,8 @@ ghost use Rattle.ng_schedule.specs.Private.Parts.{IsUnderWay, StopSpec, TakeSpec
 use crate::ending::Stop;
 use crate::giving::Schedule;
 use arrayvec::ArrayVec;
-use ng_lines::read_item;
+use ng_canon::Item;
+use ng_lines::{read_item, take_pulse};
 use ng_text::split_line;
 use std::alloc::Allocator;
 use std::io::Write;
@@ -23,6 +25,20 @@ pub(crate) struct LineSplitter<A: Allocator> {
 }
 
 impl<A: Allocator + Copy + Drop> Schedule<A> {
+    /// Takes what was read of the next line.
+    #[inline(always)]
+    fn take_read<W: Write>(&mut self, writer: &mut W, item: Item) -> Result<(), Stop>
+        ensures step { (limits : Limits) (start : Option (List ℕ)) (bytes : List ℕ)
+            → IsUnderWay limits start (W.contents writer.old) bytes [] self.old
+            → TakeSpec limits start (W.contents writer.new) (bytes ++ item_line item) [] self.new result }
+        ensures shown { self.new.shown ≡ self.old.shown }
+    {
+        match self.take_item(writer, item) {
+            Ok(()) => Ok(()),
+            Err(halt) => Err(Stop::Halted(halt)),
+        }
+    }
+
     /// Takes the next line, without its newline.
     #[inline(always)]
     fn take_line<W: Write>(&mut self, writer: &mut W, line: &[u8]) -> Result<(), Stop>
@@ -33,10 +49,7 @@ impl<A: Allocator + Copy + Drop> Schedule<A> {
         ensures shown { self.new.shown ≡ self.old.shown }
     {
         match read_item(line) {
-            Some(item) => match self.take_item(writer, item) {
-                Ok(()) => Ok(()),
-                Err(halt) => Err(Stop::Halted(halt)),
-            },
+            Some(item) => self.take_read(writer, item),
             None => Err(Stop::NotALine),
         }
     }
@@ -44,7 +57,7 @@ impl<A: Allocator + Copy + Drop> Schedule<A> {
 
 impl<A: Allocator + Copy + Drop> LineSplitter<A> {
     /// Takes the end of a line: the bytes before its newline.
-    #[inline(always)]
+    #[inline(never)]
     fn end_line<W: Write>(&mut self, writer: &mut W, line: &[u8]) -> Result<(), Stop>
         requires kept { HasNoNewline self.old.kept.items }
         requires line { HasNoNewline line.now }
@@ -61,7 +74,6 @@ impl<A: Allocator + Copy + Drop> LineSplitter<A> {
     }
 
     /// The same where the beginning of the line is kept.
-    #[inline(never)]
     fn end_kept<W: Write>(&mut self, writer: &mut W, line: &[u8]) -> Result<(), Stop>
         requires kept { HasNoNewline self.old.kept.items }
         requires line { HasNoNewline line.now }
@@ -97,7 +109,8 @@ impl<A: Allocator + Copy + Drop> LineSplitter<A> {
         }
     }
 
-    /// Takes the next bytes, and writes the lines that are given.
+    /// Takes the next bytes, and writes the lines that are given. Nearly all are lines of pulses: where none is kept, no
+    /// end of a line is looked for before it is read.
     pub(crate) fn take<W: Write>(&mut self, writer: &mut W, bytes: &[u8]) -> Result<(), Stop>
         requires { HasNoNewline self.old.kept.items }
         ensures step { (limits : Limits) (start : Option (List ℕ)) (before : List ℕ)
@@ -107,12 +120,22 @@ impl<A: Allocator + Copy + Drop> LineSplitter<A> {
         ensures shown { self.new.schedule.shown ≡ self.old.schedule.shown }
     {
         let mut left = bytes;
-        while let Some((line, after)) = split_line(left) {
-            match self.end_line(writer, line) {
-                Ok(()) => left = after,
-                Err(stop) => return Err(stop),
+        loop {
+            if self.kept.is_empty()
+                && let Some((pulse, after)) = take_pulse(left)
+            {
+                match self.schedule.take_read(writer, Item::Pulse(pulse)) {
+                    Ok(()) => left = after,
+                    Err(stop) => return Err(stop),
+                }
+            } else if let Some((line, after)) = split_line(left) {
+                match self.end_line(writer, line) {
+                    Ok(()) => left = after,
+                    Err(stop) => return Err(stop),
+                }
+            } else {
+                return self.keep(left);
             }
         }
-        self.keep(left)
     }
 }

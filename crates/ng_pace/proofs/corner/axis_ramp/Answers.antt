@@ -6,14 +6,16 @@ use Rattle.ng_pace.proofs.corner.axis_ramp.Goals as goal
 
 pub returns-clause-left : goal.returns-clause-left
 returns-clause-left c =
-    let up : (c.args.most / 65536 + 1) * c.args.turn ≤ c.div_ceil-used.result * c.saturating_mul.result
-    = rw c.div_ceil-used.ensures (div_ceil_times ((c.args.most / 65536 + 1) * c.args.turn) c.saturating_mul.result
-    (omega (arith, c.saturating_mul.ensures, c.requires.pulses))).0 in
-    turned c.args.slope c.saturating_mul-3.result c.args.pulses c.args.turn c.args.most (slice_index c.args.limits.now.accel c.args.axis)
-    (c.saturating_mul-2.result / c.args.slope) c.div_ceil-used.result c.max-left.result
-    (omega (arith, mul-div-le c.saturating_mul-2.result c.args.slope, c.saturating_mul-2.ensures))
-    (omega (arith, c.saturating_mul-3.ensures))
-    (takes_up (c.args.most / 65536) c.args.most c.args.turn (c.args.pulses * 1048576) c.div_ceil-used.result c.saturating_mul.result (omega arith) up
-    (omega (arith, c.saturating_mul.ensures)))
+    let whole : (c.args.most / 65536 + 1) * c.args.turn ≤ c.div_ceil.result * 1048576
+    = rw c.div_ceil.ensures (div_ceil_times ((c.args.most / 65536 + 1) * c.args.turn) 1048576 (omega arith)).0 in
+    let share : c.div_ceil.result ≤ c.div_ceil-used.result * c.args.pulses
+    = rw c.div_ceil-used.ensures (div_ceil_times c.div_ceil.result c.args.pulses c.requires.pulses).0 in
+    let up : (c.args.most / 65536 + 1) * c.args.turn ≤ c.div_ceil-used.result * (c.args.pulses * 1048576) = omega (arith, whole, share) in
+    turned c.args.slope c.saturating_mul-2.result c.args.pulses c.args.turn c.args.most (slice_index c.args.limits.now.accel c.args.axis)
+    (c.saturating_mul.result / c.args.slope) c.div_ceil-used.result c.max-left.result
+    (omega (arith, mul-div-le c.saturating_mul.result c.args.slope, c.saturating_mul.ensures))
+    (omega (arith, c.saturating_mul-2.ensures))
+    (takes_up (c.args.most / 65536) c.args.most c.args.turn (c.args.pulses * 1048576) c.div_ceil-used.result (c.args.pulses * 1048576) (omega arith) up
+    (omega arith))
     (omega (arith, c.requires.quarter))
     (left_of (slice_index c.args.limits.now.accel c.args.axis) c.div_ceil-used.result c.max-left.result (rw (← c.saturating_sub.ensures) c.max-left.ensures))

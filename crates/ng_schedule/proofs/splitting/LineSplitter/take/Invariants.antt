@@ -4,12 +4,12 @@ use Rattle.ng_text.specs.Newlines.{HasNoNewline}
 use Rattle.ng_schedule.specs.Private.Parts.{IsUnderWay}
 use Rattle.ng_schedule.proofs.splitting.LineSplitter.take.Given as goal
 
-abbrev pub invariant-loop-line : goal.invariant-loop-line
-invariant-loop-line g l =
+abbrev pub invariant-loop-left : goal.invariant-loop-left
+invariant-loop-left g l =
     ((taken : List ℕ) × (l.fn.bytes ≡ taken ++ l.left)
     × ((limits : Limits) (start : Option (List ℕ)) (before : List ℕ) → IsUnderWay limits start (g.W.Write.contents l.fn.writer) before l.fn.self.kept.items l.fn.self.schedule → IsUnderWay limits start (g.W.Write.contents l.writer) (before ++ taken) l.self.kept.items l.self.schedule))
     × HasNoNewline l.self.kept.items
     × (l.self.schedule.shown ≡ l.fn.self.schedule.shown)
 
-abbrev pub decreases-loop-line : goal.decreases-loop-line
-decreases-loop-line g l = length l.left
+abbrev pub decreases-loop-left : goal.decreases-loop-left
+decreases-loop-left g l = length l.left
