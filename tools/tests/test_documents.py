@@ -16,6 +16,7 @@ from test_rehearse import HOLE, OUT  # noqa: E402
 
 from ngc_tools.formats.out import Switch  # noqa: E402
 from ngc_tools.formats.record import Record  # noqa: E402
+from ngc_tools.ngc.commands import FORMS  # noqa: E402
 from ngc_tools.player.source import Source  # noqa: E402
 
 DOCS = TOOLS.parent / "docs"
@@ -65,6 +66,21 @@ def commands(text: str) -> list[tuple[str, str]]:
             command, output = found.pop()
             found.append((command, output + line + "\n"))
     return found
+
+
+def spoken(block: str) -> tuple[str, list[str]]:
+    """A block of a console: what is typed on the left, and the answers beside it, without what is said of them."""
+    lines = block.splitlines()
+    column = min(match.end() for line in lines if (match := re.search(" {2,}(?=\\S)", line)))
+    typed = [line[:column].rstrip() for line in lines]
+    answers = [re.split(" {2,}", line[column:])[0] for line in lines]
+    return "\n".join(filter(None, typed)) + "\n", list(filter(None, answers))
+
+
+def tables(text: str) -> list[list[list[str]]]:
+    """The tables of a text: the cells of each row, without the head."""
+    bodies = re.findall(r"^\|[-| ]+\|\n((?:\|.*(?:\n|\Z))+)", text, re.MULTILINE)
+    return [[[cell.strip() for cell in line.strip("|").split("|")] for line in body.splitlines()] for body in bodies]
 
 
 class Documents(InFolder):
@@ -334,36 +350,24 @@ class Tutorial(Documents):
                 self.assertEqual(self.shell(command + " 2>&1", status=status), output, command)
 
 
-class Others(Documents):
-    """The pages beside it."""
+class Recovery(Documents):
+    """docs/RECOVERY.md."""
 
-    def test_session(self) -> None:
-        """docs/SESSION.md: the first session, its answers and pulses, and a program that the shell sends."""
-        text, ((make, _), (run, rest), *piped) = self.chapter("SESSION.md", "A first session")
-        settings, _, talk, pulses, _ = blocks(text)
-        Path("first.toml").write_text(settings)
-        self.assertEqual(self.shell(make), "")
-        typed = [line[:15].strip() for line in talk.splitlines()]
-        answers = [re.split(" {2,}", line[15:])[0] for line in talk.splitlines()]
-        said = self.shell(run, text="\n".join(filter(None, typed)) + "\n")
-        self.assertEqual(said.splitlines(), list(filter(None, answers)))
-        self.assertEqual(Path("pulses").read_text(), pulses)
-        self.assertTrue(rest.startswith(talk))
-        shutil.copy("examples/first.ngc", "part.ngc")
-        script = "\n".join(command for command, _ in piped)
-        self.assertRegex(self.shell(script + "\nwait"), r"^done 4\nstatus entries 4 place 0 .* half none idle\n$")
+    BEFORE, BEGINS, TOLD = (1, 1, 5), (2, 2, -1), (2, 2, -0.99)  # of the half-done block below, in mm
 
-    def test_device(self) -> None:
-        """docs/SESSION.md: what makes a device where there is none, and what lengthens one."""
-        for command, _ in self.chapter("SESSION.md", "The device")[1]:
-            Path("mill.dev").unlink(missing_ok=True)
-            if " grow " in command:
-                self.device()
-            self.assertEqual(self.shell(command), "")
-            self.assertGreaterEqual(Path("mill.dev").stat().st_size, 875_520)
+    def half_done(self) -> None:
+        """mill.dev in the midst of a hole's way out, segment 3 of its line."""
+        self.device()
+        self.run_ngc(f"tool 1 0\nload {len(HOLE)}\n{HOLE}start\ntick {OUT + 100}\n")
+        shutil.copy("mill.dev", "half.dev")
+
+    def replies(self, commands: str) -> list[str]:
+        """What `ngc run` says to commands over a copy of it."""
+        shutil.copy("half.dev", "mill.dev")
+        return self.run_ngc(commands, "/dev/null")
 
     def test_recover(self) -> None:
-        """docs/RECOVERY.md: a move that was cut off after 1,289 of its pulses, and `recover`."""
+        """A move that was cut off after 1,289 of its pulses, and `recover`."""
         text, ((play, _), (operate, typed)) = self.chapter("RECOVERY.md", "`recover`")
         program = "M3 S1000\nG0 X2 Y1 Z-1\nG1 X4 F600\nM2\n"
         self.device()
@@ -380,13 +384,18 @@ class Others(Documents):
         self.assertEqual(self.shell(rehearse).splitlines()[1:3], [
             "the open segment begins behind line 2002 of out",
             re.search("^back through what.*", typed, re.MULTILINE)[0].join(("recover: ", ""))])
+        go = re.search(r"`(ngc-player out [^`]*) B`", text.replace("\n", " "))[1]
+        way = re.search("^back through what was cut, (.*) lines of OUT, to its line (.*): (.*mm in)", typed, re.MULTILINE)
+        said = self.shell(f"{go} {way[2]} 2>&1", text="no\n", status=2)
+        self.assertIn(f"\nback to line {way[2]} of out: {way[3]} ", said)
+        self.assertEqual(Path("position").read_bytes(), kept.text())
         self.begin(play)
         answers = re.findall(r"(?:ngc> |: )(recover|yes|quit)\n", typed)
         shown = re.sub(r"(ngc> |: )(?:recover|yes|quit)\n", r"\1", typed)
         self.assertEqual(self.shell(f"{operate} --ngc {ngc()}", "".join(word + "\n" for word in answers)), shown)
 
     def test_recovery(self) -> None:
-        """docs/RECOVERY.md: a rehearsal by the tool, and by hand over a copy, with the OUT of the example's resume."""
+        """A rehearsal by the tool, and by hand over a copy, with the OUT of the example's resume."""
         _, ((rehearse, _), (copy, _), (run, _)) = self.chapter("RECOVERY.md", "A half-done")
         Path("mill.toml").write_text(Path("first.toml").read_text())
         self.device()
@@ -403,6 +412,114 @@ class Others(Documents):
         wanted = next(block for block in example if block.startswith("S 1 "))
         self.assertEqual(Path("try.out").read_text(), wanted)
         self.assertEqual(Path("mill.dev").read_bytes(), before)
+
+    def test_example(self) -> None:
+        """The example, taken up and given up, to the byte."""
+        text = chapters("RECOVERY.md")["An example"]
+        begun, taken_up, out, given_up = blocks(text)
+        *lines, pulse, switch = re.findall("`([PSD] [^`]*)`", text)
+        self.device()
+        for name, block in (("begun", begun), ("taken-up", taken_up)):
+            typed, answers = spoken(block)
+            self.assertEqual(self.run_ngc(typed, name), answers)
+            if name == "begun":
+                shutil.copy("mill.dev", "half.dev")
+        self.assertEqual(Path("begun").read_text().splitlines(), lines)
+        self.assertEqual(Path("taken-up").read_text(), out)
+        shutil.copy("half.dev", "mill.dev")
+        typed, answers = spoken(given_up)
+        self.assertEqual(self.run_ngc(typed, "given-up"), answers)
+        self.assertIn(f"with `{pulse}` four times and `{switch}`", text)
+        self.assertEqual(Path("given-up").read_text().splitlines(), [pulse] * 4 + [switch])
+
+    def test_lost_again(self) -> None:
+        """What stands after each loss of power: how the machine is known, its point, the segment."""
+        self.half_done()
+        reference = "reference {} {} {}\n".format(*self.TOLD)
+        points = {"before the block": self.BEFORE, "where it begins": self.BEGINS, "that was told": self.TOLD}
+        lost = ((reference, reference + "resume\n"), (reference + "resume\ntick 5\n",),
+                (reference + "resume\ntick 13\n",), (reference + "resume\ntick 20\n",),
+                ("abandon\n", reference + "abandon\n"))
+        for row, several in zip(tables(chapters("RECOVERY.md")["A half-done block"])[-1], lost, strict=True):
+            words = re.findall("`(known|unknown|half none)`", row[1])
+            is_given_up = "half none" in words
+            kinds = (words[2], words[1]) if is_given_up else (words[0],) * len(several)
+            point = next((point for phrase, point in points.items() if phrase in row[1]), None)
+            for commands, kind in zip(several, kinds, strict=True):
+                self.replies(commands)
+                said, = self.run_ngc("status\n", "/dev/null")
+                self.assertIn(f" {kind} half {'none' if is_given_up else 'program 3'} idle", said, row)
+                if point:
+                    self.assertIn(" at {:.6f} {:.6f} {:.6f} ".format(*point), said, row)
+
+    def test_refused(self) -> None:
+        """What is taken and refused with a block half-done, before and after `reference`; and without one."""
+        self.half_done()
+        examples = {form.word: form.example + "\n" for form in FORMS} | {"load": "load 3\nM2\n"}
+        text = chapters("RECOVERY.md")["What is refused, and when"]
+        for row in tables(text)[0]:
+            for word in re.findall("`([a-z]+)`", row[0]):
+                for before, cell in (("", row[1]), ("reference 0 0 0\n", row[2])):
+                    said = self.replies(before + examples[word])[bool(before)]
+                    wanted = re.match("([A-Z][0-9])|`(.*)`|taken", cell) or re.match("the same", cell)
+                    fault, answer = (*wanted.groups(), None, None)[:2]
+                    self.assertRegex(said, f"^refused {fault} " if fault else f"^{answer or '(?!refused)'}", (word, cell))
+        self.assertTrue(self.replies("reference 2000 0 0\n")[0].startswith("refused X2 "))
+        without, while_it_runs = re.search(r"Without one.*?answer (..)\..*?answer (..)\.", text.replace("\n", " ")).groups()
+        for begin, words, fault in (("", ("resume", "abandon"), without),
+                                    ("load 8\nG0 X1\nM2start\ntick 3\n", ("resume", "abandon", "reference"),
+                                     while_it_runs)):
+            for word in words:
+                self.device()
+                said = self.run_ngc(begin + examples[word], "/dev/null")[-1]
+                self.assertTrue(said.startswith(f"refused {fault} "), (begin, word, said))
+
+
+class Others(Documents):
+    """The pages beside it."""
+
+    def test_session(self) -> None:
+        """docs/SESSION.md: the first session, its answers and pulses, and a program that the shell sends."""
+        text, ((make, _), (run, rest), *piped) = self.chapter("SESSION.md", "A first session")
+        settings, _, talk, pulses, _ = blocks(text)
+        Path("first.toml").write_text(settings)
+        self.assertEqual(self.shell(make), "")
+        typed, answers = spoken(talk)
+        self.assertEqual(self.shell(run, text=typed).splitlines(), answers)
+        self.assertEqual(Path("pulses").read_text(), pulses)
+        self.assertIn(pulses, blocks(chapters("OUTPUT.md")["The lines"]))
+        self.assertTrue(rest.startswith(talk))
+        shutil.copy("examples/first.ngc", "part.ngc")
+        script = "\n".join(command for command, _ in piped)
+        self.assertRegex(self.shell(script + "\nwait"), r"^done 4\nstatus entries 4 place 0 .* half none idle\n$")
+
+    def test_tool_lengths(self) -> None:
+        """docs/SESSION.md: a fresh device's first slots, and the pulses by the length that G43 took."""
+        text = chapters("SESSION.md")["Tool lengths: `tool N LENGTH`"]
+        typed, answers = spoken(blocks(text)[0])
+        self.device()
+        self.assertEqual(self.run_ngc(typed), answers)
+        self.assertEqual(Path("out").read_text(), re.search("`(P [^`]*)` six times", text)[1].join(("", "\n")) * 6)
+
+    def test_given_up(self) -> None:
+        """docs/SESSION.md: a run is given up without ending the session, and another program is loaded."""
+        text = chapters("SESSION.md")["To give up a run"].replace("\n", " ").partition("Without ending")[2]
+        hold, free, held, mdi, begun, tick, *answers, load = (word for word in re.findall("`([^`]+)`", text)
+                                                            if word not in ("stopped", "idle"))
+        self.device()
+        program = "G0 X0.002\nG0 X0.004\nM2\n"
+        self.assertEqual(self.run_ngc(f"load {len(program)}\n{program}start\ntick 5\n{hold}\n{mdi}\n{tick}\n"
+                                      f"{load} 3\nM2\n"),
+                         ["done 1", "going", "done 2", "ticks 5", held, begun, "done 3", "stopped", answers[-1], "done 4"])
+
+    def test_device(self) -> None:
+        """docs/SESSION.md: what makes a device where there is none, and what lengthens one."""
+        for command, _ in self.chapter("SESSION.md", "The device")[1]:
+            Path("mill.dev").unlink(missing_ok=True)
+            if " grow " in command:
+                self.device()
+            self.assertEqual(self.shell(command), "")
+            self.assertGreaterEqual(Path("mill.dev").stat().st_size, 875_520)
 
     def test_post_processor(self) -> None:
         """docs/POST_PROCESSOR.md: the first refused line, every one, what is written for it; a head and an end."""
