@@ -2,15 +2,18 @@
 import os
 import re
 import shutil
+import signal
 import subprocess
 import sys
 import textwrap
 import unittest
 import xml.etree.ElementTree as ElementTree
+from functools import cache
 from pathlib import Path
 
 sys.path.insert(0, str(Path(__file__).resolve().parent))
 
+from player_support import builds  # noqa: E402
 from session_support import PATIENCE_S, TOOLS, InFolder, Terminal, ngc  # noqa: E402
 from test_rehearse import HOLE, OUT  # noqa: E402
 
@@ -22,13 +25,15 @@ from ngc_tools.player.source import Source  # noqa: E402
 DOCS = TOOLS.parent / "docs"
 CAM = Path(__file__).resolve().parent / "cam"
 
-_COMMAND = re.compile(r"(?:\$ )?((?:ngc|ngc-\w+|mkfifo|cc|cp|grep|sed|tail|player|exec|echo|\{|tools/\S+) .*?)"
+_COMMAND = re.compile(r"(?:\$ )?((?:ngc|ngc-\w+|mkfifo|cc|cp|grep|sed|tail|player|exec|echo|\{|:|tools/\S+) .*?)"
                       r"(?: {2,}[(#].*)?")
 _INLINE = re.compile(r"`((?:tools/|examples/)?(?:ngc-\w+|grep|\w+\.py) [^`]*)`")
 
+PLAYER = "ngc-player: carry out OUT"
+
 # The chapters with commands; each is tried by a test below.
 CHAPTERS = {
-    "TOOLS.md": ("ngc-player: carry out OUT", "ngc-operate: a console for people",
+    "TOOLS.md": (PLAYER, "ngc-operate: a console for people",
                  "ngc-page: a page in the browser",
                  "After a loss of power, with these two", "The plug is pulled",
                  "ngc-check: each refused line, and what is dangerous", "ngc-plot: a picture, extents, times",
@@ -39,6 +44,7 @@ CHAPTERS = {
     "POST_PROCESSOR.md": ("",), "OUTPUT.md": (),
     "SESSION.md": ("The device", "A first session"),
     "../README.md": ("",),
+    "PAGE.md": ("",), "MOTION.md": ("",),
     "TUTORIAL.md": ("1. Look at the program", "2. Make a device", "3. Run it, and lose the power",
                     "4. Power comes back", "5. Resume"),
 }
@@ -75,6 +81,20 @@ def spoken(block: str) -> tuple[str, list[str]]:
     typed = [line[:column].rstrip() for line in lines]
     answers = [re.split(" {2,}", line[column:])[0] for line in lines]
     return "\n".join(filter(None, typed)) + "\n", list(filter(None, answers))
+
+
+@cache
+def player() -> str:
+    """The path of tools/player, built as docs/TOOLS.md says."""
+    folder = Path(builds(), "documents")
+    folder.mkdir(exist_ok=True)
+    if not (folder / "tools").exists():
+        (folder / "tools").symlink_to(TOOLS)
+    build = next(command for command, _ in commands(chapters("TOOLS.md")[PLAYER]) if command.startswith("cc "))
+    done = subprocess.run(["bash", "-c", build], cwd=folder, capture_output=True, text=True)
+    if done.returncode or done.stderr:
+        raise AssertionError(f"{build}\n{done.stderr}")
+    return str(folder / "player")
 
 
 def tables(text: str) -> list[list[list[str]]]:
@@ -147,7 +167,7 @@ class Tools(Documents):
     def test_player(self) -> None:
         """A pipe with a player; tools/player is built, and its words are those of the page."""
         text, tried = self.chapter("TOOLS.md", "ngc-player")
-        (synopsis, _), (fifo, _), (play, shown), (build, _), (words, more) = tried
+        (synopsis, _), (fifo, _), (play, shown), _, (words, more) = tried
         record = shown[shown.index("out /"):]
         self.same_options("ngc-player", text, synopsis)
         self.shell(fifo)
@@ -156,8 +176,7 @@ class Tools(Documents):
         self.assertEqual(child.wait(PATIENCE_S), 0)
         self.assertEqual([line.split()[0] for line in record.splitlines()],
                          [line.split()[0] for line in Path("position").read_text().splitlines() if line.strip()])
-        self.shell(build)
-        done = subprocess.run("./player", capture_output=True, text=True)
+        done = subprocess.run([player()], capture_output=True, text=True)
         self.assertEqual((done.returncode, done.stderr), (2, f"player: usage: {words} {more.strip()}\n"))
 
     def test_operate(self) -> None:
@@ -178,7 +197,7 @@ class Tools(Documents):
         shown += terminal.read_to(b"never")
         self.assertEqual((terminal.status(), player.wait(PATIENCE_S)), (0, 0))
         self.assertEqual(shown.decode().replace("\r\n", "\n"), session)
-        record = chapters("TOOLS.md")[CHAPTERS["TOOLS.md"][0]]
+        record = chapters("TOOLS.md")[PLAYER]
         wanted = next(block for block in blocks(record) if block.startswith("out ")).split("\n", 1)[1]
         found = re.sub("(?m)^age .*\n", "", Path("position").read_text().split("\n", 1)[1])
         self.assertEqual(found.rstrip(" \n") + "\n", wanted)
@@ -473,6 +492,61 @@ class Recovery(Documents):
                 self.device()
                 said = self.run_ngc(begin + examples[word], "/dev/null")[-1]
                 self.assertTrue(said.startswith(f"refused {fault} "), (begin, word, said))
+
+
+class Machine(Documents):
+    """docs/MACHINE.md, and the files for the players."""
+
+    def setUp(self) -> None:
+        """tools/player is on PATH, and OUT is there, without a line."""
+        super().setUp()
+        os.symlink(player(), "bin/player")
+        Path("out").touch()
+
+    def test_files(self) -> None:
+        """The players take those of docs/TOOLS.md; of docs/MACHINE.md all but that these pins have no inputs."""
+        tools = [block for block in blocks(chapters("TOOLS.md")[PLAYER]) if block.startswith("[")]
+        self.assertEqual(len(tools), 3)
+        Path("player.toml").write_text("\n".join(tools))
+        for command in ("player -m", "ngc-player --machine"):
+            said = self.shell(f"{command} player.toml out mill.toml position 2>&1")
+            self.assertIn("out: 0 lines carried out", said)
+        page = chapters("MACHINE.md")
+        parts = blocks(page["Motors"]) + blocks(page["Inputs and home"])
+        self.assertEqual([part.split()[0] for part in parts], ["[motion]", "[inputs]", "[home]"])
+        Path("player.toml").write_text("\n".join(parts))
+        said = self.shell("player -m player.toml out mill.toml position 2>&1", status=2)
+        self.assertEqual(said, "player: player.toml: inputs: the pins of this player have none\n")
+
+    def test_dry(self) -> None:
+        """A look at a program without the machine."""
+        command = re.search("`(ngc dry [^`]*)`", chapters("MACHINE.md")[""].replace("\n", " "))[1]
+        said = self.shell(command.replace("PROGRAM", "examples/mill.ngc").replace("FILE", "mill.toml"))
+        self.assertEqual(said, Path("examples/mill.txt").read_text())
+
+    def test_page(self) -> None:
+        """docs/PAGE.md: what it begins with, up to the address that is printed; Ctrl-C ends it."""
+        make, fresh, play, page = (command for command, _ in self.chapter("PAGE.md", "")[1])
+        Path("player.toml").write_text(blocks(chapters("MACHINE.md")["Motors"])[0])
+        self.shell(f"{make}; {fresh}")
+        self.begin(play)
+        served = subprocess.Popen(["bash", "-c", f"exec {page} --listen 127.0.0.1:0"], env=self.environment, text=True,
+                                  stdout=subprocess.PIPE, stderr=subprocess.PIPE)
+        self.addCleanup(self._end, served)
+        self.assertRegex(served.stdout.readline(), r"^http://127\.0\.0\.1:\d+/[\w-]+/\n$")
+        served.send_signal(signal.SIGINT)
+        self.assertEqual((served.wait(PATIENCE_S), served.stderr.read()), (2, "ngc-page: stopped\n"))
+
+    def test_motion(self) -> None:
+        """docs/MOTION.md: each line behind its time, the first at once, and how long all of it takes: X goes 5 mm by
+        1,000 pulses, a ramp up and one down at 100 mm/s2."""
+        lines, total = (command for command, _ in self.chapter("MOTION.md", "")[1])
+        Path("player.toml").write_text(blocks(chapters("MACHINE.md")["Motors"])[0])
+        Path("out").write_text("P 1 0 0 40\n" * 1000)
+        said = [line.split(" ", 1) for line in self.shell(lines).splitlines()]
+        self.assertEqual([line for _, line in said], ["P 1 0 0 40"] * 1000)
+        self.assertEqual(said[0][0], "0")
+        self.assertAlmostEqual(int(self.shell(total)) / 1e9, 2 * (5 / 100) ** 0.5, places=4)
 
 
 class Others(Documents):
