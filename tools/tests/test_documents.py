@@ -9,12 +9,14 @@ import textwrap
 import unittest
 import xml.etree.ElementTree as ElementTree
 from functools import cache
+from importlib import import_module
 from pathlib import Path
+from types import ModuleType
 
 sys.path.insert(0, str(Path(__file__).resolve().parent))
 
 from player_support import builds  # noqa: E402
-from session_support import PATIENCE_S, TOOLS, InFolder, Terminal, ngc  # noqa: E402
+from session_support import PATIENCE_S, TOOLS, InFolder, Terminal, ngc, told  # noqa: E402
 from test_rehearse import HOLE, OUT  # noqa: E402
 
 from ngc_tools.formats.out import Switch  # noqa: E402
@@ -103,6 +105,11 @@ def tables(text: str) -> list[list[list[str]]]:
     return [[[cell.strip() for cell in line.strip("|").split("|")] for line in body.splitlines()] for body in bodies]
 
 
+def cli(name: str) -> ModuleType:
+    """The module of a tool."""
+    return import_module(f"ngc_tools.cli.{name.removeprefix('ngc-')}")
+
+
 class Documents(InFolder):
     """A folder in which `ngc`, the tools and the examples are found as the pages say."""
 
@@ -147,7 +154,7 @@ class Documents(InFolder):
 
     def same_options(self, tool: str, text: str, synopsis: str) -> None:
         """The options of the help stand in the chapter, and those of the synopsis are of the help."""
-        known = set(re.findall(r"^  (--[a-z-]+)", self.shell(f"{tool} --help"), re.MULTILINE))
+        known = set(re.findall(r"^  (--[a-z-]+)", cli(tool).make_parser().format_help(), re.MULTILINE))
         self.assertEqual(set(re.findall(r"--[a-z-]+", synopsis)) - known, set())
         self.assertEqual({option for option in known - {"--ngc"} if option not in text}, set())
 
@@ -227,16 +234,13 @@ class Tools(Documents):
         self.assertEqual(player.stdout.read().splitlines()[-1], "reference 12.000000 0.000000 0.000000")
 
     def test_plug(self) -> None:
-        """Its words, and two moments."""
-        _, ((synopsis, _), (file, _)) = self.chapter("TOOLS.md", "The plug")
-        program = synopsis.split()[0]
-        known = set(re.findall(r"--[a-z-]+", self.shell(f"{program} --help --ngc x")))
-        self.assertEqual(set(re.findall(r"--[a-z-]+", synopsis)) - known, set())
-        self.assertIn("2 moments in ", self.shell(f"{program} --ngc {ngc()} --moments 2"))
-        program = file.split()[0]
-        self.assertEqual(set(re.findall(r"--[a-z-]+", file)) - set(re.findall(r"--[a-z-]+", self.shell(
-            f"{program} --help --ngc x"))), set())
-        self.assertIn("2 moments in ", self.shell(f"{program} --ngc {ngc()} --moments 2 --cut"))
+        """Their words, and a moment of each."""
+        _, tried = self.chapter("TOOLS.md", "The plug")
+        for synopsis, more in tried:
+            program, wanted = synopsis.split()[0], set(re.findall(r"--[a-z-]+", synopsis + more))
+            self.assertEqual(wanted - set(re.findall(r"--[a-z-]+", self.shell(f"{program} --help"))), set())
+            own = "--cut" if "--cut" in wanted else ""
+            self.assertIn("1 moments in ", self.shell(f"{program} --ngc {ngc()} --moments 1 --blocks 10 {own}"))
 
     def test_page(self) -> None:
         """The options of the page; tests/test_page.py has the rest."""
@@ -302,6 +306,50 @@ class Tools(Documents):
         """Its words."""
         text, ((synopsis, _),) = self.chapter("TOOLS.md", "ngc-split")
         self.same_options("ngc-split", text, synopsis)
+
+
+class Helps(Documents):
+    """The examples of `--help`."""
+
+    LONG = ("ngc-operate", "ngc-page", "ngc-player")  # these go on until somebody ends them: their words are tried alone
+
+    def setUp(self) -> None:
+        """A half-done block on mill.dev, OUT and a player's record of it, and other files that the examples name."""
+        super().setUp()
+        program = "G21 G90 G17 G54 G94\nM3 S1000\nG0 X2\nG1 X20 F600\nM2\n"
+        shutil.copy("first.toml", "mill.toml")
+        self.device()
+        self.run_ngc(f"load {len(program)}\n{program}start\ntick 9000\n")
+        self.assertEqual(told(cli("ngc-player").main, "out", "mill.toml", "position", "--untimed")[0], 0)
+        shutil.copy("out", "axis.out")
+        Path("player.toml").write_text("[motion]\naccel_mm_s2 = [500, 500, 300]\n")
+        Path("part.nc").write_text("G21 G90\nG28 G91 Z0\nG90 G0 X1\nM2\n")
+
+    def test_examples(self) -> None:
+        """Each does its work, and writes the file that it names."""
+        for name in sorted(path.name for path in TOOLS.glob("ngc-*")):
+            module = cli(name)
+            example = module.make_parser().format_help().partition("\nexample:\n")[2].partition("\nexit status")[0]
+            lines = re.findall(rf"^  (?:\(.*\) )?(ngc-\w+ .*?)(?: {{3,}}.*)?$", example, re.MULTILINE)
+            self.assertIn(name, [line.split()[0] for line in lines])
+            for line in lines:
+                self.check_example(line)
+
+    def check_example(self, line: str) -> None:
+        """Tries one."""
+        name, *words = line.split()
+        made = re.search("(?:--output|>) (.*)", line)
+        if made:
+            Path(made[1]).unlink(missing_ok=True)
+        if name in self.LONG:
+            self.assertIn("mill.toml", vars(cli(name).make_parser().parse_args(words)).values())
+        elif ">" in words:
+            self.shell(line)
+        else:
+            own = ("--ngc", ngc()) if name != "ngc-device" else ()
+            status, out, error = told(cli(name).main, *words, *own)
+            self.assertEqual((status, bool(out)), (0, True), (line, error))
+        self.assertTrue(not made or Path(made[1]).stat().st_size, line)
 
 
 class Readme(Documents):
