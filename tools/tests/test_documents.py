@@ -233,6 +233,20 @@ class Tools(Documents):
         self.assertIn(b"idle; X 12.000000 Y 0.000000 Z 0.000000; next line 1 of 2: G0 X12\r\n", shown)
         self.assertEqual(player.stdout.read().splitlines()[-1], "reference 12.000000 0.000000 0.000000")
 
+    def test_words_that_go_together(self) -> None:
+        """An option in the brackets of another one is refused without that one."""
+        found = []
+        for title in CHAPTERS["TOOLS.md"]:
+            synopsis = self.chapter("TOOLS.md", title)[1][0][0]
+            name, *given = synopsis.partition(" [")[0].split()
+            for outer, inner, value in re.findall(r"\[(--[a-z-]+) [A-Z]+ \[(--[a-z-]+) ([A-Z]+)\]", synopsis):
+                words = (*given, inner, "2" if value == "N" else value)
+                status, said, error = told(cli(name).main, *words, "--ngc", ngc())
+                self.assertEqual((status, said), (2, ""), words)
+                self.assertRegex(error.splitlines()[-1], f"^{name}: error: .*{inner} .*{outer}", words)
+                found.append((name, inner))
+        self.assertEqual(len(found), 6, found)
+
     def test_plug(self) -> None:
         """Their words, and a moment of each."""
         _, tried = self.chapter("TOOLS.md", "The plug")

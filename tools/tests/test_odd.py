@@ -164,14 +164,15 @@ class Odd(InFolder):
         self.device()
 
     def ended(self, name: str, *words: str, before: Callable[[], object] = lambda: None,
-              interrupted_s: float | None = None) -> Ended:
+              interrupted_s: float | None = None, prints: bool = True) -> Ended:
         """Runs a tool to its end. After `interrupted_s`, Ctrl-C is pressed; it is too where the tool doesn't end, and
-        without it once a page is served."""
+        without it once a page is served, and its address printed if it `prints`."""
         Path("tool.trace").unlink(missing_ok=True)
         is_page = name == "ngc-page"
         child = begin(name, [*words, *self.listen] if is_page else words, before)
         if interrupted_s is None:
-            status = wait(child, LIMIT_S, lambda: is_page and serves(self.port))
+            status = wait(child, LIMIT_S, lambda: is_page and serves(self.port)
+                          and (not prints or os.path.getsize("tool.out") > 0))
         else:
             status = wait(child, interrupted_s)
         if status is None:
@@ -201,7 +202,7 @@ class Odd(InFolder):
             ends = []
             for numbers in closings:
                 Path("position").unlink(missing_ok=True)
-                ends.append(self.ended(name, *words, before=lambda: close(*numbers)))
+                ends.append(self.ended(name, *words, before=lambda: close(*numbers), prints=1 not in numbers))
             for numbers, end in zip(closings, ends, strict=True):
                 self.assertEqual(end.status, ends[0].status, (name, numbers, end.error))
                 self.assertEqual(end.out, "" if 1 in numbers else ends[0].out, (name, numbers))
