@@ -559,14 +559,10 @@ class Recovery(Documents):
 class Machine(Documents):
     """docs/MACHINE.md, and the files for the players."""
 
-    def setUp(self) -> None:
-        """tools/player is on PATH, and OUT is there, without a line."""
-        super().setUp()
-        os.symlink(player(), "bin/player")
-        Path("out").touch()
-
     def test_files(self) -> None:
         """The players take those of docs/TOOLS.md; of docs/MACHINE.md all but that these pins have no inputs."""
+        os.symlink(player(), "bin/player")
+        Path("out").touch()
         tools = [block for block in blocks(chapters("TOOLS.md")[PLAYER]) if block.startswith("[")]
         self.assertEqual(len(tools), 3)
         Path("player.toml").write_text("\n".join(tools))
@@ -580,6 +576,13 @@ class Machine(Documents):
         said = self.shell("player -m player.toml out mill.toml position 2>&1", status=2)
         self.assertEqual(said, "player: player.toml: inputs: the pins of this player have none\n")
 
+    def test_pages(self) -> None:
+        """What each page is for, of all that README.md names for a machine."""
+        named = re.search(r"To run a machine: (.*?)\n\n", chapters("../README.md")["Documents"], re.DOTALL)[1]
+        told_of = {row[0] for row in tables(chapters("MACHINE.md")[""])[0]}
+        self.assertEqual(set(re.findall(r"\b\w+\.md", named)) - told_of, {"MACHINE.md"})
+        self.assertEqual([page for page in told_of if not (DOCS / page).is_file()], [])
+
     def test_dry(self) -> None:
         """A look at a program without the machine."""
         command = re.search("`(ngc dry [^`]*)`", chapters("MACHINE.md")[""].replace("\n", " "))[1]
@@ -588,6 +591,7 @@ class Machine(Documents):
 
     def test_page(self) -> None:
         """docs/PAGE.md: what it begins with, up to the address that is printed; Ctrl-C ends it."""
+        os.symlink(player(), "bin/player")
         make, fresh, play, page = (command for command, _ in self.chapter("PAGE.md", "")[1])
         Path("player.toml").write_text(blocks(chapters("MACHINE.md")["Motors"])[0])
         self.shell(f"{make}; {fresh}")

@@ -156,7 +156,7 @@ class Odd(InFolder):
         self.listen = "--listen", f"127.0.0.1:{self.port}"
         os.environ["NGC_PAGE_KEY"] = KEY
         self.addCleanup(os.environ.pop, "NGC_PAGE_KEY")
-        Path("part.ngc").write_text(TEXT)
+        Path("part.ngc").write_bytes(TEXT.encode())
         Path("part.txt").write_bytes(subprocess.run([ngc(), "dry", "part.ngc"], capture_output=True).stdout)
         Path("pulses").write_text("P 1 0 0 50\nP 0 1 0 50\n")
         Path("tmp").mkdir()
@@ -221,7 +221,7 @@ class Odd(InFolder):
     def test_interrupted(self) -> None:
         """Ctrl-C at ten moments: a line and the page's status, and none of its folders and files is left. A tool that
         is through by then has ended as ever."""
-        Path("part.ngc").write_text(TEXT.replace("M2\n", "G1 X1 F600\nX2\nX1\n" * 60 + "M2\n"))
+        Path("part.ngc").write_bytes(TEXT.replace("M2\n", "G1 X1 F600\nX2\nX1\n" * 60 + "M2\n").encode())
         Path("part.txt").write_bytes(subprocess.run([ngc(), "dry", "part.ngc"], capture_output=True).stdout)
         self.run_ngc("load 16\nG0 X1\nG0 X2\nM2\n\nquit\n")
         for name, words in GOOD.items():
