@@ -31,6 +31,7 @@ _COMMAND = re.compile(r"(?:\$ )?((?:ngc|ngc-\w+|mkfifo|cc|cp|grep|sed|tail|playe
                       r"(?: {2,}[(#].*)?")
 _INLINE = re.compile(r"`((?:tools/|examples/)?(?:ngc-\w+|grep|\w+\.py) [^`]*)`")
 
+EXAMPLES = {form.word: form.example + "\n" for form in FORMS} | {"load": "load 3\nM2\n"}
 PLAYER = "ngc-player: carry out OUT"
 
 # The chapters with commands; each is tried by a test below.
@@ -235,17 +236,14 @@ class Tools(Documents):
 
     def test_words_that_go_together(self) -> None:
         """An option in the brackets of another one is refused without that one."""
-        found = []
-        for title in CHAPTERS["TOOLS.md"]:
-            synopsis = self.chapter("TOOLS.md", title)[1][0][0]
-            name, *given = synopsis.partition(" [")[0].split()
-            for outer, inner, value in re.findall(r"\[(--[a-z-]+) [A-Z]+ \[(--[a-z-]+) ([A-Z]+)\]", synopsis):
-                words = (*given, inner, "2" if value == "N" else value)
-                status, said, error = told(cli(name).main, *words, "--ngc", ngc())
-                self.assertEqual((status, said), (2, ""), words)
-                self.assertRegex(error.splitlines()[-1], f"^{name}: error: .*{inner} .*{outer}", words)
-                found.append((name, inner))
-        self.assertEqual(len(found), 6, found)
+        synopses = [self.chapter("TOOLS.md", title)[1][0][0] for title in CHAPTERS["TOOLS.md"]]
+        pairs = [(synopsis.partition(" [")[0].split(), *pair) for synopsis in synopses
+                 for pair in re.findall(r"\[(--[a-z-]+) [A-Z]+ \[(--[a-z-]+) ([A-Z]+)\]", synopsis)]
+        self.assertEqual(len(pairs), 6, pairs)
+        for (name, *given), outer, inner, value in pairs:
+            status, said, error = told(cli(name).main, *given, inner, "2" if value == "N" else value, "--ngc", ngc())
+            self.assertEqual((status, said), (2, ""), (name, inner))
+            self.assertRegex(error.splitlines()[-1], f"^{name}: error: .*{inner} .*{outer}")
 
     def test_plug(self) -> None:
         """Their words, and a moment of each."""
@@ -325,7 +323,7 @@ class Tools(Documents):
 class Helps(Documents):
     """The examples of `--help`."""
 
-    LONG = ("ngc-operate", "ngc-page", "ngc-player")  # these go on until somebody ends them: their words are tried alone
+    LONG = ("ngc-operate", "ngc-page", "ngc-player")  # these go on until they are ended: their words are tried alone
 
     def setUp(self) -> None:
         """A half-done block on mill.dev, OUT and a player's record of it, and other files that the examples name."""
@@ -341,13 +339,12 @@ class Helps(Documents):
 
     def test_examples(self) -> None:
         """Each does its work, and writes the file that it names."""
-        for name in sorted(path.name for path in TOOLS.glob("ngc-*")):
-            module = cli(name)
-            example = module.make_parser().format_help().partition("\nexample:\n")[2].partition("\nexit status")[0]
-            lines = re.findall(rf"^  (?:\(.*\) )?(ngc-\w+ .*?)(?: {{3,}}.*)?$", example, re.MULTILINE)
-            self.assertIn(name, [line.split()[0] for line in lines])
-            for line in lines:
-                self.check_example(line)
+        names = sorted(path.name for path in TOOLS.glob("ngc-*"))
+        shown = [cli(name).make_parser().format_help().partition("\nexample:\n")[2] for name in names]
+        lines = re.findall(r"^  (?:\(.*\) )?(ngc-\w+ .*?)(?: {3,}.*)?$", "\n".join(shown), re.MULTILINE)
+        self.assertEqual(sorted({line.split()[0] for line in lines}), names)
+        for line in lines:
+            self.check_example(line)
 
     def check_example(self, line: str) -> None:
         """Tries one."""
@@ -466,9 +463,9 @@ class Recovery(Documents):
             "the open segment begins behind line 2002 of out",
             re.search("^back through what.*", typed, re.MULTILINE)[0].join(("recover: ", ""))])
         go = re.search(r"`(ngc-player out [^`]*) B`", text.replace("\n", " "))[1]
-        way = re.search("^back through what was cut, (.*) lines of OUT, to its line (.*): (.*mm in)", typed, re.MULTILINE)
-        said = self.shell(f"{go} {way[2]} 2>&1", text="no\n", status=2)
-        self.assertIn(f"\nback to line {way[2]} of out: {way[3]} ", said)
+        line, way = re.search("(?m)^back through .* lines of OUT, to its line (.*): (.* mm) in", typed).groups()
+        said = self.shell(f"{go} {line} 2>&1", text="no\n", status=2)
+        self.assertIn(f"\nback to line {line} of out: {way} in ", said)
         self.assertEqual(Path("position").read_bytes(), kept.text())
         self.begin(play)
         answers = re.findall(r"(?:ngc> |: )(recover|yes|quit)\n", typed)
@@ -516,44 +513,48 @@ class Recovery(Documents):
     def test_lost_again(self) -> None:
         """What stands after each loss of power: how the machine is known, its point, the segment."""
         self.half_done()
-        reference = "reference {} {} {}\n".format(*self.TOLD)
+        told_at = "reference {} {} {}\n".format(*self.TOLD)
+        typed = ((told_at, told_at + "resume\n"), (told_at + "resume\ntick 5\n",), (told_at + "resume\ntick 13\n",),
+                 (told_at + "resume\ntick 20\n",), ("abandon\n", told_at + "abandon\n"))
+        rows = tables(chapters("RECOVERY.md")["A half-done block"])[-1]
+        lost = ((text, row) for several, row in zip(typed, rows, strict=True) for text in several)
+        for commands, row in lost:
+            self.replies(commands)
+            self.check_status(self.run_ngc("status\n", "/dev/null")[0], row[1], told_at in commands)
+
+    def check_status(self, said: str, cell: str, is_told: bool) -> None:
+        """A status is the one that a cell of that table speaks of; a block that was given up is known where it was
+        told of."""
         points = {"before the block": self.BEFORE, "where it begins": self.BEGINS, "that was told": self.TOLD}
-        lost = ((reference, reference + "resume\n"), (reference + "resume\ntick 5\n",),
-                (reference + "resume\ntick 13\n",), (reference + "resume\ntick 20\n",),
-                ("abandon\n", reference + "abandon\n"))
-        for row, several in zip(tables(chapters("RECOVERY.md")["A half-done block"])[-1], lost, strict=True):
-            words = re.findall("`(known|unknown|half none)`", row[1])
-            is_given_up = "half none" in words
-            kinds = (words[2], words[1]) if is_given_up else (words[0],) * len(several)
-            point = next((point for phrase, point in points.items() if phrase in row[1]), None)
-            for commands, kind in zip(several, kinds, strict=True):
-                self.replies(commands)
-                said, = self.run_ngc("status\n", "/dev/null")
-                self.assertIn(f" {kind} half {'none' if is_given_up else 'program 3'} idle", said, row)
-                if point:
-                    self.assertIn(" at {:.6f} {:.6f} {:.6f} ".format(*point), said, row)
+        words = re.findall("`(known|unknown|half none)`", cell)
+        is_given_up = words[0] == "half none"
+        known = words[1 + (not is_told)] if is_given_up else words[0]
+        self.assertIn(f" {known} half {'none' if is_given_up else 'program 3'} idle", said, cell)
+        for point in (point for phrase, point in points.items() if phrase in cell):
+            self.assertIn(" at {:.6f} {:.6f} {:.6f} ".format(*point), said, cell)
 
     def test_refused(self) -> None:
-        """What is taken and refused with a block half-done, before and after `reference`; and without one."""
+        """What is taken and refused with a block half-done, before and after `reference`."""
         self.half_done()
-        examples = {form.word: form.example + "\n" for form in FORMS} | {"load": "load 3\nM2\n"}
-        text = chapters("RECOVERY.md")["What is refused, and when"]
-        for row in tables(text)[0]:
-            for word in re.findall("`([a-z]+)`", row[0]):
-                for before, cell in (("", row[1]), ("reference 0 0 0\n", row[2])):
-                    said = self.replies(before + examples[word])[bool(before)]
-                    wanted = re.match("([A-Z][0-9])|`(.*)`|taken", cell) or re.match("the same", cell)
-                    fault, answer = (*wanted.groups(), None, None)[:2]
-                    self.assertRegex(said, f"^refused {fault} " if fault else f"^{answer or '(?!refused)'}", (word, cell))
+        table = tables(chapters("RECOVERY.md")["What is refused, and when"])[0]
+        for word, before, cell in ((word, before, cell) for row in table for word in re.findall("`([a-z]+)`", row[0])
+                                   for before, cell in (("", row[1]), ("reference 0 0 0\n", row[2]))):
+            said = self.replies(before + EXAMPLES[word])[bool(before)]
+            fault, answer, is_taken = re.match("([A-Z][0-9])|`(.*)`|(taken|the same)", cell).groups()
+            wanted = f"refused {fault} " if fault else answer or "(?!refused)"
+            self.assertRegex(said, f"^{wanted}", (word, cell, is_taken))
         self.assertTrue(self.replies("reference 2000 0 0\n")[0].startswith("refused X2 "))
-        without, while_it_runs = re.search(r"Without one.*?answer (..)\..*?answer (..)\.", text.replace("\n", " ")).groups()
-        for begin, words, fault in (("", ("resume", "abandon"), without),
-                                    ("load 8\nG0 X1\nM2start\ntick 3\n", ("resume", "abandon", "reference"),
-                                     while_it_runs)):
-            for word in words:
-                self.device()
-                said = self.run_ngc(begin + examples[word], "/dev/null")[-1]
-                self.assertTrue(said.startswith(f"refused {fault} "), (begin, word, said))
+
+    def test_refused_otherwise(self) -> None:
+        """Without a half-done block, and while a program runs."""
+        text = chapters("RECOVERY.md")["What is refused, and when"].replace("\n", " ")
+        without, while_it_runs = re.search(r"Without one.*?answer (..)\..*?answer (..)\.", text).groups()
+        runs = "load 8\nG0 X1\nM2start\ntick 3\n"
+        for begin, word, fault in (("", "resume", without), ("", "abandon", without), (runs, "resume", while_it_runs),
+                                   (runs, "abandon", while_it_runs), (runs, "reference", while_it_runs)):
+            self.device()
+            said = self.run_ngc(begin + EXAMPLES[word], "/dev/null")[-1]
+            self.assertTrue(said.startswith(f"refused {fault} "), (begin, word, said))
 
 
 class Machine(Documents):
@@ -643,14 +644,13 @@ class Others(Documents):
 
     def test_given_up(self) -> None:
         """docs/SESSION.md: a run is given up without ending the session, and another program is loaded."""
-        text = chapters("SESSION.md")["To give up a run"].replace("\n", " ").partition("Without ending")[2]
-        hold, free, held, mdi, begun, tick, *answers, load = (word for word in re.findall("`([^`]+)`", text)
-                                                            if word not in ("stopped", "idle"))
+        text = chapters("SESSION.md")["To give up a run"].replace("\n", " ").partition("Where it answers `held`: ")[2]
+        mdi, begun, tick, done, stopped, ticks, load = re.findall("`([^`]+)`", text)
         self.device()
         program = "G0 X0.002\nG0 X0.004\nM2\n"
-        self.assertEqual(self.run_ngc(f"load {len(program)}\n{program}start\ntick 5\n{hold}\n{mdi}\n{tick}\n"
-                                      f"{load} 3\nM2\n"),
-                         ["done 1", "going", "done 2", "ticks 5", held, begun, "done 3", "stopped", answers[-1], "done 4"])
+        said = self.run_ngc(f"load {len(program)}\n{program}start\ntick 5\nhold\n{mdi}\n{tick}\n{load} 3\nM2\n")
+        self.assertEqual(said[:5], ["done 1", "going", "done 2", "ticks 5", "held"])
+        self.assertEqual(said[5:], [begun, f"{done} 3", stopped, ticks, "done 4"])
 
     def test_device(self) -> None:
         """docs/SESSION.md: what makes a device where there is none, and what lengthens one."""

@@ -28,7 +28,8 @@ from ngc_tools.cli import adapt, check, device, operate, page, player, plot, reh
 from ngc_tools.formats.device import Device  # noqa: E402
 
 MAINS = {"ngc-adapt": adapt.main, "ngc-check": check.main, "ngc-device": device.main, "ngc-operate": operate.main,
-         "ngc-page": page.main, "ngc-player": player.main, "ngc-plot": plot.main, "ngc-rehearse": rehearse.main, "ngc-split": split.main}
+         "ngc-page": page.main, "ngc-player": player.main, "ngc-plot": plot.main, "ngc-rehearse": rehearse.main,
+         "ngc-split": split.main}
 ASKS = [name for name in MAINS if name not in ("ngc-device", "ngc-player")]
 TEXT = "G21 G90 G17\n(Stück)\nM3 S1000\nG0 X5 Y0 Z5\nG1 X8 F600\nG2 X9 Y1 I1\nM2\n"
 LIMIT_S = 60  # also where the machine has other work
