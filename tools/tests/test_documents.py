@@ -2,32 +2,41 @@
 import os
 import re
 import shutil
+import signal
 import subprocess
 import sys
 import textwrap
 import unittest
 import xml.etree.ElementTree as ElementTree
+from functools import cache
+from importlib import import_module
 from pathlib import Path
+from types import ModuleType
 
 sys.path.insert(0, str(Path(__file__).resolve().parent))
 
-from session_support import PATIENCE_S, TOOLS, InFolder, Terminal, ngc  # noqa: E402
+from player_support import builds  # noqa: E402
+from session_support import PATIENCE_S, TOOLS, InFolder, Terminal, ngc, told  # noqa: E402
 from test_rehearse import HOLE, OUT  # noqa: E402
 
 from ngc_tools.formats.out import Switch  # noqa: E402
 from ngc_tools.formats.record import Record  # noqa: E402
+from ngc_tools.ngc.commands import FORMS  # noqa: E402
 from ngc_tools.player.source import Source  # noqa: E402
 
 DOCS = TOOLS.parent / "docs"
 CAM = Path(__file__).resolve().parent / "cam"
 
-_COMMAND = re.compile(r"(?:\$ )?((?:ngc|ngc-\w+|mkfifo|cc|cp|grep|sed|tail|player|exec|echo|\{|tools/\S+) .*?)"
+_COMMAND = re.compile(r"(?:\$ )?((?:ngc|ngc-\w+|mkfifo|cc|cp|grep|sed|tail|player|exec|echo|\{|:|tools/\S+) .*?)"
                       r"(?: {2,}[(#].*)?")
 _INLINE = re.compile(r"`((?:tools/|examples/)?(?:ngc-\w+|grep|\w+\.py) [^`]*)`")
 
+EXAMPLES = {form.word: form.example + "\n" for form in FORMS} | {"load": "load 3\nM2\n"}
+PLAYER = "ngc-player: carry out OUT"
+
 # The chapters with commands; each is tried by a test below.
 CHAPTERS = {
-    "TOOLS.md": ("ngc-player: carry out OUT", "ngc-operate: a console for people",
+    "TOOLS.md": (PLAYER, "ngc-operate: a console for people",
                  "ngc-page: a page in the browser",
                  "After a loss of power, with these two", "The plug is pulled",
                  "ngc-check: each refused line, and what is dangerous", "ngc-plot: a picture, extents, times",
@@ -38,6 +47,7 @@ CHAPTERS = {
     "POST_PROCESSOR.md": ("",), "OUTPUT.md": (),
     "SESSION.md": ("The device", "A first session"),
     "../README.md": ("",),
+    "PAGE.md": ("",), "MOTION.md": ("",),
     "TUTORIAL.md": ("1. Look at the program", "2. Make a device", "3. Run it, and lose the power",
                     "4. Power comes back", "5. Resume"),
 }
@@ -65,6 +75,40 @@ def commands(text: str) -> list[tuple[str, str]]:
             command, output = found.pop()
             found.append((command, output + line + "\n"))
     return found
+
+
+def spoken(block: str) -> tuple[str, list[str]]:
+    """A block of a console: what is typed on the left, and the answers beside it, without what is said of them."""
+    lines = block.splitlines()
+    column = min(match.end() for line in lines if (match := re.search(" {2,}(?=\\S)", line)))
+    typed = [line[:column].rstrip() for line in lines]
+    answers = [re.split(" {2,}", line[column:])[0] for line in lines]
+    return "\n".join(filter(None, typed)) + "\n", list(filter(None, answers))
+
+
+@cache
+def player() -> str:
+    """The path of tools/player, built as docs/TOOLS.md says."""
+    folder = Path(builds(), "documents")
+    folder.mkdir(exist_ok=True)
+    if not (folder / "tools").exists():
+        (folder / "tools").symlink_to(TOOLS)
+    build = next(command for command, _ in commands(chapters("TOOLS.md")[PLAYER]) if command.startswith("cc "))
+    done = subprocess.run(["bash", "-c", build], cwd=folder, capture_output=True, text=True)
+    if done.returncode or done.stderr:
+        raise AssertionError(f"{build}\n{done.stderr}")
+    return str(folder / "player")
+
+
+def tables(text: str) -> list[list[list[str]]]:
+    """The tables of a text: the cells of each row, without the head."""
+    bodies = re.findall(r"^\|[-| ]+\|\n((?:\|.*(?:\n|\Z))+)", text, re.MULTILINE)
+    return [[[cell.strip() for cell in line.strip("|").split("|")] for line in body.splitlines()] for body in bodies]
+
+
+def cli(name: str) -> ModuleType:
+    """The module of a tool."""
+    return import_module(f"ngc_tools.cli.{name.removeprefix('ngc-')}")
 
 
 class Documents(InFolder):
@@ -111,7 +155,7 @@ class Documents(InFolder):
 
     def same_options(self, tool: str, text: str, synopsis: str) -> None:
         """The options of the help stand in the chapter, and those of the synopsis are of the help."""
-        known = set(re.findall(r"^  (--[a-z-]+)", self.shell(f"{tool} --help"), re.MULTILINE))
+        known = set(re.findall(r"^  (--[a-z-]+)", cli(tool).make_parser().format_help(), re.MULTILINE))
         self.assertEqual(set(re.findall(r"--[a-z-]+", synopsis)) - known, set())
         self.assertEqual({option for option in known - {"--ngc"} if option not in text}, set())
 
@@ -131,7 +175,7 @@ class Tools(Documents):
     def test_player(self) -> None:
         """A pipe with a player; tools/player is built, and its words are those of the page."""
         text, tried = self.chapter("TOOLS.md", "ngc-player")
-        (synopsis, _), (fifo, _), (play, shown), (build, _), (words, more) = tried
+        (synopsis, _), (fifo, _), (play, shown), _, (words, more) = tried
         record = shown[shown.index("out /"):]
         self.same_options("ngc-player", text, synopsis)
         self.shell(fifo)
@@ -140,8 +184,7 @@ class Tools(Documents):
         self.assertEqual(child.wait(PATIENCE_S), 0)
         self.assertEqual([line.split()[0] for line in record.splitlines()],
                          [line.split()[0] for line in Path("position").read_text().splitlines() if line.strip()])
-        self.shell(build)
-        done = subprocess.run("./player", capture_output=True, text=True)
+        done = subprocess.run([player()], capture_output=True, text=True)
         self.assertEqual((done.returncode, done.stderr), (2, f"player: usage: {words} {more.strip()}\n"))
 
     def test_operate(self) -> None:
@@ -162,7 +205,7 @@ class Tools(Documents):
         shown += terminal.read_to(b"never")
         self.assertEqual((terminal.status(), player.wait(PATIENCE_S)), (0, 0))
         self.assertEqual(shown.decode().replace("\r\n", "\n"), session)
-        record = chapters("TOOLS.md")[CHAPTERS["TOOLS.md"][0]]
+        record = chapters("TOOLS.md")[PLAYER]
         wanted = next(block for block in blocks(record) if block.startswith("out ")).split("\n", 1)[1]
         found = re.sub("(?m)^age .*\n", "", Path("position").read_text().split("\n", 1)[1])
         self.assertEqual(found.rstrip(" \n") + "\n", wanted)
@@ -191,17 +234,25 @@ class Tools(Documents):
         self.assertIn(b"idle; X 12.000000 Y 0.000000 Z 0.000000; next line 1 of 2: G0 X12\r\n", shown)
         self.assertEqual(player.stdout.read().splitlines()[-1], "reference 12.000000 0.000000 0.000000")
 
+    def test_words_that_go_together(self) -> None:
+        """An option in the brackets of another one is refused without that one."""
+        synopses = [self.chapter("TOOLS.md", title)[1][0][0] for title in CHAPTERS["TOOLS.md"]]
+        pairs = [(synopsis.partition(" [")[0].split(), *pair) for synopsis in synopses
+                 for pair in re.findall(r"\[(--[a-z-]+) [A-Z]+ \[(--[a-z-]+) ([A-Z]+)\]", synopsis)]
+        self.assertEqual(len(pairs), 6, pairs)
+        for (name, *given), outer, inner, value in pairs:
+            status, said, error = told(cli(name).main, *given, inner, "2" if value == "N" else value, "--ngc", ngc())
+            self.assertEqual((status, said), (2, ""), (name, inner))
+            self.assertRegex(error.splitlines()[-1], f"^{name}: error: .*{inner} .*{outer}")
+
     def test_plug(self) -> None:
-        """Its words, and two moments."""
-        _, ((synopsis, _), (file, _)) = self.chapter("TOOLS.md", "The plug")
-        program = synopsis.split()[0]
-        known = set(re.findall(r"--[a-z-]+", self.shell(f"{program} --help --ngc x")))
-        self.assertEqual(set(re.findall(r"--[a-z-]+", synopsis)) - known, set())
-        self.assertIn("2 moments in ", self.shell(f"{program} --ngc {ngc()} --moments 2"))
-        program = file.split()[0]
-        self.assertEqual(set(re.findall(r"--[a-z-]+", file)) - set(re.findall(r"--[a-z-]+", self.shell(
-            f"{program} --help --ngc x"))), set())
-        self.assertIn("2 moments in ", self.shell(f"{program} --ngc {ngc()} --moments 2 --cut"))
+        """Their words, and a moment of each."""
+        _, tried = self.chapter("TOOLS.md", "The plug")
+        for synopsis, more in tried:
+            program, wanted = synopsis.split()[0], set(re.findall(r"--[a-z-]+", synopsis + more))
+            self.assertEqual(wanted - set(re.findall(r"--[a-z-]+", self.shell(f"{program} --help"))), set())
+            own = "--cut" if "--cut" in wanted else ""
+            self.assertIn("1 moments in ", self.shell(f"{program} --ngc {ngc()} --moments 1 --blocks 10 {own}"))
 
     def test_page(self) -> None:
         """The options of the page; tests/test_page.py has the rest."""
@@ -269,6 +320,49 @@ class Tools(Documents):
         self.same_options("ngc-split", text, synopsis)
 
 
+class Helps(Documents):
+    """The examples of `--help`."""
+
+    LONG = ("ngc-operate", "ngc-page", "ngc-player")  # these go on until they are ended: their words are tried alone
+
+    def setUp(self) -> None:
+        """A half-done block on mill.dev, OUT and a player's record of it, and other files that the examples name."""
+        super().setUp()
+        program = "G21 G90 G17 G54 G94\nM3 S1000\nG0 X2\nG1 X20 F600\nM2\n"
+        shutil.copy("first.toml", "mill.toml")
+        self.device()
+        self.run_ngc(f"load {len(program)}\n{program}start\ntick 9000\n")
+        self.assertEqual(told(cli("ngc-player").main, "out", "mill.toml", "position", "--untimed")[0], 0)
+        shutil.copy("out", "axis.out")
+        Path("player.toml").write_text("[motion]\naccel_mm_s2 = [500, 500, 300]\n")
+        Path("part.nc").write_text("G21 G90\nG28 G91 Z0\nG90 G0 X1\nM2\n")
+
+    def test_examples(self) -> None:
+        """Each does its work, and writes the file that it names."""
+        names = sorted(path.name for path in TOOLS.glob("ngc-*"))
+        shown = [cli(name).make_parser().format_help().partition("\nexample:\n")[2] for name in names]
+        lines = re.findall(r"^  (?:\(.*\) )?(ngc-\w+ .*?)(?: {3,}.*)?$", "\n".join(shown), re.MULTILINE)
+        self.assertEqual(sorted({line.split()[0] for line in lines}), names)
+        for line in lines:
+            self.check_example(line)
+
+    def check_example(self, line: str) -> None:
+        """Tries one."""
+        name, *words = line.split()
+        made = re.search("(?:--output|>) (.*)", line)
+        if made:
+            Path(made[1]).unlink(missing_ok=True)
+        if name in self.LONG:
+            self.assertIn("mill.toml", vars(cli(name).make_parser().parse_args(words)).values())
+        elif ">" in words:
+            self.shell(line)
+        else:
+            own = ("--ngc", ngc()) if name != "ngc-device" else ()
+            status, out, error = told(cli(name).main, *words, *own)
+            self.assertEqual((status, bool(out)), (0, True), (line, error))
+        self.assertTrue(not made or Path(made[1]).stat().st_size, line)
+
+
 class Readme(Documents):
     """README.md: what stands there side by side, and its job."""
 
@@ -334,36 +428,24 @@ class Tutorial(Documents):
                 self.assertEqual(self.shell(command + " 2>&1", status=status), output, command)
 
 
-class Others(Documents):
-    """The pages beside it."""
+class Recovery(Documents):
+    """docs/RECOVERY.md."""
 
-    def test_session(self) -> None:
-        """docs/SESSION.md: the first session, its answers and pulses, and a program that the shell sends."""
-        text, ((make, _), (run, rest), *piped) = self.chapter("SESSION.md", "A first session")
-        settings, _, talk, pulses, _ = blocks(text)
-        Path("first.toml").write_text(settings)
-        self.assertEqual(self.shell(make), "")
-        typed = [line[:15].strip() for line in talk.splitlines()]
-        answers = [re.split(" {2,}", line[15:])[0] for line in talk.splitlines()]
-        said = self.shell(run, text="\n".join(filter(None, typed)) + "\n")
-        self.assertEqual(said.splitlines(), list(filter(None, answers)))
-        self.assertEqual(Path("pulses").read_text(), pulses)
-        self.assertTrue(rest.startswith(talk))
-        shutil.copy("examples/first.ngc", "part.ngc")
-        script = "\n".join(command for command, _ in piped)
-        self.assertRegex(self.shell(script + "\nwait"), r"^done 4\nstatus entries 4 place 0 .* half none idle\n$")
+    BEFORE, BEGINS, TOLD = (1, 1, 5), (2, 2, -1), (2, 2, -0.99)  # of the half-done block below, in mm
 
-    def test_device(self) -> None:
-        """docs/SESSION.md: what makes a device where there is none, and what lengthens one."""
-        for command, _ in self.chapter("SESSION.md", "The device")[1]:
-            Path("mill.dev").unlink(missing_ok=True)
-            if " grow " in command:
-                self.device()
-            self.assertEqual(self.shell(command), "")
-            self.assertGreaterEqual(Path("mill.dev").stat().st_size, 875_520)
+    def half_done(self) -> None:
+        """mill.dev in the midst of a hole's way out, segment 3 of its line."""
+        self.device()
+        self.run_ngc(f"tool 1 0\nload {len(HOLE)}\n{HOLE}start\ntick {OUT + 100}\n")
+        shutil.copy("mill.dev", "half.dev")
+
+    def replies(self, commands: str) -> list[str]:
+        """What `ngc run` says to commands over a copy of it."""
+        shutil.copy("half.dev", "mill.dev")
+        return self.run_ngc(commands, "/dev/null")
 
     def test_recover(self) -> None:
-        """docs/RECOVERY.md: a move that was cut off after 1,289 of its pulses, and `recover`."""
+        """A move that was cut off after 1,289 of its pulses, and `recover`."""
         text, ((play, _), (operate, typed)) = self.chapter("RECOVERY.md", "`recover`")
         program = "M3 S1000\nG0 X2 Y1 Z-1\nG1 X4 F600\nM2\n"
         self.device()
@@ -380,13 +462,18 @@ class Others(Documents):
         self.assertEqual(self.shell(rehearse).splitlines()[1:3], [
             "the open segment begins behind line 2002 of out",
             re.search("^back through what.*", typed, re.MULTILINE)[0].join(("recover: ", ""))])
+        go = re.search(r"`(ngc-player out [^`]*) B`", text.replace("\n", " "))[1]
+        line, way = re.search("(?m)^back through .* lines of OUT, to its line (.*): (.* mm) in", typed).groups()
+        said = self.shell(f"{go} {line} 2>&1", text="no\n", status=2)
+        self.assertIn(f"\nback to line {line} of out: {way} in ", said)
+        self.assertEqual(Path("position").read_bytes(), kept.text())
         self.begin(play)
         answers = re.findall(r"(?:ngc> |: )(recover|yes|quit)\n", typed)
         shown = re.sub(r"(ngc> |: )(?:recover|yes|quit)\n", r"\1", typed)
         self.assertEqual(self.shell(f"{operate} --ngc {ngc()}", "".join(word + "\n" for word in answers)), shown)
 
     def test_recovery(self) -> None:
-        """docs/RECOVERY.md: a rehearsal by the tool, and by hand over a copy, with the OUT of the example's resume."""
+        """A rehearsal by the tool, and by hand over a copy, with the OUT of the example's resume."""
         _, ((rehearse, _), (copy, _), (run, _)) = self.chapter("RECOVERY.md", "A half-done")
         Path("mill.toml").write_text(Path("first.toml").read_text())
         self.device()
@@ -403,6 +490,176 @@ class Others(Documents):
         wanted = next(block for block in example if block.startswith("S 1 "))
         self.assertEqual(Path("try.out").read_text(), wanted)
         self.assertEqual(Path("mill.dev").read_bytes(), before)
+
+    def test_example(self) -> None:
+        """The example, taken up and given up, to the byte."""
+        text = chapters("RECOVERY.md")["An example"]
+        begun, taken_up, out, given_up = blocks(text)
+        *lines, pulse, switch = re.findall("`([PSD] [^`]*)`", text)
+        self.device()
+        for name, block in (("begun", begun), ("taken-up", taken_up)):
+            typed, answers = spoken(block)
+            self.assertEqual(self.run_ngc(typed, name), answers)
+            if name == "begun":
+                shutil.copy("mill.dev", "half.dev")
+        self.assertEqual(Path("begun").read_text().splitlines(), lines)
+        self.assertEqual(Path("taken-up").read_text(), out)
+        shutil.copy("half.dev", "mill.dev")
+        typed, answers = spoken(given_up)
+        self.assertEqual(self.run_ngc(typed, "given-up"), answers)
+        self.assertIn(f"with `{pulse}` four times and `{switch}`", text)
+        self.assertEqual(Path("given-up").read_text().splitlines(), [pulse] * 4 + [switch])
+
+    def test_lost_again(self) -> None:
+        """What stands after each loss of power: how the machine is known, its point, the segment."""
+        self.half_done()
+        told_at = "reference {} {} {}\n".format(*self.TOLD)
+        typed = ((told_at, told_at + "resume\n"), (told_at + "resume\ntick 5\n",), (told_at + "resume\ntick 13\n",),
+                 (told_at + "resume\ntick 20\n",), ("abandon\n", told_at + "abandon\n"))
+        rows = tables(chapters("RECOVERY.md")["A half-done block"])[-1]
+        lost = ((text, row) for several, row in zip(typed, rows, strict=True) for text in several)
+        for commands, row in lost:
+            self.replies(commands)
+            self.check_status(self.run_ngc("status\n", "/dev/null")[0], row[1], told_at in commands)
+
+    def check_status(self, said: str, cell: str, is_told: bool) -> None:
+        """A status is the one that a cell of that table speaks of; a block that was given up is known where it was
+        told of."""
+        points = {"before the block": self.BEFORE, "where it begins": self.BEGINS, "that was told": self.TOLD}
+        words = re.findall("`(known|unknown|half none)`", cell)
+        is_given_up = words[0] == "half none"
+        known = words[1 + (not is_told)] if is_given_up else words[0]
+        self.assertIn(f" {known} half {'none' if is_given_up else 'program 3'} idle", said, cell)
+        for point in (point for phrase, point in points.items() if phrase in cell):
+            self.assertIn(" at {:.6f} {:.6f} {:.6f} ".format(*point), said, cell)
+
+    def test_refused(self) -> None:
+        """What is taken and refused with a block half-done, before and after `reference`."""
+        self.half_done()
+        table = tables(chapters("RECOVERY.md")["What is refused, and when"])[0]
+        for word, before, cell in ((word, before, cell) for row in table for word in re.findall("`([a-z]+)`", row[0])
+                                   for before, cell in (("", row[1]), ("reference 0 0 0\n", row[2]))):
+            said = self.replies(before + EXAMPLES[word])[bool(before)]
+            fault, answer, is_taken = re.match("([A-Z][0-9])|`(.*)`|(taken|the same)", cell).groups()
+            wanted = f"refused {fault} " if fault else answer or "(?!refused)"
+            self.assertRegex(said, f"^{wanted}", (word, cell, is_taken))
+        self.assertTrue(self.replies("reference 2000 0 0\n")[0].startswith("refused X2 "))
+
+    def test_refused_otherwise(self) -> None:
+        """Without a half-done block, and while a program runs."""
+        text = chapters("RECOVERY.md")["What is refused, and when"].replace("\n", " ")
+        without, while_it_runs = re.search(r"Without one.*?answer (..)\..*?answer (..)\.", text).groups()
+        runs = "load 8\nG0 X1\nM2start\ntick 3\n"
+        for begin, word, fault in (("", "resume", without), ("", "abandon", without), (runs, "resume", while_it_runs),
+                                   (runs, "abandon", while_it_runs), (runs, "reference", while_it_runs)):
+            self.device()
+            said = self.run_ngc(begin + EXAMPLES[word], "/dev/null")[-1]
+            self.assertTrue(said.startswith(f"refused {fault} "), (begin, word, said))
+
+
+class Machine(Documents):
+    """docs/MACHINE.md, and the files for the players."""
+
+    def test_files(self) -> None:
+        """The players take those of docs/TOOLS.md; of docs/MACHINE.md all but that these pins have no inputs."""
+        os.symlink(player(), "bin/player")
+        Path("out").touch()
+        tools = [block for block in blocks(chapters("TOOLS.md")[PLAYER]) if block.startswith("[")]
+        self.assertEqual(len(tools), 3)
+        Path("player.toml").write_text("\n".join(tools))
+        for command in ("player -m", "ngc-player --machine"):
+            said = self.shell(f"{command} player.toml out mill.toml position 2>&1")
+            self.assertIn("out: 0 lines carried out", said)
+        page = chapters("MACHINE.md")
+        parts = blocks(page["Motors"]) + blocks(page["Inputs and home"])
+        self.assertEqual([part.split()[0] for part in parts], ["[motion]", "[inputs]", "[home]"])
+        Path("player.toml").write_text("\n".join(parts))
+        said = self.shell("player -m player.toml out mill.toml position 2>&1", status=2)
+        self.assertEqual(said, "player: player.toml: inputs: the pins of this player have none\n")
+
+    def test_pages(self) -> None:
+        """What each page is for, of all that README.md names for a machine."""
+        named = re.search(r"To run a machine: (.*?)\n\n", chapters("../README.md")["Documents"], re.DOTALL)[1]
+        told_of = {row[0] for row in tables(chapters("MACHINE.md")[""])[0]}
+        self.assertEqual(set(re.findall(r"\b\w+\.md", named)) - told_of, {"MACHINE.md"})
+        self.assertEqual([page for page in told_of if not (DOCS / page).is_file()], [])
+
+    def test_dry(self) -> None:
+        """A look at a program without the machine."""
+        command = re.search("`(ngc dry [^`]*)`", chapters("MACHINE.md")[""].replace("\n", " "))[1]
+        said = self.shell(command.replace("PROGRAM", "examples/mill.ngc").replace("FILE", "mill.toml"))
+        self.assertEqual(said, Path("examples/mill.txt").read_text())
+
+    def test_page(self) -> None:
+        """docs/PAGE.md: what it begins with, up to the address that is printed; Ctrl-C ends it."""
+        os.symlink(player(), "bin/player")
+        make, fresh, play, page = (command for command, _ in self.chapter("PAGE.md", "")[1])
+        Path("player.toml").write_text(blocks(chapters("MACHINE.md")["Motors"])[0])
+        self.shell(f"{make}; {fresh}")
+        self.begin(play)
+        served = subprocess.Popen(["bash", "-c", f"exec {page} --listen 127.0.0.1:0"], env=self.environment, text=True,
+                                  stdout=subprocess.PIPE, stderr=subprocess.PIPE)
+        self.addCleanup(self._end, served)
+        self.assertRegex(served.stdout.readline(), r"^http://127\.0\.0\.1:\d+/[\w-]+/\n$")
+        served.send_signal(signal.SIGINT)
+        self.assertEqual((served.wait(PATIENCE_S), served.stderr.read()), (2, "ngc-page: stopped\n"))
+
+    def test_motion(self) -> None:
+        """docs/MOTION.md: each line behind its time, the first at once, and how long all of it takes: X goes 5 mm by
+        1,000 pulses, a ramp up and one down at 100 mm/s2."""
+        lines, total = (command for command, _ in self.chapter("MOTION.md", "")[1])
+        Path("player.toml").write_text(blocks(chapters("MACHINE.md")["Motors"])[0])
+        Path("out").write_text("P 1 0 0 40\n" * 1000)
+        said = [line.split(" ", 1) for line in self.shell(lines).splitlines()]
+        self.assertEqual([line for _, line in said], ["P 1 0 0 40"] * 1000)
+        self.assertEqual(said[0][0], "0")
+        self.assertAlmostEqual(int(self.shell(total)) / 1e9, 2 * (5 / 100) ** 0.5, places=4)
+
+
+class Others(Documents):
+    """The pages beside it."""
+
+    def test_session(self) -> None:
+        """docs/SESSION.md: the first session, its answers and pulses, and a program that the shell sends."""
+        text, ((make, _), (run, rest), *piped) = self.chapter("SESSION.md", "A first session")
+        settings, _, talk, pulses, _ = blocks(text)
+        Path("first.toml").write_text(settings)
+        self.assertEqual(self.shell(make), "")
+        typed, answers = spoken(talk)
+        self.assertEqual(self.shell(run, text=typed).splitlines(), answers)
+        self.assertEqual(Path("pulses").read_text(), pulses)
+        self.assertIn(pulses, blocks(chapters("OUTPUT.md")["The lines"]))
+        self.assertTrue(rest.startswith(talk))
+        shutil.copy("examples/first.ngc", "part.ngc")
+        script = "\n".join(command for command, _ in piped)
+        self.assertRegex(self.shell(script + "\nwait"), r"^done 4\nstatus entries 4 place 0 .* half none idle\n$")
+
+    def test_tool_lengths(self) -> None:
+        """docs/SESSION.md: a fresh device's first slots, and the pulses by the length that G43 took."""
+        text = chapters("SESSION.md")["Tool lengths: `tool N LENGTH`"]
+        typed, answers = spoken(blocks(text)[0])
+        self.device()
+        self.assertEqual(self.run_ngc(typed), answers)
+        self.assertEqual(Path("out").read_text(), re.search("`(P [^`]*)` six times", text)[1].join(("", "\n")) * 6)
+
+    def test_given_up(self) -> None:
+        """docs/SESSION.md: a run is given up without ending the session, and another program is loaded."""
+        text = chapters("SESSION.md")["To give up a run"].replace("\n", " ").partition("Where it answers `held`: ")[2]
+        mdi, begun, tick, done, stopped, ticks, load = re.findall("`([^`]+)`", text)
+        self.device()
+        program = "G0 X0.002\nG0 X0.004\nM2\n"
+        said = self.run_ngc(f"load {len(program)}\n{program}start\ntick 5\nhold\n{mdi}\n{tick}\n{load} 3\nM2\n")
+        self.assertEqual(said[:5], ["done 1", "going", "done 2", "ticks 5", "held"])
+        self.assertEqual(said[5:], [begun, f"{done} 3", stopped, ticks, "done 4"])
+
+    def test_device(self) -> None:
+        """docs/SESSION.md: what makes a device where there is none, and what lengthens one."""
+        for command, _ in self.chapter("SESSION.md", "The device")[1]:
+            Path("mill.dev").unlink(missing_ok=True)
+            if " grow " in command:
+                self.device()
+            self.assertEqual(self.shell(command), "")
+            self.assertGreaterEqual(Path("mill.dev").stat().st_size, 875_520)
 
     def test_post_processor(self) -> None:
         """docs/POST_PROCESSOR.md: the first refused line, every one, what is written for it; a head and an end."""

@@ -1,4 +1,5 @@
 """--machine of ngc-check and ngc-plot: what a machine's file allows in mm, and the time of a job with ramps."""
+import signal
 import subprocess
 import sys
 import unittest
@@ -222,6 +223,14 @@ class Times(MachineTest):
             pacing.end()
         with patch.object(check, "with_ramps", side_effect=NotTimed("ngc pace: status 2")):
             self.assertEqual(self.times("M2\n"), "part.ngc: its time can't be told: ngc pace: status 2")
+
+    def test_interrupted(self) -> None:
+        """Ctrl-C as the time is waited for ends `ngc pace`, and nothing else goes wrong by it."""
+        with self.assertRaises(KeyboardInterrupt), Pacing(ngc(), "first.toml", "motion.toml") as pacing:
+            pacing.take(b"P 1 0 0 50\n")
+            with patch.object(subprocess.Popen, "_communicate", side_effect=KeyboardInterrupt):
+                pacing.end()
+        self.assertEqual(pacing._child.returncode, -signal.SIGKILL)
 
 
 if __name__ == "__main__":

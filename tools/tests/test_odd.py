@@ -6,6 +6,7 @@ import gc
 import os
 import shutil
 import signal
+import socket
 import subprocess
 import sys
 import tempfile
@@ -14,26 +15,30 @@ import traceback
 import unittest
 import warnings
 from collections.abc import Callable, Iterable
-from contextlib import suppress
+from contextlib import closing, suppress
 from dataclasses import dataclass
+from http.client import HTTPConnection, HTTPException
 from pathlib import Path
 
 sys.path.insert(0, str(Path(__file__).resolve().parent))
 
 from session_support import FIRST, TOOLS, InFolder, ngc, told  # noqa: E402
 
-from ngc_tools.cli import adapt, check, device, operate, player, plot, rehearse, split  # noqa: E402
+from ngc_tools.cli import adapt, check, device, operate, page, player, plot, rehearse, split  # noqa: E402
 from ngc_tools.formats.device import Device  # noqa: E402
 
 MAINS = {"ngc-adapt": adapt.main, "ngc-check": check.main, "ngc-device": device.main, "ngc-operate": operate.main,
-         "ngc-player": player.main, "ngc-plot": plot.main, "ngc-rehearse": rehearse.main, "ngc-split": split.main}
+         "ngc-page": page.main, "ngc-player": player.main, "ngc-plot": plot.main, "ngc-rehearse": rehearse.main,
+         "ngc-split": split.main}
 ASKS = [name for name in MAINS if name not in ("ngc-device", "ngc-player")]
 TEXT = "G21 G90 G17\n(Stück)\nM3 S1000\nG0 X5 Y0 Z5\nG1 X8 F600\nG2 X9 Y1 I1\nM2\n"
 LIMIT_S = 60  # also where the machine has other work
-# Each tool with words that go well; ODD stands in turn for each file that it takes.
+KEY = "key"  # of the address of ngc-page
+# Each tool with words that go well; ODD stands in turn for each file that it takes. ngc-page goes on until Ctrl-C.
 GOOD = {
     "ngc-adapt": ("part.ngc",), "ngc-check": ("part.ngc",), "ngc-device": ("mill.dev",),
-    "ngc-operate": ("mill.dev", "first.toml", "out"), "ngc-player": ("pulses", "first.toml", "position", "--untimed"),
+    "ngc-operate": ("mill.dev", "first.toml", "out"), "ngc-page": ("mill.dev", "first.toml", "out"),
+    "ngc-player": ("pulses", "first.toml", "position", "--untimed"),
     "ngc-plot": ("part.txt", "--settings", "first.toml"), "ngc-rehearse": ("mill.dev", "first.toml"),
     "ngc-split": ("part.ngc", "--settings", "first.toml"),
 }
@@ -41,13 +46,19 @@ ODD = (
     ("ngc-adapt", "ODD"), ("ngc-adapt", "part.ngc", "--settings", "ODD"), ("ngc-adapt", "part.ngc", "--device", "ODD"),
     ("ngc-check", "ODD", "--most", "2"), ("ngc-check", "--settings", "ODD", "--settings-only"),
     ("ngc-check", "part.ngc", "--device", "ODD"),
+    ("ngc-check", "--settings", "first.toml", "--settings-only", "--machine", "ODD"),
     ("ngc-device", "ODD"),
     ("ngc-operate", "ODD", "first.toml", "out"), ("ngc-operate", "mill.dev", "ODD", "out"),
     ("ngc-operate", "mill.dev", "first.toml", "ODD"),
+    ("ngc-page", "ODD", "first.toml", "out"), ("ngc-page", "mill.dev", "ODD", "out"),
+    ("ngc-page", "mill.dev", "first.toml", "ODD"), ("ngc-page", "mill.dev", "first.toml", "out", "--machine", "ODD"),
     ("ngc-player", "ODD", "first.toml", "position", "--untimed"), ("ngc-player", "pulses", "ODD", "position"),
     ("ngc-player", "pulses", "first.toml", "ODD", "--untimed"),
+    ("ngc-player", "pulses", "first.toml", "position", "--machine", "ODD"),
     ("ngc-plot", "ODD"), ("ngc-plot", "part.txt", "--settings", "ODD"), ("ngc-plot", "part.ngc", "--device", "ODD"),
     ("ngc-rehearse", "ODD", "first.toml"), ("ngc-rehearse", "mill.dev", "ODD"),
+    ("ngc-rehearse", "mill.dev", "first.toml", "--carried-out", "1", "--before", "ODD"),
+    ("ngc-rehearse", "mill.dev", "first.toml", "--out", "pulses", "--position", "ODD"),
     ("ngc-split", "ODD", "--limit", "1000"), ("ngc-split", "part.ngc", "--settings", "ODD"),
     ("ngc-split", "part.ngc", "--settings", "first.toml", "--device", "ODD"),
 )
@@ -68,6 +79,8 @@ def begin(name: str, words: Iterable[str], before: Callable[[], object]) -> int:
     signal.pthread_sigmask(signal.SIG_BLOCK, {signal.SIGINT})
     child = os.fork()
     if child:
+        with suppress(OSError):
+            os.setpgid(child, child)  # here too, so that a signal right after this reaches it
         signal.pthread_sigmask(signal.SIG_UNBLOCK, {signal.SIGINT})
         return child
     try:
@@ -103,14 +116,28 @@ def noted(make: Callable[..., str]) -> Callable[..., str]:
     return noting
 
 
-def wait(child: int, within_s: float) -> int | None:
-    """Waits for a tool's end: its status, or None if it doesn't end in time."""
+def wait(child: int, within_s: float, is_enough: Callable[[], bool] = lambda: False) -> int | None:
+    """Waits for a tool's end: its status, or None if it doesn't end in time, or if before that something is enough."""
     until = time.monotonic() + within_s
     while not (found := os.waitpid(child, os.WNOHANG))[0]:
-        if time.monotonic() > until:
+        if time.monotonic() > until or is_enough():
             return None
         time.sleep(0.002)
     return os.waitstatus_to_exitcode(found[1])
+
+
+def free_port() -> int:
+    """The number of a port at which nobody listens."""
+    with socket.create_server(("127.0.0.1", 0)) as file:
+        return file.getsockname()[1]
+
+
+def serves(port: int) -> bool:
+    """Whether ngc-page answers there."""
+    with closing(HTTPConnection("127.0.0.1", port, timeout=LIMIT_S)) as link, suppress(OSError, HTTPException):
+        link.request("GET", f"/{KEY}/")
+        return link.getresponse().status == 200
+    return False
 
 
 def close(*numbers: int) -> None:
@@ -126,7 +153,11 @@ class Odd(InFolder):
     def setUp(self) -> None:
         """Makes them."""
         super().setUp()
-        Path("part.ngc").write_text(TEXT)
+        self.port = free_port()
+        self.listen = "--listen", f"127.0.0.1:{self.port}"
+        os.environ["NGC_PAGE_KEY"] = KEY
+        self.addCleanup(os.environ.pop, "NGC_PAGE_KEY")
+        Path("part.ngc").write_bytes(TEXT.encode())
         Path("part.txt").write_bytes(subprocess.run([ngc(), "dry", "part.ngc"], capture_output=True).stdout)
         Path("pulses").write_text("P 1 0 0 50\nP 0 1 0 50\n")
         Path("tmp").mkdir()
@@ -134,11 +165,17 @@ class Odd(InFolder):
         self.device()
 
     def ended(self, name: str, *words: str, before: Callable[[], object] = lambda: None,
-              interrupted_s: float | None = None) -> Ended:
-        """Runs a tool to its end. After `interrupted_s`, Ctrl-C is pressed; it is too where the tool doesn't end."""
+              interrupted_s: float | None = None, prints: bool = True) -> Ended:
+        """Runs a tool to its end. After `interrupted_s`, Ctrl-C is pressed; it is too where the tool doesn't end, and
+        without it once a page is served, and its address printed if it `prints`."""
         Path("tool.trace").unlink(missing_ok=True)
-        child = begin(name, words, before)
-        status = wait(child, LIMIT_S if interrupted_s is None else interrupted_s)
+        is_page = name == "ngc-page"
+        child = begin(name, [*words, *self.listen] if is_page else words, before)
+        if interrupted_s is None:
+            status = wait(child, LIMIT_S, lambda: is_page and serves(self.port)
+                          and (not prints or os.path.getsize("tool.out") > 0))
+        else:
+            status = wait(child, interrupted_s)
         if status is None:
             with suppress(ProcessLookupError):
                 os.killpg(child, signal.SIGINT)
@@ -146,7 +183,7 @@ class Odd(InFolder):
         if status is None:
             os.killpg(child, signal.SIGKILL)
             os.waitpid(child, 0)
-            self.fail(f"{name} {' '.join(words)} doesn't end")
+            self.fail(f"{name} {' '.join(words)} doesn't end, interrupted after {interrupted_s} s")
         if Path("tool.trace").exists():
             self.fail(f"{name} {' '.join(words)}: {Path('tool.trace').read_text()}")
         return Ended(status, *(Path(path).read_text(errors="replace") for path in ("tool.out", "tool.err")))
@@ -166,12 +203,12 @@ class Odd(InFolder):
             ends = []
             for numbers in closings:
                 Path("position").unlink(missing_ok=True)
-                ends.append(self.ended(name, *words, before=lambda: close(*numbers)))
+                ends.append(self.ended(name, *words, before=lambda: close(*numbers), prints=1 not in numbers))
             for numbers, end in zip(closings, ends, strict=True):
                 self.assertEqual(end.status, ends[0].status, (name, numbers, end.error))
                 self.assertEqual(end.out, "" if 1 in numbers else ends[0].out, (name, numbers))
                 self.assertEqual(end.error, "" if 2 in numbers else ends[0].error, (name, numbers))
-            self.assertEqual(ends[0].status, 0, (name, ends[0].error))
+            self.assertEqual(ends[0].status, 2 if name == "ngc-page" else 0, (name, ends[0].error))
         self.assertEqual((Path("part.ngc").read_text(), Path("first.toml").read_text()), (TEXT, FIRST))
         self.assertEqual(Device.read("mill.dev").damage, [])
 
@@ -179,13 +216,13 @@ class Odd(InFolder):
         """The scripts themselves, with none of the three open."""
         begun = [subprocess.Popen(["sh", "-c", 'exec "$@" <&- >&- 2>&-', "sh", sys.executable, TOOLS / name, *words,
                                    *(("--ngc", ngc()) if name in ASKS else ())])
-                 for name, words in GOOD.items() if name != "ngc-operate"]
+                 for name, words in GOOD.items() if name not in ("ngc-operate", "ngc-page")]
         self.assertEqual([child.wait(LIMIT_S) for child in begun], [0] * 7)
 
     def test_interrupted(self) -> None:
         """Ctrl-C at ten moments: a line and the page's status, and none of its folders and files is left. A tool that
         is through by then has ended as ever."""
-        Path("part.ngc").write_text(TEXT.replace("M2\n", "G1 X1 F600\nX2\nX1\n" * 60 + "M2\n"))
+        Path("part.ngc").write_bytes(TEXT.replace("M2\n", "G1 X1 F600\nX2\nX1\n" * 60 + "M2\n").encode())
         Path("part.txt").write_bytes(subprocess.run([ngc(), "dry", "part.ngc"], capture_output=True).stdout)
         self.run_ngc("load 16\nG0 X1\nG0 X2\nM2\n\nquit\n")
         for name, words in GOOD.items():
@@ -196,7 +233,8 @@ class Odd(InFolder):
                     self.check_end(name, end, (name, moment))
                 self.assertFalse("Traceback" in end.error, (name, moment))
                 stopped += "stopped" in end.error
-            self.assertGreater(stopped, 0 if name in ("ngc-check", "ngc-plot", "ngc-adapt", "ngc-split") else -1, name)
+            self.assertGreater(stopped, 0 if name in ("ngc-check", "ngc-page", "ngc-plot", "ngc-adapt", "ngc-split")
+                               else -1, name)
         self.assertEqual([path for path in self.folders() if os.path.exists(path)] + os.listdir("tmp"), [])
 
     def _lasts(self, name: str, words: tuple[str, ...]) -> float:
@@ -250,10 +288,10 @@ class Odd(InFolder):
                 self.check_end(name, end, (name, words, path))
                 shown = end.error + ("" if name == "ngc-adapt" else end.out)  # that one writes the program as it is
                 self.assertFalse("\x1b" in shown, (name, words, path))
-                is_made = path == "none" and name in ("ngc-operate", "ngc-player") and words[2] == "ODD"
-                option = words[words.index("ODD") - 1] in ("--settings", "--device")
+                is_made = path == "none" and name in ("ngc-operate", "ngc-page", "ngc-player") and words[2] == "ODD"
+                option = words[words.index("ODD") - 1] in ("--settings", "--device", "--machine", "--before")
                 if option or path in ("folder", "loop", "none", "none/none"):
-                    self.assertEqual(end.status, 0 if is_made else 2, (name, words, path))
+                    self.assertEqual(end.status, 0 if is_made and name != "ngc-page" else 2, (name, words, path))
                 if data is not None:
                     self.assertTrue(Path(path).read_bytes()[:len(data)] == data, (name, words, path))
 
@@ -338,12 +376,15 @@ class Odd(InFolder):
             for path in ("part.ngc", "part.txt", "first.toml", "mill.dev", "pulses"):
                 os.link(path, f"{name} Süd/{path}") if path != "mill.dev" else shutil.copy(path, f"{name} Süd")
             own = ("--ngc", ngc()) if name in ASKS else ()
+            own += self.listen if name == "ngc-page" else ()
             inside = [word if word.startswith("-") else f"{name} Süd/{word}" for word in words]
             begun[name] = subprocess.Popen([sys.executable, TOOLS / name, *inside, *own], env=plain, text=True,
                                            stdin=subprocess.DEVNULL, stdout=subprocess.PIPE, stderr=subprocess.PIPE)
+        self.wait_for("a page is served", lambda: serves(self.port) or begun["ngc-page"].poll() is not None)
+        begun["ngc-page"].send_signal(signal.SIGINT)
         for name, child in begun.items():
             out, error = child.communicate(timeout=LIMIT_S)
-            self.assertEqual(child.returncode, 0, (name, error))
+            self.assertEqual(child.returncode, 2 if name == "ngc-page" else 0, (name, error))
             self.assertFalse("Traceback" in error or not out.isascii() and name != "ngc-adapt", (name, error))
 
     def test_narrow(self) -> None:

@@ -13,7 +13,7 @@ except ImportError:
 
 from ngc_tools.cli import line_times
 from ngc_tools.cli.run import new_parser, run
-from ngc_tools.failure import Failure
+from ngc_tools.failure import Failure, WrongWords
 from ngc_tools.ngc.before_start import CannotBegin, look
 from ngc_tools.ngc.console import Console, Ended
 from ngc_tools.ngc.machine_report import Motion
@@ -75,8 +75,9 @@ def main(arguments: list[str] | None = None) -> int:
 
 
 def work(args: argparse.Namespace) -> int:
-    """Looks at what is given, and does the session. Raises CannotBegin, NoAnswer, BadSettings, BadMachine, BadSetter,
-    ValueError, OSError."""
+    """Looks at what is given, and does the session. Raises WrongWords, CannotBegin, NoAnswer, BadSettings, BadMachine,
+    BadSetter, ValueError, OSError."""
+    check_ahead(args)
     ngc = find_ngc(args.ngc)
     setter_nm = read_setter(args.machine) if args.machine else None
     meter = metered(args)
@@ -98,10 +99,18 @@ def with_motion(ngc: str, args: argparse.Namespace) -> str | None:
     return args.machine
 
 
+def check_ahead(args: argparse.Namespace) -> None:
+    """Looks at the bound of lines ahead. Raises ValueError if it is out of its range, WrongWords if no player is named
+    that could heed it."""
+    if args.ahead is None:
+        return
+    check_limit(args.ahead)
+    if args.player is None:
+        raise WrongWords("--ahead N goes with --player SOCKET: without a player nothing is metered")
+
+
 def metered(args: argparse.Namespace) -> Meter | None:
     """The meter, if a player is named. Raises CannotBegin if that player reads another OUT, NoAnswer, ValueError."""
-    if args.ahead is not None:
-        check_limit(args.ahead)
     if args.player is None:
         return None
     meter = Meter(Link(args.player), args.ahead)

@@ -7,7 +7,7 @@ import socket
 import sys
 from dataclasses import dataclass
 
-from ngc_tools.cli.operate import as_found, bound, metered
+from ngc_tools.cli.operate import as_found, bound, check_ahead, metered
 from ngc_tools.cli.run import add_ngc, new_parser, run
 from ngc_tools.failure import Failure, WrongWords
 from ngc_tools.formats.device import Device
@@ -75,8 +75,9 @@ def main(arguments: list[str] | None = None) -> int:
 
 
 def work(args: argparse.Namespace) -> int:
-    """Looks at what is given, and does the session. Raises CannotBegin, NoAnswer, BadSettings, BadMachine, ValueError,
-    OSError."""
+    """Looks at what is given, and does the session. Raises WrongWords, CannotBegin, NoAnswer, BadSettings, BadMachine,
+    ValueError, OSError."""
+    check_ahead(args)
     host, port = address(args.listen)
     if wrong := next((url for url in args.address if not _ADDRESS.fullmatch(url)), None):
         raise WrongWords(f"{wrong}: --address takes https://NAME, or http://NAME:PORT")

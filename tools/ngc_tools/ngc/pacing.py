@@ -2,6 +2,7 @@
 import subprocess
 import threading
 from collections import Counter
+from contextlib import suppress
 from pathlib import Path
 from types import TracebackType
 
@@ -31,7 +32,10 @@ class Pacing:
                  where: TracebackType | None) -> None:
         """Ends with the block, in whatever way."""
         self._child.kill()
-        self._child.communicate()
+        with suppress(OSError):  # what it didn't take is dropped
+            self._child.stdin.close()
+        self._child.stdout.close()
+        self._child.wait()
 
     def take(self, text: bytes) -> None:
         """Gives it whole lines. Raises BadLine, NotTimed."""
