@@ -11,7 +11,8 @@ from pathlib import Path
 
 sys.path.insert(0, str(Path(__file__).resolve().parent))
 
-from browser_support import Browser, chromium  # noqa: E402
+from browser_support import Browser, Chromium, chromium  # noqa: E402
+from firefox_support import Firefox, firefox  # noqa: E402
 from machine_support import SocketMachine  # noqa: E402
 from page_support import OTHER, SHORT, SLOW, Served  # noqa: E402
 from session_support import PATIENCE_S, TOOLS, ngc  # noqa: E402
@@ -99,10 +100,13 @@ PAN_LONG = """(async () => {
 })()""".replace("FRAME", FRAME)
 
 
+IS_FIREFOX = os.environ.get("NGC_BROWSER") == "firefox"
+
+
 @cache
 def started() -> Browser:
     """One browser for all tests."""
-    browser = Browser(chromium() or "")
+    browser = Firefox(firefox() or "") if IS_FIREFOX else Chromium(chromium() or "")
     unittest.addModuleCleanup(browser.close)
     return browser
 
@@ -116,8 +120,7 @@ class InBrowser(Served):
         super().setUp()
         self.browser = started()
         self.addCleanup(self.browser.open, "about:blank")
-        self.browser.complaints.clear()
-        self.browser.asked.clear()
+        self.browser.forget()
         self.browser.size(*SIZES[0])
         self.browser.open(self.address)
         self.browser.wait("window.ngc?.state?.yours && ngc.jobId !== null")
@@ -356,10 +359,10 @@ class Setting(InBrowser):
         zero are taken from where it was touched."""
         browser = self.browser
         browser.press("Tools", "nav button")
-        self.type("#tab-tools input", "1.5")
+        browser.fill("#tab-tools input", "1.5")
         browser.press("Add", "#tab-tools button")
         browser.wait("ngc.state.tools[0] === '1.500000' && !ngc.state.busy")
-        self.type("#line", "T1 M6")
+        browser.fill("#line", "T1 M6")
         browser.press("Do", "#do")
         browser.wait("ngc.state.slot === 1 && !ngc.state.busy")
         browser.press("Setup", "nav button")
@@ -369,7 +372,7 @@ class Setting(InBrowser):
         browser.wait("ngc.state.touched?.[2] === '2.000000' && !ngc.state.busy")
         self.look("the probe was touched")
         browser.press("Where the probe was touched", "#tab-setup button")
-        self.type("input[aria-label='Machine Z of the setter, in mm']", "-48")
+        browser.fill("input[aria-label='Machine Z of the setter, in mm']", "-48")
         browser.press("Tool 1 stands on the setter", "#tab-setup button")
         browser.wait("ngc.state.tools[0] === '50.000000' && !ngc.state.busy")
         browser.press("Set Z", "#tab-setup button")
@@ -377,12 +380,6 @@ class Setting(InBrowser):
         browser.press("Undo: G10", "#tab-setup button")
         browser.wait("ngc.state.origin[2] === '0.000000' && !ngc.state.busy")
         self.no_complaints()
-
-    def type(self, entry: str, text: str) -> None:
-        """Types into an entry."""
-        self.browser.js(f"(() => {{ const entry = document.querySelector({json.dumps(entry)}); entry.focus();"
-                        " entry.select(); })()")
-        self.browser.call("Input.insertText", text=text)
 
 
 class Power(InBrowser):

@@ -9,7 +9,7 @@ import time
 import traceback
 from collections.abc import Callable
 from contextlib import suppress
-from dataclasses import dataclass, field
+from dataclasses import dataclass, field, replace
 from typing import Any
 
 from ngc_tools.failure import Failure
@@ -252,6 +252,10 @@ class Session:
         check = Check(console.ngc, console.settings, self.kept.device.image, self.operator.session.delete)
         return self.aside.call(find, check, text)
 
+    def preview(self, text: bytes) -> bytes:
+        """A program that isn't loaded as it would be drawn, in JSON. Raises NotDone, OSError."""
+        return self.drawer.preview(replace(self._source_of(self.kept.device), is_begun_there=True, other=text)).text
+
     def restart(self) -> None:
         """Begins a session of `ngc run` anew, after it has ended, its device failed, or its player is gone or carries
         nothing out any more. Raises Busy, and what `Opens` raises."""
@@ -328,6 +332,15 @@ class Session:
             self._quit()
         elif command.word in MOVES | {"load"}:
             self._see_end(command, before)
+            self._look_at_way(command)
+
+    def _look_at_way(self, command: Command) -> None:
+        """Looks again which way `recover` would take, where the motors were moved without lines, as by home."""
+        found, report = self.operator.recover.found, self.operator.session.report()
+        if command.word in WITHOUT_LINES and found is not None and report is not None and report.behind == 0:
+            is_half = self.operator.console.status().half != "none"
+            if is_half or found.is_left():
+                found.look_again(report)
 
     def _tell_bug(self, command: Command, error: Exception) -> None:
         """An error of this program itself."""

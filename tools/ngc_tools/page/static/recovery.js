@@ -1,9 +1,9 @@
 // After a loss of power: what was stored, where the machine is, a rehearsal, and then step by step. Nothing moves and
 // nothing is switched before the last step.
 import { AXES, counted, el, grouped, lasting, micrometres, mm, point, typedNumber, zeroOf } from './dom.js';
-import { Picture } from './picture.js';
 import * as question from './question.js';
 import * as sheet from './sheet.js';
+import { Sight } from './sight.js';
 import * as ways from './ways.js';
 
 const NAMES = ['Stored', 'Where it stands', 'Rehearsal', 'Step by step'];
@@ -34,10 +34,12 @@ export class Recovery {
     this.at = [...(state.motors ?? state.at)].map(number => number.replace(/0{1,3}$/, ''));
     this.sure = [false, false, false];
     this.steps = el('ol', { class: 'steps' });
-    this.sheet = sheet.open('After the loss of power', [], [], this.sight());
+    const sight = new Sight();
+    this.picture = sight.picture;
+    this.sheet = sheet.open('After the loss of power', [], [], sight.box);
     this.sheet.head.append(this.steps);
     this.job();
-    this.look(true);
+    sight.look(true);
     this.go(0);
     this.asks('rehearse', {}).then(found => {
       this.stored = found;
@@ -94,22 +96,6 @@ export class Recovery {
   next(says, does) { return sheet.go(says, does, this.app.state.yours); }
 
   // ---- the picture
-
-  sight() {
-    const canvas = el('canvas');
-    this.picture = new Picture(canvas);
-    this.views = [['Top', true], ['3-D', false]].map(([says, isFlat]) => sheet.button(says, () => this.look(isFlat)));
-    const fit = sheet.button('Fit', () => this.picture.fit());
-    return el('div', { class: 'sight' }, canvas,
-      el('div', { class: 'views' }, el('div', { class: 'pair' }, ...this.views), fit));
-  }
-
-  look(isFlat) {
-    this.views.forEach((button, i) => button.setAttribute('aria-pressed', String(isFlat === (i === 0))));
-    this.picture.look(isFlat);
-  }
-
-  recolour() { if (this.isOpen) this.picture.recolour(); }
 
   job() {
     if (!this.isOpen) return;
@@ -280,7 +266,8 @@ export class Recovery {
 
   choice() {
     const { recover, player } = this.app.state, canResume = Boolean(this.plan?.approach) && !recover?.left;
-    const offered = this.along ? ['along'] : player ? ['legs'] : [];
+    const isAlong = this.along && (this.along.way || this.along.there);
+    const offered = isAlong ? ['along'] : this.along || player ? ['legs'] : [];
     if (canResume) offered.push('straight');
     const recovers = () => this.asks('recover', { at: this.at });
     const does = { along: recovers, legs: recovers, straight: () => this.resume() };
