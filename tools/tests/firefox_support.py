@@ -131,11 +131,11 @@ class Firefox(Browser):
 
     def down(self, x: float, y: float) -> None:
         """A finger, or the mouse's button, comes down."""
-        self._act("pointer", {"type": "pointerMove", "x": round(x), "y": round(y)}, {"type": "pointerDown", "button": 0})
+        self._act("pointer", _to(x, y), {"type": "pointerDown", "button": 0})
 
     def up(self, x: float, y: float) -> None:
         """It is lifted."""
-        self._act("pointer", {"type": "pointerMove", "x": round(x), "y": round(y)}, {"type": "pointerUp", "button": 0})
+        self._act("pointer", _to(x, y), {"type": "pointerUp", "button": 0})
 
     def type(self, text: str) -> None:
         """Types into the entry that has the focus."""
@@ -157,3 +157,8 @@ class Firefox(Browser):
         """Writes a picture of the page."""
         found = self.call("WebDriver:TakeScreenshot", full=False)
         Path(path).write_bytes(base64.b64decode(found["value"]))
+
+
+def _to(x: float, y: float) -> dict:
+    """The way of the mouse to a place."""
+    return {"type": "pointerMove", "x": round(x), "y": round(y)}

@@ -184,7 +184,7 @@ class Work(Served):
         self.assertEqual((self.server.wait(PATIENCE_S), self.player.wait(PATIENCE_S)), (0, 0))
 
     def test_drawn_first(self) -> None:
-        """A program is drawn before it is loaded, and what was drawn is taken then, unless it begins otherwise by now."""
+        """A program is drawn before it is loaded, and that is taken then, unless it begins otherwise by now."""
         page = self.page()
         text = b"G17 G21 G90 G94\nG0 X1\nM2\n"
         given = {"X_Name": "part.ngc", "Content_Type": "application/octet-stream"}

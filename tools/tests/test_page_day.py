@@ -16,8 +16,8 @@ from session_support import PATIENCE_S, TOOLS, ngc  # noqa: E402
 from test_moves import MACHINE, PROBE, World, program  # noqa: E402
 
 TEXT = (TOOLS.parent / "docs/PAGE.md").read_text()
-MILL = reduce(lambda text, change: text.replace(*change), (("door = 4\nspindle_at_speed = 5\n", ""), ("at_speed_s = 1\n", ""),
-                                                          ("[60, 60, 60]", "[600, 600, 600]")), MACHINE)
+CHANGES = (("door = 4\nspindle_at_speed = 5\n", ""), ("at_speed_s = 1\n", ""), ("[60, 60, 60]", "[600, 600, 600]"))
+MILL = reduce(lambda text, change: text.replace(*change), CHANGES, MACHINE)
 """A machine without a door, whose spindle says nothing of its speed; it homes quickly."""
 DAY = """G17 G21 G90 G94
 M3 S1000
@@ -43,15 +43,19 @@ M2
 """Its line 5 is a cut of five seconds."""
 
 
+def part(title: str) -> str:
+    """What stands below a title of PAGE.md."""
+    return TEXT.partition(f"\n## {title}\n")[2].partition("\n## ")[0]
+
+
 def steps(title: str) -> list[str]:
-    """The names of the steps below a title of PAGE.md, and of what is bold within them."""
-    part = TEXT.partition(f"\n## {title}\n")[2].partition("\n## ")[0]
-    return [name.rstrip(".") for name in re.findall(r"\*\*([^*]+)\*\*", part)]
+    """The names of the steps there, and of what else is bold."""
+    return [name.rstrip(".") for name in re.findall(r"\*\*([^*]+)\*\*", part(title))]
 
 
-def buttons() -> set[str]:
-    """The buttons that PAGE.md names."""
-    return {name for name in re.findall(r"`([^`\n]+)`", TEXT) if re.match(r"[A-Z\u2212+]", name)} - {"DEVICE", "Y"}
+def buttons(title: str) -> set[str]:
+    """The buttons that PAGE.md names there."""
+    return {name for name in re.findall(r"`([^`\n]+)`", part(title)) if re.match(r"[A-Z\u2212+]", name)}
 
 
 class Walk(Served):
@@ -59,22 +63,11 @@ class Walk(Served):
 
     OUT = "out"
     browser: Browser
-    pressed: set[str]
-
-    @classmethod
-    def setUpClass(cls) -> None:
-        """Starts the browser."""
-        cls.browser, cls.pressed = cls.starts(), set()
-        cls.addClassCleanup(cls.browser.close)
-
-    @classmethod
-    def starts(cls) -> Browser:
-        """The browser. Raises SkipTest where it isn't installed."""
-        raise unittest.SkipTest("the browsers are those of other classes")
 
     def setUp(self) -> None:
         """Opens the page; the setter is at machine Z 2, where the probe is touched."""
         self.done: list[str] = []
+        self.pressed: set[str] = set()
         super().setUp()
         self.addCleanup(self.browser.open, "about:blank")
         self.browser.forget()
@@ -148,12 +141,13 @@ class Walk(Served):
 class Day(Walk):
     """From home to quit."""
 
-    def test_day(self) -> None:
-        """Each step of the day, in turn, and each button that is named there."""
-        for step in (self.homes, self.jogs, self.tools, self.zero, self.loads, self.runs, self.changes, self.holds,
-                     self.stops, self.quits):
+    def day(self) -> None:
+        """Each step, in turn, and each button that is named there."""
+        for step in (self.homes, self.jogs, self.tools, self.zero, self.loads, self.runs, self.holds, self.stops,
+                     self.quits):
             step()
         self.assertEqual(self.done, steps("A day"))
+        self.assertEqual(buttons("A day") - self.pressed, set())
 
     def homes(self) -> None:
         """All axes at their switches."""
@@ -218,6 +212,13 @@ class Day(Walk):
         self.browser.press("Back", "#over button")
         self.load(DAY)
         self.done.append("Load")
+        for kind, shown in (("3-D", "turn"), ("Top", "shift")):
+            self.browser.press(kind, ".path button")
+            before = self.browser.js(f"String(ngc.picture.view.{shown})")
+            self.browser.down(600, 400)
+            self.browser.down(640, 420)
+            self.browser.up(640, 420)
+            self.assertNotEqual(self.browser.js(f"String(ngc.picture.view.{shown})"), before)
 
     def runs(self) -> None:
         """The share that is done and the time left are shown; the rate and the switches are changed while it runs."""
@@ -238,9 +239,6 @@ class Day(Walk):
         self.done.append("Run")
 
     def holds(self) -> None:
-        """Before the change of the tool, in the cut: it stands, and goes on from there."""
-
-    def changes(self) -> None:
         """Hold, and on; then the spindle rests, and tool 2 is put in; the optional stop comes after it."""
         self.press("Hold", "#hold")
         self.wait("s.word === 'Held' && !s.busy")
@@ -279,16 +277,18 @@ class Day(Walk):
 class Loss(Walk):
     """From a page that is lost to the program's end."""
 
-    def test_loss(self) -> None:
-        """What is said of a page that is lost, of a player that is gone; then the four steps, three times: home first and
-        by legs, along the path to the end, and given up."""
+    def loss(self) -> None:
+        """What is said of a player that is gone, and of a page that is lost; the four steps, home first and by legs,
+        and along the path to the end; a line is given up."""
         self.watches()
         self.cuts()
         self.player_gone()
         self.later()
         self.lose_power()
         self.along()
+        self.gives_up()
         self.assertEqual(self.done, steps("Power is lost"))
+        self.assertEqual((buttons("Power is lost") | buttons("More pages, and a tablet")) - self.pressed, set())
 
     def watches(self) -> None:
         """Another page takes over, and this one takes over again; what becomes of a job is chosen."""
@@ -353,6 +353,19 @@ class Loss(Walk):
         """Step 1 says what was stored."""
         self.browser.wait("document.querySelector('#over .facts')?.textContent.includes('It begins at')")
 
+    def gives_up(self) -> None:
+        """The session ends within a line, and begins again: the line counts as not begun."""
+        self.press("Run", "#run")
+        self.wait("s.line === 5 && s.half === 'program' && s.motors[0] > 4.2")
+        self.pull()
+        self.begin()
+        self.opened()
+        self.stored()
+        self.confirmed()
+        self.press("Give up", "#over button")
+        self.browser.press("Yes, give it up", "#over button")
+        self.rests("s.half === 'none' && s.line === 5 && !s.spindle")
+
     def confirmed(self) -> None:
         """From step 1 to step 4: each axis is confirmed."""
         self.browser.press("Next", "#over button")
@@ -379,25 +392,32 @@ class Loss(Walk):
 
 
 class InChromium(Day, Loss):
-    """Both in Chromium."""
+    """In Chromium."""
+
+    find, kind = staticmethod(chromium), Chromium
 
     @classmethod
-    def starts(cls) -> Browser:
-        """Chromium."""
-        if not chromium():
-            raise unittest.SkipTest("Chromium isn't installed: tools/tests/install_browser.sh")
-        return Chromium(chromium())
+    def setUpClass(cls) -> None:
+        """Starts the browser. Raises SkipTest where it isn't installed."""
+        path = cls.find()
+        if path is None:
+            raise unittest.SkipTest(f"{cls.kind.__name__} isn't installed: tools/tests/install_browser.sh")
+        cls.browser = cls.kind(path)
+        cls.addClassCleanup(cls.browser.close)
+
+    def test_day(self) -> None:
+        """A day, from home to quit."""
+        self.day()
+
+    def test_loss(self) -> None:
+        """A loss of power, and what else is said with it."""
+        self.loss()
 
 
-class InFirefox(Day, Loss):
-    """Both in Firefox."""
+class InFirefox(InChromium):
+    """In Firefox."""
 
-    @classmethod
-    def starts(cls) -> Browser:
-        """Firefox."""
-        if not firefox():
-            raise unittest.SkipTest("Firefox isn't installed: tools/tests/install_browser.sh")
-        return Firefox(firefox())
+    find, kind = staticmethod(firefox), Firefox
 
 
 if __name__ == "__main__":

@@ -27,6 +27,7 @@ from ngc_tools.page.face import PageFace
 from ngc_tools.page.findings import Check, find
 from ngc_tools.page.never_cut import Asked, NeverCutSearch
 from ngc_tools.page.jog import HeldJog
+from ngc_tools.page.losses import Losses
 from ngc_tools.page.stand import Kept, Stand, recovery_of
 from ngc_tools.player.progress import Link, NoAnswer
 
@@ -143,11 +144,11 @@ class Session:
     def _find_never_cut(self) -> None:
         """Finds what the last session left uncut. Of a file that is followed no line is lost."""
         meter, report, found = self.operator.session.meter, self.stand.report, self.opened.found
-        self.never_cut.forget()
+        console = self.operator.console
+        self.never_cut.begin(Losses(console.device), self.kept.device.program)
         if meter and report and found and self.operator.recover.found is None:
-            console = self.operator.console
-            self.never_cut.begin(Asked(console.ngc, console.settings, found.image, report.at.split(),
-                                       meter.most_ahead(report)))
+            self.never_cut.search(Asked(console.ngc, console.settings, found.image, report.at.split(),
+                                        meter.most_ahead(report)))
 
     # what pages ask for
 

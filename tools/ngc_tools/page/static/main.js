@@ -13,6 +13,7 @@ import { Setup } from './setup.js';
 import * as sheet from './sheet.js';
 import * as sight from './sight.js';
 import * as tools from './tools.js';
+import { lostOf } from './ways.js';
 
 const app = {
   state: null, job: null, neverCut: null, travel: null, programId: null, jobId: null, failed: '', asked: 0,
@@ -176,7 +177,7 @@ async function fetchNew(s) {
   app.failed = got.failed;
   app.travel = [got.low, got.high];
   app.neverCut = got.never_cut;
-  picture.lost = app.neverCut?.points ?? [];
+  picture.lost = lostOf(app.neverCut);
   $('never-cut').hidden = !picture.lost.length;
   picture.show(app.job, app.travel);
   recovery.job();

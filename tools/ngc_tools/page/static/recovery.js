@@ -99,7 +99,7 @@ export class Recovery {
 
   job() {
     if (!this.isOpen) return;
-    this.picture.lost = this.app.neverCut?.points ?? [];
+    this.picture.lost = ways.lostOf(this.app.neverCut);
     this.picture.show(this.app.job, this.app.travel);
     if (this.step === 0 || this.step === 2) this.go(this.step); // what was never cut is known by now
     this.mark();
@@ -148,7 +148,7 @@ export class Recovery {
         ['From there to the end', found?.rest_us && lasting(found.rest_us)]]),
       found ? null : sheet.soft('ngc rehearses it over a copy of the device\u2026'),
       found?.refused && sheet.warning(found.refused, 'bad'),
-      ways.neverCut(this.app.neverCut),
+      ...ways.neverCut(this.app.neverCut),
       sheet.soft('In the picture solid is done, amber was under way, pale is left. The amber segment is made again '
         + 'from its beginning.')],
     [sheet.button('Later', () => this.later()), sheet.gap('Nothing moves, and nothing is switched.'),
@@ -208,7 +208,7 @@ export class Recovery {
     const { plan } = this;
     if (plan) {
       const said = ways.told(this.along, plan, this.app.state.recover);
-      this.put([ways.neverCut(this.app.neverCut), ...said], [this.back(1), sheet.gap('Nothing has moved.'),
+      this.put([...ways.neverCut(this.app.neverCut), ...said], [this.back(1), sheet.gap('Nothing has moved.'),
         this.next('Next: step by step', () => this.go(3))]);
       return;
     }
