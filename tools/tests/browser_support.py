@@ -1,4 +1,5 @@
-"""Chromium without a window, driven by its DevTools protocol over two pipes. It needs nothing but Chromium."""
+"""A browser without a window: what tests ask of one, and Chromium, driven by its DevTools protocol over two pipes. It
+needs nothing but Chromium."""
 import base64
 import fcntl
 import json
@@ -35,8 +36,72 @@ class Failed(AssertionError):
 
 
 class Browser:
-    """One browser with one page. `complaints` are errors and warnings that the page logged, `asked` the addresses that
-    it asked for."""
+    """One browser with one page."""
+
+    complaints: list[str]
+    """Errors and warnings that the page logged."""
+    asked: list[str]
+    """The addresses that it asked for."""
+
+    def js(self, expression: str) -> object:
+        """The value of an expression. Raises Failed."""
+        raise NotImplementedError
+
+    def down(self, x: float, y: float) -> None:
+        """A finger, or the mouse's button, comes down."""
+        raise NotImplementedError
+
+    def up(self, x: float, y: float) -> None:
+        """It is lifted."""
+        raise NotImplementedError
+
+    def type(self, text: str) -> None:
+        """Types into the entry that has the focus."""
+        raise NotImplementedError
+
+    def wait(self, expression: str) -> object:
+        """Waits until an expression holds, and returns its value. Raises Failed."""
+        until = time.monotonic() + PATIENCE_S
+        while time.monotonic() < until:
+            failed = ""
+            try:
+                found = self.js(f"({expression}) || null")
+                if found is not None:
+                    return found
+            except Failed as error:  # as while a page is loaded
+                failed = str(error)
+            time.sleep(0.02)
+        state = self.js("window.ngc && JSON.stringify(ngc.state).slice(0, 2000)")
+        raise Failed(f"waited in vain for {expression} {failed}; {state}")
+
+    def press(self, says: str, within: str = "button") -> None:
+        """Presses the last button of this text that is enabled, once there is one."""
+        x, y = self.place(says, within)
+        self.down(x, y)
+        self.up(x, y)
+
+    def place(self, says: str, within: str = "button") -> tuple[float, float]:
+        """Where the middle of that button is."""
+        x, y = self.wait(_POINT % (json.dumps(within), json.dumps(says)))
+        return x, y
+
+    def fill(self, entry: str, text: str) -> None:
+        """Types into an entry, in the place of what stands there."""
+        self.js(f"(() => {{ const entry = document.querySelector({json.dumps(entry)}); entry.focus();"
+                " entry.select(); })()")
+        self.type(text)
+
+    def space(self) -> None:
+        """Presses the space bar."""
+        raise NotImplementedError
+
+    def frame(self) -> None:
+        """Waits until the page was painted."""
+        self.js("new Promise(done => requestAnimationFrame(() => requestAnimationFrame(done)))")
+
+
+class Chromium(Browser):
+    """One Chromium with one page."""
 
     def __init__(self, path: str) -> None:
         """Starts it. Raises OSError or Failed."""
@@ -123,36 +188,10 @@ class Browser:
             raise Failed(f"{expression}: {json.dumps(found['exceptionDetails'])}")
         return found["result"].get("value")
 
-    def wait(self, expression: str) -> object:
-        """Waits until an expression holds, and returns its value. Raises Failed."""
-        until = time.monotonic() + PATIENCE_S
-        while time.monotonic() < until:
-            failed = ""
-            try:
-                found = self.js(f"({expression}) || null")
-                if found is not None:
-                    return found
-            except Failed as error:  # as while a page is loaded
-                failed = str(error)
-            time.sleep(0.02)
-        state = self.js("window.ngc && JSON.stringify(ngc.state).slice(0, 2000)")
-        raise Failed(f"waited in vain for {expression} {failed}; {state}")
-
     def size(self, width: int, height: int) -> None:
         """Sets the size of the window."""
         self.call("Emulation.setDeviceMetricsOverride", width=width, height=height, deviceScaleFactor=1, mobile=False)
-        self.js("new Promise(done => requestAnimationFrame(() => requestAnimationFrame(done)))")
-
-    def press(self, says: str, within: str = "button") -> None:
-        """Presses the last button of this text that is enabled, once there is one."""
-        x, y = self.place(says, within)
-        self.down(x, y)
-        self.up(x, y)
-
-    def place(self, says: str, within: str = "button") -> tuple[float, float]:
-        """Where the middle of that button is."""
-        x, y = self.wait(_POINT % (json.dumps(within), json.dumps(says)))
-        return x, y
+        self.frame()
 
     def down(self, x: float, y: float) -> None:
         """A finger, or the mouse's button, comes down."""
@@ -168,6 +207,15 @@ class Browser:
         for kind in ("keyDown", "keyUp"):
             self.call("Input.dispatchKeyEvent", type=kind, key=" ", code="Space", windowsVirtualKeyCode=32,
                       **({"text": " "} if kind == "keyDown" else {}))
+
+    def type(self, text: str) -> None:
+        """Types into the entry that has the focus."""
+        self.call("Input.insertText", text=text)
+
+    def forget(self) -> None:
+        """Forgets what was logged and asked for."""
+        self.complaints.clear()
+        self.asked.clear()
 
     def choose_file(self, path: Path) -> None:
         """Chooses a file for the page's entry of files."""

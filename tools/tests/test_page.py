@@ -9,6 +9,7 @@ import sys
 import time
 import unittest
 from collections.abc import Callable
+from dataclasses import replace
 from pathlib import Path
 from types import SimpleNamespace
 
@@ -76,7 +77,8 @@ class Who(Served):
                                     (b"[]", {}, 400), (b"{", {}, 400), (b"{}", {"X_Page": "<b>"}, 400),
                                     (b"[" * 4000, {}, 400)):
             self.assertEqual(page.post("run", body, **given)[0], status, body[:9])
-        self.assertEqual(page.post("check", b" " * 3_000_000)[0], 413)
+        for what in ("check", "draw"):
+            self.assertEqual(page.post(what, b" " * 3_000_000)[0], 413)
         self.assertEqual(page.post("check", b"", Content_Length="999999999")[0], 413)
         for what in ("__init__", "nothing", "_json", "mdi/..", "RUN"):
             self.assertEqual(page.post(what)[0], 404, what)
@@ -180,6 +182,22 @@ class Work(Served):
         self.assertEqual(page.post("quit"), (200, {}))
         self.assertTrue(page.last()["over"])
         self.assertEqual((self.server.wait(PATIENCE_S), self.player.wait(PATIENCE_S)), (0, 0))
+
+    def test_drawn_first(self) -> None:
+        """A program is drawn before it is loaded, and that is taken then, unless it begins otherwise by now."""
+        page = self.page()
+        text = b"G17 G21 G90 G94\nG0 X1\nM2\n"
+        given = {"X_Name": "part.ngc", "Content_Type": "application/octet-stream"}
+        for begins in (0, 2000):  # um
+            drawn = page.post("draw", text, **given)[1]
+            self.assertEqual([(step["n"], step["k"], step["p"]) for step in drawn["steps"]],
+                             [(2, "t", [begins, 0, 0, 1000, 0, 0])])
+            self.assertIsNone(page.job())
+            self.assertEqual(page.post("mdi", {"line": "G0 X2"}), (200, {}))
+            page.rested()
+        self.load(page, text.decode())
+        page.until("it is drawn", lambda state: page.job())
+        self.assertEqual(page.job()["steps"][0]["p"], [2000, 0, 0, 1000, 0, 0])
 
     def test_tool(self) -> None:
         """While a tool is wanted what is in force is that of the tool before, though `ngc` is some lines ahead."""
@@ -560,6 +578,21 @@ class Jobs(InFolder):
         self.assertTrue(job["exact"])
         self.assertFalse(json.loads(draw(source).text)["exact"])
 
+
+    def test_preview(self) -> None:
+        """What was drawn of a text before it was loaded is that of the device's program, if all else stands as then."""
+        self.device()
+        before = Path("mill.dev").read_bytes()
+        text = b"G21 G90\nG0 X1\nM2\n"
+        preview = Source(ngc(), "first.toml", "", before, True, False, text)
+        self.run_ngc(f"load {len(text)}\n{text.decode()}")
+        loaded = Source(ngc(), "first.toml", "", Path("mill.dev").read_bytes(), True, False)
+        self.assertEqual(draw(preview).text, draw(loaded).text)
+        self.assertTrue(loaded.begins_as(preview))
+        for other in (replace(preview, other=b"M2\n"), replace(preview, block_delete=True)):
+            self.assertFalse(loaded.begins_as(other))
+        self.run_ngc("mdi G10 L2 P1 X3\ntick 5\n")
+        self.assertFalse(replace(loaded, image=Path("mill.dev").read_bytes()).begins_as(preview))
 
     def test_differs(self) -> None:
         """What a line of one's own makes of the rest of a program is told, with the time that it takes."""

@@ -5,15 +5,19 @@ import re
 import signal
 import subprocess
 import sys
+import threading
+import time
 import unittest
 from functools import cache
 from pathlib import Path
+from statistics import median
 
 sys.path.insert(0, str(Path(__file__).resolve().parent))
 
-from browser_support import Browser, chromium  # noqa: E402
+from browser_support import Browser, Chromium, chromium  # noqa: E402
+from firefox_support import Firefox, firefox  # noqa: E402
 from machine_support import SocketMachine  # noqa: E402
-from page_support import OTHER, SHORT, SLOW, Served  # noqa: E402
+from page_support import OTHER, SHORT, SLOW, Page, Served  # noqa: E402
 from session_support import PATIENCE_S, TOOLS, ngc  # noqa: E402
 from test_moves import MACHINE, PROBE, World, program  # noqa: E402
 
@@ -99,15 +103,32 @@ PAN_LONG = """(async () => {
 })()""".replace("FRAME", FRAME)
 
 
+IS_FIREFOX = os.environ.get("NGC_BROWSER") == "firefox"
+
+
 @cache
 def started() -> Browser:
     """One browser for all tests."""
-    browser = Browser(chromium() or "")
+    browser = Firefox(firefox() or "") if IS_FIREFOX else Chromium(chromium() or "")
     unittest.addModuleCleanup(browser.close)
     return browser
 
 
-@unittest.skipUnless(chromium(), "Chromium isn't installed: tools/tests/install_browser.sh")
+def keep_checking(page: Page, over: threading.Event) -> None:
+    """Has programs checked, one after the other."""
+    while not over.is_set():
+        page.post("check", b"G1 X1 F60\n" * 2000, X_Name="long.ngc", Content_Type="application/octet-stream")
+
+
+def slow_by() -> float:
+    """How many times as long something takes as it takes processor time now, since others want it too."""
+    begun, begun_cpu = time.monotonic(), time.thread_time()
+    while time.thread_time() < begun_cpu + 0.03:
+        pass
+    return (time.monotonic() - begun) / 0.03
+
+
+@unittest.skipUnless(firefox() if IS_FIREFOX else chromium(), "it isn't installed: tools/tests/install_browser.sh")
 class InBrowser(Served):
     """The page of a session of its own for each test."""
 
@@ -116,8 +137,7 @@ class InBrowser(Served):
         super().setUp()
         self.browser = started()
         self.addCleanup(self.browser.open, "about:blank")
-        self.browser.complaints.clear()
-        self.browser.asked.clear()
+        self.browser.forget()
         self.browser.size(*SIZES[0])
         self.browser.open(self.address)
         self.browser.wait("window.ngc?.state?.yours && ngc.jobId !== null")
@@ -131,6 +151,7 @@ class InBrowser(Served):
     def load(self, text: str, count: int) -> None:
         """Loads a program of so many lines, and waits until it is drawn."""
         self.choose(text)
+        self.browser.wait("ngc.preview?.count")  # it is drawn before
         self.browser.press("Load", "#over button")
         self.browser.wait(f"ngc.state.program.lines === {count} && ngc.job && !ngc.state.busy")
 
@@ -255,6 +276,26 @@ class Work(InBrowser):
         self.look("held")
         self.no_complaints()
 
+    def test_hold_at_once(self) -> None:
+        """From the touch to the word Held, while programs are checked: by the median less than 50 ms of a machine that
+        has time for it."""
+        browser, other = self.browser, self.page(OTHER)
+        self.load(SLOW, 4)
+        browser.press("Run", "#run")
+        over = threading.Event()
+        checks = threading.Thread(target=keep_checking, args=[other, over])
+        checks.start()
+        self.addCleanup(checks.join)
+        self.addCleanup(over.set)
+        took_ms, slowness = [], [1.0]
+        for _ in range(7):
+            browser.wait("ngc.state.does === 'running' && ngc.state.behind > 0 && !(ngc.holdMs = 0)")
+            slowness.append(slow_by())
+            browser.press("Hold", "#hold")
+            took_ms.append(browser.wait("ngc.state.does === 'held' && !ngc.state.busy && ngc.holdMs"))
+            browser.press("Continue", "#run")
+        self.assertLess(median(took_ms), 50 * max(slowness), took_ms)
+
     def test_again(self) -> None:
         """Where ngc ended, it is started again from the page, which begins anew."""
         browser = self.browser
@@ -356,10 +397,10 @@ class Setting(InBrowser):
         zero are taken from where it was touched."""
         browser = self.browser
         browser.press("Tools", "nav button")
-        self.type("#tab-tools input", "1.5")
+        browser.fill("#tab-tools input", "1.5")
         browser.press("Add", "#tab-tools button")
         browser.wait("ngc.state.tools[0] === '1.500000' && !ngc.state.busy")
-        self.type("#line", "T1 M6")
+        browser.fill("#line", "T1 M6")
         browser.press("Do", "#do")
         browser.wait("ngc.state.slot === 1 && !ngc.state.busy")
         browser.press("Setup", "nav button")
@@ -369,7 +410,7 @@ class Setting(InBrowser):
         browser.wait("ngc.state.touched?.[2] === '2.000000' && !ngc.state.busy")
         self.look("the probe was touched")
         browser.press("Where the probe was touched", "#tab-setup button")
-        self.type("input[aria-label='Machine Z of the setter, in mm']", "-48")
+        browser.fill("input[aria-label='Machine Z of the setter, in mm']", "-48")
         browser.press("Tool 1 stands on the setter", "#tab-setup button")
         browser.wait("ngc.state.tools[0] === '50.000000' && !ngc.state.busy")
         browser.press("Set Z", "#tab-setup button")
@@ -377,12 +418,6 @@ class Setting(InBrowser):
         browser.press("Undo: G10", "#tab-setup button")
         browser.wait("ngc.state.origin[2] === '0.000000' && !ngc.state.busy")
         self.no_complaints()
-
-    def type(self, entry: str, text: str) -> None:
-        """Types into an entry."""
-        self.browser.js(f"(() => {{ const entry = document.querySelector({json.dumps(entry)}); entry.focus();"
-                        " entry.select(); })()")
-        self.browser.call("Input.insertText", text=text)
 
 
 class Power(InBrowser):
@@ -450,12 +485,14 @@ class PowerOverPipe(InBrowser):
         self.load(SHORT, SHORT.count("\n"))
         browser.press("Run", "#run")
         browser.wait("ngc.state.motors[0] > 0.05 && ngc.state.behind > 60")
+        risk = browser.js("document.getElementById('risk').textContent")
+        self.assertRegex(risk, r"^A loss of power costs [0-9]+ lines, 0\.[0-9]{3} mm$")
         before = browser.js("ngc.state.session")
         self.pull()
         self.begin_again()
         browser.wait(f"ngc.state?.session && ngc.state.session !== '{before}' && ngc.neverCut")
         browser.wait("document.querySelector('#over .bad')?.textContent.includes('NEVER CUT')")
-        self.assertTrue(browser.js("ngc.picture.lost.length > 1 && !document.getElementById('never-cut').hidden"))
+        self.assertTrue(browser.js("ngc.picture.lost[0].length > 1 && !document.getElementById('never-cut').hidden"))
         self.look("what was never cut")
         browser.press("Next", "#over button")
         for _ in range(3):

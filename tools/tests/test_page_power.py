@@ -14,12 +14,14 @@ from session_support import InFolder, ngc  # noqa: E402
 
 from ngc_tools.cli.page import Opener, make_parser  # noqa: E402
 from ngc_tools.failure import Failure  # noqa: E402
+from ngc_tools.files import NotWritten  # noqa: E402
 from ngc_tools.job.moves import CUT, TRAVERSE, Move  # noqa: E402
 from ngc_tools.ngc.carried import CannotTell  # noqa: E402
 from ngc_tools.ngc.console import Console  # noqa: E402
 from ngc_tools.ngc.handed_out import Finder  # noqa: E402
 from ngc_tools.page.aside import Aside, NotDone  # noqa: E402
 from ngc_tools.page.face import LOOKS, PageFace  # noqa: E402
+from ngc_tools.page.losses import Loss, Losses  # noqa: E402
 from ngc_tools.page.never_cut import Asked, found  # noqa: E402
 from ngc_tools.page.rehearse import finished, rehearse  # noqa: E402
 from ngc_tools.page.session import Session  # noqa: E402
@@ -98,20 +100,36 @@ class Finished(unittest.TestCase):
             self.assertEqual([move.points for move in finished(moves, lost)], points, lost)
 
 
+class Kept(InFolder):
+    """What is kept of losses of power beside the device."""
+
+    def test_kept(self) -> None:
+        """It is of one program, until it is forgotten; another file that stands there is left alone."""
+        losses, loss = Losses("mill.dev"), Loss(9, 0, 1.5, 3, 3000, [[0, 0, 0], [3, 0, 0]])
+        self.assertEqual(losses.of(b"M2\n"), [])
+        losses.keep(b"M2\n", [loss])
+        losses.keep(b"M2\n", [loss, loss])
+        self.assertEqual((losses.of(b"M2\n"), losses.of(b"M30\n")), ([loss, loss], []))
+        losses.forget()
+        self.assertEqual((losses.of(b"M2\n"), losses.path.exists()), ([], False))
+        for text in ("", "{}", "[1]", '{"program": "", "losses": [{}]}', "G0 X1\n"):
+            losses.path.write_text(text)
+            losses.forget()
+            self.assertEqual(losses.of(b"M2\n"), [])
+            with self.assertRaisesRegex(NotWritten, "mill.dev.never-cut: it isn't what ngc-page keeps there"):
+                losses.keep(b"M2\n", [loss])
+            self.assertEqual(losses.path.read_text(), text)
+
+
 class OverPipe(Served):
     """Power is lost with a pipe as OUT."""
 
     def test_never_cut(self) -> None:
-        """All between the motors and the half-done segment is told, in words and as a line from the one to the other;
-        once the program begins anew it isn't any more."""
+        """All between the motors and the half-done segment is told, in words and as a line from the one to the other,
+        after another loss of power too; once the program begins anew it isn't any more."""
         page = self.page()
         self.load(page, SHORT)
-        self.assertEqual(page.post("run"), (200, {}))
-        page.until("it cuts", lambda state: float(state["motors"][0]) > 0.05 and state["behind"] > 60)
-        self.pull()
-        self.begin()
-        page = self.page()
-        state = page.until("it is found", lambda _: self.never_cut(page))
+        page, state = self.lost(page, 0.05)
         begins = round(1000 * float(page.post("rehearse")[1]["begins"][0]))
         stands = round(1000 * float(state["motors"][0]))
         told = self.never_cut(page)
@@ -119,11 +137,34 @@ class OverPipe(Served):
         self.assertEqual((told["lines"], told["points"][0], told["points"][-1]),
                          (begins - stands, [stands, 0, 0], [begins, 0, 0]))
         page.until("it is said", lambda _: f"NEVER CUT: {begins - stands} lines handed out" in page.said())
-        self.assertEqual(page.post("reference", {"at": state["motors"]})[0], 200)
-        self.assertEqual(page.post("abandon")[0], 200)
+        self.gives_up(page, state)
         self.assertEqual(self.never_cut(page), told)
+        page, state = self.lost(page, begins / 1000 + 0.05)
+        again = self.never_cut(page)
+        self.assertGreater(again["points"][0][0], begins)
+        self.assertEqual([one["points"] for one in again["earlier"]], [told["points"]])
+        self.assertIn(f"left {begins - stands} lines uncut", again["earlier"][0]["words"])
+        self.gives_up(page, state)
         self.load(page, "M2\n")
         self.assertIsNone(self.never_cut(page))
+        self.assertFalse(Path("mill.dev.never-cut").exists())
+
+    def gives_up(self, page: Page, state: dict) -> None:
+        """The half-done line counts as not begun."""
+        self.assertEqual(page.post("reference", {"at": state["motors"]})[0], 200)
+        self.assertEqual(page.post("abandon")[0], 200)
+
+    def lost(self, page: Page, at: float) -> tuple[Page, dict]:
+        """Runs the program, and loses power beyond a place on X: the page then, and its state once it is found what was
+        left."""
+        self.assertEqual(page.post("run"), (200, {}))
+        if page.next()["place"]:  # in the midst of it
+            page.agree(page.asked())
+        page.until("it cuts", lambda state: float(state["motors"][0]) > at and state["behind"] > 60)
+        self.pull()
+        self.begin()
+        page = self.page()
+        return page, page.until("it is found", lambda _: (self.never_cut(page) or {}).get("lines"))
 
     @staticmethod
     def never_cut(page: Page) -> dict | None:

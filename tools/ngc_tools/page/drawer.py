@@ -15,6 +15,7 @@ class Drawer:
     def __init__(self, aside: Aside, changed: Callable[[], None]) -> None:
         """`changed` is called in any thread."""
         self.drawing: Drawing | None = None
+        self._preview: Drawing | None = None
         self.failed = ""
         self.count = 0
         self._aside, self._changed = aside, changed
@@ -31,6 +32,12 @@ class Drawer:
             self._forget()
         self._setup, self._entries, self._program = setup_of(device), device.state.entries, device.program
         self._start(source)
+
+    def preview(self, source: Source) -> Drawing:
+        """A program that isn't loaded, as it would be drawn, with times by length. Where it is loaded then, that isn't
+        done again. Raises NotDone, OSError."""
+        self._preview = drawing = self._aside.call(draw, source)
+        return drawing
 
     def _forget(self) -> None:
         """Nothing is drawn of a program that is another one now."""
@@ -65,8 +72,12 @@ class Drawer:
             self._take(source, None)
 
     def _draw(self, source: Source) -> None:
+        preview, self._preview = self._preview, None
+        is_same = preview is not None and source.begins_as(preview.source)
+        if is_same:
+            self._take(source, replace(preview, source=source))
         try:
-            for work in (draw, draw_exactly):
+            for work in (draw_exactly,) if is_same else (draw, draw_exactly):
                 drawing = self._call(source, work)
                 if drawing is None:
                     return

@@ -33,7 +33,8 @@ _FRESH = "G17 G21 G90 G94 G98"
 @dataclass(frozen=True, slots=True)
 class Source:
     """What is drawn: by which `ngc` and settings, over which image of a device, with which machine's file, nothing for
-    none. `is_begun_there` says that the program begins as that device stands; else nothing says where it began."""
+    none. `is_begun_there` says that the program begins as that device stands; else nothing says where it began. It is
+    the device's program, or `other`, which isn't loaded."""
 
     ngc: str
     settings: str
@@ -41,6 +42,14 @@ class Source:
     image: bytes
     is_begun_there: bool
     block_delete: bool
+    other: bytes | None = None
+
+    def begins_as(self, before: "Source") -> bool:
+        """Whether this one, of a device's program, draws the same as one before, of the same text before it was
+        loaded."""
+        now, then = Device(self.image), Device(before.image)
+        return (now.program == before.other and self.block_delete == before.block_delete and self.is_begun_there
+                and Beginning.of(now) == Beginning.of(then))
 
 
 @dataclass(frozen=True, slots=True)
@@ -117,7 +126,7 @@ def draw_exactly(source: Source) -> Drawing:
 def job_of(source: Source) -> Job:
     """The job; its moves have no times yet. Raises what `draw` raises."""
     device = Device(source.image)
-    beginning, text = Beginning.of(device), device.program
+    beginning, text = Beginning.of(device), device.program if source.other is None else source.other
     if not source.is_begun_there:
         beginning = beginning.after([_FRESH], "the modes")
 

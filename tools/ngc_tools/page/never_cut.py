@@ -1,8 +1,11 @@
 """What a loss of power over a pipe left uncut: `ngc` handed it out, and no motor carried it out. It is found aside,
 from the device's log and the place that the player's record has, both as they stood when the session began."""
 import threading
+import time
+from contextlib import suppress
 from dataclasses import dataclass
 
+from ngc_tools.files import NotWritten, cause
 from ngc_tools.formats.device import Device
 from ngc_tools.formats.position import nanometres
 from ngc_tools.formats.settings import Settings
@@ -13,6 +16,7 @@ from ngc_tools.ngc.handed_out import Finder
 from ngc_tools.operator.face import SAID, WARNING
 from ngc_tools.page.aside import Aside, NotDone
 from ngc_tools.page.face import PageFace
+from ngc_tools.page.losses import Loss, Losses
 
 _UNKNOWN = "What was handed out before the half-done segment and never cut can't be told: {why}"
 _KEPT = """\
@@ -21,7 +25,12 @@ in it, or on the way to it"""
 _LEFT = """\
 NEVER CUT: {lines} handed out before the half-done segment, {length} mm, which no motor carried out by the record. \
 Nothing makes them: cut them by lines of your own first, or live with it{may}"""
+_EARLIER = """\
+NEVER CUT: an earlier loss of power in this job, told of at {when}, left {lines} uncut, {length} mm. They are told of \
+until the program is loaded, or begins, anew"""
 _MAY = ". The motors' path comes to that place more than once, so it may be as few as {least}"
+
+_NONE = {"words": "", "lines": 0, "length_nm": 0, "points": []}
 
 
 @dataclass(frozen=True, slots=True)
@@ -43,7 +52,7 @@ def found(asked: Asked) -> dict:
     x, y, z = map(nanometres, asked.at)
     moves = [move for move in of_out(lost.text, Settings.read(asked.settings), (x, y, z)) if isinstance(move, Move)]
     if not moves:
-        return {"words": _KEPT, "lines": 0, "length_nm": 0, "points": []}
+        return dict(_NONE, words=_KEPT)
     may = _MAY.format(least=f"{lost.least:,}") if lost.least < lost.most else ""
     length = sum(move.length for move in moves)
     points = [list(map(micrometres, point)) for move in moves for point in move.points]
@@ -56,7 +65,8 @@ def _counted(lines: int) -> str:
 
 
 class NeverCutSearch:
-    """`found` is what pages show of it, None where there is nothing to be shown; `count` grows with each change."""
+    """`found` is what pages show of it, None where there is nothing to be shown: what the last loss of power left, and
+    as `earlier` what earlier ones left in the same job. `count` grows with each change."""
 
     def __init__(self, aside: Aside, face: PageFace) -> None:
         """What is found is said by the face, too."""
@@ -66,9 +76,16 @@ class NeverCutSearch:
         self._asked: Asked | None = None
         self._thread = threading.Thread()
 
-    def begin(self, asked: Asked) -> None:
-        """Finds it, if a block of the device is half-done."""
-        self.forget()
+    def begin(self, losses: Losses, program: bytes) -> None:
+        """Takes up what was kept of a device, which has this program."""
+        self._asked, self._losses, self._program = None, losses, program
+        self._earlier = losses.of(program)
+        self._take(dict(_NONE, earlier=_plain(self._earlier)) if self._earlier else None)
+        for loss in self._earlier:
+            self._face.say(_said(loss), WARNING)
+
+    def search(self, asked: Asked) -> None:
+        """Finds what the last session left, if a block of the device is half-done."""
         if Device(asked.image).state.half:
             self._asked = asked
             self._thread = threading.Thread(target=self._find, args=[asked], daemon=True)
@@ -82,19 +99,45 @@ class NeverCutSearch:
 
     def forget(self) -> None:
         """Another program is loaded, or this one begins anew."""
-        self._asked = None
+        self._asked, self._earlier = None, []
+        with suppress(OSError):  # it is of another program then, or is found again and shown
+            self._losses.forget()
         self._take(None)
 
     def _find(self, asked: Asked) -> None:
         try:
             told = self._aside.call(found, asked)
         except (NotDone, OSError) as error:
-            told = {"words": _UNKNOWN.format(why=error), "lines": 0, "length_nm": 0, "points": []}
+            told = dict(_NONE, words=_UNKNOWN.format(why=error))
         if asked is self._asked:
-            self._take(told)
+            earlier = self._kept(asked, told) if told["lines"] else self._earlier
+            self._take(told | {"earlier": _plain(earlier)})
             self._face.say(told["words"], SAID if told["words"] == _KEPT else WARNING)
+
+    def _kept(self, asked: Asked, told: dict) -> list[Loss]:
+        """Keeps what was found; the earlier ones, without this one, where it was found before."""
+        state = Device(asked.image).state
+        loss = Loss(state.place, state.segment, time.time(), told["lines"], told["length_nm"], told["points"])
+        earlier = [one for one in self._earlier if not one.is_within_same(loss)]
+        try:
+            self._losses.keep(self._program, [*earlier, loss])
+        except (NotWritten, OSError) as error:
+            why = cause(error) if isinstance(error, OSError) else str(error)
+            self._face.say(f"after another loss of power this one won't be told of: {why}", WARNING)
+        return earlier
 
     def _take(self, told: dict | None) -> None:
         self.found = told
         self.count += 1
         self._face.publish()
+
+
+def _plain(losses: list[Loss]) -> list[dict]:
+    """What pages show of losses."""
+    return [{"words": _said(loss), "points": loss.points} for loss in losses]
+
+
+def _said(loss: Loss) -> str:
+    """A loss in words."""
+    when = time.strftime("%Y-%m-%d %H:%M", time.localtime(loss.at))
+    return _EARLIER.format(lines=_counted(loss.lines), length=rounded(loss.length_nm), when=when)

@@ -38,6 +38,8 @@ _POLICY = ("default-src 'none'; script-src 'self'; style-src 'self'; connect-src
 _HEADERS = {"Cache-Control": "no-store", "Referrer-Policy": "no-referrer", "X-Content-Type-Options": "nosniff",
             "Content-Security-Policy": _POLICY, "Cross-Origin-Opener-Policy": "same-origin",
             "Cross-Origin-Resource-Policy": "same-origin"}
+_UPLOADS = ("check", "draw")
+"""What is asked with a program as it is."""
 _PAGE = re.compile(r"[A-Za-z0-9-]{8,40}")
 _MOST_WORDS = 4096  # bytes of a request that is no program
 _REQUEST_S = 20.0  # how long a request may take to come, and an answer to be taken
@@ -65,7 +67,7 @@ class Server:
         self._waiting: dict[asyncio.Task, None] = {}
         self._all: set[asyncio.Task] = set()
         self._new = asyncio.Event()
-        self._uploads = asyncio.Semaphore(2)
+        self._uploads = asyncio.Semaphore(4)
         self._loop = asyncio.new_event_loop()
         self._thread = threading.Thread(target=self._loop.run_forever, name="server", daemon=True)
 
@@ -209,12 +211,16 @@ class Server:
         done = await asyncio.to_thread(DEEDS[name], given) if name in WAITING else DEEDS[name](given)
         return done or {}
 
-    async def check(self, name: str, text: bytes) -> dict:
+    async def draw(self, text: bytes) -> bytes:
+        """A program that isn't loaded, as it would be drawn. Raises Failure, OSError."""
+        return await asyncio.to_thread(self.session.preview, text)
+
+    async def check(self, name: str, text: bytes) -> bytes:
         """What is wrong with a program; it is loaded by the `id` that is answered. Raises Failure, OSError."""
         found = await asyncio.to_thread(self.session.check, text)
         ident = f"{time.monotonic_ns():x}"
         keep_checked(self._checked, name, text, ident)
-        return found | {"id": ident, "name": name, "bytes": len(text), "count": len(text.splitlines())}
+        return _json(found | {"id": ident, "name": name, "bytes": len(text), "count": len(text.splitlines())})
 
     @property
     def uploads(self) -> asyncio.Semaphore:
@@ -247,14 +253,14 @@ class _Connection:
 
     async def _body(self, request: Request, path: str) -> bytes:
         """The body of a request. Raises Refused."""
-        return await read_body(self.reader, request, MOST_LARGE_PROGRAM if path == "check" else _MOST_WORDS)
+        return await read_body(self.reader, request, MOST_LARGE_PROGRAM if path in _UPLOADS else _MOST_WORDS)
 
     async def _answered(self, request: Request, path: str, body: bytes) -> tuple[HTTPStatus, bytes, str]:
         """The status, the content and its kind."""
         try:
             if request.method == "GET":
                 return HTTPStatus.OK, *self._got(path)
-            return HTTPStatus.OK, _json(await self._posted(request, path, body)), _JSON
+            return HTTPStatus.OK, await self._posted(request, path, body), _JSON
         except Refused as error:
             status, why = error.status, str(error)
         except Busy as error:
@@ -271,14 +277,15 @@ class _Connection:
             return self.server.program() if name == "program" else self.server.job(), _JSON
         return self.server.static(name)
 
-    async def _posted(self, request: Request, path: str, body: bytes) -> dict:
-        """Does what is asked. Raises what `do` and `check` raise."""
+    async def _posted(self, request: Request, path: str, body: bytes) -> bytes:
+        """Does what is asked. Raises what `do`, `check` and `draw` raise."""
         page = request.headers.get("x-page", "")
         if not _PAGE.fullmatch(page):
             raise Refused(HTTPStatus.BAD_REQUEST, "no page")
-        if path == "check":
+        if path in _UPLOADS:
             async with self.server.uploads:
-                return await self.server.check(_name(request.headers.get("x-name", "")), body)
+                name = _name(request.headers.get("x-name", ""))
+                return await (self.server.check(name, body) if path == "check" else self.server.draw(body))
         if request.headers.get("content-type", "").partition(";")[0].strip() != _JSON:
             raise Refused(HTTPStatus.UNSUPPORTED_MEDIA_TYPE)
         try:
@@ -287,7 +294,7 @@ class _Connection:
             raise Refused(HTTPStatus.BAD_REQUEST, "no JSON") from None
         if not isinstance(words, dict):
             raise Refused(HTTPStatus.BAD_REQUEST, "no object")
-        return await self.server.do(path, page, words)
+        return _json(await self.server.do(path, page, words))
 
     async def _stream(self, path: str) -> None:
         """Tells a page all that changes, as server-sent events."""

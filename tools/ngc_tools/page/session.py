@@ -9,7 +9,7 @@ import time
 import traceback
 from collections.abc import Callable
 from contextlib import suppress
-from dataclasses import dataclass, field
+from dataclasses import dataclass, field, replace
 from typing import Any
 
 from ngc_tools.failure import Failure
@@ -27,6 +27,7 @@ from ngc_tools.page.face import PageFace
 from ngc_tools.page.findings import Check, find
 from ngc_tools.page.never_cut import Asked, NeverCutSearch
 from ngc_tools.page.jog import HeldJog
+from ngc_tools.page.losses import Losses
 from ngc_tools.page.stand import Kept, Stand, recovery_of
 from ngc_tools.player.progress import Link, NoAnswer
 
@@ -143,11 +144,11 @@ class Session:
     def _find_never_cut(self) -> None:
         """Finds what the last session left uncut. Of a file that is followed no line is lost."""
         meter, report, found = self.operator.session.meter, self.stand.report, self.opened.found
-        self.never_cut.forget()
+        console = self.operator.console
+        self.never_cut.begin(Losses(console.device), self.kept.device.program)
         if meter and report and found and self.operator.recover.found is None:
-            console = self.operator.console
-            self.never_cut.begin(Asked(console.ngc, console.settings, found.image, report.at.split(),
-                                       meter.most_ahead(report)))
+            self.never_cut.search(Asked(console.ngc, console.settings, found.image, report.at.split(),
+                                        meter.most_ahead(report)))
 
     # what pages ask for
 
@@ -252,6 +253,10 @@ class Session:
         check = Check(console.ngc, console.settings, self.kept.device.image, self.operator.session.delete)
         return self.aside.call(find, check, text)
 
+    def preview(self, text: bytes) -> bytes:
+        """A program that isn't loaded as it would be drawn, in JSON. Raises NotDone, OSError."""
+        return self.drawer.preview(replace(self._source_of(self.kept.device), is_begun_there=True, other=text)).text
+
     def restart(self) -> None:
         """Begins a session of `ngc run` anew, after it has ended, its device failed, or its player is gone or carries
         nothing out any more. Raises Busy, and what `Opens` raises."""
@@ -328,6 +333,15 @@ class Session:
             self._quit()
         elif command.word in MOVES | {"load"}:
             self._see_end(command, before)
+            self._look_at_way(command)
+
+    def _look_at_way(self, command: Command) -> None:
+        """Looks again which way `recover` would take, where the motors were moved without lines, as by home."""
+        found, report = self.operator.recover.found, self.operator.session.report()
+        if command.word in WITHOUT_LINES and found is not None and report is not None and report.behind == 0:
+            is_half = self.operator.console.status().half != "none"
+            if is_half or found.is_left():
+                found.look_again(report)
 
     def _tell_bug(self, command: Command, error: Exception) -> None:
         """An error of this program itself."""

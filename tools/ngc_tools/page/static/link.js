@@ -47,15 +47,15 @@ export function post(what, body = {}) {
   return answered(fetch(what, { method: 'POST', headers, body: JSON.stringify(body) }));
 }
 
-// Sends a program to be looked at.
-export function check(file) {
+// Sends a program, to be looked at by `check`, or drawn by `draw`.
+export function upload(what, file) {
   if (file.size > MOST_BYTES) {
     throw new Error(`${file.size.toLocaleString('en')} bytes: a program has at most 131,072, on a large device `
       + '1,048,576. ngc-split parts it.');
   }
   const name = encodeURIComponent(file.name);
   const headers = { 'Content-Type': 'application/octet-stream', 'X-Page': page, 'X-Name': name };
-  return answered(fetch('check', { method: 'POST', body: file, headers }));
+  return answered(fetch(what, { method: 'POST', body: file, headers }));
 }
 
 export const get = what => answered(fetch(what));

@@ -1,19 +1,37 @@
-// A program is looked at before it is loaded: what ngc refuses, with carets, and what is dangerous.
-import { counted, el, grouped } from './dom.js';
-import { check } from './link.js';
+// A program is looked at before it is loaded: where it goes, which is drawn first, what ngc refuses, with carets, and
+// what is dangerous.
+import { counted, el, grouped, micrometres, zeroOf } from './dom.js';
+import { Job } from './job.js';
+import { upload } from './link.js';
 import * as sheet from './sheet.js';
+import { Sight } from './sight.js';
 
-export async function load(file, asks) {
+export async function load(file, app, asks) {
+  const sight = new Sight();
   const parts = sheet.open(`Load ${file.name}`, [sheet.soft('ngc looks at each line\u2026')],
-    [sheet.gap(), sheet.button('Back', sheet.close)]);
+    [sheet.gap(), sheet.button('Back', sheet.close)], sight.box);
+  sight.look(true);
+  draw(file, app, sight.picture);
   try {
-    const found = await check(file);
+    const found = await upload('check', file);
     const size = sheet.soft(`${grouped(found.bytes)} bytes, ${counted(found.count, 'line')}`);
     parts.words.replaceChildren(size, verdict(found), ...found.refusals.map(refusal), ...found.warnings.map(warning));
     parts.foot.append(loading(found, asks));
   } catch (error) {
     parts.words.replaceChildren(sheet.warning(error.message, 'bad'));
   }
+}
+
+// What can't be drawn stays away: what is wrong with it is told beside it.
+async function draw(file, app, picture) {
+  const { state, travel } = app;
+  picture.zero(zeroOf(state));
+  picture.at(0, -1, 0, micrometres(state.motors ?? state.at));
+  picture.show(app.preview = null, travel);
+  try {
+    app.preview = new Job(await upload('draw', file));
+    picture.show(app.preview, travel);
+  } catch { /* the path stays away */ }
 }
 
 function verdict({ refusals, warnings, more, unreadable }) {

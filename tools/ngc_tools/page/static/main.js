@@ -11,10 +11,13 @@ import { Readout } from './readout.js';
 import { Recovery } from './recovery.js';
 import { Setup } from './setup.js';
 import * as sheet from './sheet.js';
+import * as sight from './sight.js';
 import * as tools from './tools.js';
+import { lostOf } from './ways.js';
 
 const app = {
   state: null, job: null, neverCut: null, travel: null, programId: null, jobId: null, failed: '', asked: 0,
+  preview: null,
 };
 window.ngc = app; // for who looks at the page from outside, as tests do
 
@@ -174,7 +177,7 @@ async function fetchNew(s) {
   app.failed = got.failed;
   app.travel = [got.low, got.high];
   app.neverCut = got.never_cut;
-  picture.lost = app.neverCut?.points ?? [];
+  picture.lost = lostOf(app.neverCut);
   $('never-cut').hidden = !picture.lost.length;
   picture.show(app.job, app.travel);
   recovery.job();
@@ -254,7 +257,7 @@ for (const name of ['single', 'optional', 'delete']) {
 $('load').onclick = () => $('file').click();
 $('file').onchange = () => {
   const [file] = $('file').files;
-  if (file) load(file, asks);
+  if (file) load(file, app, asks);
   $('file').value = '';
 };
 $('quit').onclick = () => {
@@ -291,7 +294,7 @@ function theme(name) {
   localStorage.theme = name;
   text($('theme'), name === 'light' ? 'Dark' : 'Light');
   picture.recolour();
-  recovery.recolour();
+  sight.recolour();
 }
 
 $('theme').onclick = () => theme(document.documentElement.dataset.theme === 'light' ? 'dark' : 'light');

@@ -28,7 +28,7 @@ export class Picture {
     this.motors = null;
     this.marks = [];         // {point, colour, label}
     this.ways = [];          // {points, colour}
-    this.lost = [];          // points of what was handed out and never cut
+    this.lost = [];          // paths of what was handed out and never cut, each of points
     this.painted = 0;        // steps that the layer shows as done
     this.isFitted = false;
     this.isAsked = false;
@@ -243,13 +243,14 @@ export class Picture {
 
   // From above what goes straight down is a dot: a ring is seen.
   paintLost(g) {
-    if (!this.lost.length) return;
     g.strokeStyle = this.colours.red;
     g.lineJoin = g.lineCap = 'round';
-    g.lineWidth = 9;
-    paint.line(g, this.m, this.lost);
-    g.lineWidth = 2.5;
-    paint.ring(g, ...paint.place(this.m, ...this.lost[0]), 6);
+    for (const points of this.lost) {
+      g.lineWidth = 9;
+      paint.line(g, this.m, points);
+      g.lineWidth = 2.5;
+      paint.ring(g, ...paint.place(this.m, ...points[0]), 6);
+    }
   }
 
   paintWays(g) {

@@ -1,9 +1,9 @@
 // After a loss of power: what was stored, where the machine is, a rehearsal, and then step by step. Nothing moves and
 // nothing is switched before the last step.
 import { AXES, counted, el, grouped, lasting, micrometres, mm, point, typedNumber, zeroOf } from './dom.js';
-import { Picture } from './picture.js';
 import * as question from './question.js';
 import * as sheet from './sheet.js';
+import { Sight } from './sight.js';
 import * as ways from './ways.js';
 
 const NAMES = ['Stored', 'Where it stands', 'Rehearsal', 'Step by step'];
@@ -34,10 +34,12 @@ export class Recovery {
     this.at = [...(state.motors ?? state.at)].map(number => number.replace(/0{1,3}$/, ''));
     this.sure = [false, false, false];
     this.steps = el('ol', { class: 'steps' });
-    this.sheet = sheet.open('After the loss of power', [], [], this.sight());
+    const sight = new Sight();
+    this.picture = sight.picture;
+    this.sheet = sheet.open('After the loss of power', [], [], sight.box);
     this.sheet.head.append(this.steps);
     this.job();
-    this.look(true);
+    sight.look(true);
     this.go(0);
     this.asks('rehearse', {}).then(found => {
       this.stored = found;
@@ -95,25 +97,9 @@ export class Recovery {
 
   // ---- the picture
 
-  sight() {
-    const canvas = el('canvas');
-    this.picture = new Picture(canvas);
-    this.views = [['Top', true], ['3-D', false]].map(([says, isFlat]) => sheet.button(says, () => this.look(isFlat)));
-    const fit = sheet.button('Fit', () => this.picture.fit());
-    return el('div', { class: 'sight' }, canvas,
-      el('div', { class: 'views' }, el('div', { class: 'pair' }, ...this.views), fit));
-  }
-
-  look(isFlat) {
-    this.views.forEach((button, i) => button.setAttribute('aria-pressed', String(isFlat === (i === 0))));
-    this.picture.look(isFlat);
-  }
-
-  recolour() { if (this.isOpen) this.picture.recolour(); }
-
   job() {
     if (!this.isOpen) return;
-    this.picture.lost = this.app.neverCut?.points ?? [];
+    this.picture.lost = ways.lostOf(this.app.neverCut);
     this.picture.show(this.app.job, this.app.travel);
     if (this.step === 0 || this.step === 2) this.go(this.step); // what was never cut is known by now
     this.mark();
@@ -162,7 +148,7 @@ export class Recovery {
         ['From there to the end', found?.rest_us && lasting(found.rest_us)]]),
       found ? null : sheet.soft('ngc rehearses it over a copy of the device\u2026'),
       found?.refused && sheet.warning(found.refused, 'bad'),
-      ways.neverCut(this.app.neverCut),
+      ...ways.neverCut(this.app.neverCut),
       sheet.soft('In the picture solid is done, amber was under way, pale is left. The amber segment is made again '
         + 'from its beginning.')],
     [sheet.button('Later', () => this.later()), sheet.gap('Nothing moves, and nothing is switched.'),
@@ -222,7 +208,7 @@ export class Recovery {
     const { plan } = this;
     if (plan) {
       const said = ways.told(this.along, plan, this.app.state.recover);
-      this.put([ways.neverCut(this.app.neverCut), ...said], [this.back(1), sheet.gap('Nothing has moved.'),
+      this.put([...ways.neverCut(this.app.neverCut), ...said], [this.back(1), sheet.gap('Nothing has moved.'),
         this.next('Next: step by step', () => this.go(3))]);
       return;
     }
@@ -280,7 +266,8 @@ export class Recovery {
 
   choice() {
     const { recover, player } = this.app.state, canResume = Boolean(this.plan?.approach) && !recover?.left;
-    const offered = this.along ? ['along'] : player ? ['legs'] : [];
+    const isAlong = this.along && (this.along.way || this.along.there);
+    const offered = isAlong ? ['along'] : this.along || player ? ['legs'] : [];
     if (canResume) offered.push('straight');
     const recovers = () => this.asks('recover', { at: this.at });
     const does = { along: recovers, legs: recovers, straight: () => this.resume() };

@@ -7,11 +7,18 @@ const FREE = 'Z isn\u2019t lifted first: it goes through whatever stands between
 const LEFT = 'Lines stand in OUT that no motor carried out, and recover goes by the place of the record. Home the '
   + 'machine, and start the player anew with --at and the coordinates of its home.';
 
-// What was handed out before the segment and never cut: red in the picture, if it is anything.
+// What was handed out before the segment and never cut, and what earlier losses of power left: red in the picture, if
+// it is anything.
 export function neverCut(found) {
-  if (!found) return null;
-  return found.lines ? sheet.warning(`Red in the picture. ${found.words}.`, 'bad') : sheet.soft(`${found.words}.`);
+  if (!found) return [];
+  const red = says => sheet.warning(`Red in the picture. ${says}.`, 'bad');
+  const last = found.words && (found.lines ? red(found.words) : sheet.soft(`${found.words}.`));
+  return [last, ...found.earlier.map(one => red(one.words))];
 }
+
+// Its paths, each of points in micrometres.
+export const lostOf = found => [found, ...found?.earlier ?? []].map(one => one?.points ?? [])
+  .filter(points => points.length);
 
 // `along` is what recover would do, or null; `plan` the rehearsal of a resume.
 export function told(along, plan, recover) {

@@ -1,0 +1,424 @@
+"""docs/PAGE.md as it is written, step by step, in each browser that is installed: a day, and a loss of power."""
+import os
+import re
+import subprocess
+import sys
+import unittest
+from functools import reduce
+from pathlib import Path
+
+sys.path.insert(0, str(Path(__file__).resolve().parent))
+
+from browser_support import Browser, Chromium, chromium  # noqa: E402
+from firefox_support import Firefox, firefox  # noqa: E402
+from page_support import OTHER, Served  # noqa: E402
+from session_support import PATIENCE_S, TOOLS, ngc  # noqa: E402
+from test_moves import MACHINE, PROBE, World, program  # noqa: E402
+
+TEXT = (TOOLS.parent / "docs/PAGE.md").read_text()
+CHANGES = (("door = 4\nspindle_at_speed = 5\n", ""), ("at_speed_s = 1\n", ""), ("[60, 60, 60]", "[600, 600, 600]"))
+MILL = reduce(lambda text, change: text.replace(*change), CHANGES, MACHINE)
+"""A machine without a door, whose spindle says nothing of its speed; it homes quickly."""
+DAY = """G17 G21 G90 G94
+M3 S1000
+G0 X0 Y0
+G1 X6 F120
+M5
+T2 M6
+M1
+/G0 Y9
+M0 (MSG, turn the part)
+G1 X0 F600
+M2
+"""
+"""Its line 4 is a cut of three seconds."""
+LOSS = """G17 G21 G90 G94
+M3 S1000
+G0 X2 Y2
+G1 X4 F600
+G1 X9 F60
+G1 X8 F600
+M2
+"""
+"""Its line 5 is a cut of five seconds."""
+
+
+def part(title: str) -> str:
+    """What stands below a title of PAGE.md."""
+    return TEXT.partition(f"\n## {title}\n")[2].partition("\n## ")[0]
+
+
+def steps(title: str) -> list[str]:
+    """The names of the steps there, and of what else is bold."""
+    return [name.rstrip(".") for name in re.findall(r"\*\*([^*]+)\*\*", part(title))]
+
+
+def buttons(title: str) -> set[str]:
+    """The buttons that PAGE.md names there."""
+    return {name for name in re.findall(r"`([^`\n]+)`", part(title)) if re.match(r"[A-Z\u2212+]", name)}
+
+
+class Walk(Served):
+    """The player over a simulated machine, a file as OUT, the page in a browser."""
+
+    OUT = "out"
+    browser: Browser
+
+    def setUp(self) -> None:
+        """Opens the page; the setter is at machine Z 2, where the probe is touched."""
+        self.done: list[str] = []
+        self.pressed: set[str] = set()
+        super().setUp()
+        self.addCleanup(self.browser.open, "about:blank")
+        self.browser.forget()
+        self.browser.size(1280, 800)
+        self.opened()
+
+    def opened(self) -> None:
+        """Opens the address that the server printed."""
+        self.browser.open(self.address)
+        self.browser.wait("window.ngc?.state?.yours && ngc.jobId !== null")
+
+    def begin_player(self) -> None:
+        """Starts the player as PAGE.md does."""
+        if not Path("world").exists():
+            self.world = World()
+            self.addCleanup(self.world.close)
+            self.world.switch(3, PROBE, 2, -1, -3_000)
+        Path("motion.toml").write_text(MILL)
+        self.player = subprocess.Popen([program(), "-f", "-s", "progress", "-m", "motion.toml", "out", "first.toml",
+                                        "position"], stdin=subprocess.DEVNULL, stdout=subprocess.PIPE,
+                                       stderr=subprocess.PIPE, text=True)
+        self.addCleanup(self._end, self.player)
+        self.wait_for("the player listens", lambda: os.path.exists("progress"))
+
+    def begin(self) -> None:
+        """Starts both, as PAGE.md does."""
+        self.begin_player()
+        self.server = self.start("ngc-page", "mill.dev", "first.toml", "out", "--player", "progress", "--machine",
+                                 "motion.toml", "--ngc", ngc(), "--listen", "127.0.0.1:0")
+        self.address = self.server.stdout.readline().strip()
+        if not self.address:
+            self.fail(self.server.stderr.read())
+
+    # what a person does
+
+    def press(self, says: str, within: str = "button") -> None:
+        """Touches a button."""
+        self.browser.press(says, within)
+        self.pressed.add(says)
+
+    def wait(self, holds: str) -> object:
+        """Waits until something holds of the state `s`."""
+        return self.browser.wait(f"(s => {holds})(ngc.state)")
+
+    def rests(self, holds: str = "true") -> None:
+        """The same once nothing is under way."""
+        self.wait(f"!s.busy && ({holds})")
+
+    def tab(self, name: str) -> None:
+        """Chooses a tab."""
+        self.browser.press(name, "nav button")
+
+    def do(self, line: str) -> None:
+        """Types a line of G-code."""
+        self.browser.fill("#line", line)
+        self.browser.press("Do", "#do")
+
+    def load(self, text: str) -> None:
+        """Chooses a file, and loads it."""
+        Path("part.ngc").write_text(text)
+        self.browser.choose_file(self.folder / "part.ngc")
+        self.press("Load", "#over .go")
+        self.wait(f"s.program.lines === {text.count(chr(10))} && !s.busy && ngc.job && s.half === 'none'")
+
+    def home(self) -> None:
+        """Homes all axes."""
+        self.press("Home all", "#tab-setup button")
+        self.rests("s.homed === 'XYZ' && s.at[2] === '9.000000'")
+
+
+class Day(Walk):
+    """From home to quit."""
+
+    def day(self) -> None:
+        """Each step, in turn, and each button that is named there."""
+        for step in (self.homes, self.jogs, self.tools, self.zero, self.loads, self.runs, self.holds, self.stops,
+                     self.quits):
+            step()
+        self.assertEqual(self.done, steps("A day"))
+        self.assertEqual(buttons("A day") - self.pressed, set())
+
+    def homes(self) -> None:
+        """All axes at their switches."""
+        self.tab("Setup")
+        self.home()
+        self.done.append("Setup: home")
+
+    def jogs(self) -> None:
+        """For as long as a finger is down, and then a number of millimetres."""
+        before = float(self.browser.js("ngc.state.motors[0]"))
+        x, y = self.browser.place("X+", ".pad button")
+        self.browser.down(x, y)
+        self.wait(f"s.motors[0] > {before + 1}")
+        self.browser.up(x, y)
+        self.rests()
+        stood = self.browser.js("ngc.state.motors[0]")
+        self.browser.press("1", ".choices button:nth-child(3)")
+        self.browser.press("X\u2212", ".pad button")
+        self.rests(f"Math.abs(s.motors[0] - {stood} + 1) < 1e-6")
+        self.done.append("Setup: jog")
+
+    def tools(self) -> None:
+        """A length is typed; that of tool 1 is touched off on the setter."""
+        for slot, length in ((1, "1.5"), (2, "40")):
+            self.tab("Tools")
+            self.browser.fill(f"#tab-tools input[aria-label='Length of tool {slot}']", length)
+            self.browser.press("Add", "#tab-tools button")
+            self.rests(f"s.tools.length === {slot} && Number(s.tools[{slot - 1}]) === {length}")
+        self.do("T1 M6")
+        self.press("Tool 1 is in", "#run")
+        self.rests("s.slot === 1")
+        self.tab("Setup")
+        self.browser.press("Z\u2212", "#tab-setup .five button")
+        self.rests("s.touched?.[2] === '2.000000'")
+        self.browser.fill("input[aria-label='Machine Z of the setter, in mm']", "-48")
+        self.browser.press("Where the probe was touched", "#tab-setup button")
+        self.press("Tool 1 stands on the setter", "#tab-setup button")
+        self.rests("s.tools[0] === '50.000000'")
+        self.done.append("Tools")
+
+    def zero(self) -> None:
+        """This place is 0 in XY, and 2 in Z, which is taken back, and set."""
+        self.browser.press("Where the probe was touched", "#tab-setup button")
+        self.press("Set XY", "#tab-setup button")
+        self.rests("s.work[0] === '0.000000' && s.work[1] === '0.000000'")
+        self.browser.fill("input[aria-label='Work coordinate of this place, in mm']", "2")
+        for undoes in (True, False):
+            self.press("Set Z", "#tab-setup button")
+            self.rests("s.work[2] === '2.000000'")
+            if undoes:
+                self.press("Undo", "#tab-setup button")
+                self.rests("s.work[2] === s.at[2]")
+        self.done.append("Setup: work zero")
+
+    def loads(self) -> None:
+        """What is refused is marked, with what to write instead; what isn't is loaded."""
+        Path("part.ngc").write_text("G1 X1 Q2 F10\nM2\n")
+        self.browser.choose_file(self.folder / "part.ngc")
+        said = self.browser.wait("document.querySelector('#over .finding')?.textContent")
+        self.assertIn("^^", said)
+        self.assertIn("Mend: ", said)
+        self.browser.press("Back", "#over button")
+        self.load(DAY)
+        self.done.append("Load")
+        for kind, shown in (("3-D", "turn"), ("Top", "shift")):
+            self.browser.press(kind, ".path button")
+            before = self.browser.js(f"String(ngc.picture.view.{shown})")
+            self.browser.down(600, 400)
+            self.browser.down(640, 420)
+            self.browser.up(640, 420)
+            self.assertNotEqual(self.browser.js(f"String(ngc.picture.view.{shown})"), before)
+
+    def runs(self) -> None:
+        """The share that is done and the time left are shown; the rate and the switches are changed while it runs."""
+        for name in ("Optional stop", "Block delete", "Single block"):
+            self.press(name, ".switches button")
+        self.wait("s.optional && s.delete && s.single")
+        self.press("Run", "#run")
+        self.rests("s.does === 'held' && s.line === 3 && s.spindle === 1")  # line 1 moves and switches nothing
+        self.browser.press("Single block", ".switches button")
+        self.wait("!s.single")
+        self.press("Continue", "#run")
+        self.wait("s.line === 4 && s.half === 'program' && s.behind > 0 && s.work[0] > 0.2")
+        for says, percent in (("\u2212", 90), ("+", 100)):
+            self.press(says, "#override button")
+            self.wait(f"s.percent === {percent}")
+        share, left = self.browser.js("['share', 'left'].map(id => document.getElementById(id).textContent)")
+        self.assertRegex(f"{share}; {left}", r"^\d+ % of .+; .+ left$")
+        self.done.append("Run")
+
+    def holds(self) -> None:
+        """Hold, and on; then the spindle rests, and tool 2 is put in; the optional stop comes after it."""
+        self.press("Hold", "#hold")
+        self.wait("s.word === 'Held' && !s.busy")
+        stood = self.browser.js("ngc.state.motors.join()")
+        self.browser.js("new Promise(done => setTimeout(done, 200))")
+        self.assertEqual(self.browser.js("ngc.state.motors.join()"), stood)
+        self.press("Continue", "#run")
+        self.wait("s.waits && s.waits_tool === 2 && s.spindle === 0")
+        self.press("Tool 2 is in", "#run")
+        self.rests("s.does === 'stopped' && s.line > 6 && s.slot === 2")
+        self.press("Continue", "#run")
+        self.done += ["A tool change", "Hold", "Continue"]
+
+    def stops(self) -> None:
+        """M0 shows its message; a line leaves something in force; it is put back, and the program goes on."""
+        self.rests("s.does === 'stopped' && s.detail === 'turn the part'")
+        self.do("G91")
+        self.rests("s.distance === 91 && s.restore.length")
+        self.press("Continue", "#run")
+        self.press("Restore", "#over button")
+        self.rests("s.distance === 90")
+        self.browser.press("Continue", "#run")
+        self.browser.press("Continue", "#over button")
+        self.rests("s.finished && s.work[1] === '0.000000'")  # the line with a slash was left out
+        self.done.append("A stop")
+
+    def quits(self) -> None:
+        """The server ends."""
+        self.press("Quit", "#quit")
+        self.browser.press("Quit", "#over button")
+        self.assertEqual(self.server.wait(PATIENCE_S), 0)
+        self.browser.wait("document.getElementById('lost-says').textContent === 'The session has ended.'")
+        self.done.append("Quit")
+
+
+class Loss(Walk):
+    """From a page that is lost to the program's end."""
+
+    def loss(self) -> None:
+        """What is said of a player that is gone, and of a page that is lost; the four steps, home first and by legs,
+        and along the path to the end; a line is given up."""
+        self.watches()
+        self.cuts()
+        self.player_gone()
+        self.later()
+        self.lose_power()
+        self.along()
+        self.gives_up()
+        self.assertEqual(self.done, steps("Power is lost"))
+        self.assertEqual((buttons("Power is lost") | buttons("More pages, and a tablet")) - self.pressed, set())
+
+    def watches(self) -> None:
+        """Another page takes over, and this one takes over again; what becomes of a job is chosen."""
+        self.assertEqual(self.page(OTHER).post("takeover")[0], 200)
+        self.press("Take over", "#takeover")
+        self.wait("s.yours")
+        self.tab("Setup")
+        self.home()
+        for chosen in ("go", "hold"):
+            self.press("Job goes on if this page is lost", "#tab-setup button")
+            self.wait(f"s.on_loss === '{chosen}'")
+
+    def cuts(self) -> None:
+        """The job is loaded and started, and the motors cut in line 5."""
+        self.load(LOSS)
+        self.press("Run", "#run")
+        self.wait("s.line === 5 && s.half === 'program' && s.motors[0] > 4.2")
+
+    def player_gone(self) -> None:
+        """The band is red until the player is started, and `ngc` again."""
+        before = self.browser.js("ngc.state.session")
+        self.player.kill()
+        self.player.wait()
+        self.wait("s.word === 'Player gone' && s.tone === 'fail'")
+        os.unlink("progress")
+        self.begin_player()
+        self.press("Start ngc again", "#restart")
+        self.browser.wait(f"ngc.state?.session && ngc.state.session !== '{before}'")
+        self.stored()
+
+    def later(self) -> None:
+        """It is put off, the machine is homed, and then the tool goes by legs."""
+        self.press("Later", "#over button")
+        self.tab("Setup")
+        self.home()
+        self.browser.press("Recover", "#run")
+        self.stored()
+        self.confirmed()
+        self.press("Go by legs", "#over button")
+        self.agrees()
+        self.wait("s.line === 5 && s.moving && s.spindle === 1 && s.motors[0] > 4.2 && s.motors[0] < 9")
+
+    def lose_power(self) -> None:
+        """Power is lost: the page says so. It comes back, and the new address is opened."""
+        self.pull()
+        self.browser.wait("document.getElementById('lost').checkVisibility()")
+        self.begin()
+        self.opened()
+
+    def along(self) -> None:
+        """Along the path, to the end."""
+        self.stored()
+        self.done.append("Stored")
+        self.confirmed()
+        self.done += ["Where it stands", "Rehearsal"]
+        self.press("Go along the path", "#over button")
+        self.agrees()
+        self.rests("s.finished && s.motors[0] === '8.000000'")
+        self.done.append("Step by step")
+
+    def stored(self) -> None:
+        """Step 1 says what was stored."""
+        self.browser.wait("document.querySelector('#over .facts')?.textContent.includes('It begins at')")
+
+    def gives_up(self) -> None:
+        """The session ends within a line, and begins again: the line counts as not begun."""
+        self.press("Run", "#run")
+        self.wait("s.line === 5 && s.half === 'program' && s.motors[0] > 4.2")
+        self.pull()
+        self.begin()
+        self.opened()
+        self.stored()
+        self.confirmed()
+        self.press("Give up", "#over button")
+        self.browser.press("Yes, give it up", "#over button")
+        self.rests("s.half === 'none' && s.line === 5 && !s.spindle")
+
+    def confirmed(self) -> None:
+        """From step 1 to step 4: each axis is confirmed."""
+        self.browser.press("Next", "#over button")
+        for _ in "XYZ":
+            self.browser.press("Confirm", "#over button")
+        self.browser.press("Next", "#over button")
+        self.browser.wait("document.querySelector('#over details')")
+        self.browser.press("Next", "#over button")
+
+    def agrees(self) -> None:
+        """Answers what is asked: a height where it is one; once the outputs are on what was seen is ticked. Nothing
+        moves before that."""
+        last, isLooked = 0, False
+        while not isLooked:
+            question = self.wait(f"s.question?.id > {last} && s.question")
+            last, isLooked = question["id"], question["purpose"] == "look"
+            if question["kind"] == "text":
+                self.browser.fill("#over .entry input", "9.5")
+            if isLooked:
+                self.assertFalse(self.browser.js("ngc.state.moving"))
+                self.browser.wait("document.querySelectorAll('#over .look button').length === 3")
+                self.browser.js("document.querySelectorAll('#over .look button').forEach(one => one.click())")
+            self.browser.press("", "#over .go")
+
+
+class InChromium(Day, Loss):
+    """In Chromium."""
+
+    find, kind = staticmethod(chromium), Chromium
+
+    @classmethod
+    def setUpClass(cls) -> None:
+        """Starts the browser. Raises SkipTest where it isn't installed."""
+        path = cls.find()
+        if path is None:
+            raise unittest.SkipTest(f"{cls.kind.__name__} isn't installed: tools/tests/install_browser.sh")
+        cls.browser = cls.kind(path)
+        cls.addClassCleanup(cls.browser.close)
+
+    def test_day(self) -> None:
+        """A day, from home to quit."""
+        self.day()
+
+    def test_loss(self) -> None:
+        """A loss of power, and what else is said with it."""
+        self.loss()
+
+
+class InFirefox(InChromium):
+    """In Firefox."""
+
+    find, kind = staticmethod(firefox), Firefox
+
+
+if __name__ == "__main__":
+    unittest.main()
