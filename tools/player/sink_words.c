@@ -111,8 +111,11 @@ void words_switch_off(struct words *words, struct sender *sender) {
 static void count(struct play *play, const struct move *move) {
     struct player *player = play->player;
     const struct line *line = &move->line;
-    for (int axis = 0; axis < 3 && move->is_done; axis++) {
+    for (int axis = 0; axis < 3 && move->is_done && !move->is_extra; axis++) {
         player->steps[axis] += line->kind == 'P' ? line->step[axis] : 0;
+    }
+    if (move->is_done && line->kind == 'P') {
+        backlash_take(&player->backlash, player->screws, line, move->is_extra);
     }
     if (move->is_done && line->kind == 'S') {
         player->outputs = line->outputs;
@@ -120,7 +123,7 @@ static void count(struct play *play, const struct move *move) {
     player->is_off = player->is_off && player->lines == move->lines;
     player->lines = move->lines;
     player->bytes = move->bytes;
-    play->counts.pulses += move->is_done && line->kind == 'P';
+    play->counts.pulses += move->is_done && line->kind == 'P' && !move->is_extra;
     play->counts.waits += move->is_done && line->kind == 'D';
     play->counts.switches += move->is_done && line->kind == 'S';
 }
