@@ -150,12 +150,12 @@ static bool is_prepared(struct play *play, const struct line *line) {
 
 /* Makes an extra pulse, which lasts so long. */
 static enum end make_extra(struct play *play, const struct line *line, uint64_t ns, uint64_t ramp) {
-    const struct move move = {true, *line, play->player->lines, play->player->bytes, true};
-    if (!link_is_there()) {
-        return make_move(play, &move, ns);
+    if (link_is_there()) {
+        link_give_extra(line, ns, ramp, !play->is_moving);
+        return AT_OUTS_END;
     }
-    link_give_extra(line, ns, ramp, !play->is_moving);
-    return AT_OUTS_END;
+    const struct move move = {true, *line, play->player->lines, play->player->bytes, true};
+    return make_move(play, &move, ns);
 }
 
 /* Carries out the next line, if one is to be: `is_given` says so. */

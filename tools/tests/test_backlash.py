@@ -1,5 +1,6 @@
 """Backlash of both players: the table is where OUT says, whatever comes between, and the record knows the screws."""
 import random
+import re
 import signal
 import sys
 import time
@@ -14,6 +15,7 @@ from player_support import InC, InProcess, PlayerTest, Sanitized, record  # noqa
 from session_support import FIRST, PATIENCE_S  # noqa: E402
 from sink_support import ServedSink  # noqa: E402
 from test_moves import MACHINE, Moving, program  # noqa: E402
+from test_ramps import COARSE, EXAMPLES  # noqa: E402
 from test_sink_player import disturbed_out  # noqa: E402
 
 from ngc_tools.formats.record import Record  # noqa: E402
@@ -226,7 +228,8 @@ class Same(InC, PlayerTest):
         """Of `out` both make the same pulses, with the same times; returns those."""
         for player, pins in ((self, "c"), (InPython(), "python")):
             Path("position").write_bytes(Record("/before", screws="+ + +").text())
-            Path(f"{pins}.times").unlink(missing_ok=True)
+            for left in (pins, f"{pins}.times"):
+                Path(left).unlink(missing_ok=True)
             done = player.run_player("--no-ask-tool", "--untimed", "--pins", pins, "--machine", "motion.toml",
                                      "--times", f"{pins}.times", "out", "first.toml", "position")
             self.assertEqual(done.returncode, 0, done.stderr)
@@ -239,29 +242,45 @@ class Same(InC, PlayerTest):
         """Streams by chance, which motors start and stop at once at some rates, with backlash by chance."""
         chance = random.Random(1)
         for seed in range(5):
-            backlash = [chance.choice((0, 1, 20, 999)) for _ in range(3)]
+            backlash = [chance.choice((0, 1, 20, 200)) for _ in range(3)]
             Path("motion.toml").write_text("[motion]\naccel_mm_s2 = [500, 400, 300]\nstart_mm_min = [60, 90, 120]\n"
                                            f"[backlash]\nsteps = {backlash}\n")
-            Path("out").write_text(some_lines(seed, 6))
+            Path("out").write_text(some_lines(seed, 5))
             self.check_same(f"{seed}: {backlash}")
-            Path("c").unlink()
-            Path("python").unlink()
+
+    def hand_out(self, program: str) -> None:
+        """Makes `out` of a program, from a fresh device."""
+        for left in ("mill.dev", "out"):
+            Path(left).unlink(missing_ok=True)
+        self.device()
+        self.run_ngc(f"tool 1 50\ntool 2 62.5\ntool 3 0\nload {len(program.encode())}\n{program}start\n"
+                     + "tick 1000000\ncontinue\n" * 3)
+
+    def check_path(self, name: str, backlash: Steps) -> None:
+        """The table makes OUT's path, and no other."""
+        self.assertEqual(path(steps(Path("c").read_text()), Screws(backlash)), told(Path("out").read_text()), name)
+
+    def test_examples(self) -> None:
+        """All examples, with steps of 50 um."""
+        Path("first.toml").write_text(COARSE)
+        Path("motion.toml").write_text("[motion]\naccel_mm_s2 = [500, 500, 500]\n[backlash]\nsteps = [2, 1, 3]\n")
+        for example in EXAMPLES:
+            self.hand_out(example.read_text())
+            self.check_same(example.name)
+            self.check_path(example.name, (2, 1, 3))
 
     def test_motion(self) -> None:
-        """Short lines, small circles and corners: motors can follow all pulses, the extra ones too."""
+        """Short lines, small circles and corners: motors can follow all pulses, the extra ones too, whose times are those
+        that they have as lines of OUT."""
         Path("first.toml").write_text(FIRST.replace("[1000, 1000, 1000]", "[20000, 20000, 20000]"))
-        Path("motion.toml").write_text("[motion]\naccel_mm_s2 = [500, 400, 300]\n[backlash]\nsteps = [3, 2, 5]\n")
+        motion = "[motion]\naccel_mm_s2 = [500, 400, 300]\n"
         for name, program in PROGRAMS.items():
-            Path("mill.dev").unlink(missing_ok=True)
-            Path("out").unlink(missing_ok=True)
-            text = f"G17 G21 G90 G94\nF3000\n{program()}M2\n"
-            self.device()
-            self.run_ngc(f"load {len(text.encode())}\n{text}start\ntick 1000000\n")
+            self.hand_out(f"G17 G21 G90 G94\nF3000\n{program()}M2\n")
+            Path("motion.toml").write_text(motion + "[backlash]\nsteps = [3, 2, 5]\n")
             self.check_same(name)
-            pulses = [line for line in Path("c").read_text().splitlines() if line[0] == "P"]
-            self.assertEqual(path(steps("\n".join(pulses)), Screws((3, 2, 5)))[-1], told(Path("out").read_text())[-1])
-            Path("out").write_text("\n".join(pulses) + "\n")
-            Path("motion.toml").write_text("[motion]\naccel_mm_s2 = [500, 400, 300]\n")
+            self.check_path(name, (3, 2, 5))
+            Path("out").write_text("".join(re.findall("P.*\n", Path("c").read_text())))
+            Path("motion.toml").write_text(motion)
             self.assertLess(excess(self.check_same(name), (25_000, 20_000, 15_000)), 4, name)
 
 
@@ -328,7 +347,7 @@ class WithoutLines(InC, Moving):
         self.assertEqual(self.link.machine().touched, "-8.000000 -7.000000 2.000000")  # 7 mm below where it was homed
 
 
-class OverSink(InC, PlayerTest, unittest.TestCase):
+class OverSink(InC, PlayerTest):
     """Over a step sink, whose count is of lines alone."""
 
     def serve(self, waits_ms: int) -> ServedSink:
