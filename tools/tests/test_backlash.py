@@ -192,7 +192,7 @@ class Turning(PlayerTest):
             self.known(before)
             self.assertEqual(len(self.turned().splitlines()), count + 1, before)
 
-    def told_place(self) -> None:
+    def test_place(self) -> None:
         """`at` leaves the screws of the axes that stay where they were, and no other."""
         Path("out").write_text("")
         child = self.begin("--no-ask-tool", "--pins", "pins", "--machine", "motion.toml", "--follow", "--progress",
@@ -208,13 +208,9 @@ class Turning(PlayerTest):
 class InPython(InProcess, Turning):
     """ngc-player."""
 
-    test_place = Turning.told_place
-
 
 class InCode(InC, Turning):
     """tools/player."""
-
-    test_place = Turning.told_place
 
 
 class SanitizedTurning(Sanitized, Turning):
@@ -224,19 +220,20 @@ class SanitizedTurning(Sanitized, Turning):
 class Same(InC, PlayerTest):
     """Both players side by side."""
 
-    def check_same(self, name: str) -> bytes:
-        """Of `out` both make the same pulses, with the same times; returns those."""
-        for player, pins in ((self, "c"), (InPython(), "python")):
-            Path("position").write_bytes(Record("/before", screws="+ + +").text())
-            for left in (pins, f"{pins}.times"):
-                Path(left).unlink(missing_ok=True)
-            done = player.run_player("--no-ask-tool", "--untimed", "--pins", pins, "--machine", "motion.toml",
-                                     "--times", f"{pins}.times", "out", "first.toml", "position")
-            self.assertEqual(done.returncode, 0, done.stderr)
-        times = Path("c.times").read_bytes()
+    def times(self, player: PlayerTest, pins: str) -> bytes:
+        """Has a player carry out `out`: the times of its lines."""
+        Path("position").write_bytes(Record("/before", screws="+ + +").text())
+        for left in (pins, "times"):
+            Path(left).unlink(missing_ok=True)
+        done = player.run_player("--no-ask-tool", "--untimed", "--pins", pins, "--machine", "motion.toml", "--times",
+                                 "times", "out", "first.toml", "position")
+        self.assertEqual(done.returncode, 0, done.stderr)
+        return Path("times").read_bytes()
+
+    def check_same(self, name: str) -> None:
+        """Of `out` both make the same pulses, with the same times."""
+        self.assertEqual(self.times(self, "c"), self.times(InPython(), "python"), name)
         self.assertEqual(Path("c").read_bytes(), Path("python").read_bytes(), name)
-        self.assertEqual(times, Path("python.times").read_bytes(), name)
-        return times
 
     def test_by_chance(self) -> None:
         """Streams by chance, which motors start and stop at once at some rates, with backlash by chance."""
@@ -281,7 +278,7 @@ class Same(InC, PlayerTest):
             self.check_path(name, (3, 2, 5))
             Path("out").write_text("".join(re.findall("P.*\n", Path("c").read_text())))
             Path("motion.toml").write_text(motion)
-            self.assertLess(excess(self.check_same(name), (25_000, 20_000, 15_000)), 4, name)
+            self.assertLess(excess(self.times(self, "c"), (25_000, 20_000, 15_000)), 4, name)
 
 
 class WithoutLines(InC, Moving):
