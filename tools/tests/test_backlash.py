@@ -150,11 +150,11 @@ class Turning(PlayerTest):
         self.assertEqual(made[-1], (30, 50, -50))
 
     def held_amid(self, number: int) -> tuple[list[str], Record]:
-        """A player that gets a signal amid forty extra steps of Z, which take 0.8 s: the pins, and the record."""
-        Path("out").write_text("P 0 0 1 20000\nP 0 0 -1 20000\n")
+        """A player that gets a signal amid forty extra steps of Z, which take 4 s: the pins, and the record."""
+        Path("out").write_text("P 0 0 1 100000\nP 0 0 -1 100000\n")
         child = self.begin("--no-ask-tool", "--pins", "pins", "--machine", "motion.toml", "out", "first.toml",
                            "position")
-        self.wait_for("it turns", lambda: Path("pins").exists() and len(Path("pins").read_text().splitlines()) > 5)
+        self.wait_for("it turns", lambda: Path("pins").exists() and len(Path("pins").read_text().splitlines()) > 2)
         self.wait_for("the record says so", lambda: "screws + + +" not in record())
         child.send_signal(number)
         child.communicate(timeout=PATIENCE_S)
@@ -168,7 +168,7 @@ class Turning(PlayerTest):
         self.assertTrue(0 < extra < 40, pins)
         self.assertEqual((found.lines, found.at_nm, found.screws), (1, (0, 0, 1000), f"+ + {extra}"))
         pins = self.turned().splitlines()
-        self.assertEqual(pins.count("P 0 0 -1 20000"), 41)
+        self.assertEqual(pins.count("P 0 0 -1 100000"), 41)
         self.assertEqual(record().splitlines()[-1], "screws + + -")
 
     def test_killed(self) -> None:
@@ -403,15 +403,22 @@ class OverSink(InC, PlayerTest):
             sink.tell(f"faults {seed + 1} {chance.choice((0, 5, 30))}")
             lines = [line for _ in range(3) for line in disturbed_out(chance)]
             Path("out").write_text("".join(f"{line}\n" for line in lines))
-            status = 1
-            while status == 1:
-                child = self.begin("--no-ask-tool", "--machine", "motion.toml", "out", "first.toml", "position")
-                time.sleep(chance.uniform(0, 0.08))  # nothing depends on what has happened by then
-                child.send_signal(signal.SIGTERM) if chance.random() < 0.6 else sink.tell("cut 700")
-                said = child.communicate(timeout=PATIENCE_S)[1]
-                status = child.returncode
-            self.assertEqual(status, 0, said)
+            while self.is_disturbed(chance, sink):
+                pass
             self.assertEqual(path(self.made(sink), Screws()), told(Path("out").read_text()), seed)
+            self.assertEqual(record().splitlines()[0], f"lines {len(lines)}")
+
+    def is_disturbed(self, chance: random.Random, sink: ServedSink) -> bool:
+        """Plays on, and disturbs it at most times; whether it ended before OUT did."""
+        child = self.begin("--no-ask-tool", "--machine", "motion.toml", "out", "first.toml", "position")
+        time.sleep(chance.uniform(0, 0.08))  # nothing depends on what has happened by then
+        what = chance.random()
+        if what < 0.4:
+            child.send_signal(signal.SIGTERM)
+        elif what < 0.7:
+            sink.tell("cut 700")
+        child.communicate(timeout=PATIENCE_S)
+        return child.returncode != 0
 
 
 del Turning
