@@ -19,17 +19,17 @@ int backlash_left(const struct backlash *backlash, const int screws[3], int axis
 
 bool backlash_before(const struct backlash *backlash, const int screws[3], const struct line *line,
                      struct line *extra) {
-    bool is_any = false;
+    int axes = 0;
     *extra = *line;
     for (int axis = 0; axis < 3; axis++) {
-        if (backlash_left(backlash, screws, axis, line->step[axis]) == 0) {
+        if (axes == 2 || backlash_left(backlash, screws, axis, line->step[axis]) == 0) {
             extra->step[axis] = 0;
         } else {
-            is_any = true;
+            axes++;
             extra->us = extra->us > backlash->least_us[axis] ? extra->us : backlash->least_us[axis];
         }
     }
-    return is_any;
+    return axes > 0;
 }
 
 /* Where a screw is with so many extra steps up left. */

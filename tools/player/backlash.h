@@ -1,8 +1,8 @@
 /* Backlash: how many steps a screw turns as its axis goes the other way, before the table follows. So many extra steps
  * are made then. They move no table, and are no line's.
  *
- * Where a screw is within its backlash is kept for each axis, so that each extra step counts by itself: a motion may end
- * amid them, and go on either way. */
+ * Where a screw is within its backlash is kept for each axis, so that each extra step counts by itself: a motion may
+ * end amid them, and go on either way. */
 #ifndef BACKLASH_H
 #define BACKLASH_H
 
@@ -28,7 +28,8 @@ struct backlash {
 /* How many extra steps come before a step of an axis that way: none where the screw isn't known. */
 int backlash_left(const struct backlash *backlash, const int screws[3], int axis, int sign);
 
-/* The extra pulse that comes next before a line, if one does: it goes where the line goes, and lasts as long. */
+/* The extra pulse that comes next before a line, if one does: it goes where the line goes, and lasts as long. It is of
+ * two axes at most: Z waits for X and Y. */
 bool backlash_before(const struct backlash *backlash, const int screws[3], const struct line *line,
                      struct line *extra);
 

@@ -23,8 +23,8 @@ struct machine {
 };
 
 /* Reads the tables [motion], in millimetres, which it turns into steps, rounded down, so that nothing is exceeded,
- * [window], [wait], [backlash], [sink], [inputs] and [home]. Other tables are others'. Returns false, with the cause, which names
- * the key. */
+ * [window], [wait], [backlash], [sink], [inputs] and [home]. Other tables are others'. Returns false, with the cause,
+ * which names the key. */
 bool machine_read(const char *path, const int64_t step_nm[3], struct machine *machine, struct cause *why);
 
 #endif

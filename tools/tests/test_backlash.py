@@ -97,11 +97,11 @@ class Turning(PlayerTest):
 
     def test_by_hand(self) -> None:
         """Seven steps of X come before its first one down, each as long as that one, and seven before the next one up.
-        Y and Z are taken up together, as long as both are left."""
+        Two axes are taken up together, as long as both have steps left; Z waits for X and Y."""
         Path("out").write_text("P 1 0 0 90\nP -1 0 0 80\nP 0 0 0 70\nP -1 0 0 60\nP 1 -1 -1 50\n")
         self.assertEqual(self.turned("--times", "times").splitlines(), [
             "P 1 0 0 90", *["P -1 0 0 80"] * 7, "P -1 0 0 80", "P 0 0 0 70", "P -1 0 0 60",
-            "P 1 -1 -1 50", *["P 1 0 -1 50"] * 6, *["P 0 0 -1 50"] * 33, "P 1 -1 -1 50"])
+            "P 1 -1 0 50", *["P 1 0 -1 50"] * 6, *["P 0 0 -1 50"] * 34, "P 1 -1 -1 50"])
         self.assertEqual([line.split(" ", 1)[1] for line in Path("times").read_text().splitlines()],
                          Path("out").read_text().splitlines())
         self.assertEqual(record(), "lines 5\nbytes 59\noutputs S 0 0.000000 0 0 0 0\n"
@@ -267,8 +267,8 @@ class Same(InC, PlayerTest):
             self.check_path(example.name, (2, 1, 3))
 
     def test_motion(self) -> None:
-        """Short lines, small circles and corners: motors can follow all pulses, the extra ones too, whose times are those
-        that they have as lines of OUT."""
+        """Short lines, small circles and corners: motors can follow all pulses, the extra ones too, whose times are
+        those that they have as lines of OUT."""
         Path("first.toml").write_text(FIRST.replace("[1000, 1000, 1000]", "[20000, 20000, 20000]"))
         motion = "[motion]\naccel_mm_s2 = [500, 400, 300]\n"
         for name, program in PROGRAMS.items():
@@ -379,20 +379,25 @@ class OverSink(InC, PlayerTest):
         self.assertIn("\nscrews - - +\n", record())
 
     def test_killed(self) -> None:
-        """A player that is killed amid extra steps and lines: the next one says that the sink may be past the record."""
+        """A player that is killed: the next one counts the lines that the sink made after the record, and the extra
+        steps of an axis are lost at most."""
         sink = self.serve(2)
         sink.tell("tempo 10")
-        Path("out").write_text(("P 1 0 0 50\n" * 300 + "P -1 0 0 50\n" * 300) * 20)
+        Path("out").write_text(("P 1 0 0 50\n" * 300 + "P -1 1 0 50\n" * 300) * 10)
         child = self.begin("--no-ask-tool", "--machine", "motion.toml", "--progress", "progress", "out", "first.toml",
                            "position")
         link = self.linked()
-        self.wait_for("it moves", lambda: link.ask().carried > 400)
+        self.wait_for("it moves", lambda: link.ask().carried > 350)
         child.kill()
         child.communicate(timeout=PATIENCE_S)
         sink.tell("tempo 0")
-        self.assertEqual(self.play_over(), f"{sink.path}: the sink's last player was killed: the motors may be past its"
-                                           " record by what was in hand; measure\n")
-        self.assertEqual(record().splitlines()[0], "lines 12000")
+        self.assertRegex(self.play_over(), "^(out: the sink made [0-9]+ lines after the record of a player that was"
+                                           " killed: they are counted\n)?$")
+        screws = Screws()
+        path(self.made(sink), screws)
+        self.assertEqual(record().splitlines()[0], "lines 6000")
+        self.assertLessEqual(abs(screws.table[0]), STEPS[0])
+        self.assertEqual(screws.table[1:], [3_000, 0])
 
     def test_by_chance(self) -> None:
         """Frames are lost, damaged and doubled, the line is cut and the player is stopped, and starts again: the table

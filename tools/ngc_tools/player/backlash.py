@@ -23,8 +23,8 @@ def as_text(screws: Sequence[int]) -> str:
 
 @dataclass(frozen=True, slots=True)
 class Backlash:
-    """Steps of each axis, 0 for none: then its screw stays unknown. No extra step lasts less than `least_us`, as long as
-    a step of a traverse does."""
+    """Steps of each axis, 0 for none: then its screw stays unknown. No extra step lasts less than `least_us`, as a step
+    of a traverse does."""
 
     steps: Axes = (0, 0, 0)
     least_us: Axes = (0, 0, 0)
@@ -41,13 +41,14 @@ class Backlash:
         return [UNKNOWN if not most else _SCREWS[word] if word in _SCREWS else int(word) for word, most in words]
 
     def before(self, screws: Sequence[int], line: Line) -> Pulse | None:
-        """The extra pulse that comes next before a line, if one does: it goes where the line goes, and lasts as
-        long."""
+        """The extra pulse that comes next before a line, if one does: it goes where the line goes, and lasts as long.
+        It is of two axes at most: Z waits for X and Y."""
         if not isinstance(line, Pulse) or not any(self.steps):
             return None
         step = [each if self._left(screws, axis, each) else 0 for axis, each in enumerate((line.x, line.y, line.z))]
         if not any(step):
             return None
+        step[2] *= not all(step)
         return Pulse(*step, max(line.period_us, *(us for us, each in zip(self.least_us, step) if each)))
 
     def take(self, screws: list[int], line: Line, is_extra: bool = False) -> None:
