@@ -94,7 +94,9 @@ static void stand_at(struct player *player, const int64_t nm[3]) {
     bool is_behind = player->errand.is_there || player->manual.is_there || player->alarm != NO_ALARM
         || (player->source.received != player->lines && !player->is_broken);
     for (int axis = 0; axis < 3 && !is_behind; axis++) {
-        player->steps[axis] = in_steps(nm[axis], player->step_nm[axis]);
+        int64_t steps = in_steps(nm[axis], player->step_nm[axis]);
+        player->screws[axis] = steps == player->steps[axis] ? player->screws[axis] : SCREW_UNKNOWN;
+        player->steps[axis] = steps;
     }
     player_unlock(player);
     if (took) {

@@ -70,8 +70,10 @@ static bool begin_record(struct player *player, const struct options *options, s
     player->outputs = record.outputs;
     outputs_stop(&player->outputs);
     for (int axis = 0; axis < 3; axis++) {
+        bool has_screw = player->backlash.steps[axis] != 0 && !options->has_place;
         int64_t nm = options->has_place ? options->place_nm[axis] : record.nm[axis];
         player->steps[axis] = in_steps(nm, player->step_nm[axis]);
+        player->screws[axis] = has_screw ? record.screws[axis] : SCREW_UNKNOWN;
     }
     return true;
 }
@@ -85,9 +87,15 @@ static bool read_machine(struct player *player, const struct options *options, c
     player->least_us = (uint64_t)settings->period_us;
     player->traverse_nm_per_min = settings->traverse_nm_per_min;
     player->machine = options->machine != NULL ? machine : NULL;
-    return options->machine == NULL
-        || (machine_read(options->machine, settings->step_nm, machine, why)
-            && home_check(&machine->home, settings, options->machine, why));
+    if (options->machine != NULL && (!machine_read(options->machine, settings->step_nm, machine, why)
+                                     || !home_check(&machine->home, settings, options->machine, why))) {
+        return false;
+    }
+    for (int axis = 0; axis < 3; axis++) {
+        player->backlash.steps[axis] = options->machine != NULL ? (int)machine->backlash[axis] : 0;
+        player->backlash.least_us[axis] = player_step_us(player, axis, INT64_MAX);
+    }
+    return true;
 }
 
 /* Of a file nothing is carried out before a console says so: neither lines that the last session left, nor those that

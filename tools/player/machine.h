@@ -1,5 +1,5 @@
-/* How a machine moves: what its motors allow, how many lines a player wants in hand, how long its spindle takes, which
- * inputs it has, and how it is homed. */
+/* How a machine moves: what its motors allow, how many lines a player wants in hand, how long its spindle takes, how
+ * much its screws have of backlash, which inputs it has, and how it is homed. */
 #ifndef MACHINE_H
 #define MACHINE_H
 
@@ -16,14 +16,15 @@ struct machine {
     struct pace_limits limits;
     uint64_t window_lines; /* how many lines a player wants in hand; 0 for as many as are needed */
     int64_t spindle_ns;    /* how long the spindle takes to start, to stop or to turn the other way */
+    int64_t backlash[3];   /* in steps */
     struct sink_settings sink;
     struct inputs inputs;
     struct home home;
 };
 
 /* Reads the tables [motion], in millimetres, which it turns into steps, rounded down, so that nothing is exceeded,
- * [window], [wait], [sink], [inputs] and [home]. Other tables are others'. Returns false, with the cause, which names
- * the key. */
+ * [window], [wait], [backlash], [sink], [inputs] and [home]. Other tables are others'. Returns false, with the cause,
+ * which names the key. */
 bool machine_read(const char *path, const int64_t step_nm[3], struct machine *machine, struct cause *why);
 
 #endif

@@ -2,6 +2,7 @@
 #define _GNU_SOURCE
 #include <poll.h>
 #include <stdatomic.h>
+#include <string.h>
 #include <sys/eventfd.h>
 
 #include "pace.h"
@@ -16,7 +17,7 @@ enum {
     STARVES_NS = 30000000 /* after so long at rest with nothing new, what is known is carried out to its end */
 };
 
-/* A line that is known, as it stands in OUT. */
+/* A line that is known, as it stands in OUT; of an extra pulse, which takes up backlash, no byte does. */
 struct ahead {
     struct line line;
     size_t size;
@@ -26,6 +27,9 @@ struct ahead {
 static struct pace pace;
 static struct window window;
 static struct ahead lines[PACE_ROOM];
+static int screws[3];       /* as they are behind what is known */
+static struct ahead newest; /* the line after it .. */
+static bool has_newest;     /* .. where it waits for extra pulses */
 
 static bool is_all;      /* no more lines come: a file's end, or a line that isn't one .. */
 static bool is_bad;      /* .. which it is .. */
@@ -45,34 +49,60 @@ static void end_here(void) {
     ended = pace.known;
 }
 
-/* Takes a line that stands in OUT; false if none does. */
-static bool read_one(struct play *play) {
-    struct ahead *ahead = line_at(pace.known);
-    if (!take_line(play, ahead->text, &ahead->size)) {
+/* How many lines of OUT have left the pacer: all that are carried out, or were given to a sink. */
+static uint64_t lines_given(const struct play *play) {
+    return link_is_there() ? link_lines() : play->player->lines;
+}
+
+/* Where all that was read is carried out the screws are as the player has them. */
+static void look_at_screws(struct play *play) {
+    struct player *player = play->player;
+    if (pace.first < pace.known) {
+        return;
+    }
+    player_lock(player);
+    if (lines_given(play) == player->lines) {
+        memcpy(screws, player->screws, sizeof screws);
+    }
+    player_unlock(player);
+}
+
+/* Takes a line that stands in OUT; false if none does, and for one that isn't a line. */
+static bool read_newest(struct play *play) {
+    if (!take_line(play, newest.text, &newest.size)) {
         return false;
     }
-    size_t length = ahead->size - (ahead->text[ahead->size - 1] == '\n');
+    size_t length = newest.size - (newest.text[newest.size - 1] == '\n');
     newest_at = schedule_now();
     play->left_at = 0;
     play->counts.dry += is_dry;
     is_on_path = is_on_path && !is_dry; /* counted once */
     is_dry = false;
-    is_bad = !line_read(ahead->text, length, play->least_us, &ahead->line, &bad);
-    if (!is_bad) {
-        pace_push(&pace, &ahead->line);
-        window_take(&window, &ahead->line);
-    }
+    is_bad = !line_read(newest.text, length, play->least_us, &newest.line, &bad);
+    look_at_screws(play);
     return !is_bad;
+}
+
+/* Takes the next line, or an extra pulse that comes before it; false if no line stands in OUT. */
+static bool read_one(struct play *play) {
+    const struct backlash *backlash = &play->player->backlash;
+    struct ahead *ahead = line_at(pace.known);
+    if (!has_newest && !read_newest(play)) {
+        return false;
+    }
+    has_newest = backlash_before(backlash, screws, &newest.line, &ahead->line);
+    ahead->size = has_newest ? 0 : newest.size;
+    ahead->line = has_newest ? ahead->line : newest.line;
+    memcpy(ahead->text, newest.text, ahead->size);
+    backlash_take(backlash, screws, &ahead->line, has_newest);
+    pace_push(&pace, &ahead->line);
+    window_take(&window, &ahead->line);
+    return true;
 }
 
 /* Whether one more line may be known. */
 static bool has_room(void) {
     return link_is_there() ? pace.known - pace.first < LINK_LINES : !pace_is_full(&pace);
-}
-
-/* How many lines of OUT have left the pacer: all that are carried out, or were given to a sink. */
-static uint64_t lines_given(const struct play *play) {
-    return link_is_there() ? link_lines() : play->player->lines;
 }
 
 /* How many lines are wanted in hand: those that a sink has come before those of the pacer. */
@@ -96,7 +126,7 @@ static void read_ahead(struct play *play, int most) {
         is_all = true;
         end_here();
     }
-    if (play->player->source.taken == atomic_load(&play->player->last)) {
+    if (!has_newest && play->player->source.taken == atomic_load(&play->player->last)) {
         end_here();
         is_dry = false;
     }
@@ -118,6 +148,16 @@ static bool is_prepared(struct play *play, const struct line *line) {
     return (!may_ask || sink_await_rest(play)) && is_tool_in(play, line);
 }
 
+/* Makes an extra pulse, which lasts so long. */
+static enum end make_extra(struct play *play, const struct line *line, uint64_t ns, uint64_t ramp) {
+    if (link_is_there()) {
+        link_give_extra(line, ns, ramp, !play->is_moving);
+        return AT_OUTS_END;
+    }
+    const struct move move = {true, *line, play->player->lines, play->player->bytes, true};
+    return make_move(play, &move, ns);
+}
+
 /* Carries out the next line, if one is to be: `is_given` says so. */
 static enum end carry_out_next(struct play *play, bool *is_given) {
     const struct ahead *ahead = line_at(pace.first);
@@ -135,6 +175,9 @@ static enum end carry_out_next(struct play *play, bool *is_given) {
     is_on_path = ahead->line.kind == 'P' && pace.first != ended;
     play->is_moving = pace.square != 0;
     window_leave(&window, pace.first);
+    if (ahead->size == 0) {
+        return make_extra(play, &ahead->line, ns, ramp);
+    }
     return link_is_there() ? sink_carry_out(play, &ahead->line, ahead->text, ahead->size, ns, ramp)
                            : carry_out(play, &ahead->line, ahead->text, ahead->size, ns);
 }
@@ -183,7 +226,7 @@ static enum end await_lines(struct play *play, bool *is_over) {
 }
 
 void begin_paced(struct play *play) {
-    is_all = is_bad = is_on_path = is_dry = false;
+    is_all = is_bad = is_on_path = is_dry = has_newest = false;
     ended = 0;
     pace_begin(&pace, &play->machine.limits);
     window_begin(&window, &play->machine.limits, play->machine.window_lines);

@@ -23,6 +23,7 @@ static void count(struct play *play, const struct line *line, size_t size) {
     for (int axis = 0; axis < 3; axis++) {
         play->player->steps[axis] += line->step[axis];
     }
+    backlash_take(&play->player->backlash, play->player->screws, line, false);
     if (line->kind == 'S') {
         play->player->outputs = line->outputs;
     }

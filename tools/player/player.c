@@ -31,6 +31,7 @@ void player_record(struct player *player, struct record *record) {
     record->bytes = player->bytes;
     record->outputs = player->outputs;
     player_place(player, record->nm);
+    memcpy(record->screws, player->screws, sizeof record->screws);
     for (int axis = 0; axis < 3; axis++) {
         record->homed[strlen(record->homed)] = player->homed >> axis & 1 ? "XYZ"[axis] : '\0';
     }
@@ -74,6 +75,13 @@ int64_t in_steps(int64_t nm, int64_t step_nm) {
     return nm < 0 ? -steps : steps;
 }
 
+uint64_t player_step_us(const struct player *player, int axis, int64_t nm_per_min) {
+    int64_t most = player->traverse_nm_per_min;
+    uint64_t rate = (uint64_t)(nm_per_min < most ? nm_per_min : most);
+    uint64_t us = ((uint64_t)player->step_nm[axis] * 60000000 + rate - 1) / rate;
+    return us > player->least_us ? us : player->least_us;
+}
+
 void player_kept(struct player *player, const struct record *record, int error) {
     player_lock(player);
     if (error == 0) {
@@ -84,7 +92,8 @@ void player_kept(struct player *player, const struct record *record, int error) 
 
 /* Whether lines were carried out, or motors moved, since the record on the disk. */
 static bool is_newer(const struct record *record, const struct record *kept) {
-    return record->bytes != kept->bytes || memcmp(record->nm, kept->nm, sizeof record->nm) != 0;
+    return record->bytes != kept->bytes || memcmp(record->nm, kept->nm, sizeof record->nm) != 0
+        || memcmp(record->screws, kept->screws, sizeof record->screws) != 0;
 }
 
 /* Writes what stands. */

@@ -9,6 +9,7 @@
 #include <stdint.h>
 
 #include "alarm.h"
+#include "backlash.h"
 #include "cause.h"
 #include "errand.h"
 #include "keeper.h"
@@ -28,6 +29,7 @@ struct player {
     int64_t low_nm[3]; /* the travel */
     int64_t high_nm[3];
     const struct machine *machine; /* NULL without --machine */
+    struct backlash backlash;      /* none without it */
     int most_percent; /* how much `percent` may be; 0 where there are no ramps */
     struct keeper keeper;
     int socket; /* -1 where nobody can ask */
@@ -39,6 +41,7 @@ struct player {
     uint64_t lines;
     uint64_t bytes;
     int64_t steps[3];
+    int screws[3]; /* as backlash.h has them */
     struct outputs outputs;
     const char *stopped; /* what ended it before OUT's end, in a word; "" */
     struct errand errand;
@@ -88,6 +91,9 @@ void player_doing(struct player *player, char *text, size_t room);
 
 /* A length in whole steps, half a step away from zero. */
 int64_t in_steps(int64_t nm, int64_t step_nm);
+
+/* How many microseconds a step of an axis takes at such a rate, rounded up: none is above that of traverses. */
+uint64_t player_step_us(const struct player *player, int axis, int64_t nm_per_min);
 
 /* The socket of --progress. Returns false, with the cause. */
 bool answers_open(struct player *player, const char *path, struct cause *why);

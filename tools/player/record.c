@@ -22,6 +22,7 @@ void record_print(const struct record *record, char text[RECORD_SIZE]) {
     char outputs[OUTPUTS_ROOM];
     char place[PLACE_ROOM];
     char mark[80] = "";
+    char screws[32] = "";
     char age[32] = "";
     char homed[16] = "";
     char stopped[32] = "";
@@ -31,6 +32,7 @@ void record_print(const struct record *record, char text[RECORD_SIZE]) {
         snprintf(mark, sizeof mark, "file %" PRIu64 " %" PRIu64 " %08" PRIx32 "\n", record->mark.inode,
                  record->mark.born_ns, record->mark.digest);
     }
+    screws_print(screws, sizeof screws, record->screws);
     if (record->age_ms != 0) {
         snprintf(age, sizeof age, "age %u\n", record->age_ms);
     }
@@ -42,8 +44,8 @@ void record_print(const struct record *record, char text[RECORD_SIZE]) {
     }
     char whole[RECORD_SIZE];
     int size = snprintf(whole, sizeof whole, "out %s\nlines %" PRIu64 "\nbytes %" PRIu64 "\noutputs %s\nreference %s\n"
-                        "%s%s%s%s%s", record->out, record->lines, record->bytes, outputs, place, mark, age, homed,
-                        record->is_off ? "off\n" : "", stopped);
+                        "%s%s%s%s%s%s", record->out, record->lines, record->bytes, outputs, place, mark, screws, age,
+                        homed, record->is_off ? "off\n" : "", stopped);
     memset(text, ' ', RECORD_SIZE);
     memcpy(text, whole, size < RECORD_SIZE ? (size_t)size : RECORD_SIZE - 1);
     text[RECORD_SIZE - 1] = '\n';
@@ -177,6 +179,10 @@ static int read_rest(struct scan text, struct record *record) {
     int number = 6;
     bool is_line = next_line(&text, &line);
     if (is_line && read_mark(line, &record->mark)) {
+        is_line = next_line(&text, &line);
+        number++;
+    }
+    if (is_line && screws_read(line, record->screws)) {
         is_line = next_line(&text, &line);
         number++;
     }

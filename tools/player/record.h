@@ -6,13 +6,14 @@
 #include <stddef.h>
 #include <stdint.h>
 
+#include "backlash.h"
 #include "cause.h"
 #include "line.h"
 #include "place.h"
 
 enum {
     RECORD_SIZE = 512,  /* a disk writes them whole or not at all */
-    LONGEST_PATH = 255, /* with it counts of fifteen digits have room, and all else at its greatest */
+    LONGEST_PATH = 236, /* with it counts of fifteen digits have room, and all else at its greatest */
     OLDEST_MS = 9999    /* as an age is written */
 };
 
@@ -31,6 +32,7 @@ struct record {
     struct outputs outputs;
     int64_t nm[3]; /* where the machine stands */
     struct file_mark mark;
+    int screws[3];    /* where those of X, Y and Z are within their backlash */
     unsigned age_ms;  /* how old a record on the disk ever was as the next one came; 0 where that isn't known */
     char homed[4];    /* the axes that were homed since the player began, as "XYZ" */
     bool is_off;      /* the motors left the path of OUT by a move without lines */

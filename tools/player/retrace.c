@@ -19,6 +19,10 @@ static struct pace pace;
 static struct move ahead[PACE_ROOM];
 static uint64_t first_ahead; /* what is known, and isn't made .. */
 static uint64_t end_ahead;   /* .. up to here */
+static struct move last;     /* of what is known .. */
+static int screws[3];        /* .. as they are behind it */
+static struct move next;     /* the move after it .. */
+static bool has_next;        /* .. where it waits for extra steps */
 
 void legs_look(struct play *play, struct way_sum *sum) {
     struct move move;
@@ -44,11 +48,14 @@ enum end make_move(struct play *play, const struct move *move, uint64_t lasts_ns
             because(&play->why, "the pins: %s", strerror(error));
             return FAILED;
         }
-        play->counts.pulses++;
+        play->counts.pulses += !move->is_extra;
     }
     player_lock(player);
-    for (int axis = 0; axis < 3 && move->is_done; axis++) {
+    for (int axis = 0; axis < 3 && move->is_done && !move->is_extra; axis++) {
         player->steps[axis] += step[axis];
+    }
+    if (move->is_done) {
+        backlash_take(&player->backlash, player->screws, &move->line, move->is_extra);
     }
     player->lines = move->lines;
     player->bytes = move->bytes;
@@ -95,12 +102,29 @@ static enum end go_unpaced(struct play *play) {
     return step == NO_LINE ? stop_at_line(play, &what) : AT_OUTS_END;
 }
 
+/* The next move, or an extra pulse that comes before it, with the counts of the move before. */
+static enum step next_move(const struct play *play, struct move *move, struct cause *what) {
+    const struct backlash *backlash = &play->player->backlash;
+    struct line extra;
+    enum step step = has_next ? MOVE : moves_next(&moves, &next, what);
+    if (step != MOVE) {
+        return step;
+    }
+    has_next = next.is_done && backlash_before(backlash, screws, &next.line, &extra);
+    last = has_next ? (struct move){true, extra, last.lines, last.bytes, true} : next;
+    if (last.is_done) {
+        backlash_take(backlash, screws, &last.line, last.is_extra);
+    }
+    *move = last;
+    return step;
+}
+
 /* Takes moves into the window, as long as it has room; `is_all` says that there are no more. */
-static enum step take(bool *is_all, struct cause *what) {
+static enum step take(const struct play *play, bool *is_all, struct cause *what) {
     enum step step = MOVE;
     while (!*is_all && step == MOVE && end_ahead - first_ahead < PACE_ROOM && !pace_is_full(&pace)) {
         struct move *move = &ahead[end_ahead % PACE_ROOM];
-        step = moves_next(&moves, move, what);
+        step = next_move(play, move, what);
         if (step == NO_MORE) {
             *is_all = true;
             pace_end(&pace);
@@ -114,17 +138,28 @@ static enum step take(bool *is_all, struct cause *what) {
     return step;
 }
 
+/* The motors stand, and nothing is known. */
+static void begin_screws(struct player *player) {
+    player_lock(player);
+    memcpy(screws, player->screws, sizeof screws);
+    last.lines = player->lines;
+    last.bytes = player->bytes;
+    player_unlock(player);
+    has_next = false;
+}
+
 static enum end go_paced(struct play *play) {
     bool is_all = false;
     struct cause what;
     pace_begin(&pace, &play->machine.limits);
     first_ahead = end_ahead = 0;
+    begin_screws(play->player);
     while (!is_all || first_ahead < end_ahead) {
         uint64_t ns = 0;
         if (!is_ready(play)) {
             return STOPPED;
         }
-        if (take(&is_all, &what) == NO_LINE) {
+        if (take(play, &is_all, &what) == NO_LINE) {
             return stop_at_line(play, &what);
         }
         if (!play->is_moving) {
@@ -158,7 +193,7 @@ static enum end go_paced(struct play *play) {
 
 /* Sets outputs over a sink, and waits for the spindle. */
 static enum end switch_sink_on(struct play *play, const struct line *line, const struct outputs *before) {
-    const struct move move = {true, *line, play->player->lines, play->player->bytes};
+    const struct move move = {true, *line, play->player->lines, play->player->bytes, false};
     bool turns = line->outputs.spindle != before->spindle;
     if (!sink_await_room(play)) {
         return STOPPED;

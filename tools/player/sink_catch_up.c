@@ -18,6 +18,9 @@ static bool count_to(struct play *play, uint64_t to) {
         for (int axis = 0; axis < 3 && move.line.kind == 'P' && !play->options->has_place; axis++) {
             player->steps[axis] += move.line.step[axis];
         }
+        if (!play->options->has_place) {
+            backlash_take(&player->backlash, player->screws, &move.line, false);
+        }
         if (move.line.kind == 'S') {
             player->outputs = move.line.outputs;
         }

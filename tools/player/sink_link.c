@@ -131,8 +131,13 @@ void link_give(const struct move *move, uint64_t ns, uint64_t ramp, bool is_rest
 }
 
 void link_give_line(const struct line *of, size_t size, uint64_t ns, uint64_t ramp, bool is_rest) {
-    struct move move = {true, *of, shared->words.lines + 1, shared->words.bytes + size};
+    struct move move = {true, *of, shared->words.lines + 1, shared->words.bytes + size, false};
     give(&move, ns, ramp, is_rest, true);
+}
+
+void link_give_extra(const struct line *of, uint64_t ns, uint64_t ramp, bool is_rest) {
+    struct move move = {true, *of, shared->words.lines, shared->words.bytes, true};
+    give(&move, ns, ramp, is_rest, false);
 }
 
 struct outputs link_outputs(void) {

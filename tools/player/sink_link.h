@@ -53,6 +53,9 @@ void link_give(const struct move *move, uint64_t ns, uint64_t ramp, bool is_rest
 /* Gives the next line of OUT, which has so many bytes. */
 void link_give_line(const struct line *line, size_t size, uint64_t ns, uint64_t ramp, bool is_rest);
 
+/* Gives an extra pulse, which is no line of OUT. */
+void link_give_extra(const struct line *line, uint64_t ns, uint64_t ramp, bool is_rest);
+
 /* The outputs, and how many lines of OUT, as they will be once all that was given is made. */
 struct outputs link_outputs(void);
 uint64_t link_lines(void);

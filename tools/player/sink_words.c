@@ -47,22 +47,25 @@ static uint8_t slope_of(uint64_t ramp) {
     return wire_slope_byte((squares << 24) / 244140625 / 8 * 7);
 }
 
-static uint8_t bits_of(const struct line *line, bool is_rest) {
+/* An extra pulse, which never steps all axes, is known by those that it doesn't step. */
+static uint8_t bits_of(const struct move *move, bool is_rest) {
     uint8_t bits = is_rest ? WORD_REST : 0;
-    for (int axis = 0; axis < 3 && line->kind == 'P'; axis++) {
-        bits = (uint8_t)(bits | (line->step[axis] != 0) << axis | (line->step[axis] < 0) << (axis + 3));
+    for (int axis = 0; axis < 3 && move->line.kind == 'P'; axis++) {
+        int step = move->line.step[axis];
+        bool is_down = step < 0 || (step == 0 && move->is_extra);
+        bits = (uint8_t)(bits | (step != 0) << axis | is_down << (axis + 3));
     }
     return bits;
 }
 
 /* A step, or a wait, which begins with a word and goes on by words_top_up where it is long. */
-static void give_timed(struct words *words, struct sender *sender, const struct line *line, uint64_t ticks,
+static void give_timed(struct words *words, struct sender *sender, const struct move *move, uint64_t ticks,
                        uint64_t ramp, bool is_rest, bool is_line) {
     bool is_long = ticks > MOST_STEP_TICKS;
-    bool is_end = is_rest || is_long || line->kind == 'D';
+    bool is_end = is_rest || is_long || move->line.kind == 'D';
     uint8_t slope = slope_of(ramp < words->last_ramp ? ramp : words->last_ramp);
     slope = is_line ? slope | WIRE_LINE_BIT : slope;
-    sender_give(sender, (uint32_t)(is_long ? PIECE_TICKS : ticks), slope, bits_of(line, is_end));
+    sender_give(sender, (uint32_t)(is_long ? PIECE_TICKS : ticks), slope, bits_of(move, is_end));
     words->left_ticks = is_long ? ticks - PIECE_TICKS : 0;
     words->last_ramp = is_end ? UINT64_MAX : ramp;
 }
@@ -82,7 +85,7 @@ void words_give(struct words *words, struct sender *sender, const struct move *m
         made_after += 2;
         words->left_ticks = ns > 0 ? in_ticks(words, ns) : 0;
     } else if (move->is_done) {
-        give_timed(words, sender, &move->line, in_ticks(words, ns), ramp, is_rest, is_line);
+        give_timed(words, sender, move, in_ticks(words, ns), ramp, is_rest, is_line);
         made_after += 1;
     }
     words->moves[words->end % SENDER_ROOM] = (struct given){made_after, *move};
@@ -111,8 +114,11 @@ void words_switch_off(struct words *words, struct sender *sender) {
 static void count(struct play *play, const struct move *move) {
     struct player *player = play->player;
     const struct line *line = &move->line;
-    for (int axis = 0; axis < 3 && move->is_done; axis++) {
+    for (int axis = 0; axis < 3 && move->is_done && !move->is_extra; axis++) {
         player->steps[axis] += line->kind == 'P' ? line->step[axis] : 0;
+    }
+    if (move->is_done && line->kind == 'P') {
+        backlash_take(&player->backlash, player->screws, line, move->is_extra);
     }
     if (move->is_done && line->kind == 'S') {
         player->outputs = line->outputs;
@@ -120,7 +126,7 @@ static void count(struct play *play, const struct move *move) {
     player->is_off = player->is_off && player->lines == move->lines;
     player->lines = move->lines;
     player->bytes = move->bytes;
-    play->counts.pulses += move->is_done && line->kind == 'P';
+    play->counts.pulses += move->is_done && line->kind == 'P' && !move->is_extra;
     play->counts.waits += move->is_done && line->kind == 'D';
     play->counts.switches += move->is_done && line->kind == 'S';
 }

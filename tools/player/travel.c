@@ -6,33 +6,26 @@
 #include "waits.h"
 
 static struct pace pace;
-
-/* How long a pulse lasts at such a rate, rounded up: no rate is above that of traverses. */
-static uint64_t microseconds(const struct play *play, const struct travel *travel) {
-    const struct player *player = play->player;
-    int64_t most = player->traverse_nm_per_min;
-    uint64_t rate = (uint64_t)(travel->nm_per_min < most ? travel->nm_per_min : most);
-    uint64_t us = ((uint64_t)player->step_nm[travel->axis] * 60000000 + rate - 1) / rate;
-    return us > play->least_us ? us : play->least_us;
-}
+static uint64_t extra; /* so many pulses first take up the backlash */
 
 /* Tells the pacer of as many pulses as it may know; returns how many it was told of so far. */
 static int64_t push(const struct travel *travel, const struct line *pulse, int64_t pushed, uint64_t room) {
-    while (pushed < travel->pulses && pace.known - pace.first < room) {
+    int64_t end = travel->pulses + (int64_t)extra;
+    while (pushed < end && pace.known - pace.first < room) {
         pace_push(&pace, pulse);
         pushed++;
-        if (pushed == travel->pulses) {
+        if (pushed == end) {
             pace_end(&pace);
         }
     }
     return pushed;
 }
 
-/* A pulse that counts for no line. */
+/* The next pulse, which counts for no line. */
 static struct move as_move(struct play *play, const struct line *pulse) {
     struct player *player = play->player;
     player_lock(player);
-    const struct move move = {true, *pulse, player->lines, player->bytes};
+    const struct move move = {true, *pulse, player->lines, player->bytes, pace.first < extra};
     player_unlock(player);
     return move;
 }
@@ -48,11 +41,11 @@ static enum end go_by_pins(struct play *play, const struct travel *travel, const
         }
         pushed = push(travel, pulse, pushed, PACE_ROOM);
         goes_on = goes_on && travel->goes_on(play, travel->context);
+        const struct move move = as_move(play, pulse);
         if (!pace_next(&pace, goes_on ? UINT64_MAX : 0, &ns)) {
             return AT_OUTS_END;
         }
         play->is_moving = pace.square != 0;
-        const struct move move = as_move(play, pulse);
         if (make_move(play, &move, ns) == FAILED) {
             return FAILED;
         }
@@ -97,13 +90,15 @@ static enum end go_by_sink(struct play *play, const struct travel *travel, const
 }
 
 enum end travel(struct play *play, const struct travel *travel) {
-    struct line pulse = {.kind = 'P', .us = microseconds(play, travel)};
+    struct player *player = play->player;
+    struct line pulse = {.kind = 'P', .us = player_step_us(player, travel->axis, travel->nm_per_min)};
     pulse.step[travel->axis] = travel->sign;
     pace_begin(&pace, &play->machine.limits);
     schedule_pause(&play->schedule);
-    player_lock(play->player);
-    manual_leave_path(play->player);
-    player_unlock(play->player);
+    player_lock(player);
+    manual_leave_path(player);
+    extra = (uint64_t)backlash_left(&player->backlash, player->screws, travel->axis, travel->sign);
+    player_unlock(player);
     enum end end = link_is_there() ? go_by_sink(play, travel, &pulse) : go_by_pins(play, travel, &pulse);
     play->is_moving = play->is_moving && end != AT_OUTS_END;
     return end == AT_OUTS_END && has_to_stop(play) ? STOPPED : end; /* looks at the inputs where it stands */

@@ -88,6 +88,7 @@ static enum step next_on(struct way *way, struct move *move, struct cause *why) 
         return NO_LINE;
     }
     move->is_done = true;
+    move->is_extra = false;
     move->lines = way->lines;
     move->bytes = way->bytes;
     return MOVE;
@@ -102,6 +103,7 @@ static bool read_back(struct way *way, struct move *move, struct cause *why) {
         move->line.step[axis] = -move->line.step[axis];
     }
     move->is_done = move->line.kind == 'P';
+    move->is_extra = false;
     move->lines = way->lines;
     move->bytes = way->bytes;
     return true;

@@ -15,6 +15,7 @@ struct move {
     struct line line;
     uint64_t lines;
     uint64_t bytes;
+    bool is_extra; /* it takes up backlash: a pulse that moves no table, with the counts of before */
 };
 
 /* What is left of a way: from behind so many lines and bytes of OUT to behind its first `to` bytes. */

@@ -141,12 +141,12 @@ static void make_step(struct sink *sink, uint32_t value, uint8_t bits) {
     sink->lasted = sink->left;
 }
 
-/* Counts a line, and notes steps and outputs that are no line's. */
+/* Counts a line, and notes steps and outputs that are no line's, but for extra steps. */
 static void count_line(struct sink *sink, uint32_t value, uint8_t bits) {
     bool is_line = wire_is_line(value, bits);
     bool is_deed = (bits & ((bits & WORD_OUTPUT) != 0 ? WORD_SWITCH : WORD_STEPS)) != 0;
     sink->lines = sink->lines + is_line;
-    sink->is_beside = sink->is_beside || (is_deed && !is_line);
+    sink->is_beside = sink->is_beside || (is_deed && !is_line && !wire_is_extra(bits));
 }
 
 /* Makes the word at the FIFO's front. */

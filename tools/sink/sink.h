@@ -53,7 +53,7 @@ struct sink {
     volatile uint32_t made;
     volatile uint32_t touched;
     volatile uint32_t lines;   /* that were made in this session */
-    volatile bool is_beside;   /* it made something else than lines too */
+    volatile bool is_beside;   /* it made something else than lines and extra steps too */
     volatile uint8_t state; /* enum sink_state */
     volatile uint8_t fault; /* enum sink_fault */
     volatile uint8_t asked; /* a fault that is to be stopped for */

@@ -134,6 +134,11 @@ bool wire_is_line(uint32_t value, uint8_t bits) {
     return (bits & WORD_OUTPUT) != 0 ? (bits & WORD_LINE) != 0 : (value >> 24 & WIRE_LINE_BIT) != 0;
 }
 
+bool wire_is_extra(uint8_t bits) {
+    unsigned steps = bits & WORD_STEPS;
+    return (bits & WORD_OUTPUT) == 0 && steps != 0 && ((unsigned)(bits & WORD_DOWN) >> 3 & ~steps) != 0;
+}
+
 uint32_t wire_slope_of(uint8_t byte) {
     return (uint32_t)(8 | (byte & 7)) << (byte >> 3);
 }

@@ -29,7 +29,7 @@ enum {
 /* The last byte of a word. */
 enum {
     WORD_STEPS = 0x07,  /* a step of X (bit 0), Y and Z .. */
-    WORD_DOWN = 0x38,   /* .. which counts down: X (bit 3), Y and Z */
+    WORD_DOWN = 0x38,   /* .. which counts down: X (bit 3), Y and Z. Of an axis without a step: the steps are extra */
     WORD_REST = 0x40,   /* the motors stand once this word's step is made: it may be the last one for any time */
     WORD_OUTPUT = 0x80, /* not a step: 32 bits in the place of ticks and slope are of the outputs .. */
     WORD_SWITCH = 0x01, /* .. the switches, which take effect now; else the low bits of the speed for the next ones */
@@ -87,7 +87,7 @@ struct sink_answer {
     uint32_t token;   /* of the sender that began the session */
     uint32_t touched; /* words that were made when an input of `halts` came on; 0 before */
     uint16_t dry;     /* how often it came to rest in the midst of a path, as it had no more words; counts on */
-    uint64_t mark;    /* as the session's begin had it; WIRE_NO_MARK once steps or outputs were made beside lines */
+    uint64_t mark;    /* as the session's begin had it; WIRE_NO_MARK once more than lines and extra steps was made */
     uint32_t lines;   /* that were made in this session */
 };
 
@@ -129,6 +129,9 @@ uint32_t wire_slope(uint32_t value);
 
 /* Whether a line of the sender's is made with a word. */
 bool wire_is_line(uint32_t value, uint8_t bits);
+
+/* Whether a word is of extra steps, by which the sender takes up backlash between lines. */
+bool wire_is_extra(uint8_t bits);
 
 /* The slope of a byte: the square of the rate may change by so much from one word to the next. A square is 1 where
  * words come each 2^21 ticks, and 2^42 over the square of the ticks else. */

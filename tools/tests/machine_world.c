@@ -33,8 +33,10 @@ struct world {
     uint64_t speed_high; /* high while the spindle turns */
     uint64_t error;      /* of the inputs */
     uint64_t chance;
-    int64_t place[3];    /* where the motors are, in steps of the world's own */
+    int64_t place[3];    /* where the table is, in steps of the world's own */
     struct toggle toggles[SWITCHES];
+    int64_t backlash[3]; /* so many steps a screw turns before the table follows .. */
+    int64_t turned_up[3]; /* .. of which so many were turned up */
 };
 
 static volatile struct world *world;
@@ -52,6 +54,14 @@ bool pins_begin(const char *path, const char *const *others, struct cause *why) 
     return true;
 }
 
+/* Turns a screw by a step. */
+static void turn(int axis, int step) {
+    int64_t up = world->turned_up[axis] + step;
+    bool does_follow = up < 0 || up > world->backlash[axis];
+    world->place[axis] += does_follow ? step : 0;
+    world->turned_up[axis] += does_follow ? 0 : step;
+}
+
 int pins_set(const struct line *line, const char *text, size_t size) {
     (void)text;
     (void)size;
@@ -59,7 +69,7 @@ int pins_set(const struct line *line, const char *text, size_t size) {
         world->is_on = outputs_are_on(&line->outputs);
     }
     for (int axis = 0; axis < 3 && line->kind == 'P'; axis++) {
-        world->place[axis] += line->step[axis];
+        turn(axis, line->step[axis]);
     }
     world->pulses += line->kind == 'P';
     return 0;

@@ -419,7 +419,9 @@ static void check_lines(const struct sink_answer *said) {
         bool is_output = (plan[at].bits & WORD_OUTPUT) != 0;
         bool is_line = is_output ? (plan[at].bits & WORD_LINE) != 0 : plan[at].value >> 31 != 0;
         lines += is_line;
-        is_beside = is_beside || (!is_line && (plan[at].bits & (is_output ? WORD_SWITCH : WORD_STEPS)) != 0);
+        bool is_extra = !is_output && (plan[at].bits >> 3 & 7 & ~plan[at].bits) != 0; /* down without a step */
+        bool is_deed = (plan[at].bits & (is_output ? WORD_SWITCH : WORD_STEPS)) != 0;
+        is_beside = is_beside || (!is_line && is_deed && !is_extra);
     }
     if (said->lines != lines || said->mark != (is_beside ? WIRE_NO_MARK : mark_of_session)) {
         give_up("it says %" PRIu32 " lines by mark %" PRIu64 ", and made %" PRIu32, said->lines, said->mark, lines);

@@ -80,7 +80,8 @@ class Report(MachineTest):
         """In mm: from 50 mm/s at 500 mm/s2 a stop takes 50^2 / 1000 = 2.5 mm, 1,000 steps of 0.0025 mm; from 25 mm/s at
         300 mm/s2 1.0417 mm, 417 steps. In hand are wanted 3 / 5 v^2 / a + v / 50 + 360 lines."""
         Path("motion.toml").write_text("[motion]\naccel_mm_s2 = [500, 500, 300]\nrate_mm_min = [3000, 0, 1500]\n"
-                                       "start_mm_min = [60, 0, 0]\n[window]\nlines = 2000\n[wait]\nspindle_s = 4\n")
+                                       "start_mm_min = [60, 0, 0]\n[window]\nlines = 2000\n[wait]\nspindle_s = 4\n"
+                                       "[backlash]\nsteps = [20, 0, 3]\n")
         status, said, wrong = self.check("--settings-only")
         self.assertEqual((status, wrong), (0, ""))
         self.assertEqual(said.partition("motion.toml:\n")[2], """\
@@ -90,6 +91,7 @@ class Report(MachineTest):
     slack     X 0.005   Y 0.005   Z 0.005 mm
     window    2,000 lines
     wait      4 s for the spindle
+    backlash  X 0.05   Y 0   Z 0.0075 mm, in no time with ramps
     X Y       a traverse of 3,000 mm/min at 500 mm/s2 takes 2.5 mm, 1,000 lines, to stop; 1,960 are wanted in hand
     Z         a traverse of 1,500 mm/min at 300 mm/s2 takes 1.042 mm, 417 lines, to stop; 1,060 are wanted in hand
 motion.toml: warning: a traverse of 3,000 mm/min is slowed down along Z: rate_mm_min is 1,500 there
@@ -134,7 +136,9 @@ motion.toml: warning: a traverse of 3,000 mm/min is slowed down along Z: rate_mm
                 (MOTION + "slack_steps = 65\n", "slack_steps: not a whole number from 1 to 64"),
                 (MOTION + "jerk = 1\n", "motion: has a key that isn't one of its five: jerk"),
                 ("", "motion: missing"), ("[", "not TOML"),
-                (MOTION + "[window]\nlines = 8001\n", "window: lines takes a whole number from 0 to 8000")):
+                (MOTION + "[window]\nlines = 8001\n", "window: lines takes a whole number from 0 to 8000"),
+                (MOTION + "[backlash]\nsteps = [0, 0]\n",
+                 "backlash: steps takes three whole numbers from 0 to 999")):
             Path("motion.toml").write_text(text)
             for given in ("--settings-only", "part.ngc"):
                 self.assertEqual(self.check(given), (2, "", f"ngc-check: motion.toml: {wanted}\n"), text)

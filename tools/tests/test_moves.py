@@ -46,6 +46,7 @@ way_mm = [40, 40, 40]
 agree_um = 20
 """
 _HEAD, _TOGGLE = struct.Struct("=8Q3q"), struct.Struct("=4i4q")
+_BACKLASH = _HEAD.size + 8 * _TOGGLE.size
 _INPUTS, _PULSES, _AT_PULSE, _TURNED, _IS_ON, _SPEED, _ERROR, _CHANCE = range(8)
 
 
@@ -55,7 +56,7 @@ class World:
     def __init__(self) -> None:
         """Has switches of X and Y at -10 mm of its own, and of Z at 5 mm; the emergency stop isn't pressed: high."""
         with open("world", "wb") as file:
-            file.write(bytes(_HEAD.size + 8 * _TOGGLE.size))
+            file.write(bytes(_BACKLASH + 6 * 8))
         with open("world", "r+b") as file:
             self._bytes = mmap.mmap(file.fileno(), 0)
         self.set(_INPUTS, 1 << STOP)
@@ -87,12 +88,16 @@ class World:
 
     @property
     def place(self) -> tuple[int, ...]:
-        """Where the motors are, in its own steps."""
+        """Where the table is, in its own steps."""
         return struct.unpack_from("=3q", self._bytes, 64)
 
     @place.setter
     def place(self, at: tuple[int, int, int]) -> None:
         struct.pack_into("=3q", self._bytes, 64, *at)
+
+    def loosen(self, backlash: tuple[int, int, int], turned_up: tuple[int, int, int]) -> None:
+        """Gives screws backlash, of which so many steps were turned up."""
+        struct.pack_into("=6q", self._bytes, _BACKLASH, *backlash, *turned_up)
 
     def close(self) -> None:
         """Lets go of its file."""
@@ -643,15 +648,16 @@ class Files(Moving):
         """Both read the lines that a home and a move without lines leave."""
         whole = Record("/axis", homed="XZ", is_off=True, stopped="limit")
         self.assertEqual(Record.of_text(whole.text(), "position"), whole)
-        longest = Record("/" + "a" * 254, 10**14, 10**14, Switch(2, 9_999_999_999_999, True, True, 128, 128),
+        longest = Record("/" + "a" * 235, 10**14, 10**14, Switch(2, 9_999_999_999_999, True, True, 128, 128),
                          (-(10**18 - 1),) * 3, FileMark(2**63 - 1, 2**63 - 1, 2**32 - 1), "emergency", 9999, "XYZ",
-                         True)
+                         True, "998 998 998")
         self.assertEqual(Record.of_text(longest.text(), "position"), longest)
         Path("position").write_bytes(longest.text())
         self.assertEqual(self.refused("axis", "first.toml", "position"),
                          "position: the emergency stop stopped the motors, and where they are isn't known: --at X Y Z"
                          " tells it")
-        for lines in (("homed ",), ("homed ZX",), ("homed A",), ("off", "homed X"), ("offs",)):
+        for lines in (("homed ",), ("homed ZX",), ("homed A",), ("off", "homed X"), ("offs",), ("screws",),
+                      ("screws + -",), ("screws + - ??",), ("screws + - 0",), ("screws 999 - +",), ("screws + 07 -",)):
             text = sector("out /axis", "lines 0", "bytes 0", "outputs S 0 0.000000 0 0 0 0", "reference 0 0 0", *lines)
             self.assertRaises(BadRecord, Record.of_text, text, "position")
             Path("position").write_bytes(text)

@@ -228,7 +228,7 @@ class Hostile:
             Path(name).write_text("P 1 0 0 50\n")
         path = f"{self.folder / deep}/out"
         self.assertEqual(self.refused(f"{deep}/out", "first.toml", "position"),
-                         f"{path}: too long a path for a record: it has {len(path)} bytes, and at most 255 fit")
+                         f"{path}: too long a path for a record: it has {len(path)} bytes, and at most 236 fit")
         done = self.run_player("--untimed", "line\nend", "first.toml", "position")
         self.assertEqual(done.returncode, 2)
         self.assertIn("a path with a line's end in it can't stand in a record", done.stderr)

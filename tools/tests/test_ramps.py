@@ -54,6 +54,10 @@ BESIDES = {
     "[wait]\nstop_at = 1\n": "wait has a key that isn't spindle_s: stop_at",
     "[wait]\nspindle_s = 3601\n": "wait: spindle_s takes a whole number from 0 to 3600",
     "[wait]\nspindle_s = -1\n": "wait: spindle_s takes a whole number from 0 to 3600",
+    "[backlash]\nmm = [1, 1, 1]\n": "backlash has a key that isn't steps: mm",
+    "[backlash]\nsteps = 5\n": "backlash: steps takes three whole numbers from 0 to 999",
+    "[backlash]\nsteps = [0, 0, 1000]\n": "backlash: steps takes three whole numbers from 0 to 999",
+    "[backlash]\nsteps = [-1, 0, 0]\n": "backlash: steps takes three whole numbers from 0 to 999",
 }
 
 

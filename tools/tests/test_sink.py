@@ -502,15 +502,18 @@ class Bytes(SinkTest):
             self.assertEqual(self.sink.last(5, words_frame(session, at, (value, 0x3f | REST))).taken, at + 1)
 
     def test_lines(self) -> None:
-        """It tells the mark of its session, and how many lines were made; but no mark once there was a step beside."""
+        """It tells the mark of its session, and how many lines were made; but no mark once there was a step beside. An
+        extra step, which has a direction of an axis without a step, is none."""
         session = self.began()
         value, bits = switches(1, 1_000_000, 0, 0, 0, 0)[1]
         words = [(LEAST | LINE, 1), (LEAST, REST), (LEAST | LINE, REST), (LEAST, OUTPUT | REST),
                  (value, bits | LINE_SWITCH), (LEAST | LINE, 2 | REST)]
         answer = self.sink.last(5, words_frame(session, 0, *words))
         self.assertEqual((answer.made, answer.mark, answer.lines), (6, MARK, 4))
-        answer = self.sink.last(5, words_frame(session, 6, (LEAST, 1 | REST), (LEAST | LINE, 2 | REST)))
-        self.assertEqual((answer.made, answer.mark, answer.lines), (8, NO_MARK, 5))
+        answer = self.sink.last(5, words_frame(session, 6, (LEAST, 1 | 0x20 | REST)))
+        self.assertEqual((answer.made, answer.mark, answer.lines), (7, MARK, 4))
+        answer = self.sink.last(5, words_frame(session, 7, (LEAST, 1 | 0x08 | REST), (LEAST | LINE, 2 | REST)))
+        self.assertEqual((answer.made, answer.mark, answer.lines), (9, NO_MARK, 5))
         self.assertEqual(self.sink.last(6, begin_frame(session))[-2:], (MARK, 0))
 
     def test_sessions(self) -> None:

@@ -6,6 +6,7 @@ import signal
 import sys
 import threading
 from contextlib import ExitStack
+from dataclasses import replace
 
 from ngc_tools.cli.run import new_parser, run
 from ngc_tools.failure import Failure, WrongWords
@@ -136,6 +137,7 @@ def prepared(args: argparse.Namespace, voice: Voice, stack: ExitStack) -> Player
     found = file.read()
     check_alarm(args.position, found, at_nm is not None)
     begun, notice = where_to_begin(found, source, args.anew, args.restored)
+    begun = begun if at_nm is None else replace(begun, screws="")
     if notice:
         voice.say(f"{args.out}: {notice}")
     if source.pipe_bytes >= 2 * max(args.pipe, PIPE_BYTES):

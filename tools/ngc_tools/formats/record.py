@@ -7,7 +7,7 @@ from ngc_tools.formats.out import OFF, Switch, read_line
 from ngc_tools.formats.position import millimetres
 
 SIZE = 512  # bytes: a disk writes them whole or not at all
-LONGEST_PATH = 255  # bytes: with it counts of fifteen digits have room, and all else at its greatest
+LONGEST_PATH = 236  # bytes: with it counts of fifteen digits have room, and all else at its greatest
 OLDEST_MS = 9999  # as an age is written
 
 _COUNT = r"0|[1-9][0-9]{0,17}"
@@ -22,6 +22,8 @@ _LINES = (
     ("reference X Y Z", re.compile(r"reference ([^ ]+ [^ ]+ [^ ]+)")),
 )
 _FILE = re.compile(rf"file ({_NUMBER}) ({_NUMBER}) ([0-9a-f]{{8}})")
+_SCREW = "(?:[+?-]|[1-9][0-9]?|[1-8][0-9]{2}|9[0-8][0-9]|99[0-8])"
+_SCREWS = re.compile(rf"screws ({_SCREW} {_SCREW} {_SCREW})")
 _AGE = re.compile(r"age ([1-9][0-9]{0,3})")
 _HOMED = re.compile(r"homed (?=[XYZ])(X?Y?Z?)")
 _OFF = re.compile("(off)")
@@ -53,7 +55,8 @@ class Record:
     player before OUT's end, in a word, one of ALARMS until the machine was homed. `age_ms` is how old a record on the
     disk ever was as the next one came, in whole milliseconds; 0 where that isn't known, and OLDEST_MS for more. `homed`
     are the axes that were homed since the player began, as `XYZ`; `is_off`: the motors left the path of OUT by a move
-    without lines."""
+    without lines. `screws`, as `+ - ?`, says where those of X, Y and Z are within their backlash; "" where no screw is
+    known."""
 
     out: str
     lines: int = 0
@@ -65,6 +68,7 @@ class Record:
     age_ms: int = 0
     homed: str = ""
     is_off: bool = False
+    screws: str = ""
 
     def text(self) -> bytes:
         """What stands in the file, 512 bytes. Raises BadRecord if the path of OUT can't stand in it."""
@@ -78,6 +82,8 @@ class Record:
         ]
         if self.mark:
             lines.append(f"file {self.mark}")
+        if self.screws:
+            lines.append(f"screws {self.screws}")
         if self.age_ms:
             lines.append(f"age {self.age_ms}")
         if self.homed:
@@ -124,7 +130,7 @@ def _read(text: bytes) -> Record:
         if match is None:
             raise ValueError(f"line {number + 1} isn't '{form}'")
         found.append(match[1])
-    (marked, aged, homed, off, stopped_by), rest = _optional(lines[len(_LINES):])
+    (marked, screws, aged, homed, off, stopped_by), rest = _optional(lines[len(_LINES):])
     mark = FileMark(int(marked[1]), int(marked[2]), int(marked[3], 16)) if marked else None
     if len(rest) != 2 or rest[0].strip(" ") or rest[1]:
         raise ValueError(f"line {len(lines) - len(rest) + 1} is no line of a record")
@@ -132,13 +138,13 @@ def _read(text: bytes) -> Record:
     outputs = read_line(found[3], 4)
     assert isinstance(outputs, Switch)
     return Record(found[0], int(found[1]), int(found[2]), outputs, (x, y, z), mark, stopped_by[1] if stopped_by else "",
-                  int(aged[1]) if aged else 0, homed[1] if homed else "", off is not None)
+                  int(aged[1]) if aged else 0, homed[1] if homed else "", off is not None, screws[1] if screws else "")
 
 
 def _optional(lines: list[str]) -> tuple[list[re.Match[str] | None], list[str]]:
     """The lines that a record may have after its five, None for one that isn't there, and what is left."""
     found = []
-    for pattern in (_FILE, _AGE, _HOMED, _OFF, _STOPPED):
+    for pattern in (_FILE, _SCREWS, _AGE, _HOMED, _OFF, _STOPPED):
         found.append(pattern.fullmatch(lines[0]) if lines else None)
         lines = lines[1:] if found[-1] else lines
     return found, lines

@@ -1,5 +1,5 @@
 """A machine's file as a person reads it: how far and how many lines a stop takes. `ngc pace` decides whether its table
-`[motion]` is valid, and the players of the other two."""
+`[motion]` is valid, and the players of the others."""
 import re
 import subprocess
 from collections.abc import Iterator
@@ -91,6 +91,9 @@ def report(motion: Motion) -> list[str]:
             f"slack     {_axes([number(motion.slack_steps * step, 6) for step in step_nm])} mm",
             f"window    {f'{lines:,} lines' if lines else f'as many lines as are needed, at most {MOST:,}'}",
             f"wait      {motion.machine.spindle_s:,} s for the spindle"]
+    if any(backlash := motion.machine.backlash):
+        lengths = [number(steps * step, 6) for steps, step in zip(backlash, step_nm, strict=True)]
+        said.append(f"backlash  {_axes(lengths)} mm, in no time with ramps")
     stops: dict[str, list[str]] = {}
     for axis, letter in enumerate(AXES):
         rate = motion.traverse(axis)

@@ -140,4 +140,5 @@ class Keeper:
             return False
         self._file.write(record)
         self.kept = record
-        return kept is not None and (record.size, record.at_nm) != (kept.size, kept.at_nm)
+        before = (kept.size, kept.at_nm, kept.screws) if kept else None
+        return before is not None and (record.size, record.at_nm, record.screws) != before

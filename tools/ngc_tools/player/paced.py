@@ -5,12 +5,14 @@ from collections import deque
 from ngc_tools.formats.out import BadLine, Line, Pulse, quoted, read_line
 from ngc_tools.formats.position import Position
 from ngc_tools.formats.record import Record
+from ngc_tools.player.backlash import Backlash
 from ngc_tools.player.machine import Machine
 from ngc_tools.player.manner import Manner
 from ngc_tools.player.pace import ROOM, Pace
 from ngc_tools.player.pins import Pins
 from ngc_tools.player.player import Player
 from ngc_tools.player.source import Source
+from ngc_tools.player.way import Move
 from ngc_tools.player.window import Window
 
 _FEW = 8  # lines are read after each one while it moves: more would make the next one late
@@ -22,6 +24,8 @@ class PacedPlayer(Player):
 
     def __init__(self, source: Source, position: Position, begun: Record, pins: Pins, manner: Manner,
                  machine: Machine) -> None:
+        self.backlash = Backlash.of(machine.backlash, position.step_nm, manner.traverse_nm_per_min,
+                                    manner.least_period_us)
         super().__init__(source, position, begun, pins, manner)
         self.schedule.makes_up = False
         self._limits = machine.limits
@@ -30,7 +34,10 @@ class PacedPlayer(Player):
         self._pace = Pace(machine.limits)
         self._window = Window(machine.limits, machine.window_lines)
         self._wants = self._window.lines()
-        self._ahead: deque[tuple[bytes, Line]] = deque()  # what the pacer knows
+        self._ahead: deque[tuple[bytes, Line]] = deque()  # what the pacer knows; extra pulses are without text ..
+        self._extras = 0  # .. and so many
+        self._after: list[int] = []  # the screws as they are behind it
+        self._newest: tuple[bytes, Line] | None = None  # the line after it, where it waits for extra pulses
         self._is_all = False  # no more lines come: a file's end, or a line that isn't one ..
         self._bad: BadLine | None = None  # .. which it is
         self._newest_ns = 0  # when the last line was read
@@ -77,12 +84,29 @@ class PacedPlayer(Player):
         if not self._is_all and (is_end or self._bad):
             self._is_all = True
             self._end_here()
-        if self.source.taken == self._last:
+        if self.source.taken == self._last and not self._newest:
             self._end_here()
             self._is_dry = False
         self._wants = self._window.lines()
 
     def _read_one(self) -> bool:
+        """Takes the next line, or an extra pulse that comes before it; whether a line stands in OUT."""
+        if not self._newest and not self._read_newest():
+            return False
+        text, line = self._newest
+        extra = self.backlash.before(self._after, line)
+        if extra:
+            text, line = b"", extra
+            self._extras += 1
+        else:
+            self._newest = None
+        self.backlash.take(self._after, line, extra is not None)
+        self._ahead.append((text, line))
+        self._pace.push(line)
+        self._window.take(line)
+        return True
+
+    def _read_newest(self) -> bool:
         """Takes a line that stands in OUT; whether one does."""
         with self._lock:
             while (text := self.source.next()) is None and self.source.read():
@@ -94,13 +118,14 @@ class PacedPlayer(Player):
         self._is_on_path &= not self._is_dry  # counted once
         self._is_dry = False
         try:
-            line = read_line(text, self.lines + len(self._ahead) + 1, self.manner.least_period_us)
+            number = self.lines + len(self._ahead) - self._extras + 1
+            self._newest = text, read_line(text, number, self.manner.least_period_us)
         except BadLine as error:
             self._bad = error
             return False
-        self._ahead.append((text, line))
-        self._pace.push(line)
-        self._window.take(line)
+        if not self._ahead:
+            with self._lock:
+                self._after = list(self.screws)
         return True
 
     def _end_here(self) -> None:
@@ -123,7 +148,11 @@ class PacedPlayer(Player):
         self._is_moving = self._pace.square > 0
         text, line = self._ahead.popleft()
         self._is_on_path = isinstance(line, Pulse) and self._pace.first != self._ended
-        self._carry_out_now(text, line, ns)
+        if text:
+            self._carry_out_now(text, line, ns)
+        else:
+            self._extras -= 1
+            self._make(Move(line, self.lines, self.size, is_extra=True), ns)
         self._window.leave(self._pace.first)
         return True
 

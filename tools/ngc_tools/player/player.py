@@ -9,6 +9,7 @@ from ngc_tools.formats.out import BadLine, Line, Switch, quoted, read_line
 from ngc_tools.formats.position import Position
 from ngc_tools.formats.record import Record, stopped
 from ngc_tools.player.answers import Answers
+from ngc_tools.player.backlash import UNKNOWN, as_text
 from ngc_tools.player.keeper import Keeper
 from ngc_tools.player.manner import Counts, Manner, Stopped
 from ngc_tools.player.person import Person
@@ -34,6 +35,7 @@ class Player(Goes):
         self.out = begun.out
         self.lines, self.size = begun.lines, begun.size
         self.is_off = begun.is_off
+        self.screws = self.backlash.known(begun.screws)
         self.counts = Counts()
         self.schedule = Schedule(manner.timed)
         self.keeper: Keeper | None = None
@@ -78,8 +80,8 @@ class Player(Goes):
         """What is carried out now, for the record."""
         with self._lock:
             lines, size, outputs, at_nm, why = self.lines, self.size, self.outputs, self.position.nm, self.stopped_by
-            is_off = self.is_off
-        return Record(self.out, lines, size, outputs, at_nm, self.source.mark(size), why, is_off=is_off)
+            is_off, screws = self.is_off, as_text(self.screws)
+        return Record(self.out, lines, size, outputs, at_nm, self.source.mark(size), why, is_off=is_off, screws=screws)
 
     def close(self) -> None:
         """Lets go of what it has of the system."""
@@ -105,7 +107,9 @@ class Player(Goes):
         with self._lock:
             self._take_all()
             if self.source.received == self.lines and not self.errand:
-                self.position = Position(self.position.step_nm, at_nm)
+                before, self.position = self.position, Position(self.position.step_nm, at_nm)
+                told = zip(before.steps, self.position.steps, self.screws)
+                self.screws = [screw if was == now else UNKNOWN for was, now, screw in told]
 
     def synced(self, size: int) -> None:
         """The first bytes of OUT, so many, are on the disk: of a file that is followed no more is carried out."""
@@ -254,6 +258,7 @@ class Player(Goes):
         self.counts.add(line)
         with self._lock:
             self.position.take(line)
+            self.backlash.take(self.screws, line)
             self.lines += 1
             self.size += size
             self.is_off = False

@@ -23,6 +23,7 @@ from ngc_tools.formats.out import Pulse, Switch, read_line
 from ngc_tools.formats.position import Position, millimetres, rounded
 from ngc_tools.formats.record import machine_nm
 from ngc_tools.job.moves import distance
+from ngc_tools.player.backlash import Backlash
 from ngc_tools.player.keeper import Keeper
 from ngc_tools.player.manner import Manner
 from ngc_tools.player.pace import Pace
@@ -103,6 +104,8 @@ class Goes:
     _lock: threading.Lock
     _is_moving: bool
     _stands_held: bool
+    screws: list[int]  # where they are within their backlash
+    backlash = Backlash()
     is_held = False  # somebody asks for a rest
     _limits: Limits | None = None
     errand: Errand | None = None
@@ -191,7 +194,7 @@ class Goes:
     def _go(self, found: Iterator[Move]) -> None:
         """Makes moves, each in its time, or by ramps."""
         if self._limits:
-            self._go_paced(found, Pace(self._limits))
+            self._go_paced(self._with_extras(found), Pace(self._limits))
             return
         for move in found:
             self._await_due()
@@ -200,6 +203,18 @@ class Goes:
             self._make(move, move.line.lasts_us * 1000 if move.line else 0)
         self._stands_held = False
         self._await_due()
+
+    def _with_extras(self, found: Iterator[Move]) -> Iterator[Move]:
+        """The moves, and before each the extra pulses that take up backlash, with the counts of the move before."""
+        screws, lines, size = list(self.screws), self.lines, self.size
+        for move in found:
+            while move.line and (extra := self.backlash.before(screws, move.line)):
+                self.backlash.take(screws, extra, is_extra=True)
+                yield Move(extra, lines, size, is_extra=True)
+            if move.line:
+                self.backlash.take(screws, move.line)
+            lines, size = move.lines, move.size
+            yield move
 
     def _go_paced(self, found: Iterator[Move], pace: Pace) -> None:
         ahead: deque[Move] = deque()
@@ -247,8 +262,11 @@ class Goes:
         if line is not None:
             self.schedule.begun(lasts_ns)
             self.pins.set(b"P %d %d %d %d" % (line.x, line.y, line.z, line.period_us))
+        if line is not None and not move.is_extra:
             self.counts.add(line)
         with self._lock:
             if line is not None:
+                self.backlash.take(self.screws, line, move.is_extra)
+            if line is not None and not move.is_extra:
                 self.position.take(line)
             self.lines, self.size = move.lines, move.size

@@ -154,7 +154,7 @@ def where_to_begin(record: Record | None, source: Source, anew: bool, restored: 
     `anew` begins with a file's first line. `restored`: a file is a copy of the one that the record speaks of. Raises
     OtherFile if it can't be told how much of OUT is carried out."""
     out = os.path.realpath(source.path)
-    begun = Record(out) if record is None else Record(out, 0, 0, record.outputs, record.at_nm)
+    begun = Record(out) if record is None else Record(out, 0, 0, record.outputs, record.at_nm, screws=record.screws)
     if record is None or anew or not source.is_file or record.size == 0:
         return begun, ""
     goes_on = replace(begun, lines=record.lines, size=record.size, is_off=record.is_off)

@@ -26,6 +26,7 @@ class Move:
     line: Line | None
     lines: int
     size: int
+    is_extra: bool = False  # it takes up backlash: a pulse that moves no table, with the counts of before
 
 
 @dataclass(frozen=True, slots=True)
