@@ -170,12 +170,22 @@ static void begin_rest(struct play *play) {
         can_home(player) ? "home the machine" : "start anew with --at X Y Z");
 }
 
+/* While the emergency stop is on the motors may be without power: what was homed before isn't any more. */
+static void heed_stop_at_rest(struct player *player) {
+    player_lock(player);
+    if (input_is_on(atomic_load(&player->on), player->machine->inputs.emergency_stop)) {
+        player->homed = 0;
+    }
+    player_unlock(player);
+}
+
 /* Looks at the inputs at rest: what is on already is no news. An open door alone holds. */
 static void look_at_rest(struct play *play) {
     uint32_t stops_at = play->stops_at;
     play->stops_at = 0;
     atomic_store(&play->player->is_held, false);
     alarm_look(play);
+    heed_stop_at_rest(play->player);
     play->stops_at = stops_at;
 }
 
@@ -200,6 +210,16 @@ bool alarm_wait(struct play *play) {
     because(&play->why, "the session is over, and %s",
             alarm_stands(player) ? "the machine isn't homed;" : "lines in hand weren't carried out;");
     return goes_on;
+}
+
+bool alarm_takes_place(const struct player *player, const int64_t steps[3]) {
+    unsigned homed = has_home(player) ? player->homed : 0;
+    bool is_taken = homed != 0 && homed == home_axes(&player->machine->home) && !player->manual.is_there
+        && !input_is_on(atomic_load(&player->on), player->machine->inputs.emergency_stop);
+    for (int axis = 0; axis < 3; axis++) {
+        is_taken = is_taken && ((homed >> axis & 1) == 0 || steps[axis] == player->steps[axis]);
+    }
+    return is_taken;
 }
 
 void alarm_end(struct player *player) {

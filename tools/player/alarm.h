@@ -34,7 +34,11 @@ const char *alarm_word(enum alarm alarm);
  * go on then: not where some were dropped, or it has to stop before. */
 bool alarm_wait(struct play *play);
 
-/* All axes that the machine's file names are homed: ends it. The lock is held. */
+/* Whether it is over once a person tells that the machine stands at these steps: all axes are homed that the machine's
+ * file names, and these are where they are by the player; of the others nothing else tells. The lock is held. */
+bool alarm_takes_place(const struct player *player, const int64_t steps[3]);
+
+/* Where all axes are is known: ends it. The lock is held. */
 void alarm_end(struct player *player);
 
 #endif

@@ -87,14 +87,27 @@ static void report(struct player *player, char *text, size_t room, const char *q
              " out %s", question, lines, received, does, place, outputs, percent, wants, player->out);
 }
 
-/* Takes where the machine stands, as after its axes were moved by hand, if nothing is behind. */
+/* Whether it may be told that the machine stands at these steps. The lock is held. */
+static bool takes_place(const struct player *player, const int64_t steps[3]) {
+    bool is_behind = player->errand.is_there || player->manual.is_there
+        || (player->source.received != player->lines && !player->is_broken);
+    return player->alarm == NO_ALARM ? !is_behind : alarm_takes_place(player, steps);
+}
+
+/* Takes where the machine stands, as after its axes were moved by hand, if nothing is behind. In an alarm it tells
+ * where the axes are that can't be homed. */
 static void stand_at(struct player *player, const int64_t nm[3]) {
+    int64_t steps[3];
+    for (int axis = 0; axis < 3; axis++) {
+        steps[axis] = in_steps(nm[axis], player->step_nm[axis]);
+    }
     player_lock(player);
     bool took = source_take_all(&player->source);
-    bool is_behind = player->errand.is_there || player->manual.is_there || player->alarm != NO_ALARM
-        || (player->source.received != player->lines && !player->is_broken);
-    for (int axis = 0; axis < 3 && !is_behind; axis++) {
-        player->steps[axis] = in_steps(nm[axis], player->step_nm[axis]);
+    if (takes_place(player, steps)) {
+        memcpy(player->steps, steps, sizeof steps);
+        if (player->alarm != NO_ALARM) {
+            alarm_end(player);
+        }
     }
     player_unlock(player);
     if (took) {

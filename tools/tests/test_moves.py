@@ -471,6 +471,41 @@ class Alarms(Moving):
         self.assertEqual(self.at(), (-7.99, -7, 9))
         self.ended(0)
 
+    def test_axis_without_home(self) -> None:
+        """An axis that [home] doesn't name isn't believed: a person tells where it stands, once the others are homed,
+        and while the emergency stop is off."""
+        Path("mill.toml").write_text(MACHINE.replace("order = [2, 3, 1]", "order = [2, 0, 1]"))
+        self.started("--untimed", "--at", "1", "2", "3")
+        self.world.put(STOP, False)
+        self.wait_for("it is an alarm", lambda: self.link.ask().word == "alarm")
+        self.world.put(STOP, True)
+        self.wait_for("it is known", lambda: not self.link.machine().on)
+        self.assertEqual(self.how(self.link.home("X")), "done")
+        self.untold("-8 2.5 3")  # Z can be homed, and isn't
+        self.assertEqual(self.how(self.link.home()), "done")
+        self.assertEqual((self.link.machine().homed, self.at()), ("XZ", (-8, 2, 9)))
+        self.kept("homed XZ", "off", "stopped emergency")
+        self.untold("-8.001 2.5 9")  # of a homed axis it knows better
+        self.world.put(STOP, False)
+        self.wait_for("what was homed isn't any more", lambda: not self.link.machine().homed)
+        self.world.put(STOP, True)
+        self.wait_for("it is known", lambda: not self.link.machine().on)
+        self.untold("-8 2.5 9")
+        self.assertEqual(self.how(self.link.home()), "done")
+        self.link.at("-8 2.5 9")
+        self.assertEqual((self.link.ask().word, self.at()), ("works", (-8, 2.5, 9)))
+        self.kept("homed XZ", "off")
+        self.pipe.write(b"P 0 1 0 50\n" * 10)
+        self.link.last()
+        self.wait_for("lines go on", lambda: self.at() == (-8, 2.51, 9))
+        self.ended(0)
+
+    def untold(self, place: str) -> None:
+        """A place doesn't end an alarm, nor moves it the count."""
+        before = self.at()
+        self.link.at(place)
+        self.assertEqual((self.link.ask().word, self.at()), ("alarm", before))
+
     def test_another_player(self) -> None:
         """An alarm stays over other players: until one homes, or is told where the machine stands."""
         self.alarmed(STOP, 100)
