@@ -272,6 +272,33 @@ class Alarms(Core):
         self.assertTrue(self.operator.over)
 
 
+    def test_axis_without_home(self) -> None:
+        """Of an axis that can't be homed a person has to say where it stands; the player's number isn't taken for it,
+        and `ngc` is told once the alarm is over."""
+        self.begin(self.link)
+        self.axes.switches = "XZ"
+        self.axes.at_nm = [0, 7_000_000, 0]
+        self.axes.home_at[1] = 7_000_000
+        self.axes.alarm("emergency_stop")
+        counts = "the player counts X -298.000000 Y 7.000000 Z -2.000000"
+        forms = f"reference X Y Z, in mm: {counts}; player stands for the number of an axis that is homed (X Z)"
+        self.assertEqual(self.do("reference 1 2 3"), [self.STOPPED, self.NOTHING])
+        self.assertEqual(self.do("home"), [
+            "homed: X Z", "the alarm stands: Y isn't homed. home Y does it, where the machine's file says how; else"
+            f" measure it, and type reference X Y Z with what you measured: {counts}"])
+        for words in ("", " player", " player player player", " player x player"):
+            self.assertEqual(self.do(f"reference{words}"), [forms], words)
+        self.assertEqual(self.do("reference -297 8 -2"), [
+            "the player doesn't take that: all axes have to be homed that can be, with their numbers as the player has"
+            " them, and the emergency stop has to be off"])
+        self.assertEqual(self.status().entries, 0)
+        self.assertEqual(self.do("reference player 8.5 player")[:2], ["reference -298.000000 8.500000 -2.000000",
+                                                                     "done 1"])
+        self.assertEqual(self.status().at, ("-298.000000", "8.500000", "-2.000000"))
+        self.do("G91 G0 X1")
+        self.assertEqual(self.status().at[0], "-297.000000")
+
+
 class OffThePath(InFolder):
     """Where in OUT the open segment begins, once the motors were homed and are nowhere on its path."""
 

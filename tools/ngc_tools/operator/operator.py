@@ -53,7 +53,8 @@ class Operator:
         self.ending = Ending(self.session)
         self.recover = Recover(self.session)
         self.alarm = Alarm(self.session)
-        self.moves = Moves(self.session, self.motors, self.left, self.recover, self.do)
+        self.moves = Moves(self.session, self.motors, self.left, self.recover, self.alarm,
+                           self.do)
         self.touch = Touch(self.session, self.places, self.moves, self._line_done)
         self.keys: Callable[[], AbstractContextManager[Keys]] | None = None
         self.over = False
@@ -264,6 +265,10 @@ class Operator:
         return True
 
     def _reference(self, typed: Typed) -> None:
+        if self.alarm.stands():
+            if self.alarm.place(typed.rest.lower().split()):
+                self.moves.tell()
+            return
         if self.console.status().half == "none":
             self.left.keep()
         self.places.reference(typed.rest.lower().split(), typed.anyway)
