@@ -1,4 +1,5 @@
-/* The alarm: the emergency stop or a limit stopped the motors at once, and where they are isn't known any more. */
+/* The alarm: the emergency stop or a limit stopped the motors at once, or a step sink was lost while they may have
+ * moved, and where they are isn't known any more. */
 #ifndef ALARM_H
 #define ALARM_H
 
@@ -8,14 +9,20 @@
 #include "cause.h"
 #include "options.h"
 
-enum alarm { NO_ALARM, EMERGENCY_STOP, LIMITS };
+enum alarm { NO_ALARM, EMERGENCY_STOP, LIMITS, SINK_LOST };
 
 struct player;
 struct play;
 
-/* Takes over the alarm that the record tells of, unless a person tells where the machine stands. Returns false, with
- * the cause, where nobody could home it. */
+/* Takes over the alarm that the record tells of, unless a person tells where the machine stands, or a sink can still be
+ * asked. Returns false, with the cause, where nobody could home it. */
 bool alarm_take_over(struct player *player, const struct options *options, struct cause *why);
+
+/* Whether a record's word says that what a sink made was not heard to its end: asking it may tell. */
+bool alarm_is_doubtful(const char *word);
+
+/* An alarm stands from the beginning. Returns false, with the cause, where nobody could home the machine. */
+bool alarm_take(struct player *player, const struct options *options, enum alarm alarm, struct cause *why);
 
 /* Looks whether the pins have the inputs of the machine's file. Returns false, with the cause. */
 bool alarm_begin(const struct player *player, const struct options *options, struct cause *why);

@@ -82,6 +82,7 @@ static bool begin_threads(pthread_t *keeper, pthread_t *answers, struct cause *w
 static bool keep_last(const char *position) {
     static struct record last;
     int error = atomic_load(&player.record_error);
+    player.is_over_sink = false;
     if (error == 0) {
         player_record(&player, &last);
         error = keeper_write(&player.keeper, &last);

@@ -182,7 +182,7 @@ static void print_axes(unsigned axes, char text[5]) {
 
 /* Answers `machine N`. */
 static void report(struct player *player, const char *question, char *text, size_t room) {
-    static const char *const alarms[] = {"none", "emergency_stop", "limits"};
+    static const char *const alarms[] = {"none", "emergency_stop", "limits", "sink"};
     char deed[16];
     char axes[5];
     char on[INPUTS_ROOM];

@@ -48,6 +48,7 @@ struct player {
     bool knows_left;     /* .. and it is known where .. */
     int64_t left_at[3];  /* .. in steps */
     enum alarm alarm;
+    bool is_over_sink;   /* what the sink makes isn't heard to its end yet: a record that stays says so */
     bool is_broken;      /* lines were dropped for an alarm: no more of them are carried out */
     struct record left; /* the record as it was, if it speaks of this OUT */
     bool has_left;

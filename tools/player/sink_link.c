@@ -166,7 +166,7 @@ bool link_is_over(const char **word, const char **text) {
     const struct sender *sender = &shared->sender;
     bool is_reset = sender->state == SENDER_RESET;
     bool is_over = shared->is_gone || is_reset || sender->is_deaf || sender->state == SENDER_ENDED;
-    *word = shared->is_gone ? "line" : is_reset ? "reset" : sender->is_deaf ? "deaf" : of_faults[sender->sink.fault];
+    *word = shared->is_gone ? "cut" : is_reset ? "reset" : sender->is_deaf ? "deaf" : of_faults[sender->sink.fault];
     *text = shared->is_gone ? "the line to the sink is gone" : sender_why(sender);
     pthread_mutex_unlock(&shared->lock);
     return is_over;

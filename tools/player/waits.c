@@ -45,8 +45,7 @@ bool has_to_stop(struct play *play) {
         return false;
     }
     if (asked > 0) {
-        sink_stop();
-        note_stop(play, "signal");
+        note_stop(play, sink_stop() ? "signal" : "deaf");
         return !because(&play->why, "stopped after line %" PRIu64 ";", play->player->lines);
     }
     if (atomic_load(&play->player->record_error) != 0) {

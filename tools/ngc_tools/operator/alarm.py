@@ -6,7 +6,7 @@ from ngc_tools.player.progress import Machine, NoAnswer
 
 _TAKEN = ("home", "where", "status", "help", "?", "quit", "exit", "reference")
 _TAKEN_BROKEN = ("jog", "seek", "reference", "hold")
-_CAUSES = {"emergency_stop": "emergency stop", "limits": "limit"}
+_CAUSES = {"emergency_stop": "emergency stop", "limits": "limit", "sink": "step sink lost"}
 _CAME = "{cause}: the motors stand, spindle and coolant are off, and where the machine is isn't known. home comes first"
 _FORBIDS = "nothing is done: {cause}. home comes first; until then where and quit alone are taken"
 _BROKEN = ("nothing is done: what the player had in hand in the alarm is never carried out, and so nothing that comes"
