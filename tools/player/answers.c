@@ -87,11 +87,23 @@ static void report(struct player *player, char *text, size_t room, const char *q
              " out %s", question, lines, received, does, place, outputs, percent, wants, player->out);
 }
 
-/* Whether it may be told that the machine stands at these steps. The lock is held. */
+/* Whether it may be told that the machine stands at these steps: where it does anyhow also with lines in hand, which
+ * wait for that. The lock is held. */
 static bool takes_place(const struct player *player, const int64_t steps[3]) {
-    bool is_behind = player->errand.is_there || player->manual.is_there
-        || (player->source.received != player->lines && !player->is_broken);
-    return player->alarm == NO_ALARM ? !is_behind : alarm_takes_place(player, steps);
+    bool is_there = memcmp(player->steps, steps, sizeof player->steps) == 0;
+    bool is_behind = player->source.received != player->lines && !player->is_broken && !is_there;
+    bool moves = player->errand.is_there || player->manual.is_there;
+    return player->alarm == NO_ALARM ? !is_behind && !moves : alarm_takes_place(player, steps);
+}
+
+/* It stands at these steps, and `ngc` knows it; where an alarm is over by that, `ngc` has to be told yet. The lock is
+ * held. */
+static void take_place(struct player *player, const int64_t steps[3]) {
+    memcpy(player->steps, steps, sizeof player->steps);
+    atomic_store(&player->is_untold, player->alarm != NO_ALARM);
+    if (player->alarm != NO_ALARM) {
+        alarm_end(player);
+    }
 }
 
 /* Takes where the machine stands, as after its axes were moved by hand, if nothing is behind. In an alarm it tells
@@ -104,10 +116,7 @@ static void stand_at(struct player *player, const int64_t nm[3]) {
     player_lock(player);
     bool took = source_take_all(&player->source);
     if (takes_place(player, steps)) {
-        memcpy(player->steps, steps, sizeof steps);
-        if (player->alarm != NO_ALARM) {
-            alarm_end(player);
-        }
+        take_place(player, steps);
     }
     player_unlock(player);
     if (took) {

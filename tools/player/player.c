@@ -57,6 +57,8 @@ void player_doing(struct player *player, char *text, size_t room) {
         word = "moves";
     } else if (is_broken) {
         word = "broken";
+    } else if (atomic_load(&player->is_untold)) {
+        word = "moved";
     } else if (atomic_load(&player->stands_held)) {
         word = "held";
     } else if (atomic_load(&player->waits_spindle)) {

@@ -47,6 +47,7 @@ struct player {
     bool is_off;         /* the motors left the path of OUT by a move without lines, and no line came since .. */
     bool knows_left;     /* .. and it is known where .. */
     int64_t left_at[3];  /* .. in steps */
+    int64_t told_at[3];  /* where `ngc` took the motors to be as they moved without lines, in steps */
     enum alarm alarm;
     bool is_over_sink;   /* what the sink makes isn't heard to its end yet: a record that stays says so */
     bool is_broken;      /* lines were dropped for an alarm: no more of them are carried out */
@@ -59,6 +60,7 @@ struct player {
     atomic_int tool;          /* the slot that a person is asked for, or NO_TOOL */
     atomic_int record_error;  /* why the record can't be kept any more; 0 */
     atomic_bool is_held;      /* somebody asks for a rest */
+    atomic_bool is_untold;    /* they moved without lines, and nobody said since that `ngc` knows where they are */
     atomic_bool stands_held;  /* it has come to rest for that */
     atomic_bool waits_spindle; /* a switch waits until the spindle is at its speed */
     atomic_uint on;           /* the inputs that are on, as they were looked at last */

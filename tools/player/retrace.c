@@ -200,6 +200,7 @@ static void arrive(struct player *player) {
         player->bytes = errand->legs_bytes;
         player->is_off = false;
     }
+    atomic_store(&player->is_untold, false); /* OUT's lines lead on from there */
     if (!player->source.is_pipe) {
         source_go_to(&player->source, player->lines, player->bytes);
         player->source.limit = errand->bytes;

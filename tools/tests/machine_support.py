@@ -99,7 +99,7 @@ class Axes:
 
     def end_alarm(self) -> None:
         """The machine's place is known again."""
-        self.word = "works"
+        self.word = "moved"
         self.stands = replace(self.stands, alarm="")
         self.machine = self.stands
 
@@ -110,6 +110,8 @@ class Axes:
                                             for axis in self.stands.homed):
                 return
             self.end_alarm()
+        else:
+            self.word = "works"
         self.at_nm = at_nm
 
     def _end(self, how: str) -> None:
@@ -118,6 +120,8 @@ class Axes:
             return
         if how == "done":
             self.at_nm = list(self._goal)
+        if self.word == "works":
+            self.word = "moved"
         if self.machine.does.startswith("home") and how == "done":
             self.stands = replace(self.stands, homed=self.switches, on=())
             if self.switches == "XYZ":
@@ -231,6 +235,9 @@ class SocketMachine:
             answer = _said(self.axes.ask())
         elif words[0] in ("home", "jog", "seek", "stop"):
             answer = self.axes.take(words).encode()
+        elif words[0] == "at":
+            self.axes.stand_at(list(map(nanometres, words[1:])))
+            return
         else:
             self.others.append(question)
             return

@@ -148,6 +148,10 @@ class Moving(PlayerTest):
         """Where the motors are by the player, in mm."""
         return tuple(map(float, self.link.ask().at.split()))
 
+    def told(self) -> None:
+        """Says to the player that `ngc` knows where the machine is."""
+        self.link.at(self.link.ask().at)
+
     def kept(self, *lines: str) -> None:
         """Waits until the record on the disk ends with these lines."""
         self.wait_for(f"the record says {lines}", lambda: record().splitlines()[-len(lines):] == list(lines))
@@ -189,7 +193,7 @@ class Homing(Moving):
         self.assertEqual((x, z), (-8_000, 4_020))  # it moved by 10 steps each time that it was left
         self.assertAlmostEqual(y, -8_000, delta=10)
         self.assertEqual(self.at(), (-8, -7, 9))
-        self.assertEqual(self.link.ask().word, "works")
+        self.assertEqual(self.link.ask().word, "moved")
 
     def test_sticks(self) -> None:
         """A switch that doesn't go off is named, and the axis isn't homed."""
@@ -246,12 +250,50 @@ class Jogging(Moving):
         self.assertEqual(self.how(self.link.jog("Y-", "60.5", "0.5")), "done")
         self.assertEqual((self.world.place, self.at()), ((1_250, -500, 0), (1.25, -0.5, 0)))
         self.kept("reference 1.250000 -0.500000 0.000000", "off")
+        self.told()
         self.pipe.write(b"P 1 0 0 50\n")
         self.wait_for("the line is carried out", lambda: self.link.ask().carried == 1)
         self.kept("reference 1.251000 -0.500000 0.000000")
         self.assertEqual(record(), "lines 1\nbytes 11\noutputs S 0 0.000000 0 0 0 0\n"
                                    "reference 1.251000 -0.500000 0.000000\n")
         self.assertEqual(self.ended(0), "")
+
+    def test_untold(self) -> None:
+        """Behind a move no line is carried out before somebody says that `ngc` knows where the motors are; another
+        player waits for that too, and doesn't begin where nobody could say it. At another point `ngc` isn't told."""
+        self.started()
+        self.assertEqual(self.how(self.link.jog("X+", "600", "1")), "done")
+        self.pipe.write(b"P 1 0 0 50\n" * 10)
+        self.wait_for("lines are in hand", lambda: self.link.ask().received == 10)
+        self.link.at("1.5 0 0")
+        self.link.release()
+        self.link.last()
+        time.sleep(0.1)
+        report = self.link.ask()
+        self.assertEqual((report.word, report.carried, report.is_held, self.world.place), ("moved", 0, False,
+                                                                                        (1_000, 0, 0)))
+        self.told()
+        self.wait_for("they are carried out", lambda: self.link.ask().carried == 10)
+        self.assertEqual(self.link.ask().word, "works")
+        self.assertEqual(self.how(self.link.jog("Y+", "600", "1")), "done")
+        self.assertEqual(self.ended(0), "axis: lines came, and the motors moved without lines before: they stand until"
+                                        " `at X Y Z` says that ngc knows where\n")
+        words = ("--untimed", "axis", "first.toml", "position")
+        why = ("position: the motors were moved without lines, and ngc may not know where they are: --at X Y Z tells"
+               " where the machine stands")
+        for others in ((), ("--machine", "mill.toml"), ("--progress", "progress")):
+            self.assertEqual(self.refused(*others, *words), why)
+            status, _, said = told(player.main, *others, *words)
+            self.assertEqual((status, said), (2, f"ngc-player: {why}\n"))
+        self.started()
+        self.assertEqual((self.link.ask().word, self.at()), ("moved", (1.01, 1, 0)))
+        self.assertEqual(self.how(self.link.jog("Y-", "600", "1")), "done")
+        self.assertEqual(self.link.ask().word, "moved")  # where `ngc` was told last isn't known to this player
+        self.told()
+        self.assertEqual(self.how(self.link.jog("X+", "600", "1")), "done")
+        self.assertEqual(self.how(self.link.jog("X-", "600", "1")), "done")  # where `ngc` takes it to be
+        self.assertEqual(self.link.ask().word, "works")
+        self.ended(0)
 
     def test_held(self) -> None:
         """As long as it is repeated: to rest once it isn't, and by a ramp."""
@@ -408,6 +450,7 @@ class Alarms(Moving):
         self.world.set(_AT_PULSE, pulse)
         self.world.set(_SPEED, 1 << AT_SPEED)
         self.started("--untimed")
+        self.told()
         before = self.world.place
         x, y, z = self.at()
         self.pipe.write(b"S 1 1000.000000 1 0 0 0\n" + b"P 1 0 0 50\n" * 3_000)
@@ -465,7 +508,8 @@ class Alarms(Moving):
         self.wait_for("it is known", lambda: not self.link.machine().on)
         self.assertEqual(self.at(), (0.01, 0, 0))
         self.assertEqual(self.how(self.link.home()), "done")
-        self.assertEqual(self.link.ask().word, "works")
+        self.assertEqual(self.link.ask().word, "moved")
+        self.told()
         self.pipe.write(b"P 1 0 0 50\n" * 10)
         self.wait_for("they are carried out", lambda: self.link.ask().carried == 20)
         self.assertEqual(self.at(), (-7.99, -7, 9))
@@ -493,8 +537,9 @@ class Alarms(Moving):
         self.untold("-8 2.5 9")
         self.assertEqual(self.how(self.link.home()), "done")
         self.link.at("-8 2.5 9")
-        self.assertEqual((self.link.ask().word, self.at()), ("works", (-8, 2.5, 9)))
+        self.assertEqual((self.link.ask().word, self.at()), ("moved", (-8, 2.5, 9)))
         self.kept("homed XZ", "off")
+        self.told()
         self.pipe.write(b"P 0 1 0 50\n" * 10)
         self.link.last()
         self.wait_for("lines go on", lambda: self.at() == (-8, 2.51, 9))

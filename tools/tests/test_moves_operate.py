@@ -108,6 +108,21 @@ class Moves(Core):
             "progress: the player doesn't answer; home, jog and seek are of tools/player with -m"])
         self.assertEqual(self.status().entries, 0)
 
+    def test_told(self) -> None:
+        """The player carries out no line behind a move before it is told that `ngc` knows of it: that is said once both
+        points are the same, or somebody goes on all the same."""
+        self.begin(self.link)
+        self.do("jog X+ 600 for 1")
+        self.assertEqual(self.axes.word, "moved")
+        self.axes.at_nm[1] += 1_000  # by a hand, which `ngc` doesn't know
+        said = self.do("G0 X2")
+        self.assertIn("0.001 mm apart. Nothing is done.", said[0])
+        self.assertEqual((self.axes.word, self.out()), ("moved", []))
+        self.do("G0 X1.5 anyway")
+        self.assertEqual((self.axes.word, self.axes.at_nm), ("works", [1_500_000, 1_000, 0]))
+        self.do("jog X+ 600 for 1", "reference player", "G0 X2.501")
+        self.assertEqual((self.axes.word, self.axes.at_nm), ("works", [2_501_000, 1_000, 0]))
+
     def test_at_a_stop(self) -> None:
         """At M0 a jog is taken, and `run` asks whether the program goes on from there."""
         self.begin(self.link)

@@ -57,6 +57,7 @@ class MovesOverSink(OverSink):
         self.assertEqual(self.at(), (-8, -7, 9))
         self.assertEqual(self.link.machine().homed, "XYZ")
         self.kept("reference -8.000000 -7.000000 9.000000", "homed XYZ", "off", "stopped killed")
+        self.told()
         self.pipe.write(b"P 1 0 0 50\n" * 10)
         self.link.last()
         self.wait_for("lines go on", lambda: self.link.ask().carried == 10)

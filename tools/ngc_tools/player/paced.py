@@ -109,8 +109,10 @@ class PacedPlayer(Player):
         self._ended = self._pace.known
 
     def _wanted(self) -> int:
-        """The square that is wanted: 0 where somebody asks for a rest."""
-        return 0 if self.is_held or self._is_rest_asked() else self._pace.wanted(self.percent)
+        """The square that is wanted: 0 where somebody asks for a rest, or lines wait until `ngc` knows where the motors
+        are."""
+        is_to_rest = self.is_held or self.is_untold or self._is_rest_asked()
+        return 0 if is_to_rest else self._pace.wanted(self.percent)
 
     def _give(self) -> bool:
         """Carries out the next line, if one is to be."""

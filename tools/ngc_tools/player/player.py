@@ -13,7 +13,7 @@ from ngc_tools.player.keeper import Keeper
 from ngc_tools.player.manner import Counts, Manner, Stopped
 from ngc_tools.player.person import Person
 from ngc_tools.player.pins import Pins
-from ngc_tools.player.progress import Report
+from ngc_tools.player.progress import MOVED, Report
 from ngc_tools.player.retrace import Goes, read_errand
 from ngc_tools.player.schedule import Schedule
 from ngc_tools.player.source import Source
@@ -34,6 +34,7 @@ class Player(Goes):
         self.out = begun.out
         self.lines, self.size = begun.lines, begun.size
         self.is_off = begun.is_off
+        self.is_untold = False  # the motors moved without lines, and nobody said since that `ngc` knows where they are
         self.counts = Counts()
         self.schedule = Schedule(manner.timed)
         self.keeper: Keeper | None = None
@@ -98,14 +99,18 @@ class Player(Goes):
             self._take_all()
             received = self.bound_for() if self.errand else self.source.received
             return Report(self.lines, received, tool is not None, str(self.position), self.out,
-                          self.outputs, tool or 0, self._stands_held and tool is None, self.percent, self._wants)
+                          self.outputs, tool or 0, self._stands_held and tool is None and not self.is_untold,
+                          self.percent, self._wants, MOVED if self.is_untold else "works")
 
     def stand_at(self, at_nm: tuple[int, int, int]) -> None:
-        """Takes where the machine stands, as after its axes were moved by hand, if nothing is behind."""
+        """Takes where the machine stands, as after its axes were moved by hand, if nothing is behind: `ngc` knows it
+        then. Where it stands there anyhow it is taken with lines in hand too, which wait for that."""
         with self._lock:
             self._take_all()
-            if self.source.received == self.lines and not self.errand:
-                self.position = Position(self.position.step_nm, at_nm)
+            position = Position(self.position.step_nm, at_nm)
+            is_behind = self.source.received != self.lines and position.steps != self.position.steps
+            if not is_behind and not self.errand:
+                self.position, self.is_untold = position, False
 
     def synced(self, size: int) -> None:
         """The first bytes of OUT, so many, are on the disk: of a file that is followed no more is carried out."""

@@ -18,7 +18,9 @@
     What stands in OUT now is all that comes for now: it is carried out to its end, and comes to rest there, with no
     wait for more. More may follow later. Heeded as `hold` is.
 `at X Y Z`
-    The machine stands there, in machine millimetres. It is taken while nothing is behind; the next report shows it.
+    The machine stands there, in machine millimetres, and `ngc` knows it. It is taken while nothing is behind; the next
+    report shows it. Behind a move without lines `moved` stands in the place of `works`, and no line is carried out
+    before it comes; with lines in hand the machine's own point is taken.
 `synced BYTES`
     The first BYTES bytes of OUT are on the disk. Of a file that is followed nothing beyond them is carried out from
     then on, so what the motors were given is on the disk.
@@ -62,9 +64,11 @@ PERCENT = re.compile(rb"percent ([1-9][0-9]{0,2})")
 _OTHER = "it is of another version: take a player and a console of one version"
 _LONGEST = 192  # bytes of a datagram to a player
 _KEPT = re.compile(r"lines (\d+) bytes (\d+) age (\d+)")
-_WORDS = "works|held|moves|alarm|broken|waits spindle"
+_WORDS = "works|held|moves|moved|alarm|broken|waits spindle"
 _REPORT = re.compile(rf"carried (\d+) received (\d+) ({_WORDS}|waits tool (\d{{1,3}})) reference (\S+ \S+ \S+)"
                      r" outputs (S \d \S+ \d \d \d+ \d+) percent (\d+) wants (\d+) out (.*)", re.DOTALL)
+MOVED = "moved"
+"""What a report says behind a move without lines, until the player is told that `ngc` knows where the machine is."""
 _POINT = r"none|\S+ \S+ \S+"
 _MACHINE = re.compile(rf"does (stands|(?:home|jog|seek) \S+) homed ([XYZ]+|none) alarm (\w+) on (\S+)"
                       rf" touched ({_POINT}) ended (\d+) (.*)", re.DOTALL)
@@ -91,7 +95,7 @@ class Report:
     is_held: bool = False  # it stands, since it is to
     percent: int = 100
     wants: int = 0
-    word: str = "works"  # where it neither waits for a tool nor is held: `moves`, `alarm`, `broken`, `waits spindle`
+    word: str = "works"  # else, where it doesn't wait for a tool: `moves`, MOVED, `alarm`, `broken`, `waits spindle`
 
     @property
     def behind(self) -> int:
