@@ -17,6 +17,7 @@
 #include "player.h"
 #include "scan.h"
 #include "schedule.h"
+#include "spindle.h"
 
 enum { QUESTION_ROOM = 192, LOOKS_MS = 50 };
 
@@ -82,9 +83,11 @@ static void report(struct player *player, char *text, size_t room, const char *q
     }
     place_print(place, sizeof place, nm);
     int percent = atomic_load(&player->percent);
+    int spindle = atomic_load(&player->spindle_percent);
     unsigned wants = atomic_load(&player->wants);
-    snprintf(text, room, "%s carried %" PRIu64 " received %" PRIu64 " %s reference %s outputs %s percent %d wants %u"
-             " out %s", question, lines, received, does, place, outputs, percent, wants, player->out);
+    snprintf(text, room, "%s carried %" PRIu64 " received %" PRIu64 " %s reference %s outputs %s percent %d"
+             " spindle %d wants %u out %s", question, lines, received, does, place, outputs, percent, spindle, wants,
+             player->out);
 }
 
 /* Whether it may be told that the machine stands at these steps: where it does anyhow also with lines in hand, which
@@ -178,11 +181,11 @@ static bool is_word(const char *text, size_t size, const char *word) {
     return size == strlen(word) && memcmp(text, word, size) == 0;
 }
 
-/* Reads "percent N", 1 to 999. */
-static bool read_percent(const char *text, size_t size, int *percent) {
+/* Reads "percent N", or what else the words before it are, 1 to 999. */
+static bool read_percent(const char *text, size_t size, const char *words, int *percent) {
     struct scan scan = {text, text + size};
     uint64_t number = 0;
-    if (!scan_word(&scan, "percent ") || !scan_whole(&scan, 3, &number, NULL) || !scan_is_over(&scan)) {
+    if (!scan_word(&scan, words) || !scan_whole(&scan, 3, &number, NULL) || !scan_is_over(&scan)) {
         return false;
     }
     *percent = (int)number;
@@ -212,6 +215,14 @@ static void release(struct player *player) {
     }
 }
 
+/* Overrides the spindle's speed, if it may be overridden so. */
+static void override_spindle(struct player *player, int percent) {
+    if (percent >= LEAST_SPINDLE_PERCENT && percent <= spindle_most_percent(player->machine)) {
+        atomic_store(&player->spindle_percent, percent);
+        eventfd_write(player->wake, 1);
+    }
+}
+
 /* Does what a datagram asks for; others are left alone. */
 static void heed(struct player *player, const char *text, size_t size, const struct sockaddr_un *from,
                  socklen_t named) {
@@ -232,8 +243,10 @@ static void heed(struct player *player, const char *text, size_t size, const str
         atomic_store(&player->is_held, true);
     } else if (is_word(text, size, "release")) {
         release(player);
-    } else if (read_percent(text, size, &percent) && percent <= player->most_percent) {
+    } else if (read_percent(text, size, "percent ", &percent) && percent <= player->most_percent) {
         atomic_store(&player->percent, percent);
+    } else if (read_percent(text, size, "spindle percent ", &percent)) {
+        override_spindle(player, percent);
     } else if (is_word(text, size, "last")) {
         note_last(player);
     } else if (read_synced(text, size, &bytes)) {

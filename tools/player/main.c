@@ -27,7 +27,7 @@
 enum { NS_PER_MS = 1000000 };
 
 static struct player player = {.socket = -1, .wake = -1, .stopped = "", .tool = NO_TOOL, .percent = 100,
-                               .last = UINT64_MAX};
+                               .spindle_percent = 100, .last = UINT64_MAX};
 
 static int fail(const struct cause *why) {
     say("player: %s", why->text);

@@ -67,6 +67,7 @@ struct player {
     atomic_bool manual_stops; /* the move without lines is to end */
     _Atomic int64_t kept_up_at; /* when a jog was asked for last */
     atomic_int percent;       /* of OUT's rates */
+    atomic_int spindle_percent; /* of OUT's speeds of the spindle */
     atomic_uint wants;        /* how many lines are wanted in hand; 0 doesn't say */
     _Atomic uint64_t last;    /* after so many bytes of OUT no more come for now, as was said */
     atomic_bool over;         /* the other threads are to end */

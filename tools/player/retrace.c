@@ -178,7 +178,7 @@ static enum end switch_on(struct play *play, const struct outputs *outputs) {
     if (link_is_there()) {
         return switch_sink_on(play, &line, &before);
     }
-    int error = pins_set(&line, text, size + 1);
+    int error = spindle_set_pins(play, &line, text, size + 1);
     if (error != 0) {
         note_stop(play, "pins");
         because(&play->why, "the pins: %s", strerror(error));

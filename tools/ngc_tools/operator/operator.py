@@ -64,6 +64,7 @@ class Operator:
             "rehearse": self._rehearse, "restore": self._restore, "go": self._go, "help": self._help, "?": self._help,
             "recover": self._recover, "drop": self._drop, "quit": self._quit, "exit": self._quit, "tick": self._tick,
             "hold": self._hold_all, "release": self._release, "percent": self._percent, "single": self._single,
+            "spindle": lambda typed: self.motors.spindle(typed.rest),
             "home": lambda typed: self.moves.home(typed.rest), "jog": self._jog,
             "seek": lambda typed: self.moves.seek(typed.rest),
             "zero": lambda typed: self.touch.zero(typed.rest, typed.anyway),

@@ -17,10 +17,10 @@ _RANGES = {
     ("motion", "accel_mm_s2"): range(1, 1_000_001), ("motion", "rate_mm_min"): range(100_001),
     ("motion", "start_mm_min"): range(100_001), ("motion", "slack_steps"): range(1, 65),
     ("motion", "most_percent"): MOST_PERCENTS, ("window", "lines"): range(window.MOST + 1),
-    ("wait", "spindle_s"): range(3601),
+    ("wait", "spindle_s"): range(3601), ("spindle", "max_rpm"): range(1, 10_000_000),
 }
 _PER_AXIS = ("accel_mm_s2", "rate_mm_min", "start_mm_min")
-_KEYS = {"motion": "one of its five", "window": "lines", "wait": "spindle_s"}
+_KEYS = {"motion": "one of its five", "window": "lines", "wait": "spindle_s", "spindle": "max_rpm"}
 _LEAST_ACCEL, _GREATEST_ACCEL = 3, 10**9  # steps a second, each second
 
 
@@ -31,22 +31,24 @@ class BadMachine(Failure):
 @dataclass(frozen=True, slots=True)
 class Machine:
     """What the motors allow; how many lines a player wants in hand, 0 for as many as are needed; how long the spindle
-    takes to start, to stop or to turn the other way."""
+    takes to start, to stop or to turn the other way; how fast it may turn, 0 where the file doesn't say it."""
 
     limits: Limits
     window_lines: int = 0
     spindle_s: int = 0
+    max_rpm: int = 0
 
 
 def read_machine(path: str | Path, step_nm: Axes) -> Machine:
-    """Reads the tables `[motion]`, `[window]` and `[wait]`; other tables are others'. Raises BadMachine, BadSettings if
+    """Reads the tables `[motion]`, `[window]`, `[wait]` and `[spindle]`; other tables are others'. Raises BadMachine, BadSettings if
     the file isn't TOML, or OSError."""
     tables = {name: table for name, table in read_table(path).items() if name in _KEYS and isinstance(table, dict)}
     _check(path, tables)
     motion = tables["motion"]
     lines = tables.get("window", {}).get("lines", 0)
     spindle_s = tables.get("wait", {}).get("spindle_s", 0)
-    return Machine(_limits(path, motion, step_nm), lines, spindle_s)
+    max_rpm = tables.get("spindle", {}).get("max_rpm", 0)
+    return Machine(_limits(path, motion, step_nm), lines, spindle_s, max_rpm)
 
 
 def read_limits(path: str | Path, step_nm: Axes) -> Limits:

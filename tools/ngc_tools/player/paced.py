@@ -11,6 +11,7 @@ from ngc_tools.player.pace import ROOM, Pace
 from ngc_tools.player.pins import Pins
 from ngc_tools.player.player import Player
 from ngc_tools.player.source import Source
+from ngc_tools.player.spindle import Spindle
 from ngc_tools.player.window import Window
 
 _FEW = 8  # lines are read after each one while it moves: more would make the next one late
@@ -24,6 +25,7 @@ class PacedPlayer(Player):
                  machine: Machine) -> None:
         super().__init__(source, position, begun, pins, manner)
         self.schedule.makes_up = False
+        self.spindle = Spindle(machine.max_rpm * 1_000_000)
         self._limits = machine.limits
         self._most_percent = machine.limits.most_percent
         self._last = -1  # after so many bytes of OUT no more come for now, as was said

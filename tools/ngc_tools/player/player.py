@@ -17,6 +17,7 @@ from ngc_tools.player.progress import MOVED, Report
 from ngc_tools.player.retrace import Goes, read_errand
 from ngc_tools.player.schedule import Schedule
 from ngc_tools.player.source import Source
+from ngc_tools.player.spindle import Spindle
 
 SLICE_NS = 20_000_000  # how long it sleeps at most before it looks whether it is to stop
 
@@ -42,6 +43,7 @@ class Player(Goes):
         self.answers: Answers | None = None
         self.stops = 0  # how often it is asked to stop
         self.percent = 100  # of OUT's rates
+        self.spindle = Spindle()
         self._lock = threading.Lock()  # of `source`, `position` and `lines`
         self._is_moving = False  # it can't stop at once
         self._stands_held = False  # it has come to rest for a hold
@@ -100,7 +102,7 @@ class Player(Goes):
             received = self.bound_for() if self.errand else self.source.received
             return Report(self.lines, received, tool is not None, str(self.position), self.out,
                           self.outputs, tool or 0, self._stands_held and tool is None and not self.is_untold,
-                          self.percent, self._wants, MOVED if self.is_untold else "works")
+                          self.percent, self._wants, MOVED if self.is_untold else "works", self.spindle.percent)
 
     def stand_at(self, at_nm: tuple[int, int, int]) -> None:
         """Takes where the machine stands, as after its axes were moved by hand, if nothing is behind: `ngc` knows it
@@ -149,6 +151,11 @@ class Player(Goes):
 
     def override(self, percent: int) -> None:
         """Goes at so many percent of OUT's rates, if that isn't too much."""
+
+    def override_spindle(self, percent: int) -> None:
+        """Turns the spindle at so many percent of OUT's speeds, if that may be."""
+        self.spindle.override(percent)
+        os.eventfd_write(self._wake, 1)
 
     def last(self) -> None:
         """What stands in OUT now is all that comes for now."""
@@ -221,7 +228,9 @@ class Player(Goes):
 
     def _heed(self) -> None:
         """Raises Stopped if it is asked to stop, or can't keep its record any more: while it moves only if it is asked
-        once more."""
+        once more. Sets the spindle's speed, where it is overridden otherwise; raises OSError if the pins fail."""
+        if (outputs := self.spindle.changed()) is not None:
+            self.pins.set(str(outputs).encode())
         if self._is_moving and self.stops < 2:
             return
         if self.stops:
@@ -245,14 +254,21 @@ class Player(Goes):
         if self.manner.times:
             self.manner.times.add(self.schedule.due - self.schedule.started, text)
         self.schedule.begun(lasts_ns)
-        self.pins.set(text)
-        if isinstance(line, Switch):
+        if not isinstance(line, Switch):
+            self.pins.set(text)
+        else:
+            self._set_outputs(text, line)
             turns = line.spindle != self.outputs.spindle
             self.outputs = line
             if turns:
                 self._wait_until(time.monotonic_ns() + self.manner.spindle_us * 1000)
             self.schedule.pause()  # as long as the tool and the spindle took
         self._count(line, len(text) + 1)
+
+    def _set_outputs(self, text: bytes, line: Switch) -> None:
+        """Gives a switch to the pins, with its speed as it is overridden."""
+        given = self.spindle.given(line)
+        self.pins.set(text if given == line else str(given).encode())
 
     def _count(self, line: Line, size: int) -> None:
         """Counts a line that is carried out."""
@@ -312,6 +328,7 @@ class Player(Goes):
             self.stopped_by = "pins"
             why = f"{error.strerror}; switch spindle and coolant off by hand"
             raise OSError(error.errno, why, error.filename) from None
+        self.spindle.stop()
         self.outputs = stopped(self.outputs)
 
 
