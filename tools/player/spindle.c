@@ -48,9 +48,12 @@ bool spindle_heed(struct play *play) {
     if (percent == play->set_percent) {
         return true;
     }
-    struct outputs now = play->set;
+    struct outputs now = link_is_there() ? link_outputs() : play->set;
     now.speed = spindle_speed(play, now.speed);
-    int error = now.spindle != 0 ? pins_speed(&now) : 0;
+    if (now.spindle != 0 && link_is_there() && !link_speed(now.speed)) {
+        return true; /* later */
+    }
+    int error = now.spindle != 0 && !link_is_there() ? pins_speed(&now) : 0;
     if (error != 0) {
         note_stop(play, "pins");
         return because(&play->why, "the pins: %s, after line %" PRIu64 ";", strerror(error), play->player->lines);

@@ -8,6 +8,7 @@ sys.path.insert(0, str(Path(__file__).resolve().parent))
 
 from player_support import InC, PlayerTest, Sanitized, record  # noqa: E402
 from session_support import PATIENCE_S  # noqa: E402
+from sink_support import ServedSink  # noqa: E402
 
 MOTION = "[motion]\naccel_mm_s2 = [500, 500, 500]\n"
 MOST = MOTION + "[spindle]\nmax_rpm = 1500\n"
@@ -146,12 +147,94 @@ class Overridden(PlayerTest):
                              f"mill.toml: {said}")
 
 
+class OverSink(InC, PlayerTest):
+    """tools/player over a step sink."""
+
+    def serve(self, waits_ms: int) -> None:
+        """Starts a sink that is named in the machine's file."""
+        self.sink = ServedSink(waits_ms)
+        self.addCleanup(self.sink.kill)
+        Path("mill.toml").write_text(f'{MOST}[sink]\nline = "{self.sink.path}"\nbaud = 2000000\n')
+        self.words = ("--no-ask-tool", "--off-after", "0", "--machine", "mill.toml", "out", "first.toml", "position")
+
+    def begun(self, text: str, waits_ms: int = 3_000) -> None:
+        """A player that moves, in a tenth of real time."""
+        self.serve(waits_ms)
+        self.sink.tell("tempo 10")
+        Path("out").write_text(text)
+        self.child = self.begin("--progress", "progress", *self.words)
+        self.link = self.linked()
+        self.wait_for("it moves", lambda: self.link.ask().carried > 5)
+
+    def events(self) -> str:
+        """What the sink's pins did so far."""
+        self.sink.tell("tempo 10")  # which has it write what it keeps
+        return Path("sink_events").read_text()
+
+    def test_amid_pulses(self) -> None:
+        """The sink gets a speed between two steps, and no step is later for it; then switches have it by the override,
+        up to what the spindle may have. Lines count as before, so what a killed player gave is counted too."""
+        self.begun("S 1 1000.000000 0 1 0 2\n" + "P 1 0 0 2000\n" * 1500 + "S 2 1200.000000 0 0 0 2\n"
+                   + "P 1 0 0 2000\n" * 500 + "S 0 1200.000000 0 0 0 2\n")
+        self.link.override_spindle(50)
+        self.wait_for("it is heeded", lambda: self.link.ask().spindle == 50)
+        self.assertLess(self.link.ask().carried, 1000)
+        self.wait_for("it goes on", lambda: self.link.ask().carried > 100)
+        self.link.override_spindle(140)
+        self.sink.tell("tempo 0")
+        _, said = self.child.communicate(timeout=PATIENCE_S)
+        self.assertEqual((self.child.returncode, said), (0, ""))
+        made = self.sink.end()
+        steps = [each.tick for each in made if each.step and any(each.step)]
+        self.assertEqual(len(steps), 2000)
+        self.assertEqual({after - at for at, after in zip(steps[200:1300], steps[201:])}, {16_000})  # 2 ms
+        switches = [each for each in made if each.outputs and each.outputs[0]]
+        self.assertEqual([each.outputs for each in switches], [
+            (1, 1_000_000_000, 0, 1, 0, 2), (1, 500_000_000, 0, 1, 0, 2), (1, 1_400_000_000, 0, 1, 0, 2),
+            (2, 1_500_000_000, 0, 0, 0, 2)])
+        self.assertTrue(steps[5] < switches[1].tick < switches[2].tick < steps[1499])
+        self.assertIn("lines 2003\n", record())
+        self.assertIn("outputs S 0 1200.000000 0 0 0 2\n", record())
+
+    def test_killed(self) -> None:
+        """What a killed player gave is counted by the next one, a speed between it or not."""
+        self.begun("S 1 1000.000000 0 0 0 0\n" + "P 1 0 0 2000\n" * 60_000, 2)
+        self.link.override_spindle(50)
+        self.wait_for("it is heeded", lambda: self.link.ask().spindle == 50)
+        seen = self.link.ask().carried
+        self.wait_for("it goes on", lambda: self.link.ask().carried > seen + 50)
+        self.child.kill()
+        self.child.communicate(timeout=PATIENCE_S)
+        self.sink.tell("tempo 0")
+        done = self.run_player(*self.words)
+        self.assertEqual(done.returncode, 0, done.stderr)
+        self.assertNotIn("isn't known", done.stderr)
+        self.assertIn("lines 60001\n", record())
+        self.assertEqual(sum(any(each.step) for each in self.sink.end() if each.step), 60_000)
+
+    def test_at_rest(self) -> None:
+        """A spindle that turns while the motors stand gets its speed at once."""
+        self.begun("S 1 1000.000000 0 0 0 0\n" + "P 1 0 0 2000\n" * 10_000)
+        self.link.hold()
+        self.wait_for("it is held", lambda: self.link.ask().is_held)
+        for percent in (50, 60):
+            self.link.override_spindle(percent)
+            self.wait_for("it is heeded", lambda: f" 1 {percent * 10_000_000} 0" in self.events())
+        self.assertTrue(self.link.ask().is_held)
+        self.child.terminate()
+        self.child.communicate(timeout=PATIENCE_S)
+
+
 class InPython(Overridden, unittest.TestCase):
     """ngc-player."""
 
 
 class OfC(InC, Overridden, unittest.TestCase):
     """tools/player."""
+
+
+class OfCOverSink(OverSink, unittest.TestCase):
+    """Over a step sink."""
 
 
 class OfCSanitized(Sanitized, Overridden, unittest.TestCase):
