@@ -3,6 +3,7 @@
 #include <inttypes.h>
 #include <string.h>
 
+#include "beginning.h"
 #include "sink_catch_up.h"
 #include "sink_link.h"
 #include "spindle.h"
@@ -47,13 +48,16 @@ bool sink_open(struct play *play, struct cause *why) {
     if (!link_open(play, &left, why)) {
         return false;
     }
-    play->player->is_over_sink = true;
     return is_place_sure(play, &left) || take_loss(play, why);
 }
 
 bool sink_begin(struct play *play, struct cause *why) {
     session = inputs_of(play, inputs_stops(&play->machine.inputs), 0, 0);
-    return !link_is_there() || link_begin(&session, why);
+    if (!link_is_there()) {
+        return true;
+    }
+    play->player->is_over_sink = link_begin(&session, why);
+    return play->player->is_over_sink && player_keep_first(play->player, why);
 }
 
 bool sink_begin_anew(struct play *play, uint32_t stops, uint32_t halts, uint32_t turned) {

@@ -9,7 +9,8 @@
  * alarm. Returns false, with the cause, also where nobody could home the machine then. */
 bool sink_open(struct play *play, struct cause *why);
 
-/* Begins a session, if there is a link: the record is written. Returns false, with the cause. */
+/* Begins a session, if there is a link: the record is written, and says from then on that the player works over it.
+ * Returns false, with the cause. */
 bool sink_begin(struct play *play, struct cause *why);
 
 /* Begins another session, at rest: `stops` stop the motors at once, `halts` bring them to rest by a ramp, and those of
