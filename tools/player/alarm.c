@@ -16,7 +16,11 @@
 #include "sink_play.h"
 #include "waits.h"
 
-static const char *const record_words[] = {"", "emergency", "limit"};
+static const char *const record_words[] = {"", "emergency", "limit", "lost"};
+static const char *const causes[] = {"nothing", "the emergency stop", "a limit", "a lost step sink"};
+
+/* Words of records, of players that didn't hear to its end what their sink made. */
+static const char *const doubtful_words[] = {"killed", "deaf", "cut", "sink"};
 
 const char *alarm_word(enum alarm alarm) {
     return record_words[alarm];
@@ -39,19 +43,37 @@ static bool can_home(const struct player *player) {
     return player->socket >= 0 && has_home(player);
 }
 
-bool alarm_take_over(struct player *player, const struct options *options, struct cause *why) {
-    enum alarm alarm = LIMITS;
-    while (alarm != NO_ALARM && strcmp(player->left.stopped, record_words[alarm]) != 0) {
+bool alarm_is_doubtful(const char *word) {
+    bool is_doubtful = false;
+    for (size_t at = 0; at < sizeof doubtful_words / sizeof doubtful_words[0]; at++) {
+        is_doubtful = is_doubtful || strcmp(word, doubtful_words[at]) == 0;
+    }
+    return is_doubtful;
+}
+
+/* The alarm that a record's word stands for. */
+static enum alarm alarm_of(const char *word) {
+    enum alarm alarm = SINK_LOST;
+    while (alarm != NO_ALARM && strcmp(word, record_words[alarm]) != 0) {
         alarm--;
     }
-    if (alarm == NO_ALARM || options->has_place) {
-        return true;
-    }
+    return alarm_is_doubtful(word) || strcmp(word, "reset") == 0 ? SINK_LOST : alarm;
+}
+
+bool alarm_take(struct player *player, const struct options *options, enum alarm alarm, struct cause *why) {
     player->alarm = alarm;
     player->stopped = record_words[alarm];
     return (options->socket != NULL && has_home(player))
         || because(why, "%s: %s stopped the motors, and where they are isn't known: --at X Y Z tells it",
-                   options->position, alarm == LIMITS ? "a limit" : "the emergency stop");
+                   options->position, causes[alarm]);
+}
+
+bool alarm_take_over(struct player *player, const struct options *options, struct cause *why) {
+    const char *word = player->left.stopped;
+    enum alarm alarm = alarm_of(word);
+    bool has_sink = player->machine != NULL && player->machine->sink.line[0] != '\0';
+    return alarm == NO_ALARM || options->has_place || (has_sink && alarm_is_doubtful(word))
+        || alarm_take(player, options, alarm, why);
 }
 
 bool alarm_begin(const struct player *player, const struct options *options, struct cause *why) {
@@ -160,8 +182,7 @@ static void doze(const struct play *play) {
 static void begin_rest(struct play *play) {
     struct player *player = play->player;
     if (play->why.text[0] == '\0') { /* it began so */
-        because(&play->why, "%s stopped the motors before, and where they are isn't known;",
-                player->alarm == LIMITS ? "a limit" : "the emergency stop");
+        because(&play->why, "%s stopped the motors before, and where they are isn't known;", causes[player->alarm]);
     }
     atomic_store(&player->tool, NO_TOOL);
     atomic_store(&player->stands_held, false);
@@ -170,12 +191,22 @@ static void begin_rest(struct play *play) {
         can_home(player) ? "home the machine" : "start anew with --at X Y Z");
 }
 
+/* While the emergency stop is on the motors may be without power: what was homed before isn't any more. */
+static void heed_stop_at_rest(struct player *player) {
+    player_lock(player);
+    if (input_is_on(atomic_load(&player->on), player->machine->inputs.emergency_stop)) {
+        player->homed = 0;
+    }
+    player_unlock(player);
+}
+
 /* Looks at the inputs at rest: what is on already is no news. An open door alone holds. */
 static void look_at_rest(struct play *play) {
     uint32_t stops_at = play->stops_at;
     play->stops_at = 0;
     atomic_store(&play->player->is_held, false);
     alarm_look(play);
+    heed_stop_at_rest(play->player);
     play->stops_at = stops_at;
 }
 
@@ -200,6 +231,16 @@ bool alarm_wait(struct play *play) {
     because(&play->why, "the session is over, and %s",
             alarm_stands(player) ? "the machine isn't homed;" : "lines in hand weren't carried out;");
     return goes_on;
+}
+
+bool alarm_takes_place(const struct player *player, const int64_t steps[3]) {
+    unsigned homed = has_home(player) ? player->homed : 0;
+    bool is_taken = homed != 0 && homed == home_axes(&player->machine->home) && !player->manual.is_there
+        && !input_is_on(atomic_load(&player->on), player->machine->inputs.emergency_stop);
+    for (int axis = 0; axis < 3; axis++) {
+        is_taken = is_taken && ((homed >> axis & 1) == 0 || steps[axis] == player->steps[axis]);
+    }
+    return is_taken;
 }
 
 void alarm_end(struct player *player) {

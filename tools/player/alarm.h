@@ -1,4 +1,5 @@
-/* The alarm: the emergency stop or a limit stopped the motors at once, and where they are isn't known any more. */
+/* The alarm: the emergency stop or a limit stopped the motors at once, or a step sink was lost while they may have
+ * moved, and where they are isn't known any more. */
 #ifndef ALARM_H
 #define ALARM_H
 
@@ -8,14 +9,20 @@
 #include "cause.h"
 #include "options.h"
 
-enum alarm { NO_ALARM, EMERGENCY_STOP, LIMITS };
+enum alarm { NO_ALARM, EMERGENCY_STOP, LIMITS, SINK_LOST };
 
 struct player;
 struct play;
 
-/* Takes over the alarm that the record tells of, unless a person tells where the machine stands. Returns false, with
- * the cause, where nobody could home it. */
+/* Takes over the alarm that the record tells of, unless a person tells where the machine stands, or a sink can still be
+ * asked. Returns false, with the cause, where nobody could home it. */
 bool alarm_take_over(struct player *player, const struct options *options, struct cause *why);
+
+/* Whether a record's word says that what a sink made was not heard to its end: asking it may tell. */
+bool alarm_is_doubtful(const char *word);
+
+/* An alarm stands from the beginning. Returns false, with the cause, where nobody could home the machine. */
+bool alarm_take(struct player *player, const struct options *options, enum alarm alarm, struct cause *why);
 
 /* Looks whether the pins have the inputs of the machine's file. Returns false, with the cause. */
 bool alarm_begin(const struct player *player, const struct options *options, struct cause *why);
@@ -34,7 +41,11 @@ const char *alarm_word(enum alarm alarm);
  * go on then: not where some were dropped, or it has to stop before. */
 bool alarm_wait(struct play *play);
 
-/* All axes that the machine's file names are homed: ends it. The lock is held. */
+/* Whether it is over once a person tells that the machine stands at these steps: all axes are homed that the machine's
+ * file names, and these are where they are by the player; of the others nothing else tells. The lock is held. */
+bool alarm_takes_place(const struct player *player, const int64_t steps[3]);
+
+/* Where all axes are is known: ends it. The lock is held. */
 void alarm_end(struct player *player);
 
 #endif

@@ -17,6 +17,7 @@
 #include "player.h"
 #include "scan.h"
 #include "schedule.h"
+#include "spindle.h"
 
 enum { QUESTION_ROOM = 192, LOOKS_MS = 50 };
 
@@ -82,21 +83,46 @@ static void report(struct player *player, char *text, size_t room, const char *q
     }
     place_print(place, sizeof place, nm);
     int percent = atomic_load(&player->percent);
+    int spindle = atomic_load(&player->spindle_percent);
     unsigned wants = atomic_load(&player->wants);
-    snprintf(text, room, "%s carried %" PRIu64 " received %" PRIu64 " %s reference %s outputs %s percent %d wants %u"
-             " out %s", question, lines, received, does, place, outputs, percent, wants, player->out);
+    snprintf(text, room, "%s carried %" PRIu64 " received %" PRIu64 " %s reference %s outputs %s percent %d"
+             " spindle %d wants %u out %s", question, lines, received, does, place, outputs, percent, spindle, wants,
+             player->out);
 }
 
-/* Takes where the machine stands, as after its axes were moved by hand, if nothing is behind. */
+/* Whether it may be told that the machine stands at these steps: where it does anyhow also with lines in hand, which
+ * wait for that. The lock is held. */
+static bool takes_place(const struct player *player, const int64_t steps[3]) {
+    bool is_there = memcmp(player->steps, steps, sizeof player->steps) == 0;
+    bool is_behind = player->source.received != player->lines && !player->is_broken && !is_there;
+    bool moves = player->errand.is_there || player->manual.is_there;
+    return player->alarm == NO_ALARM ? !is_behind && !moves : alarm_takes_place(player, steps);
+}
+
+/* It stands at these steps, and `ngc` knows it; where an alarm is over by that, `ngc` has to be told yet. The lock is
+ * held. */
+static void take_place(struct player *player, const int64_t steps[3]) {
+    for (int axis = 0; axis < 3; axis++) {
+        player->screws[axis] = steps[axis] == player->steps[axis] ? player->screws[axis] : SCREW_UNKNOWN;
+    }
+    memcpy(player->steps, steps, sizeof player->steps);
+    atomic_store(&player->is_untold, player->alarm != NO_ALARM);
+    if (player->alarm != NO_ALARM) {
+        alarm_end(player);
+    }
+}
+
+/* Takes where the machine stands, as after its axes were moved by hand, if nothing is behind. In an alarm it tells
+ * where the axes are that can't be homed. */
 static void stand_at(struct player *player, const int64_t nm[3]) {
+    int64_t steps[3];
+    for (int axis = 0; axis < 3; axis++) {
+        steps[axis] = in_steps(nm[axis], player->step_nm[axis]);
+    }
     player_lock(player);
     bool took = source_take_all(&player->source);
-    bool is_behind = player->errand.is_there || player->manual.is_there || player->alarm != NO_ALARM
-        || (player->source.received != player->lines && !player->is_broken);
-    for (int axis = 0; axis < 3 && !is_behind; axis++) {
-        int64_t steps = in_steps(nm[axis], player->step_nm[axis]);
-        player->screws[axis] = steps == player->steps[axis] ? player->screws[axis] : SCREW_UNKNOWN;
-        player->steps[axis] = steps;
+    if (takes_place(player, steps)) {
+        take_place(player, steps);
     }
     player_unlock(player);
     if (took) {
@@ -158,11 +184,11 @@ static bool is_word(const char *text, size_t size, const char *word) {
     return size == strlen(word) && memcmp(text, word, size) == 0;
 }
 
-/* Reads "percent N", 1 to 999. */
-static bool read_percent(const char *text, size_t size, int *percent) {
+/* Reads "percent N", or what else the words before it are, 1 to 999. */
+static bool read_percent(const char *text, size_t size, const char *words, int *percent) {
     struct scan scan = {text, text + size};
     uint64_t number = 0;
-    if (!scan_word(&scan, "percent ") || !scan_whole(&scan, 3, &number, NULL) || !scan_is_over(&scan)) {
+    if (!scan_word(&scan, words) || !scan_whole(&scan, 3, &number, NULL) || !scan_is_over(&scan)) {
         return false;
     }
     *percent = (int)number;
@@ -192,6 +218,14 @@ static void release(struct player *player) {
     }
 }
 
+/* Overrides the spindle's speed, if it may be overridden so. */
+static void override_spindle(struct player *player, int percent) {
+    if (percent >= LEAST_SPINDLE_PERCENT && percent <= spindle_most_percent(player->machine)) {
+        atomic_store(&player->spindle_percent, percent);
+        eventfd_write(player->wake, 1);
+    }
+}
+
 /* Does what a datagram asks for; others are left alone. */
 static void heed(struct player *player, const char *text, size_t size, const struct sockaddr_un *from,
                  socklen_t named) {
@@ -212,8 +246,10 @@ static void heed(struct player *player, const char *text, size_t size, const str
         atomic_store(&player->is_held, true);
     } else if (is_word(text, size, "release")) {
         release(player);
-    } else if (read_percent(text, size, &percent) && percent <= player->most_percent) {
+    } else if (read_percent(text, size, "percent ", &percent) && percent <= player->most_percent) {
         atomic_store(&player->percent, percent);
+    } else if (read_percent(text, size, "spindle percent ", &percent)) {
+        override_spindle(player, percent);
     } else if (is_word(text, size, "last")) {
         note_last(player);
     } else if (read_synced(text, size, &bytes)) {

@@ -67,6 +67,8 @@ static bool begin_record(struct player *player, const struct options *options, s
     player->lines = record.lines;
     player->bytes = record.bytes;
     player->is_off = goes_on && record.is_off;
+    atomic_store(&player->is_untold, record.is_off && !options->has_place);
+    player->told_at[0] = INT64_MIN; /* which is no place */
     player->outputs = record.outputs;
     outputs_stop(&player->outputs);
     for (int axis = 0; axis < 3; axis++) {
@@ -76,6 +78,14 @@ static bool begin_record(struct player *player, const struct options *options, s
         player->screws[axis] = has_screw ? record.screws[axis] : SCREW_UNKNOWN;
     }
     return true;
+}
+
+/* Whether somebody can say that `ngc` knows where the machine is, if the last player moved it without lines. */
+static bool can_be_told(const struct player *player, const struct options *options, struct cause *why) {
+    bool has_to_be = atomic_load(&player->is_untold) && !options->goes;
+    return !has_to_be || (options->socket != NULL && options->machine != NULL)
+        || because(why, "%s: the motors were moved without lines, and ngc may not know where they are: --at X Y Z tells"
+                   " where the machine stands", options->position);
 }
 
 /* What a machine's file says, and the settings. */
@@ -123,6 +133,7 @@ bool player_begin(struct player *player, const struct options *options, struct s
         return because(why, "%s: %s", options->out, strerror(errno));
     }
     if (!begin_record(player, options, why) || !alarm_take_over(player, options, why)
+        || !can_be_told(player, options, why)
         || !pins_begin(options->pins, others, why)
         || (options->socket != NULL && !answers_open(player, options->socket, why))
         || (options->times != NULL && !times_begin(options->times, why))) {

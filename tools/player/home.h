@@ -8,6 +8,8 @@
 #include "cause.h"
 #include "settings.h"
 
+enum { ALL_AXES = 7 };
+
 /* By axes; of one that isn't homed, the order 0 alone counts. */
 struct home {
     bool is_there;

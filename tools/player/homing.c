@@ -217,10 +217,10 @@ static int axis_of(const struct home *home, unsigned axes, int place) {
     return axis;
 }
 
-/* Ends an alarm, once all axes are homed. */
+/* Ends an alarm, once all axes are homed. Where one can't be, a person tells where it stands. */
 static void end_alarm(struct player *player) {
     player_lock(player);
-    if (player->homed == home_axes(&player->machine->home)) {
+    if (player->homed == ALL_AXES) {
         alarm_end(player);
     }
     player_unlock(player);

@@ -11,12 +11,13 @@
 enum { HALF = 64, LEAST_ACCEL = 3, GREATEST_ACCEL = 1000000000, NM_PER_MM = 1000000, S_PER_MIN = 60 };
 enum { DEFAULT_SLACK = 2, DEFAULT_PERCENT = 100, DEFAULT_AT_SPEED_S = 10, DEFAULT_AGREE_UM = 20 };
 enum { FARTHEST_UM = 10000000 }; /* from machine 0 */
+enum { MILLIONTHS = 1000000 };   /* of a turn a minute, in which speeds are */
 
 #define NS_PER_S INT64_C(1000000000)
 
-enum { MOTION, WINDOW, WAIT, BACKLASH, INPUTS, HOME, TABLES }; /* the numbers of `tables` */
+enum { MOTION, WINDOW, WAIT, TURNS, BACKLASH, INPUTS, HOME, TABLES }; /* the numbers of `tables` */
 enum { /* the numbers of `keys` */
-    ACCEL, RATE, START, SLACK, MOST, LINES, SPINDLE, STEPS,
+    ACCEL, RATE, START, SLACK, MOST, LINES, SPINDLE, MAX_RPM, STEPS,
     STOP, LIMITS_LOW, LIMITS_HIGH, DOOR, AT_SPEED, PROBE, LOW, AT_SPEED_S,
     ORDER, SWITCH, DIRECTION, FAST, SLOW, PULL_OFF, AT, WAY, AGREE,
     KEYS
@@ -28,8 +29,8 @@ struct table {
 };
 
 static const struct table tables[TABLES] = {{"motion", "one of its five"}, {"window", "lines"}, {"wait", "spindle_s"},
-                                            {"backlash", "steps"}, {"inputs", "one of its eight"},
-                                            {"home", "one of its nine"}};
+                                            {"spindle", "max_rpm"}, {"backlash", "steps"},
+                                            {"inputs", "one of its eight"}, {"home", "one of its nine"}};
 
 struct key {
     int table;
@@ -48,6 +49,7 @@ static const struct key keys[KEYS] = {
     {MOTION, "most_percent", 1, 100, 200, "a whole number from 100 to 200"},
     {WINDOW, "lines", 1, 0, WINDOW_MOST, "a whole number from 0 to 8000"},
     {WAIT, "spindle_s", 1, 0, 3600, "a whole number from 0 to 3600"},
+    {TURNS, "max_rpm", 1, 1, 9999999, "a whole number from 1 to 9999999"},
     {BACKLASH, "steps", 3, 0, MOST_BACKLASH, "three whole numbers from 0 to 999"},
     {INPUTS, "emergency_stop", 1, -1, 15, "a whole number from -1 to 15"},
     {INPUTS, "limits_low", 3, -1, 15, "three whole numbers from -1 to 15"},
@@ -249,6 +251,7 @@ bool machine_read(const char *path, const int64_t step_nm[3], struct machine *ma
     read_inputs(&content, &machine->inputs);
     read_home(&content, &machine->home);
     machine->window_lines = (uint64_t)number_of(&content, LINES, 0);
+    machine->most_speed = (uint64_t)number_of(&content, MAX_RPM, 0) * MILLIONTHS;
     machine->spindle_ns = number_of(&content, SPINDLE, 0) * NS_PER_S;
     memcpy(machine->backlash, content.values[STEPS].numbers, sizeof machine->backlash);
     return read_limits(path, &content, step_nm, &machine->limits, why)

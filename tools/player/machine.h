@@ -16,6 +16,7 @@ struct machine {
     struct pace_limits limits;
     uint64_t window_lines; /* how many lines a player wants in hand; 0 for as many as are needed */
     int64_t spindle_ns;    /* how long the spindle takes to start, to stop or to turn the other way */
+    uint64_t most_speed;   /* of the spindle, in millionths; 0 where the file doesn't say it */
     int64_t backlash[3];   /* in steps */
     struct sink_settings sink;
     struct inputs inputs;
@@ -23,8 +24,8 @@ struct machine {
 };
 
 /* Reads the tables [motion], in millimetres, which it turns into steps, rounded down, so that nothing is exceeded,
- * [window], [wait], [backlash], [sink], [inputs] and [home]. Other tables are others'. Returns false, with the cause,
- * which names the key. */
+ * [window], [wait], [spindle], [backlash], [sink], [inputs] and [home]. Other tables are others'. Returns false, with
+ * the cause, which names the key. */
 bool machine_read(const char *path, const int64_t step_nm[3], struct machine *machine, struct cause *why);
 
 #endif

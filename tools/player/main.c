@@ -27,7 +27,7 @@
 enum { NS_PER_MS = 1000000 };
 
 static struct player player = {.socket = -1, .wake = -1, .stopped = "", .tool = NO_TOOL, .percent = 100,
-                               .last = UINT64_MAX};
+                               .spindle_percent = 100, .last = UINT64_MAX};
 
 static int fail(const struct cause *why) {
     say("player: %s", why->text);
@@ -82,6 +82,7 @@ static bool begin_threads(pthread_t *keeper, pthread_t *answers, struct cause *w
 static bool keep_last(const char *position) {
     static struct record last;
     int error = atomic_load(&player.record_error);
+    player.is_over_sink = false;
     if (error == 0) {
         player_record(&player, &last);
         error = keeper_write(&player.keeper, &last);

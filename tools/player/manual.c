@@ -40,6 +40,7 @@ void manual_look_at_path(struct player *player) {
     if (player->knows_left && memcmp(player->left_at, player->steps, sizeof player->left_at) == 0) {
         player->is_off = false;
     }
+    atomic_store(&player->is_untold, memcmp(player->told_at, player->steps, sizeof player->told_at) != 0);
 }
 
 int64_t manual_room(const struct player *player, int axis, int sign) {
@@ -130,6 +131,9 @@ static bool take(struct player *player, const struct manual_wish *wish, struct c
     player_lock(player);
     bool is_taken = may_take(player, wish, why);
     if (is_taken) {
+        if (!atomic_load(&player->is_untold)) {
+            memcpy(player->told_at, player->steps, sizeof player->told_at);
+        }
         player->manual.is_there = true;
         player->manual.wish = *wish;
         player->manual.homes = -1;
@@ -182,7 +186,7 @@ static void print_axes(unsigned axes, char text[5]) {
 
 /* Answers `machine N`. */
 static void report(struct player *player, const char *question, char *text, size_t room) {
-    static const char *const alarms[] = {"none", "emergency_stop", "limits"};
+    static const char *const alarms[] = {"none", "emergency_stop", "limits", "sink"};
     char deed[16];
     char axes[5];
     char on[INPUTS_ROOM];

@@ -2,7 +2,10 @@
  *
  * What the record says meanwhile. Its counts stay, and `reference` is where the motors are. With the first pulse of
  * such a move the motors leave the path of OUT, which the record says by `off`, until a line of OUT comes, or they
- * stand where they left it. */
+ * stand where they left it.
+ *
+ * No line is carried out behind such a move before somebody says where the machine stands (`at`), which `ngc` knows
+ * then, or the motors are where it takes them to be anyhow. */
 #ifndef MANUAL_H
 #define MANUAL_H
 
@@ -50,7 +53,8 @@ bool manual_is_there(struct player *player);
 /* The motors leave the path of OUT, if they are on it. The lock is held. */
 void manual_leave_path(struct player *player);
 
-/* They stand: where they left the path they are on it again. The lock is held. */
+/* They stand: where they left the path they are on it again, and where they aren't where `ngc` takes them to be it has
+ * to be told. The lock is held. */
 void manual_look_at_path(struct player *player);
 
 /* How many steps an axis may go before its travel ends. The lock is held. */

@@ -133,9 +133,21 @@ static void read_ahead(struct play *play, int most) {
     atomic_store(&play->player->wants, lines_wanted(play));
 }
 
+/* Whether lines are in hand that wait until somebody says that `ngc` knows where the motors are; says it once. */
+static bool has_to_be_told(struct play *play) {
+    static bool is_said;
+    bool waits = atomic_load(&play->player->is_untold);
+    if (waits && !is_said && pace.first < pace.known) {
+        say("%s: lines came, and the motors moved without lines before: they stand until `at X Y Z` says that ngc knows"
+            " where", play->options->out);
+    }
+    is_said = waits && (is_said || pace.first < pace.known);
+    return waits;
+}
+
 /* The square that is wanted: 0 where somebody asks for a rest. */
 static uint64_t wanted(struct play *play) {
-    if (is_rest_asked(play) || atomic_load(&play->player->is_held)) {
+    if (is_rest_asked(play) || atomic_load(&play->player->is_held) || has_to_be_told(play)) {
         return 0;
     }
     return pace_wanted(&pace, (unsigned)atomic_load(&play->player->percent));

@@ -89,6 +89,13 @@ int pins_set(const struct line *line, const char *text, size_t size) {
     return file < 0 ? 0 : write_all(text, size);
 }
 
+int pins_speed(const struct outputs *outputs) {
+    char text[OUTPUTS_ROOM + 1];
+    size_t size = outputs_print(text, OUTPUTS_ROOM, outputs);
+    text[size] = '\n';
+    return file < 0 ? 0 : write_all(text, size + 1);
+}
+
 int pins_off(void) {
     return file < 0 ? 0 : write_all("off\n", 4);
 }

@@ -23,6 +23,10 @@ bool pins_begin(const char *path, const char *const *others, struct cause *why);
  * player answers meanwhile, in another thread. */
 int pins_set(const struct line *line, const char *text, size_t size);
 
+/* Sets the spindle's speed to that of `outputs`, now, as somebody overrides it; all else is as it was set last. It is
+ * called between two pulses too, and doesn't wait for the spindle. Returns 0 or an error. */
+int pins_speed(const struct outputs *outputs);
+
 /* Turns spindle and coolant off, now. Called before every exit at which they may be on. Returns 0 or an error. */
 int pins_off(void);
 

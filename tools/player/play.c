@@ -45,7 +45,7 @@ enum end carry_out(struct play *play, const struct line *line, const char *text,
     struct schedule *schedule = &play->schedule;
     times_add(schedule->due - schedule->begun, text, size);
     schedule_begin(schedule, lasts_ns);
-    int error = pins_set(line, text, size);
+    int error = spindle_set_pins(play, line, text, size);
     if (error != 0) {
         note_stop(play, "pins");
         because(&play->why, "the pins: %s", strerror(error));
@@ -213,6 +213,7 @@ bool switch_off(struct play *play) {
         say("player: the pins: %s; switch spindle and coolant off by hand", strerror(error));
         return false;
     }
+    outputs_stop(&play->set);
     player_lock(shared);
     outputs_stop(&shared->outputs);
     player_unlock(shared);

@@ -21,6 +21,8 @@ struct play {
     uint64_t least_us;
     struct machine machine; /* with --machine */
     bool is_moving;         /* by the pacer: it can't stop at once */
+    struct outputs set;     /* what the pins were given last, as OUT has it .. */
+    int set_percent;        /* .. and the override of the spindle then */
     uint32_t stops_at;      /* inputs at which it does all the same; bit n is input n */
     struct schedule schedule;
     struct counts counts;

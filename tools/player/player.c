@@ -36,7 +36,8 @@ void player_record(struct player *player, struct record *record) {
         record->homed[strlen(record->homed)] = player->homed >> axis & 1 ? "XYZ"[axis] : '\0';
     }
     record->is_off = player->is_off;
-    snprintf(record->stopped, sizeof record->stopped, "%s", player->stopped);
+    bool is_open = player->is_over_sink && player->stopped[0] == '\0';
+    snprintf(record->stopped, sizeof record->stopped, "%s", is_open ? "killed" : player->stopped);
     unsigned worst_ms = atomic_load(&player->worst_ms);
     record->age_ms = worst_ms != 0 ? worst_ms : player->left.age_ms;
     player_unlock(player);
@@ -57,6 +58,8 @@ void player_doing(struct player *player, char *text, size_t room) {
         word = "moves";
     } else if (is_broken) {
         word = "broken";
+    } else if (atomic_load(&player->is_untold)) {
+        word = "moved";
     } else if (atomic_load(&player->stands_held)) {
         word = "held";
     } else if (atomic_load(&player->waits_spindle)) {

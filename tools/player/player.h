@@ -50,7 +50,9 @@ struct player {
     bool is_off;         /* the motors left the path of OUT by a move without lines, and no line came since .. */
     bool knows_left;     /* .. and it is known where .. */
     int64_t left_at[3];  /* .. in steps */
+    int64_t told_at[3];  /* where `ngc` took the motors to be as they moved without lines, in steps */
     enum alarm alarm;
+    bool is_over_sink;   /* what the sink makes isn't heard to its end yet: a record that stays says so */
     bool is_broken;      /* lines were dropped for an alarm: no more of them are carried out */
     struct record left; /* the record as it was, if it speaks of this OUT */
     bool has_left;
@@ -61,12 +63,14 @@ struct player {
     atomic_int tool;          /* the slot that a person is asked for, or NO_TOOL */
     atomic_int record_error;  /* why the record can't be kept any more; 0 */
     atomic_bool is_held;      /* somebody asks for a rest */
+    atomic_bool is_untold;    /* they moved without lines, and nobody said since that `ngc` knows where they are */
     atomic_bool stands_held;  /* it has come to rest for that */
     atomic_bool waits_spindle; /* a switch waits until the spindle is at its speed */
     atomic_uint on;           /* the inputs that are on, as they were looked at last */
     atomic_bool manual_stops; /* the move without lines is to end */
     _Atomic int64_t kept_up_at; /* when a jog was asked for last */
     atomic_int percent;       /* of OUT's rates */
+    atomic_int spindle_percent; /* of OUT's speeds of the spindle */
     atomic_uint wants;        /* how many lines are wanted in hand; 0 doesn't say */
     _Atomic uint64_t last;    /* after so many bytes of OUT no more come for now, as was said */
     atomic_bool over;         /* the other threads are to end */

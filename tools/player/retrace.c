@@ -213,7 +213,7 @@ static enum end switch_on(struct play *play, const struct outputs *outputs) {
     if (link_is_there()) {
         return switch_sink_on(play, &line, &before);
     }
-    int error = pins_set(&line, text, size + 1);
+    int error = spindle_set_pins(play, &line, text, size + 1);
     if (error != 0) {
         note_stop(play, "pins");
         because(&play->why, "the pins: %s", strerror(error));
@@ -235,6 +235,7 @@ static void arrive(struct player *player) {
         player->bytes = errand->legs_bytes;
         player->is_off = false;
     }
+    atomic_store(&player->is_untold, false); /* OUT's lines lead on from there */
     if (!player->source.is_pipe) {
         source_go_to(&player->source, player->lines, player->bytes);
         player->source.limit = errand->bytes;

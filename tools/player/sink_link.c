@@ -130,6 +130,14 @@ void link_give(const struct move *move, uint64_t ns, uint64_t ramp, bool is_rest
     give(move, ns, ramp, is_rest, false);
 }
 
+bool link_speed(uint64_t speed) {
+    pthread_mutex_lock(&shared->lock);
+    bool is_given = sender_speed(&shared->sender, speed) == GIVE_TAKEN;
+    shared->now.is_done = shared->now.is_done && !is_given;
+    pthread_mutex_unlock(&shared->lock);
+    return is_given;
+}
+
 void link_give_line(const struct line *of, size_t size, uint64_t ns, uint64_t ramp, bool is_rest) {
     struct move move = {true, *of, shared->words.lines + 1, shared->words.bytes + size, false};
     give(&move, ns, ramp, is_rest, true);
@@ -171,7 +179,7 @@ bool link_is_over(const char **word, const char **text) {
     const struct sender *sender = &shared->sender;
     bool is_reset = sender->state == SENDER_RESET;
     bool is_over = shared->is_gone || is_reset || sender->is_deaf || sender->state == SENDER_ENDED;
-    *word = shared->is_gone ? "line" : is_reset ? "reset" : sender->is_deaf ? "deaf" : of_faults[sender->sink.fault];
+    *word = shared->is_gone ? "cut" : is_reset ? "reset" : sender->is_deaf ? "deaf" : of_faults[sender->sink.fault];
     *text = shared->is_gone ? "the line to the sink is gone" : sender_why(sender);
     pthread_mutex_unlock(&shared->lock);
     return is_over;

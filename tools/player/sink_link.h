@@ -50,6 +50,9 @@ bool link_wants(void);
  * wait is a line D; a line S is outputs, and then a rest. link_wants was true. */
 void link_give(const struct move *move, uint64_t ns, uint64_t ramp, bool is_rest);
 
+/* Gives another speed of the spindle, in millionths, amid what moves; false where there is no room for now. */
+bool link_speed(uint64_t speed);
+
 /* Gives the next line of OUT, which has so many bytes. */
 void link_give_line(const struct line *line, size_t size, uint64_t ns, uint64_t ramp, bool is_rest);
 

@@ -3,6 +3,7 @@
 #include <inttypes.h>
 #include <string.h>
 
+#include "beginning.h"
 #include "sink_catch_up.h"
 #include "sink_link.h"
 #include "spindle.h"
@@ -17,6 +18,24 @@ static struct sink_inputs inputs_of(const struct play *play, uint32_t stops, uin
     return inputs;
 }
 
+/* Whether the motors are where the record says, or where it says with what the sink made after it, which is counted. A
+ * sink that stopped dead, or started again since, doesn't tell that. */
+static bool is_place_sure(struct play *play, const struct sink_answer *left) {
+    bool was_ended = left->state == SINK_NEW || left->fault == FAULT_ASKED;
+    if (was_ended && !alarm_is_doubtful(play->player->left.stopped)) {
+        return true;
+    }
+    return left->state != SINK_NEW && sink_catch_up(play, left) && left->state != SINK_BROKEN;
+}
+
+/* Where the motors are isn't known: an alarm, unless a person tells it. */
+static bool take_loss(struct play *play, struct cause *why) {
+    struct player *player = play->player;
+    say("%s: what the sink made after the record of its last player isn't known", play->machine.sink.line);
+    return player->alarm != NO_ALARM || play->options->has_place
+        || alarm_take(player, play->options, SINK_LOST, why);
+}
+
 bool sink_open(struct play *play, struct cause *why) {
     struct sink_answer left;
     const struct sink_settings *settings = &play->machine.sink;
@@ -29,17 +48,16 @@ bool sink_open(struct play *play, struct cause *why) {
     if (!link_open(play, &left, why)) {
         return false;
     }
-    bool was_ended = left.state == SINK_NEW || left.fault == FAULT_ASKED;
-    if (!was_ended && !sink_catch_up(play, &left)) {
-        say("%s: the sink's last player was killed: the motors may be past its record by what was in hand; measure",
-            settings->line);
-    }
-    return true;
+    return is_place_sure(play, &left) || take_loss(play, why);
 }
 
 bool sink_begin(struct play *play, struct cause *why) {
     session = inputs_of(play, inputs_stops(&play->machine.inputs), 0, 0);
-    return !link_is_there() || link_begin(&session, why);
+    if (!link_is_there()) {
+        return true;
+    }
+    play->player->is_over_sink = link_begin(&session, why);
+    return play->player->is_over_sink && player_keep_first(play->player, why);
 }
 
 bool sink_begin_anew(struct play *play, uint32_t stops, uint32_t halts, uint32_t turned) {
@@ -100,15 +118,19 @@ bool sink_has_stopped(struct play *play) {
     note_stop(play, word);
     player_lock(play->player);
     outputs_stop(&play->player->outputs);
+    play->player->homed = is_lost ? 0 : play->player->homed;
     player_unlock(play->player);
     return !because(&play->why, "%s, after line %" PRIu64 "%s;", text, play->player->lines,
                     is_lost ? ": where the motors are isn't sure" : "");
 }
 
-void sink_stop(void) {
-    if (sink_is_moving()) {
-        link_stop(false);
+bool sink_stop(void) {
+    if (!sink_is_moving()) {
+        return true;
     }
+    link_stop(false);
+    uint8_t state = link_look().state;
+    return state == SINK_STOPPED || state == SINK_BROKEN;
 }
 
 bool sink_await_room(struct play *play) {

@@ -4,11 +4,13 @@
 
 #include "play_parts.h"
 
-/* Opens the link, if the machine has a sink. What that one made after the record of a player that was killed is
- * counted, where OUT is the same file; else it is told. Returns false, with the cause. */
+/* Opens the link, if the machine has a sink. What that one made after the record of a player that was killed, or that
+ * didn't hear it any more, is counted, where OUT is the same file; else where the motors are isn't known, which is an
+ * alarm. Returns false, with the cause, also where nobody could home the machine then. */
 bool sink_open(struct play *play, struct cause *why);
 
-/* Begins a session, if there is a link: the record is written. Returns false, with the cause. */
+/* Begins a session, if there is a link: the record is written, and says from then on that the player works over it.
+ * Returns false, with the cause. */
 bool sink_begin(struct play *play, struct cause *why);
 
 /* Begins another session, at rest: `stops` stop the motors at once, `halts` bring them to rest by a ramp, and those of
@@ -31,8 +33,8 @@ bool sink_is_moving(void);
 /* Whether the session is over, and the play has to stop. Notes why. */
 bool sink_has_stopped(struct play *play);
 
-/* Has a sink that moves stop by its ramp. */
-void sink_stop(void);
+/* Has a sink that moves stop by its ramp; whether it says that it has. */
+bool sink_stop(void);
 
 /* Waits until the sink wants more; false where the play has to stop before. */
 bool sink_await_room(struct play *play);

@@ -2,10 +2,13 @@
 
 #include <string.h>
 
+#include "spindle.h"
+
 enum { TICK_NS = 125, PIECE_TICKS = 8000000, MOST_STEP_TICKS = 16000000 };
 enum { MOST_WORDS = 2 /* of a move at once */ };
 
 void words_begin(struct words *words, const struct play *play) {
+    words->play = play;
     words->first = words->end = 0;
     words->lines = play->player->lines;
     words->bytes = play->player->bytes;
@@ -71,7 +74,8 @@ static void give_timed(struct words *words, struct sender *sender, const struct 
 }
 
 static void switch_to(struct words *words, struct sender *sender, const struct outputs *outputs, bool is_line) {
-    const struct sink_outputs all = {outputs->speed, (uint8_t)outputs->spindle, (uint8_t)outputs->mist,
+    uint64_t speed = spindle_speed(words->play, outputs->speed);
+    const struct sink_outputs all = {speed, (uint8_t)outputs->spindle, (uint8_t)outputs->mist,
                                      (uint8_t)outputs->flood, (uint8_t)outputs->selected, (uint8_t)outputs->slot};
     sender_switch(sender, &all, is_line);
     words->outputs = *outputs;

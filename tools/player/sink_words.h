@@ -13,6 +13,7 @@ struct given {
 };
 
 struct words {
+    const struct play *play;
     struct given moves[SENDER_ROOM]; /* in order, round and round .. */
     uint32_t first;                  /* .. from here .. */
     uint32_t end;                    /* .. to here */

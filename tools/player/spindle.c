@@ -4,12 +4,63 @@
 #include <inttypes.h>
 #include <poll.h>
 
+#include <string.h>
+
 #include "inputs.h"
+#include "pins.h"
+#include "sink_link.h"
 #include "waits.h"
 
 enum { LOOKS_MS = 5 };
 
 #define NS_PER_S INT64_C(1000000000)
+
+int spindle_most_percent(const struct machine *machine) {
+    return machine != NULL && machine->most_speed != 0 ? MOST_SPINDLE_PERCENT : WHOLE_SPEED;
+}
+
+uint64_t spindle_speed(const struct play *play, uint64_t speed) {
+    uint64_t percent = (uint64_t)atomic_load(&play->player->spindle_percent);
+    uint64_t most = play->machine.most_speed;
+    uint64_t wanted = speed * percent / WHOLE_SPEED;
+    return most != 0 && wanted > most ? most : wanted;
+}
+
+int spindle_set_pins(struct play *play, const struct line *line, const char *text, size_t size) {
+    char printed[OUTPUTS_ROOM + 1];
+    struct line given = *line;
+    if (line->kind != 'S') {
+        return pins_set(line, text, size);
+    }
+    play->set = line->outputs;
+    play->set_percent = atomic_load(&play->player->spindle_percent);
+    given.outputs.speed = spindle_speed(play, line->outputs.speed);
+    if (given.outputs.speed == line->outputs.speed) {
+        return pins_set(line, text, size);
+    }
+    size_t length = outputs_print(printed, OUTPUTS_ROOM, &given.outputs);
+    printed[length] = '\n';
+    return pins_set(&given, printed, length + 1);
+}
+
+bool spindle_heed(struct play *play) {
+    int percent = atomic_load(&play->player->spindle_percent);
+    if (percent == play->set_percent) {
+        return true;
+    }
+    struct outputs now = link_is_there() ? link_outputs() : play->set;
+    now.speed = spindle_speed(play, now.speed);
+    if (now.spindle != 0 && link_is_there() && !link_speed(now.speed)) {
+        return true; /* later */
+    }
+    int error = now.spindle != 0 && !link_is_there() ? pins_speed(&now) : 0;
+    if (error != 0) {
+        note_stop(play, "pins");
+        return because(&play->why, "the pins: %s, after line %" PRIu64 ";", strerror(error), play->player->lines);
+    }
+    play->set_percent = percent;
+    return true;
+}
 
 /* Waits while it is held; false where the play has to stop. */
 static bool wait_held(struct play *play) {

@@ -10,6 +10,7 @@
 #include "askers.h"
 #include "person.h"
 #include "sink_play.h"
+#include "spindle.h"
 
 enum { SLICE_NS = SLICE_MS * 1000000 };
 
@@ -38,15 +39,14 @@ bool is_rest_asked(const struct play *play) {
 
 bool has_to_stop(struct play *play) {
     int asked = atomic_load(&stops);
-    if (alarm_look(play) || sink_has_stopped(play)) {
+    if (alarm_look(play) || sink_has_stopped(play) || !spindle_heed(play)) {
         return true;
     }
     if ((play->is_moving || sink_is_moving()) && asked < 2) {
         return false;
     }
     if (asked > 0) {
-        sink_stop();
-        note_stop(play, "signal");
+        note_stop(play, sink_stop() ? "signal" : "deaf");
         return !because(&play->why, "stopped after line %" PRIu64 ";", play->player->lines);
     }
     if (atomic_load(&play->player->record_error) != 0) {

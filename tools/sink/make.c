@@ -126,6 +126,19 @@ static void make_output(struct sink *sink, uint32_t value, uint8_t bits) {
     sink_port_pins(0, 0, &sink->outputs);
 }
 
+/* Makes the speeds of the spindle that come next: the last of them counts, and they last no time. */
+static void make_speeds(struct sink *sink) {
+    bool is_there = false;
+    while (sink->made != sink_taken(sink)->words && wire_is_speed(sink->bits[sink->made % WIRE_FIFO])) {
+        sink->outputs.speed = wire_speed(sink->values[sink->made % WIRE_FIFO]);
+        sink->made = sink->made + 1;
+        is_there = true;
+    }
+    if (is_there) {
+        sink_port_pins(0, 0, &sink->outputs);
+    }
+}
+
 /* Makes a step. The motors may stand then if the time since the step before was no shorter than that of one slope. They
  * do at the last word in hand: what comes behind it begins from rest, with one slope. */
 static void make_step(struct sink *sink, uint32_t value, uint8_t bits) {
@@ -182,6 +195,7 @@ uint32_t sink_make(struct sink *sink) {
     if (sink->left > 0) {
         return look_again(sink);
     }
+    make_speeds(sink);
     if (sink->made == sink_taken(sink)->words) {
         run_out(sink);
         return 0;

@@ -43,13 +43,14 @@ static uint64_t greatest(uint64_t one, uint64_t other) {
 
 static void put(struct sender *sender, uint32_t value, uint8_t bits) {
     bool is_output = (bits & WORD_OUTPUT) != 0;
+    bool is_speed = wire_is_speed(bits);
     struct sender_word *word = word_at(sender, sender->given);
     *word = (struct sender_word){value, bits, sender->due, 0};
-    sender->due += is_output ? WIRE_LEAST_TICKS : wire_ticks(value);
+    sender->due += is_speed ? 0 : is_output ? WIRE_LEAST_TICKS : wire_ticks(value);
     sender->rises += is_output ? 0 : wire_slope(value);
     if ((bits & WORD_REST) != 0) {
         sender->rises = greatest(sender->rises, sender->most_wanted);
-    } else {
+    } else if (!is_speed) {
         word->wanted = sender->rises + square_of(wire_ticks(value));
     }
     sender->most_wanted = greatest(sender->most_wanted, word->wanted);
@@ -110,6 +111,17 @@ enum sender_give sender_switch(struct sender *sender, const struct sink_outputs 
     }
     put(sender, low, WORD_OUTPUT | WORD_REST);
     put(sender, switches, is_line ? bits | WORD_LINE : bits);
+    return GIVE_TAKEN;
+}
+
+enum sender_give sender_speed(struct sender *sender, uint64_t speed) {
+    if (speed >> 44 != 0) {
+        return GIVE_REFUSED;
+    }
+    if (!has_room(sender, 1)) {
+        return GIVE_LATER;
+    }
+    put(sender, (uint32_t)(speed * 128 / 1000000), WORD_OUTPUT | WORD_SPEED);
     return GIVE_TAKEN;
 }
 

@@ -93,6 +93,9 @@ enum sender_give sender_give(struct sender *sender, uint32_t ticks, uint8_t slop
 /* Gives the two words of outputs, at rest; whether they are a line's. */
 enum sender_give sender_switch(struct sender *sender, const struct sink_outputs *outputs, bool is_line);
 
+/* Gives the spindle's speed alone, in millionths, in its place among the words: between two steps too. */
+enum sender_give sender_speed(struct sender *sender, uint64_t speed);
+
 /* Writes the next frame for the line, which has room for WIRE_LINE; returns its size, 0 where there is none now. To be
  * called about once a millisecond until it returns 0. `now` in milliseconds, which may wrap. */
 size_t sender_write(struct sender *sender, uint32_t now, uint8_t *line);

@@ -146,18 +146,22 @@ static void heed_silence(struct sink *sink, uint32_t now) {
     }
 }
 
-/* Whether what is in the FIFO may begin: something in it ends at rest, or it is enough for the next words to come. */
+/* Whether what is in the FIFO may begin: something in it ends at rest, or it is enough for the next words to come, or
+ * it is speeds of the spindle alone. */
 static bool may_run(const struct sink *sink) {
     const volatile struct sink_taken *taken = sink_taken(sink);
     uint32_t count = taken->words - sink->made;
     uint32_t ticks = 0;
+    uint32_t speeds = 0;
     if (taken->rest - sink->made - 1 < WIRE_FIFO || count >= SINK_BEGINS_WORDS) {
         return true;
     }
     for (uint32_t at = sink->made; at != taken->words && ticks < SINK_BEGINS_MS * WIRE_TICKS_A_MS; at++) {
-        ticks += wire_ticks(sink->values[at % WIRE_FIFO]);
+        bool is_speed = wire_is_speed(sink->bits[at % WIRE_FIFO]);
+        ticks += is_speed ? 0 : wire_ticks(sink->values[at % WIRE_FIFO]);
+        speeds += is_speed;
     }
-    return ticks >= SINK_BEGINS_MS * WIRE_TICKS_A_MS;
+    return ticks >= SINK_BEGINS_MS * WIRE_TICKS_A_MS || (count > 0 && speeds == count);
 }
 
 /* At rest: stops for a fault, or begins to run. */

@@ -117,9 +117,20 @@ bool wire_is_word(uint32_t value, uint8_t bits) {
     if ((bits & WORD_OUTPUT) == 0) {
         return wire_ticks(value) >= WIRE_LEAST_TICKS;
     }
+    if (wire_is_speed(bits)) {
+        return bits == (WORD_OUTPUT | WORD_SPEED);
+    }
     wire_get_outputs(0, value, &outputs);
     bool has_own_bits = (bits | WORD_SWITCH | WORD_LINE) == (WORD_OUTPUT | WORD_REST | WORD_SWITCH | WORD_LINE);
     return has_own_bits && ((bits & WORD_SWITCH) == 0 || are_outputs(&outputs));
+}
+
+bool wire_is_speed(uint8_t bits) {
+    return (bits & (WORD_OUTPUT | WORD_SPEED)) == (WORD_OUTPUT | WORD_SPEED);
+}
+
+uint64_t wire_speed(uint32_t value) {
+    return (uint64_t)value * 15625 / 2; /* 1000000 / 128 */
 }
 
 uint32_t wire_ticks(uint32_t value) {

@@ -33,7 +33,8 @@ enum {
     WORD_REST = 0x40,   /* the motors stand once this word's step is made: it may be the last one for any time */
     WORD_OUTPUT = 0x80, /* not a step: 32 bits in the place of ticks and slope are of the outputs .. */
     WORD_SWITCH = 0x01, /* .. the switches, which take effect now; else the low bits of the speed for the next ones */
-    WORD_LINE = 0x02    /* .. with which a line of the sender's is made */
+    WORD_LINE = 0x02,   /* .. with which a line of the sender's is made; or .. */
+    WORD_SPEED = 0x04   /* .. the spindle's speed alone, amid steps too: it lasts no time */
 };
 
 enum wire_kind { KIND_WORDS = 1, KIND_BEGIN = 2, KIND_STOP = 3, KIND_ANSWER = 4 };
@@ -122,6 +123,10 @@ enum wire_taken wire_take(struct wire_reader *reader, uint8_t byte, size_t *size
 /* Whether the 32 bits and the last byte of a word are one: of at least WIRE_LEAST_TICKS, or at rest, of outputs as an S
  * line may have them. */
 bool wire_is_word(uint32_t value, uint8_t bits);
+
+/* Whether a word is a speed alone; and the speed, in millionths, of its 32 bits, which are 1/128 of a turn a minute. */
+bool wire_is_speed(uint8_t bits);
+uint64_t wire_speed(uint32_t value);
 
 /* The parts of a word of a step. */
 uint32_t wire_ticks(uint32_t value);

@@ -18,7 +18,7 @@ ASKS = 3
 
 class Axes:
     """The axes of a machine, and what they do. `home` leads to `home_at`; the probe is on at `probe_nm` of Z, and a
-    stop takes `way_nm` more. `refuses` is why a move is refused, `fails` how one ends; both are for one move. An alarm
+    stop takes `way_nm` more. `switches` are the axes that can be homed. `refuses` is why a move is refused, `fails` how one ends; both are for one move. An alarm
     comes at the question of the number `alarm_at`."""
 
     def __init__(self) -> None:
@@ -26,6 +26,7 @@ class Axes:
         self.home_at = [-298_000_000, -198_000_000, -2_000_000]
         self.probe_nm, self.way_nm = -5_000_000, 20_000
         self.refuses = self.fails = ""
+        self.switches = "XYZ"
         self.word = "works"
         self.stands = Machine("stands")
         self.machine = self.stands
@@ -96,15 +97,35 @@ class Axes:
             self._end(f"the {cause.replace('_', ' ')} is on")
         self.machine = self.stands
 
+    def end_alarm(self) -> None:
+        """The machine's place is known again."""
+        self.word = "moved"
+        self.stands = replace(self.stands, alarm="")
+        self.machine = self.stands
+
+    def stand_at(self, at_nm: list[int]) -> None:
+        """Takes where the machine stands; in an alarm where all that can be is homed, and stays where it is."""
+        if self.word == "alarm":
+            if not self.stands.homed or any(at_nm["XYZ".index(axis)] != self.at_nm["XYZ".index(axis)]
+                                            for axis in self.stands.homed):
+                return
+            self.end_alarm()
+        else:
+            self.word = "works"
+        self.at_nm = at_nm
+
     def _end(self, how: str) -> None:
         """The move is over."""
         if self.machine.does == "stands":
             return
         if how == "done":
             self.at_nm = list(self._goal)
+        if self.word == "works":
+            self.word = "moved"
         if self.machine.does.startswith("home") and how == "done":
-            self.word = "works"
-            self.stands = replace(self.stands, homed="XYZ", alarm="", on=())
+            self.stands = replace(self.stands, homed=self.switches, on=())
+            if self.switches == "XYZ":
+                self.end_alarm()
         if self.machine.does.startswith("seek") and how == "done":
             z = self.probe_nm
             self.stands = replace(self.stands, touched=str(Position(STEP_NM, [*self.at_nm[:2], z])))
@@ -180,7 +201,7 @@ class MachineLink:
 
     def at(self, place: str) -> None:
         """Takes where the machine stands."""
-        self.axes.at_nm = list(map(nanometres, place.split()))
+        self.axes.stand_at(list(map(nanometres, place.split())))
 
     def end(self) -> None:
         """The session is over."""
@@ -214,6 +235,9 @@ class SocketMachine:
             answer = _said(self.axes.ask())
         elif words[0] in ("home", "jog", "seek", "stop"):
             answer = self.axes.take(words).encode()
+        elif words[0] == "at":
+            self.axes.stand_at(list(map(nanometres, words[1:])))
+            return
         else:
             self.others.append(question)
             return

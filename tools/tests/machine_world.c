@@ -75,6 +75,11 @@ int pins_set(const struct line *line, const char *text, size_t size) {
     return 0;
 }
 
+int pins_speed(const struct outputs *outputs) {
+    (void)outputs;
+    return 0;
+}
+
 int pins_off(void) {
     world->is_on = 0;
     return 0;

@@ -153,6 +153,10 @@ class Moving(PlayerTest):
         """Where the motors are by the player, in mm."""
         return tuple(map(float, self.link.ask().at.split()))
 
+    def told(self) -> None:
+        """Says to the player that `ngc` knows where the machine is."""
+        self.link.at(self.link.ask().at)
+
     def kept(self, *lines: str) -> None:
         """Waits until the record on the disk ends with these lines."""
         self.wait_for(f"the record says {lines}", lambda: record().splitlines()[-len(lines):] == list(lines))
@@ -194,7 +198,7 @@ class Homing(Moving):
         self.assertEqual((x, z), (-8_000, 4_020))  # it moved by 10 steps each time that it was left
         self.assertAlmostEqual(y, -8_000, delta=10)
         self.assertEqual(self.at(), (-8, -7, 9))
-        self.assertEqual(self.link.ask().word, "works")
+        self.assertEqual(self.link.ask().word, "moved")
 
     def test_sticks(self) -> None:
         """A switch that doesn't go off is named, and the axis isn't homed."""
@@ -251,12 +255,50 @@ class Jogging(Moving):
         self.assertEqual(self.how(self.link.jog("Y-", "60.5", "0.5")), "done")
         self.assertEqual((self.world.place, self.at()), ((1_250, -500, 0), (1.25, -0.5, 0)))
         self.kept("reference 1.250000 -0.500000 0.000000", "off")
+        self.told()
         self.pipe.write(b"P 1 0 0 50\n")
         self.wait_for("the line is carried out", lambda: self.link.ask().carried == 1)
         self.kept("reference 1.251000 -0.500000 0.000000")
         self.assertEqual(record(), "lines 1\nbytes 11\noutputs S 0 0.000000 0 0 0 0\n"
                                    "reference 1.251000 -0.500000 0.000000\n")
         self.assertEqual(self.ended(0), "")
+
+    def test_untold(self) -> None:
+        """Behind a move no line is carried out before somebody says that `ngc` knows where the motors are; another
+        player waits for that too, and doesn't begin where nobody could say it. At another point `ngc` isn't told."""
+        self.started()
+        self.assertEqual(self.how(self.link.jog("X+", "600", "1")), "done")
+        self.pipe.write(b"P 1 0 0 50\n" * 10)
+        self.wait_for("lines are in hand", lambda: self.link.ask().received == 10)
+        self.link.at("1.5 0 0")
+        self.link.release()
+        self.link.last()
+        time.sleep(0.1)
+        report = self.link.ask()
+        self.assertEqual((report.word, report.carried, report.is_held, self.world.place), ("moved", 0, False,
+                                                                                        (1_000, 0, 0)))
+        self.told()
+        self.wait_for("they are carried out", lambda: self.link.ask().carried == 10)
+        self.assertEqual(self.link.ask().word, "works")
+        self.assertEqual(self.how(self.link.jog("Y+", "600", "1")), "done")
+        self.assertEqual(self.ended(0), "axis: lines came, and the motors moved without lines before: they stand until"
+                                        " `at X Y Z` says that ngc knows where\n")
+        words = ("--untimed", "axis", "first.toml", "position")
+        why = ("position: the motors were moved without lines, and ngc may not know where they are: --at X Y Z tells"
+               " where the machine stands")
+        for others in ((), ("--machine", "mill.toml"), ("--progress", "progress")):
+            self.assertEqual(self.refused(*others, *words), why)
+            status, _, said = told(player.main, *others, *words)
+            self.assertEqual((status, said), (2, f"ngc-player: {why}\n"))
+        self.started()
+        self.assertEqual((self.link.ask().word, self.at()), ("moved", (1.01, 1, 0)))
+        self.assertEqual(self.how(self.link.jog("Y-", "600", "1")), "done")
+        self.assertEqual(self.link.ask().word, "moved")  # where `ngc` was told last isn't known to this player
+        self.told()
+        self.assertEqual(self.how(self.link.jog("X+", "600", "1")), "done")
+        self.assertEqual(self.how(self.link.jog("X-", "600", "1")), "done")  # where `ngc` takes it to be
+        self.assertEqual(self.link.ask().word, "works")
+        self.ended(0)
 
     def test_held(self) -> None:
         """As long as it is repeated: to rest once it isn't, and by a ramp."""
@@ -413,6 +455,7 @@ class Alarms(Moving):
         self.world.set(_AT_PULSE, pulse)
         self.world.set(_SPEED, 1 << AT_SPEED)
         self.started("--untimed")
+        self.told()
         before = self.world.place
         x, y, z = self.at()
         self.pipe.write(b"S 1 1000.000000 1 0 0 0\n" + b"P 1 0 0 50\n" * 3_000)
@@ -470,11 +513,48 @@ class Alarms(Moving):
         self.wait_for("it is known", lambda: not self.link.machine().on)
         self.assertEqual(self.at(), (0.01, 0, 0))
         self.assertEqual(self.how(self.link.home()), "done")
-        self.assertEqual(self.link.ask().word, "works")
+        self.assertEqual(self.link.ask().word, "moved")
+        self.told()
         self.pipe.write(b"P 1 0 0 50\n" * 10)
         self.wait_for("they are carried out", lambda: self.link.ask().carried == 20)
         self.assertEqual(self.at(), (-7.99, -7, 9))
         self.ended(0)
+
+    def test_axis_without_home(self) -> None:
+        """An axis that [home] doesn't name isn't believed: a person tells where it stands, once the others are homed,
+        and while the emergency stop is off."""
+        Path("mill.toml").write_text(MACHINE.replace("order = [2, 3, 1]", "order = [2, 0, 1]"))
+        self.started("--untimed", "--at", "1", "2", "3")
+        self.world.put(STOP, False)
+        self.wait_for("it is an alarm", lambda: self.link.ask().word == "alarm")
+        self.world.put(STOP, True)
+        self.wait_for("it is known", lambda: not self.link.machine().on)
+        self.assertEqual(self.how(self.link.home("X")), "done")
+        self.untold("-8 2.5 3")  # Z can be homed, and isn't
+        self.assertEqual(self.how(self.link.home()), "done")
+        self.assertEqual((self.link.machine().homed, self.at()), ("XZ", (-8, 2, 9)))
+        self.kept("homed XZ", "off", "stopped emergency")
+        self.untold("-8.001 2.5 9")  # of a homed axis it knows better
+        self.world.put(STOP, False)
+        self.wait_for("what was homed isn't any more", lambda: not self.link.machine().homed)
+        self.world.put(STOP, True)
+        self.wait_for("it is known", lambda: not self.link.machine().on)
+        self.untold("-8 2.5 9")
+        self.assertEqual(self.how(self.link.home()), "done")
+        self.link.at("-8 2.5 9")
+        self.assertEqual((self.link.ask().word, self.at()), ("moved", (-8, 2.5, 9)))
+        self.kept("homed XZ", "off")
+        self.told()
+        self.pipe.write(b"P 0 1 0 50\n" * 10)
+        self.link.last()
+        self.wait_for("lines go on", lambda: self.at() == (-8, 2.51, 9))
+        self.ended(0)
+
+    def untold(self, place: str) -> None:
+        """A place doesn't end an alarm, nor moves it the count."""
+        before = self.at()
+        self.link.at(place)
+        self.assertEqual((self.link.ask().word, self.at()), ("alarm", before))
 
     def test_another_player(self) -> None:
         """An alarm stays over other players: until one homes, or is told where the machine stands."""

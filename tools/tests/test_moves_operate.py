@@ -108,6 +108,21 @@ class Moves(Core):
             "progress: the player doesn't answer; home, jog and seek are of tools/player with -m"])
         self.assertEqual(self.status().entries, 0)
 
+    def test_told(self) -> None:
+        """The player carries out no line behind a move before it is told that `ngc` knows of it: that is said once both
+        points are the same, or somebody goes on all the same."""
+        self.begin(self.link)
+        self.do("jog X+ 600 for 1")
+        self.assertEqual(self.axes.word, "moved")
+        self.axes.at_nm[1] += 1_000  # by a hand, which `ngc` doesn't know
+        said = self.do("G0 X2")
+        self.assertIn("0.001 mm apart. Nothing is done.", said[0])
+        self.assertEqual((self.axes.word, self.out()), ("moved", []))
+        self.do("G0 X1.5 anyway")
+        self.assertEqual((self.axes.word, self.axes.at_nm), ("works", [1_500_000, 1_000, 0]))
+        self.do("jog X+ 600 for 1", "reference player", "G0 X2.501")
+        self.assertEqual((self.axes.word, self.axes.at_nm), ("works", [2_501_000, 1_000, 0]))
+
     def test_at_a_stop(self) -> None:
         """At M0 a jog is taken, and `run` asks whether the program goes on from there."""
         self.begin(self.link)
@@ -270,6 +285,33 @@ class Alarms(Core):
         self.assertEqual(len(self.out()), count)
         self.assertIn("stays half-done", self.do("quit", answers=("yes",))[0])
         self.assertTrue(self.operator.over)
+
+
+    def test_axis_without_home(self) -> None:
+        """Of an axis that can't be homed a person has to say where it stands; the player's number isn't taken for it,
+        and `ngc` is told once the alarm is over."""
+        self.begin(self.link)
+        self.axes.switches = "XZ"
+        self.axes.at_nm = [0, 7_000_000, 0]
+        self.axes.home_at[1] = 7_000_000
+        self.axes.alarm("emergency_stop")
+        counts = "the player counts X -298.000000 Y 7.000000 Z -2.000000"
+        forms = f"reference X Y Z, in mm: {counts}; player stands for the number of an axis that is homed (X Z)"
+        self.assertEqual(self.do("reference 1 2 3"), [self.STOPPED, self.NOTHING])
+        self.assertEqual(self.do("home"), [
+            "homed: X Z", "the alarm stands: Y isn't homed. home Y does it, where the machine's file says how; else"
+            f" measure it, and type reference X Y Z with what you measured: {counts}"])
+        for words in ("", " player", " player player player", " player x player"):
+            self.assertEqual(self.do(f"reference{words}"), [forms], words)
+        self.assertEqual(self.do("reference -297 8 -2"), [
+            "the player doesn't take that: all axes have to be homed that can be, with their numbers as the player has"
+            " them, and the emergency stop has to be off"])
+        self.assertEqual(self.status().entries, 0)
+        self.assertEqual(self.do("reference player 8.5 player")[:2], ["reference -298.000000 8.500000 -2.000000",
+                                                                     "done 1"])
+        self.assertEqual(self.status().at, ("-298.000000", "8.500000", "-2.000000"))
+        self.do("G91 G0 X1")
+        self.assertEqual(self.status().at[0], "-297.000000")
 
 
 class OffThePath(InFolder):

@@ -56,7 +56,8 @@ class MovesOverSink(OverSink):
         self.assertEqual(self.how(self.link.home()), "done")
         self.assertEqual(self.at(), (-8, -7, 9))
         self.assertEqual(self.link.machine().homed, "XYZ")
-        self.kept("reference -8.000000 -7.000000 9.000000", "homed XYZ", "off")
+        self.kept("reference -8.000000 -7.000000 9.000000", "homed XYZ", "off", "stopped killed")
+        self.told()
         self.pipe.write(b"P 1 0 0 50\n" * 10)
         self.link.last()
         self.wait_for("lines go on", lambda: self.link.ask().carried == 10)
@@ -144,6 +145,29 @@ class MovesOverSink(OverSink):
         self.assertEqual(self.child.returncode, 2)  # nobody knows whether the outputs are off
         self.assertIn("no answer from the sink", said)
         self.assertLessEqual(Record.read("position").at_nm[0] // 1000, self.made()[1][0])
+
+    def test_reset(self) -> None:
+        """The chip starts again amid a jog: the next player takes nothing but home, and then goes on."""
+        self.started()
+        self.assertEqual(self.how(self.link.home()), "done")
+        self.assertEqual(self.link.jog("X+", "60", "9")[1], "")
+        self.wait_for("it goes", lambda: self.link.ask().at > "-7.9")
+        self.sink.tell("boot 2")
+        _, said = self.child.communicate(timeout=PATIENCE_S)
+        self.assertEqual(self.child.returncode, 1)
+        self.assertEqual(record().splitlines()[-2:], ["off", "stopped reset"])
+        self.pipe.close()
+        self.started()
+        self.assertEqual((self.link.ask().word, self.link.machine().alarm), ("alarm", "sink"))
+        self.kept("stopped lost")
+        self.pipe.write(b"P 1 0 0 50\n")
+        self.assertEqual(self.how(self.link.jog("X+", "600", "1")), "refused: the alarm stands: home comes first")
+        self.assertEqual(self.link.ask().carried, 0)
+        self.assertEqual(self.how(self.link.home()), "done")
+        self.assertEqual((self.link.ask().word, self.at()), ("broken", (-8, -7, 9)))
+        self.ended(1)
+        self.assertEqual(Record.read("position").stopped, "")
+        self.assertEqual(self.made()[1], (-8_000, -8_000, 4_000))
 
 
 if __name__ == "__main__":

@@ -121,7 +121,7 @@ class RampLink(FileLink):
         super().__init__()
         self.at_once = 40
         self.is_held = False
-        self.percent = 100
+        self.percent = self.spindle = 100
         self.most = 0
 
     def ask(self) -> Report:
@@ -132,7 +132,7 @@ class RampLink(FileLink):
             self.position.take(read_line(text, 1))
             self.carried += 1
         return Report(self.carried, len(lines), False, str(self.position), "out", self.outputs, 0, self.is_held,
-                      self.percent, 340)
+                      self.percent, 340, spindle=self.spindle)
 
     def hold(self) -> None:
         """Stands still."""
@@ -148,6 +148,11 @@ class RampLink(FileLink):
         """Takes up to 120 percent."""
         self.words.append(f"percent {percent}")
         self.percent = percent if percent <= 120 else self.percent
+
+    def override_spindle(self, percent: int) -> None:
+        """Takes up to 100 percent."""
+        self.words.append(f"spindle percent {percent}")
+        self.spindle = percent if percent <= 100 else self.spindle
 
     def last(self) -> None:
         """Nothing more comes for now; how many lines stand in OUT then."""
@@ -1025,6 +1030,25 @@ class Motors(Core):
         self.assertTrue(self.do("where")[-2].endswith(", 60 %"))
         link.override = link.words.append
         self.assertEqual(self.do("+"), ["the player stays at 60 %: it takes 1 to 200, as far as its most_percent goes"])
+
+    def test_spindle(self) -> None:
+        """The spindle's override, also while something runs; the program's words stay as they are."""
+        self.begin_ramps()
+        self.assertEqual(self.do("spindle percent 80", "Spindle Percent 10 %", "spindle percent"), [
+            "the spindle at 80 % of OUT's speeds", "the spindle at 10 % of OUT's speeds",
+            "the spindle at 10 % of OUT's speeds"])
+        self.assertEqual(self.do("spindle percent 101"), [
+            "the player keeps the spindle at 10 %: it takes more than 100 where its machine's file has max_rpm in"
+            " [spindle]"])
+        wrong = "spindle percent takes a whole number from 10 to 200: so many percent of OUT's speeds"
+        self.assertEqual(self.do("spindle percent 9", "spindle percent 201", "spindle percent x", "spindle", "spindle 50"),
+                         [wrong] * 5)
+        self.load("G21 G90\nM3 S1000\nG1 X0.5 F600\nM2\n")
+        self.face.given = ["spindle percent 70"]
+        self.assertEqual(self.do("run")[0], "the spindle at 70 % of OUT's speeds")
+        self.assertIn("spindle 70 %", [view.motion[1] for view in self.face.views if view])
+        self.assertTrue(self.do("where")[-2].endswith(", 100 %, spindle 70 %"))
+        self.assertIn("S 1 1000.000000 0 0 0 0", self.out())
 
     def test_without_ramps(self) -> None:
         """A player without a machine's file isn't told, and takes no percentage."""

@@ -454,6 +454,10 @@ int pins_set(const struct line *line, const char *text, size_t size) {
     printf("%c %d\\n", line->kind, line->step[0]);
     return 0;
 }
+int pins_speed(const struct outputs *outputs) {
+    (void)outputs;
+    return 0;
+}
 int pins_off(void) {
     puts("off");
     return 0;

@@ -14,10 +14,10 @@ from ngc_tools.formats.out import Switch  # noqa: E402
 from ngc_tools.player.progress import Link, Listener, NoAnswer, Report  # noqa: E402
 
 REPORT = Report(3, 203, True, "0.002000 0.000000 -1.000000", "/a b/axis",
-                Switch(1, 1_000_000_000, False, True, 3, 2), 3, False, 40, 1960)
+                Switch(1, 1_000_000_000, False, True, 3, 2), 3, False, 40, 1960, spindle=80)
 OUTPUTS = b"S 1 1000.000000 0 1 3 2 out /axis"
 TEXT = (b"carried 3 received 203 waits tool 3 reference 0.002000 0.000000 -1.000000 outputs S 1 1000.000000 0 1 3 2"
-        b" percent 40 wants 1960 out /a b/axis")
+        b" percent 40 spindle 80 wants 1960 out /a b/axis")
 
 
 class Reports(unittest.TestCase):
@@ -28,11 +28,11 @@ class Reports(unittest.TestCase):
         self.assertEqual((REPORT.text(), Report.read(TEXT), REPORT.behind), (TEXT, REPORT, 200))
         works = Report(3, 3, False, REPORT.at, "/axis")
         self.assertEqual(works.text(), b"carried 3 received 3 works reference 0.002000 0.000000 -1.000000"
-                                       b" outputs S 0 0.000000 0 0 0 0 percent 100 wants 0 out /axis")
+                                       b" outputs S 0 0.000000 0 0 0 0 percent 100 spindle 100 wants 0 out /axis")
         self.assertEqual(Report.read(works.text()), works)
         for text in (b"", b"carried 3", TEXT.replace(b"waits", b"sleeps"), TEXT.replace(b" tool 3", b""), b"x" + TEXT,
                      TEXT.replace(b" outputs S 1 1000.000000 0 1 3 2", b""), TEXT.replace(b"S 1 ", b"S 7 "),
-                     TEXT.replace(b" percent 40 wants 1960", b"")):
+                     TEXT.replace(b" percent 40 spindle 80 wants 1960", b"")):
             with self.assertRaisesRegex(ValueError, "^not a report of a player: "):
                 Report.read(text)
 

@@ -10,7 +10,7 @@ from pathlib import Path
 sys.path.insert(0, str(Path(__file__).resolve().parent))
 
 from pace_support import excess, straight  # noqa: E402
-from player_support import InC, PlayerTest, Sanitized, record  # noqa: E402
+from player_support import InC, PlayerTest, Sanitized, played, record  # noqa: E402
 from session_support import FIRST, PATIENCE_S, TOOLS  # noqa: E402
 from sink_support import TICK_NS, Made, ServedSink  # noqa: E402
 
@@ -22,6 +22,7 @@ MOTION = "[motion]\naccel_mm_s2 = [500, 500, 500]\n"
 LONG = "P 1 0 0 50\n" * 4000  # 10 mm at 3,000 mm a minute: 20,000 steps a second, from which a stop takes 1,000
 PATIENT_MS, HASTY_MS = 20_000, 2
 RUNS = 16
+LOST = ("player: position: a lost step sink stopped the motors, and where they are isn't known: --at X Y Z tells it\n")
 
 
 class OverSink(PlayerTest):
@@ -205,10 +206,12 @@ class Stops(InC, OverSink, unittest.TestCase):
         self.kill(sink)
         Path("out").rename("other")
         Path("out").write_text("D 1\n")
+        not_known = f"{sink.path}: what the sink made after the record of its last player isn't known\n"
         done = self.run_player("--anew", *self.words())
-        self.assertEqual(done.returncode, 0)
-        self.assertEqual(done.stderr, f"{sink.path}: the sink's last player was killed: the motors may be past its"
-                                      " record by what was in hand; measure\n")
+        self.assertEqual((done.returncode, done.stderr), (2, not_known + LOST))
+        self.assertIn("stopped killed", record())
+        done = self.run_player("--anew", "--at", "0", "0", "0", *self.words())
+        self.assertEqual((done.returncode, done.stderr), (0, not_known))
         self.assertEqual(self.run_player("--anew", *self.words()).stderr, "")
         made = [each for each in sink.end() if each.step and any(each.step)][:60_000]
         Path("out").write_text(LONG * 15)
@@ -231,7 +234,52 @@ class Stops(InC, OverSink, unittest.TestCase):
         self.assertEqual(child.returncode, 2)
         self.assertRegex(said, "^out: the line to the sink is gone, after line [0-9]+: where the motors are isn't sure;"
                                " the sink doesn't say that spindle and coolant are off: switch them off by hand\n$")
-        self.assertIn("stopped line", record())
+        self.assertIn("stopped cut", record())
+        self.check_lost(sink)
+
+    def check_lost(self, lost: ServedSink) -> None:
+        """Another player, over a sink that started anew, doesn't move before it is told where the machine stands."""
+        lost.kill()
+        sink = self.serve(HASTY_MS)
+        before = Path("position").read_bytes()
+        done = self.run_player(*self.words())
+        self.assertEqual((done.returncode, done.stderr.splitlines(True)[-1]), (2, LOST))
+        self.assertEqual(Path("position").read_bytes(), before)
+        Path("first.toml").rename("second.toml")  # ngc-player doesn't know sinks, and says the same
+        status, _, said = played("out", "second.toml", "position")
+        Path("second.toml").rename("first.toml")
+        self.assertEqual((status, said), (2, f"ngc-{LOST}"))
+        self.assertEqual([each for each in sink.end() if each.step], [])
+
+    def test_reset(self) -> None:
+        """The sink's chip starts again amid a move: words in its FIFO are lost, and the motors stood dead."""
+        sink = self.serve(HASTY_MS)
+        child = self.begun(sink, "S 1 9.000000 0 0 0 0\n" + "P 1 0 0 2000\n" * 100_000)
+        sink.tell("boot 2")
+        sink.tell("tempo 0")
+        _, said = child.communicate(timeout=PATIENCE_S)
+        self.assertRegex(said, "^out: the sink's chip started again, after line [0-9]+: where the motors are isn't"
+                               " sure; spindle and coolant off\n$")
+        self.assertIn("stopped reset", record())
+        self.check_lost(sink)
+
+    def test_count_gone(self) -> None:
+        """The same where the chip has lost the number of its boot, too: its answers are of a session before."""
+        sink = self.serve(HASTY_MS)
+        child = self.begun(sink, "P 1 0 0 2000\n" * 100_000)
+        sink.tell("boot 0")
+        sink.tell("tempo 0")
+        _, said = child.communicate(timeout=PATIENCE_S)
+        self.assertIn("no answer from the sink for two seconds", said)
+        self.assertIn("stopped deaf", record())
+        self.check_lost(sink)
+
+    def test_power_lost(self) -> None:
+        """Player and chip are gone at once: the record says that the player didn't end."""
+        sink = self.serve(HASTY_MS)
+        self.kill(sink)
+        self.assertIn("stopped killed", record())
+        self.check_lost(sink)
 
     def test_no_answer(self) -> None:
         """A sink that says nothing at the start."""

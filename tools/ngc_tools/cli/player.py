@@ -136,6 +136,8 @@ def prepared(args: argparse.Namespace, voice: Voice, stack: ExitStack) -> Player
     stack.callback(file.close)
     found = file.read()
     check_alarm(args.position, found, at_nm is not None)
+    is_untold = found is not None and found.is_off and at_nm is None
+    check_told(args, is_untold)
     begun, notice = where_to_begin(found, source, args.anew, args.restored)
     begun = begun if at_nm is None else replace(begun, screws="")
     if notice:
@@ -159,6 +161,7 @@ def prepared(args: argparse.Namespace, voice: Voice, stack: ExitStack) -> Player
     if machine is None and manner.timed:
         voice.say(f"{args.out}: no --machine: no ramps, and no motor follows full rates from rest")
     stack.callback(player.close)
+    player.is_untold = is_untold
     if args.go_to_line is not None:
         Going(player, settings, args, voice).prepare(found, begun)
     if args.progress:
@@ -174,6 +177,14 @@ def check_alarm(position: str, found: Record | None, is_told: bool) -> None:
     if found and found.stopped in ALARMS and not is_told:
         raise NotKnown(f"{position}: {ALARMS[found.stopped]} stopped the motors, and where they are isn't known:"
                        " --at X Y Z tells it")
+
+
+def check_told(args: argparse.Namespace, is_untold: bool) -> None:
+    """Raises NotKnown where a player moved the motors without lines, and nobody could say that `ngc` knows of it."""
+    can_be_told = args.progress and args.machine or args.go_to_line is not None
+    if is_untold and not can_be_told:
+        raise NotKnown(f"{args.position}: the motors were moved without lines, and ngc may not know where they are:"
+                       " --at X Y Z tells where the machine stands")
 
 
 def stay(source: Source, begun: Record, voice: Voice) -> None:

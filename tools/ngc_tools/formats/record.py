@@ -28,7 +28,10 @@ _AGE = re.compile(r"age ([1-9][0-9]{0,3})")
 _HOMED = re.compile(r"homed (?=[XYZ])(X?Y?Z?)")
 _OFF = re.compile("(off)")
 _STOPPED = re.compile(r"stopped ([a-z]+)")
-ALARMS = {"emergency": "the emergency stop", "limit": "a limit"}  # what stopped motors whose place isn't known since
+_SINK = "a lost step sink"
+ALARMS = {"emergency": "the emergency stop", "limit": "a limit",
+          **dict.fromkeys(("lost", "reset", "deaf", "cut", "sink", "killed"), _SINK)}
+"""By the word of a record: what stopped motors whose place isn't known since."""
 
 
 class BadRecord(Failure, ValueError):

@@ -1,15 +1,22 @@
 """An alarm, by the emergency stop or a limit: the motors stood at once, and where they are isn't known until `home`."""
-from ngc_tools.operator.face import REFUSED, WARNING
+from ngc_tools.operator.face import REFUSED, WARNING, axes
+from ngc_tools.operator.numbers import nanometres_of
 from ngc_tools.operator.session import ALARM, BROKEN, Session
-from ngc_tools.player.progress import NoAnswer
+from ngc_tools.player.progress import Machine, NoAnswer
 
-_TAKEN = ("home", "where", "status", "help", "?", "quit", "exit")
+_TAKEN = ("home", "where", "status", "help", "?", "quit", "exit", "reference")
 _TAKEN_BROKEN = ("jog", "seek", "reference", "hold")
-_CAUSES = {"emergency_stop": "emergency stop", "limits": "limit"}
+_CAUSES = {"emergency_stop": "emergency stop", "limits": "limit", "sink": "step sink lost"}
 _CAME = "{cause}: the motors stand, spindle and coolant are off, and where the machine is isn't known. home comes first"
 _FORBIDS = "nothing is done: {cause}. home comes first; until then where and quit alone are taken"
 _BROKEN = ("nothing is done: what the player had in hand in the alarm is never carried out, and so nothing that comes"
            " after. quit, start the player and this again, and go on as after a loss of power")
+_LEFT = ("the alarm stands: {left} isn't homed. home {left} does it, where the machine's file says how; else measure it,"
+         " and type reference X Y Z with what you measured: the player counts {at}")
+_NUMBERS = ("reference X Y Z, in mm: the player counts {at}; player stands for the number of an axis that is homed"
+            " ({homed})")
+_NOT_TAKEN = ("the player doesn't take that: all axes have to be homed that can be, with their numbers as the player"
+              " has them, and the emergency stop has to be off")
 
 
 class Alarm:
@@ -25,16 +32,70 @@ class Alarm:
             return False
         self._look()
         if self.session.is_in(ALARM):
-            self.session.face.say(_FORBIDS.format(cause=self._cause().upper()), REFUSED)
+            self._say_forbidden()
         elif self.session.is_in(BROKEN) and word not in _TAKEN_BROKEN:
             self.session.face.say(_BROKEN, REFUSED)
         else:
             return False
         return True
 
+    def _say_forbidden(self) -> None:
+        self.session.face.say(_FORBIDS.format(cause=self._cause().upper()), REFUSED)
+
     def say(self) -> None:
         """Says that it came."""
         self.session.face.say(_CAME.format(cause=self._cause()).upper(), WARNING)
+
+    def say_left(self) -> None:
+        """Where axes were homed, and the alarm stands all the same: says which one isn't, and asks for it."""
+        machine = self._machine()
+        if machine and machine.homed:
+            self.session.face.say(_LEFT.format(left=_left(machine), at=self._counted()), WARNING)
+
+    def place(self, words: list[str]) -> bool:
+        """Tells the player where the machine stands; whether the alarm is over by that. Of an axis that isn't homed
+        the player's number isn't taken: somebody has to know it."""
+        machine = self._machine()
+        if machine is None or not machine.homed:
+            self._say_forbidden()
+            return False
+        at = self.session.seen.at.split()
+        numbers = [number if word == "player" and axis in machine.homed else word
+                   for axis, word, number in zip("XYZ", words, at)]
+        if len(words) != 3 or None in map(nanometres_of, numbers):
+            self.session.face.say(_NUMBERS.format(at=self._counted(), homed=" ".join(machine.homed)), REFUSED)
+            return False
+        return self._is_taken(" ".join(numbers))
+
+    def _is_taken(self, place: str) -> bool:
+        """Whether the player takes a place, which is said if not."""
+        try:
+            self.session.meter.link.at(place)
+        except NoAnswer as error:
+            self.session.face.say(str(error), WARNING)
+            return False
+        self._look()
+        if self.session.is_in(ALARM):
+            self.session.face.say(_NOT_TAKEN, REFUSED)
+        return not self.session.is_in(ALARM)
+
+    def stands(self) -> bool:
+        """Whether one stands now."""
+        if self.session.meter:
+            self._look()
+        return self.session.is_in(ALARM)
+
+    def _counted(self) -> str:
+        """Where the machine is by the player's count."""
+        return axes(self.session.seen.at.split())
+
+    def _machine(self) -> Machine | None:
+        """What the player says of its axes; None where it doesn't answer, which is said."""
+        try:
+            return self.session.meter.link.machine()
+        except NoAnswer as error:
+            self.session.face.say(str(error), WARNING)
+            return None
 
     def _look(self) -> None:
         """Asks the player; one that doesn't answer is told of by the command itself."""
@@ -51,3 +112,8 @@ class Alarm:
             return "alarm"
         on = [name.replace("_", " ") for name in machine.on if name.startswith("limit")]
         return " of ".join([_CAUSES.get(machine.alarm, "alarm"), *([", ".join(on)] if on else [])])
+
+
+def _left(machine: Machine) -> str:
+    """The axes that aren't homed."""
+    return " ".join(axis for axis in "XYZ" if axis not in machine.homed)

@@ -20,8 +20,8 @@ def are_keys(text: str) -> bool:
 
 
 def is_override(text: str) -> bool:
-    """Whether a line sets the override: by keys, or by `percent N`."""
-    return are_keys(text) or text.lower().split()[:1] == ["percent"]
+    """Whether a line sets an override: by keys, by `percent N`, or that of the spindle."""
+    return are_keys(text) or text.lower().split()[:1] in (["percent"], ["spindle"])
 
 
 def is_aside(text: str) -> bool:

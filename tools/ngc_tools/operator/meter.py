@@ -3,7 +3,7 @@ import time
 from collections.abc import Callable
 
 from ngc_tools.failure import BadNumber
-from ngc_tools.player.progress import Link, Report
+from ngc_tools.player.progress import MOVED, Link, Report
 
 LIMIT = 100  # lines, of a player that doesn't say how many it wants
 LIMITS = range(2, 8001)  # what a player can have in hand
@@ -54,6 +54,8 @@ class Meter:
             report = self.link.ask()
             if not go_on(report):
                 return 0
+            if report.word == MOVED:  # who asks for room has compared the points, or goes on all the same
+                self.link.at(report.at)
             limit = self.limit(report)
             free = limit - report.behind
             if free >= max(1, limit // self.parts):

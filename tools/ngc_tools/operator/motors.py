@@ -9,6 +9,7 @@ from ngc_tools.operator.face import REFUSED, WARNING, WHERE
 from ngc_tools.operator.session import ALARM, BROKEN, Session
 from ngc_tools.player.machine import MOST_PERCENTS
 from ngc_tools.player.progress import NoAnswer, Report
+from ngc_tools.player.spindle import PERCENTS as SPINDLE_PERCENTS
 
 PERCENTS = range(1, MOST_PERCENTS[-1] + 1)
 """What an override may be, in percent of OUT's rates. A player takes no more than its `most_percent`."""
@@ -49,9 +50,10 @@ def behind(report: Report, settings: Settings) -> str:
 
 
 def manner(report: Report) -> list[str]:
-    """Whether they are held, or what else they do, and the override, in words; nothing where nothing is to be said."""
+    """Whether they are held, or what else they do, and the overrides, in words; nothing where nothing is to be said."""
     said = ["held"] if report.is_held else [_STATES[report.word]] if report.word in _STATES else []
-    return said + ([f"{report.percent} %"] if report.wants or report.percent != WHOLE else [])
+    said += [f"{report.percent} %"] if report.wants or report.percent != WHOLE else []
+    return said + ([f"spindle {report.spindle} %"] if report.spindle != WHOLE else [])
 
 
 def live(report: Report, settings: Settings) -> list[str]:
@@ -151,6 +153,27 @@ class Motors:
         else:
             self.session.face.say(f"percent takes a whole number from {PERCENTS[0]} to {PERCENTS[-1]}: so many percent"
                                   " of OUT's rates", REFUSED)
+
+    def spindle(self, rest: str) -> None:
+        """Sets the override of the spindle by `spindle percent N`; `spindle percent` alone says it."""
+        word, _, number = rest.partition(" ")
+        report = self.session.report()
+        if report is None:
+            if not self.session.meter:
+                self.session.face.say("no player is known: --player SOCKET")
+            return
+        percent = _percent_of(number) if number.strip() else report.spindle
+        if word.lower() != "percent" or percent not in SPINDLE_PERCENTS:
+            self.session.face.say(f"spindle percent takes a whole number from {SPINDLE_PERCENTS[0]} to"
+                                  f" {SPINDLE_PERCENTS[-1]}: so many percent of OUT's speeds", REFUSED)
+            return
+        if percent != report.spindle and self._tell(lambda: self.session.meter.link.override_spindle(percent)):
+            report = self.session.report() or report
+        if percent == report.spindle:
+            self.session.face.say(f"the spindle at {percent} % of OUT's speeds", WHERE)
+            return
+        self.session.face.say(f"the player keeps the spindle at {report.spindle} %: it takes more than {WHOLE} where its"
+                              " machine's file has max_rpm in [spindle]", REFUSED)
 
     def _set(self, report: Report, percent: int) -> None:
         """Tells the player an override, and says whether it takes it."""

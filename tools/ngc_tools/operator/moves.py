@@ -6,6 +6,7 @@ from collections.abc import Callable
 from ngc_tools.formats.device import Device
 from ngc_tools.formats.position import nanometres
 from ngc_tools.ngc.console import Status
+from ngc_tools.operator.alarm import Alarm
 from ngc_tools.operator.causes import busy, taken
 from ngc_tools.operator.face import REFUSED, SAID, WARNING, UnderWay, axes
 from ngc_tools.operator.left import Left
@@ -45,8 +46,9 @@ class Moves:
     `touched_by` the slot of the tool that was in the spindle, as `ngc` knows it."""
 
     def __init__(self, session: Session, motors: Motors, left: Left, recover: Recover,
-                 do: Callable[[str], None]) -> None:
+                 alarm: Alarm, do: Callable[[str], None]) -> None:
         self.session, self.motors, self.left, self.recover, self.do = session, motors, left, recover, do
+        self.alarm = alarm
         self.touched_nm: tuple[int, int, int] | None = None
         self.touched_by: int | None = None
 
@@ -166,7 +168,10 @@ class Moves:
         """Tells `ngc` where the machine is now."""
         session = self.session
         report, status = session.report(), session.console.status()
-        if report is None or report.word == ALARM:
+        if report is None:
+            return
+        if report.word == ALARM:
+            self.alarm.say_left()
             return
         if status.does not in ("idle", "stopped"):
             session.face.say(_LATER.format(half=session.half(status)), WARNING)

@@ -53,7 +53,8 @@ class Operator:
         self.ending = Ending(self.session)
         self.recover = Recover(self.session)
         self.alarm = Alarm(self.session)
-        self.moves = Moves(self.session, self.motors, self.left, self.recover, self.do)
+        self.moves = Moves(self.session, self.motors, self.left, self.recover, self.alarm,
+                           self.do)
         self.touch = Touch(self.session, self.places, self.moves, self._line_done)
         self.keys: Callable[[], AbstractContextManager[Keys]] | None = None
         self.over = False
@@ -63,6 +64,7 @@ class Operator:
             "rehearse": self._rehearse, "restore": self._restore, "go": self._go, "help": self._help, "?": self._help,
             "recover": self._recover, "drop": self._drop, "quit": self._quit, "exit": self._quit, "tick": self._tick,
             "hold": self._hold_all, "release": self._release, "percent": self._percent, "single": self._single,
+            "spindle": lambda typed: self.motors.spindle(typed.rest),
             "home": lambda typed: self.moves.home(typed.rest), "jog": self._jog,
             "seek": lambda typed: self.moves.seek(typed.rest),
             "zero": lambda typed: self.touch.zero(typed.rest, typed.anyway),
@@ -264,6 +266,10 @@ class Operator:
         return True
 
     def _reference(self, typed: Typed) -> None:
+        if self.alarm.stands():
+            if self.alarm.place(typed.rest.lower().split()):
+                self.moves.tell()
+            return
         if self.console.status().half == "none":
             self.left.keep()
         self.places.reference(typed.rest.lower().split(), typed.anyway)

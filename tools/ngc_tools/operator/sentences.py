@@ -18,6 +18,7 @@ hold               Enter or Ctrl-C while something runs
 release            lets held motors carry out what is in hand
 percent N          go at N % of the rates; - and + are 10 %
                    less and more, 0 is 100 %
+spindle percent N  the spindle turns at N % of the program's speed
 where, status      machine and work, the line, the times, the motors
 continue           go on with what was held or stopped
 reference X Y Z    the machine stands there, in mm

@@ -7,7 +7,7 @@ from contextlib import suppress
 from typing import Protocol
 
 from ngc_tools.formats.record import machine_nm
-from ngc_tools.player.progress import KEPT, PERCENT, QUESTION, SYNCED, Listener, Report
+from ngc_tools.player.progress import KEPT, PERCENT, QUESTION, SPINDLE, SYNCED, Listener, Report
 
 
 class Asked(Protocol):
@@ -27,6 +27,9 @@ class Asked(Protocol):
 
     def override(self, percent: int) -> None:
         """Goes at so many percent of OUT's rates, if that isn't too much."""
+
+    def override_spindle(self, percent: int) -> None:
+        """Turns the spindle at so many percent of OUT's speeds, if that may be."""
 
     def last(self) -> None:
         """What stands in OUT now is all that comes for now."""
@@ -98,6 +101,8 @@ class Answers:
             self._player.hold(text == b"hold")
         elif match := PERCENT.fullmatch(text):
             self._player.override(int(match[1]))
+        elif match := SPINDLE.fullmatch(text):
+            self._player.override_spindle(int(match[1]))
         elif match := SYNCED.fullmatch(text):
             self._player.synced(int(match[1]))
         elif KEPT.fullmatch(text):

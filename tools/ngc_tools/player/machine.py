@@ -19,10 +19,12 @@ _RANGES = {
     ("motion", "accel_mm_s2"): range(1, 1_000_001), ("motion", "rate_mm_min"): range(100_001),
     ("motion", "start_mm_min"): range(100_001), ("motion", "slack_steps"): range(1, 65),
     ("motion", "most_percent"): MOST_PERCENTS, ("window", "lines"): range(window.MOST + 1),
-    ("wait", "spindle_s"): range(3601), ("backlash", "steps"): range(MOST_BACKLASH + 1),
+    ("wait", "spindle_s"): range(3601), ("spindle", "max_rpm"): range(1, 10_000_000),
+    ("backlash", "steps"): range(MOST_BACKLASH + 1),
 }
 _PER_AXIS = ("accel_mm_s2", "rate_mm_min", "start_mm_min", "steps")
-_KEYS = {"motion": "one of its five", "window": "lines", "wait": "spindle_s", "backlash": "steps"}
+_KEYS = {"motion": "one of its five", "window": "lines", "wait": "spindle_s", "spindle": "max_rpm",
+         "backlash": "steps"}
 _LEAST_ACCEL, _GREATEST_ACCEL = 3, 10**9  # steps a second, each second
 
 
@@ -33,24 +35,27 @@ class BadMachine(Failure):
 @dataclass(frozen=True, slots=True)
 class Machine:
     """What the motors allow; how many lines a player wants in hand, 0 for as many as are needed; how long the spindle
-    takes to start, to stop or to turn the other way; the backlash of each axis in steps."""
+    takes to start, to stop or to turn the other way; how fast it may turn, 0 where the file doesn't say it; the backlash
+    of each axis in steps."""
 
     limits: Limits
     window_lines: int = 0
     spindle_s: int = 0
+    max_rpm: int = 0
     backlash: Axes = (0, 0, 0)
 
 
 def read_machine(path: str | Path, step_nm: Axes) -> Machine:
-    """Reads the tables `[motion]`, `[window]`, `[wait]` and `[backlash]`; other tables are others'. Raises BadMachine,
-    BadSettings if the file isn't TOML, or OSError."""
+    """Reads the tables `[motion]`, `[window]`, `[wait]`, `[spindle]` and `[backlash]`; other tables are others'. Raises
+    BadMachine, BadSettings if the file isn't TOML, or OSError."""
     tables = {name: table for name, table in read_table(path).items() if name in _KEYS and isinstance(table, dict)}
     _check(path, tables)
     motion = tables["motion"]
     lines = tables.get("window", {}).get("lines", 0)
     spindle_s = tables.get("wait", {}).get("spindle_s", 0)
+    max_rpm = tables.get("spindle", {}).get("max_rpm", 0)
     x, y, z = tables.get("backlash", {}).get("steps", (0, 0, 0))
-    return Machine(_limits(path, motion, step_nm), lines, spindle_s, (x, y, z))
+    return Machine(_limits(path, motion, step_nm), lines, spindle_s, max_rpm, (x, y, z))
 
 
 def read_limits(path: str | Path, step_nm: Axes) -> Limits:

@@ -12,6 +12,7 @@ from ngc_tools.player.pace import ROOM, Pace
 from ngc_tools.player.pins import Pins
 from ngc_tools.player.player import Player
 from ngc_tools.player.source import Source
+from ngc_tools.player.spindle import Spindle
 from ngc_tools.player.way import Move
 from ngc_tools.player.window import Window
 
@@ -28,6 +29,7 @@ class PacedPlayer(Player):
                                     manner.least_period_us)
         super().__init__(source, position, begun, pins, manner)
         self.schedule.makes_up = False
+        self.spindle = Spindle(machine.max_rpm * 1_000_000)
         self._limits = machine.limits
         self._most_percent = machine.limits.most_percent
         self._last = -1  # after so many bytes of OUT no more come for now, as was said
@@ -134,8 +136,10 @@ class PacedPlayer(Player):
         self._ended = self._pace.known
 
     def _wanted(self) -> int:
-        """The square that is wanted: 0 where somebody asks for a rest."""
-        return 0 if self.is_held or self._is_rest_asked() else self._pace.wanted(self.percent)
+        """The square that is wanted: 0 where somebody asks for a rest, or lines wait until `ngc` knows where the motors
+        are."""
+        is_to_rest = self.is_held or self.is_untold or self._is_rest_asked()
+        return 0 if is_to_rest else self._pace.wanted(self.percent)
 
     def _give(self) -> bool:
         """Carries out the next line, if one is to be."""

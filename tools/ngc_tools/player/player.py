@@ -14,10 +14,11 @@ from ngc_tools.player.keeper import Keeper
 from ngc_tools.player.manner import Counts, Manner, Stopped
 from ngc_tools.player.person import Person
 from ngc_tools.player.pins import Pins
-from ngc_tools.player.progress import Report
+from ngc_tools.player.progress import MOVED, Report
 from ngc_tools.player.retrace import Goes, read_errand
 from ngc_tools.player.schedule import Schedule
 from ngc_tools.player.source import Source
+from ngc_tools.player.spindle import Spindle
 
 SLICE_NS = 20_000_000  # how long it sleeps at most before it looks whether it is to stop
 
@@ -36,6 +37,7 @@ class Player(Goes):
         self.lines, self.size = begun.lines, begun.size
         self.is_off = begun.is_off
         self.screws = self.backlash.known(begun.screws)
+        self.is_untold = False  # the motors moved without lines, and nobody said since that `ngc` knows where they are
         self.counts = Counts()
         self.schedule = Schedule(manner.timed)
         self.keeper: Keeper | None = None
@@ -43,6 +45,7 @@ class Player(Goes):
         self.answers: Answers | None = None
         self.stops = 0  # how often it is asked to stop
         self.percent = 100  # of OUT's rates
+        self.spindle = Spindle()
         self._lock = threading.Lock()  # of `source`, `position` and `lines`
         self._is_moving = False  # it can't stop at once
         self._stands_held = False  # it has come to rest for a hold
@@ -100,16 +103,20 @@ class Player(Goes):
             self._take_all()
             received = self.bound_for() if self.errand else self.source.received
             return Report(self.lines, received, tool is not None, str(self.position), self.out,
-                          self.outputs, tool or 0, self._stands_held and tool is None, self.percent, self._wants)
+                          self.outputs, tool or 0, self._stands_held and tool is None and not self.is_untold,
+                          self.percent, self._wants, MOVED if self.is_untold else "works", self.spindle.percent)
 
     def stand_at(self, at_nm: tuple[int, int, int]) -> None:
-        """Takes where the machine stands, as after its axes were moved by hand, if nothing is behind."""
+        """Takes where the machine stands, as after its axes were moved by hand, if nothing is behind: `ngc` knows it
+        then. Where it stands there anyhow it is taken with lines in hand too, which wait for that."""
         with self._lock:
             self._take_all()
-            if self.source.received == self.lines and not self.errand:
-                before, self.position = self.position, Position(self.position.step_nm, at_nm)
-                told = zip(before.steps, self.position.steps, self.screws)
+            position = Position(self.position.step_nm, at_nm)
+            is_behind = self.source.received != self.lines and position.steps != self.position.steps
+            if not is_behind and not self.errand:
+                told = zip(self.position.steps, position.steps, self.screws)
                 self.screws = [screw if was == now else UNKNOWN for was, now, screw in told]
+                self.position, self.is_untold = position, False
 
     def synced(self, size: int) -> None:
         """The first bytes of OUT, so many, are on the disk: of a file that is followed no more is carried out."""
@@ -148,6 +155,11 @@ class Player(Goes):
 
     def override(self, percent: int) -> None:
         """Goes at so many percent of OUT's rates, if that isn't too much."""
+
+    def override_spindle(self, percent: int) -> None:
+        """Turns the spindle at so many percent of OUT's speeds, if that may be."""
+        self.spindle.override(percent)
+        os.eventfd_write(self._wake, 1)
 
     def last(self) -> None:
         """What stands in OUT now is all that comes for now."""
@@ -220,7 +232,9 @@ class Player(Goes):
 
     def _heed(self) -> None:
         """Raises Stopped if it is asked to stop, or can't keep its record any more: while it moves only if it is asked
-        once more."""
+        once more. Sets the spindle's speed, where it is overridden otherwise; raises OSError if the pins fail."""
+        if (outputs := self.spindle.changed()) is not None:
+            self.pins.set(str(outputs).encode())
         if self._is_moving and self.stops < 2:
             return
         if self.stops:
@@ -244,14 +258,21 @@ class Player(Goes):
         if self.manner.times:
             self.manner.times.add(self.schedule.due - self.schedule.started, text)
         self.schedule.begun(lasts_ns)
-        self.pins.set(text)
-        if isinstance(line, Switch):
+        if not isinstance(line, Switch):
+            self.pins.set(text)
+        else:
+            self._set_outputs(text, line)
             turns = line.spindle != self.outputs.spindle
             self.outputs = line
             if turns:
                 self._wait_until(time.monotonic_ns() + self.manner.spindle_us * 1000)
             self.schedule.pause()  # as long as the tool and the spindle took
         self._count(line, len(text) + 1)
+
+    def _set_outputs(self, text: bytes, line: Switch) -> None:
+        """Gives a switch to the pins, with its speed as it is overridden."""
+        given = self.spindle.given(line)
+        self.pins.set(text if given == line else str(given).encode())
 
     def _count(self, line: Line, size: int) -> None:
         """Counts a line that is carried out."""
@@ -312,6 +333,7 @@ class Player(Goes):
             self.stopped_by = "pins"
             why = f"{error.strerror}; switch spindle and coolant off by hand"
             raise OSError(error.errno, why, error.filename) from None
+        self.spindle.stop()
         self.outputs = stopped(self.outputs)
 
 

@@ -1,12 +1,12 @@
 """How a player tells how far it is, and what it is told: datagrams to a Unix socket.
 
 `progress N`
-    is answered by `progress N carried C received R works reference X Y Z outputs S .. percent P wants W out PATH`. C of
-    the R lines that stand in OUT then are carried out. The motors are at X Y Z, in machine millimetres, and the outputs
-    are as the line `S ..` says. While a person has to put a tool in, `waits tool 3` stands in the place of `works`;
-    `waits tool 0` asks to take the tool out. They go at P percent of OUT's rates, and W lines are wanted in hand, read
-    and not carried out: 1 to 8,000, by the fastest of those that are; 0 doesn't say. N is the asker's own number, so
-    that a late answer is known as one.
+    is answered by `progress N carried C received R works reference X Y Z outputs S .. percent P spindle Q wants W out
+    PATH`. C of the R lines that stand in OUT then are carried out. The motors are at X Y Z, in machine millimetres, and
+    the outputs are as the line `S ..` says. While a person has to put a tool in, `waits tool 3` stands in the place of
+    `works`; `waits tool 0` asks to take the tool out. They go at P percent of OUT's rates, the spindle turns at Q
+    percent of OUT's speeds, and W lines are wanted in hand, read and not carried out: 1 to 8,000, by the fastest of
+    those that are; 0 doesn't say. N is the asker's own number, so that a late answer is known as one.
 `go`
     The tool is in.
 `hold`, `release`
@@ -14,11 +14,17 @@
     rest `held` stands in the place of `works`. A player without `--machine` has no ramps, and doesn't heed them.
 `percent N`
     From the next pulse on at most so many percent, 1 to 100, of OUT's rates; heeded as `hold` is. It begins with 100.
+`spindle percent N`
+    From now on the spindle turns at so many percent, 10 to 200, of OUT's speeds, and no faster than `max_rpm` of the
+    machine's file; without that N is at most 100. It begins with 100. The outputs of `progress` and of the record stay
+    those of OUT.
 `last`
     What stands in OUT now is all that comes for now: it is carried out to its end, and comes to rest there, with no
     wait for more. More may follow later. Heeded as `hold` is.
 `at X Y Z`
-    The machine stands there, in machine millimetres. It is taken while nothing is behind; the next report shows it.
+    The machine stands there, in machine millimetres, and `ngc` knows it. It is taken while nothing is behind; the next
+    report shows it. Behind a move without lines `moved` stands in the place of `works`, and no line is carried out
+    before it comes; with lines in hand the machine's own point is taken.
 `synced BYTES`
     The first BYTES bytes of OUT are on the disk. Of a file that is followed nothing beyond them is carried out from
     then on, so what the motors were given is on the disk.
@@ -59,12 +65,16 @@ QUESTION = re.compile(rb"progress [0-9]{1,20}")
 SYNCED = re.compile(rb"synced ([0-9]{1,18})")
 KEPT = re.compile(rb"kept [0-9]{1,20}")
 PERCENT = re.compile(rb"percent ([1-9][0-9]{0,2})")
+SPINDLE = re.compile(rb"spindle percent ([1-9][0-9]{0,2})")
 _OTHER = "it is of another version: take a player and a console of one version"
 _LONGEST = 192  # bytes of a datagram to a player
 _KEPT = re.compile(r"lines (\d+) bytes (\d+) age (\d+)")
-_WORDS = "works|held|moves|alarm|broken|waits spindle"
+_WORDS = "works|held|moves|moved|alarm|broken|waits spindle"
 _REPORT = re.compile(rf"carried (\d+) received (\d+) ({_WORDS}|waits tool (\d{{1,3}})) reference (\S+ \S+ \S+)"
-                     r" outputs (S \d \S+ \d \d \d+ \d+) percent (\d+) wants (\d+) out (.*)", re.DOTALL)
+                     r" outputs (S \d \S+ \d \d \d+ \d+) percent (\d+) spindle (\d+) wants (\d+) out (.*)",
+                     re.DOTALL)
+MOVED = "moved"
+"""What a report says behind a move without lines, until the player is told that `ngc` knows where the machine is."""
 _POINT = r"none|\S+ \S+ \S+"
 _MACHINE = re.compile(rf"does (stands|(?:home|jog|seek) \S+) homed ([XYZ]+|none) alarm (\w+) on (\S+)"
                       rf" touched ({_POINT}) ended (\d+) (.*)", re.DOTALL)
@@ -91,7 +101,8 @@ class Report:
     is_held: bool = False  # it stands, since it is to
     percent: int = 100
     wants: int = 0
-    word: str = "works"  # where it neither waits for a tool nor is held: `moves`, `alarm`, `broken`, `waits spindle`
+    word: str = "works"  # else, where it doesn't wait for a tool: `moves`, MOVED, `alarm`, `broken`, `waits spindle`
+    spindle: int = 100  # the spindle turns at so many percent of the speeds of `outputs`
 
     @property
     def behind(self) -> int:
@@ -102,7 +113,8 @@ class Report:
         """What is answered."""
         state = f"waits tool {self.tool}" if self.waits else "held" if self.is_held else self.word
         said = (f"carried {self.carried} received {self.received} {state} reference {self.at}"
-                f" outputs {self.outputs} percent {self.percent} wants {self.wants} out {self.out}")
+                f" outputs {self.outputs} percent {self.percent} spindle {self.spindle} wants {self.wants}"
+                f" out {self.out}")
         return said.encode("utf-8", "surrogateescape")
 
     @staticmethod
@@ -113,14 +125,14 @@ class Report:
         if match is None or outputs is None:
             raise ValueError(f"not a report of a player: {answer[:80]!r}")
         word = "works" if match[4] or match[3] == "held" else match[3]
-        return Report(int(match[1]), int(match[2]), match[4] is not None, match[5], match[9], outputs,
-                      int(match[4] or 0), match[3] == "held", int(match[7]), int(match[8]), word)
+        return Report(int(match[1]), int(match[2]), match[4] is not None, match[5], match[10], outputs,
+                      int(match[4] or 0), match[3] == "held", int(match[7]), int(match[9]), word, int(match[8]))
 
 
 @dataclass(frozen=True, slots=True)
 class Machine:
     """What a player says of moves without lines. `does` is `stands`, `home X`, `jog X+` or `seek Z-`; `homed` the axes
-    that were homed, as `XYZ`; `alarm` is `emergency_stop` or `limits`, "" for none; `on` the inputs that are on;
+    that were homed, as `XYZ`; `alarm` is `emergency_stop`, `limits` or `sink`, "" for none; `on` the inputs that are on;
     `touched` where the probe was touched last, in machine millimetres. The move of the number `ended` is over, 0 for
     none, and `how` is `done`, or says in words why it came to rest."""
 
@@ -378,6 +390,10 @@ class Link:
     def override(self, percent: int) -> None:
         """Tells a player to go at so many percent of OUT's rates, 1 to 100. Raises NoAnswer."""
         self._send(b"percent %d" % percent)
+
+    def override_spindle(self, percent: int) -> None:
+        """Tells a player to turn the spindle at so many percent of OUT's speeds, 10 to 200. Raises NoAnswer."""
+        self._send(b"spindle percent %d" % percent)
 
     def last(self) -> None:
         """Tells a player that what stands in OUT now is all that comes for now. Raises NoAnswer."""

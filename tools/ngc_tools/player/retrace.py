@@ -96,6 +96,7 @@ class Goes:
     pins: Pins
     manner: Manner
     outputs: Switch
+    is_untold: bool
     schedule: Schedule
     keeper: Keeper | None
     lines: int
@@ -168,11 +169,12 @@ class Goes:
             self.lines, self.size = errand.legs_lines, errand.legs_size
         self.source.go_to(self.lines, self.size)
         self.source.limit = errand.size
+        self.is_untold = False  # OUT's lines lead on from there
 
     def _switch_on(self, outputs: Switch) -> None:
         """Sets outputs, but for the tool, which stays in the spindle, and waits for the spindle."""
         outputs = replace(outputs, slot=self.outputs.slot)
-        self.pins.set(str(outputs).encode())
+        self._set_outputs(str(outputs).encode(), outputs)
         turns = outputs.spindle != self.outputs.spindle
         with self._lock:
             self.outputs = outputs
