@@ -4,7 +4,7 @@
 //! isn't proved with everything that they guarantee.
 ghost use Rattle.std.specs.Prelude.{◌≡◌, ◌≤◌, false};
 
-use crate::standing::Found;
+use crate::standing::{Found, Standing};
 use ng_core::{Controller, Event, Reply, Status, power_on};
 use ng_journal::{Journal, ProgramLine, format, recover};
 use ng_layout::Stored;
@@ -161,4 +161,10 @@ pub fn found_on(alloc: Global, rig: Device) -> Result<Found, Fault> {
         stored,
         lines: lines?,
     })
+}
+
+/// Whether a device stands for this once it is powered on with such settings.
+pub fn stands_for(alloc: Global, rig: Device, wanted: &Standing) -> Result<bool, Fault> {
+    let found = found_on(alloc, rig)?;
+    Ok(wanted.is_found(&found)?)
 }

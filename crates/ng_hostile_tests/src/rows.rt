@@ -8,6 +8,8 @@ use std::alloc::{AllocError, Allocator};
 #[derive(Clone, Copy)]
 pub enum Order {
     Load(&'static str),
+    /// A text that comes this many times.
+    LoadMany(&'static str, usize),
     Start,
     Hold,
     Continue,
@@ -73,6 +75,8 @@ pub enum Does {
     Approaches,
     /// An entry: this is the program.
     Loads(&'static str),
+    /// An entry: the program is a text that comes this many times.
+    LoadsMany(&'static str, usize),
     /// An entry: a line was executed, and the next line begins at this place.
     Executes(&'static str, u64),
     /// An entry: the machine is known to be at this X, in nanometres, in the middle of a half-done block.
@@ -107,18 +111,23 @@ pub fn point_at(x_nm: i64) -> Result<Point, Fault> {
     Ok(Point { x, ..Point::zero() })
 }
 
-/// The bytes of a text, as an event holds them.
-fn text_of<A: Allocator>(alloc: A, text: &str) -> Result<Text<A>, AllocError> {
-    Ok(Text::of(Vec::from_slice(alloc, text.as_bytes())?))
+/// The bytes of a text that comes this many times, as an event holds them.
+fn text_of<A: Allocator>(alloc: A, text: &str, times: usize) -> Result<Text<A>, AllocError> {
+    let mut bytes = Vec::new(alloc);
+    for _ in 0..times {
+        bytes.extend_from_slice(text.as_bytes())?;
+    }
+    Ok(Text::of(bytes))
 }
 
 pub fn event_of<A: Allocator>(alloc: A, order: Order) -> Result<Event<A>, Fault> {
     Ok(match order {
-        Order::Load(text) => Event::Load(text_of(alloc, text)?),
+        Order::Load(text) => Event::Load(text_of(alloc, text, 1)?),
+        Order::LoadMany(text, times) => Event::Load(text_of(alloc, text, times)?),
         Order::Start => Event::Start,
         Order::Hold => Event::Hold,
         Order::Continue => Event::Continue,
-        Order::Mdi(text) => Event::Mdi(text_of(alloc, text)?),
+        Order::Mdi(text) => Event::Mdi(text_of(alloc, text, 1)?),
         Order::OptionalStop => Event::OptionalStop(true),
         Order::BlockDelete => Event::BlockDelete(true),
         Order::Reference(x_nm) => Event::Reference(point_at(x_nm)?),
@@ -152,6 +161,7 @@ pub fn reply_to(does: Does, entries: u64) -> Reply {
         Does::Opens(_, _, index) => Reply::Opened(index),
         Does::Approaches => Reply::Approaching,
         Does::Loads(_)
+        | Does::LoadsMany(_, _)
         | Does::Executes(_, _)
         | Does::Stands(_)
         | Does::Puts(_, _)
@@ -163,6 +173,7 @@ pub fn reply_to(does: Does, entries: u64) -> Reply {
 pub fn entries_after(does: Does, entries: u64) -> u64 {
     match does {
         Does::Loads(_)
+        | Does::LoadsMany(_, _)
         | Does::Executes(_, _)
         | Does::Stands(_)
         | Does::Puts(_, _)

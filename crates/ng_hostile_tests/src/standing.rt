@@ -63,13 +63,37 @@ pub struct Standing {
     /// Everything but the half-done block.
     stored: Stored<Global>,
     half: Option<Begun>,
-    program: &'static str,
+    program: Program,
     items: Vec<Item>,
 }
 
+/// A program: a text of whole lines that comes a number of times, or a text that comes once.
+#[derive(Clone, Copy)]
+struct Program {
+    text: &'static str,
+    times: usize,
+}
+
+impl Program {
+    /// How many bytes it has.
+    fn length(&self) -> usize {
+        self.text.len().saturating_mul(self.times)
+    }
+
+    /// What comes after this many of its bytes, up to the end of the text there.
+    fn rest(&self, place: usize) -> &[u8] {
+        let bytes = self.text.as_bytes();
+        let period = bytes.len();
+        if period == 0 || place >= self.length() {
+            return &[];
+        }
+        bytes.get(place % period..).unwrap_or_default()
+    }
+}
+
 /// Whether this is the line that begins at a byte of a program.
-fn is_line(program: &str, place: usize, line: &Option<ProgramLine>) -> bool {
-    let rest = program.as_bytes().get(place..).unwrap_or_default();
+fn is_line(program: &Program, place: usize, line: &Option<ProgramLine>) -> bool {
+    let rest = program.rest(place);
     match line {
         Some(line) => rest.split(|byte| *byte == b'\n').next() == Some(line.text.as_slice()),
         None => rest.is_empty(),
@@ -107,7 +131,7 @@ impl Standing {
         Ok(Standing {
             stored: Stored::fresh(alloc, room)?,
             half: None,
-            program: "",
+            program: Program { text: "", times: 1 },
             items: Vec::new(alloc),
         })
     }
@@ -140,6 +164,11 @@ impl Standing {
     /// A device of format 1 is powered on with the standard settings: their tool, of 50 mm, is stored from then on.
     pub fn migrate(&mut self) {
         self.stored.tools = Settings::standard().tools;
+    }
+
+    /// The device becomes a large one, with more room for a program.
+    pub fn grow(&mut self) {
+        self.stored.room = 1_048_576;
     }
 
     /// A device that hasn't handed out anything is powered on.
@@ -176,7 +205,8 @@ impl Standing {
                 });
             }
             Does::Approaches => self.stand(None),
-            Does::Loads(text) => self.load(text),
+            Does::Loads(text) => self.load(Program { text, times: 1 }),
+            Does::LoadsMany(text, times) => self.load(Program { text, times }),
             Does::Executes(text, place) => self.execute(text, place)?,
             Does::Stands(x_nm) => self.stand(Some(point_at(x_nm)?)),
             Does::Puts(slot, nm) => self.put(slot, nm)?,
@@ -210,11 +240,11 @@ impl Standing {
         self.half = None;
     }
 
-    fn load(&mut self, text: &'static str) {
+    fn load(&mut self, program: Program) {
         self.stored.state.params.clear_passing();
         self.stored.place = 0;
-        self.stored.length = text.len() as u64;
-        self.program = text;
+        self.stored.length = program.length() as u64;
+        self.program = program;
     }
 
     fn execute(&mut self, text: &str, place: u64) -> Result<(), Fault> {
@@ -233,8 +263,8 @@ impl Standing {
     pub fn is_found(&self, found: &Found) -> Result<bool, AllocError> {
         Ok(
             self.status() == found.status
-                && is_line(self.program, 0, &found.lines[0])
-                && is_line(self.program, self.program.len() / 2, &found.lines[1])
+                && is_line(&self.program, 0, &found.lines[0])
+                && is_line(&self.program, self.program.length() / 2, &found.lines[1])
                 && self.is_half(&found.stored.half)
                 && self.is_stored(&found.stored)
                 && is_same_table(&self.stored.tools, &found.stored.tools)

@@ -9,6 +9,7 @@ mod cuts;
 mod cycles;
 mod devices;
 mod full_log;
+mod grow;
 mod headers;
 mod loads;
 mod migration;

@@ -2,8 +2,8 @@
 //! the settings.
 use crate::images::{FRESH, put, sector_of, sector_with, store};
 use crate::journal::counting::Counting;
-use crate::journal::{first_tool, header, header_of, set_slot, write_state};
-use crate::log::reading::{state_part, write_to_the_end};
+use crate::journal::{first_tool, header, header_of, set_slot};
+use crate::log::reading::state_part;
 use crate::parts::part_with;
 use ng_journal::recover;
 use ng_num::Fault;
@@ -223,59 +223,6 @@ fn a_migrated_device_keeps_its_tools(rt: HostRuntime) -> Result<(), Fail> {
     for slots in [0, 1, 2] {
         let wanted = (Ok((1, 5_000_000, Some(50_000_000))), [89, 3], None);
         assert_eq!(rt; powered_again(rt.alloc(), slots)?, wanted, "{slots}");
-    }
-    Ok(())
-}
-
-/// A device of format 1 and epoch 1 whose log is full: 1,022 records of one part and one of two, ending in sector 1709.
-/// It has no calls.
-fn full(alloc: Global) -> Result<MemoryRig<Global>, Fail> {
-    let mut rig = MemoryRig::new(alloc, 1_710)?;
-    if store(&mut rig, 1, &header_of(1, 1, 0, 0))
-        && write_state(&mut rig, 88, 0)
-        && write_to_the_end(&mut rig, 1_022)
-        && rig.sync().is_ok()
-    {
-        Ok(rig.stopped(usize::MAX, &[])?)
-    } else {
-        Err(Fail::from("a device isn't laid"))
-    }
-}
-
-/// That device after a migration with one tool, of 7 nm.
-fn full_migrated(alloc: Global) -> Result<MemoryRig<Global>, Fail> {
-    let (standing, rig) = stands(alloc, full(alloc)?, &table(1, 7), 49);
-    if standing == Ok((1_022, 1_000_000, Some(7))) && rig.calls() == 181 {
-        Ok(rig)
-    } else {
-        Err(Fail::from("a device isn't migrated"))
-    }
-}
-
-/// Which unsynced writes a stop keeps, by how many of each sector: none, or all; and after how many calls at least the
-/// header of format 2 is there. It is written by the last call but one.
-const KEPT: &[(&[usize], usize)] = &[(&[], 181), (&[1; 1_710], 180)];
-
-/// The first stop of the migration that stands for anything else. A power on after a stop has a tool of 8 nm in the
-/// settings; the table has that tool until the header of format 2 is there.
-fn first_bad_stop(alloc: Global, keep: &[usize], first: usize) -> Result<Option<usize>, Fail> {
-    let rig = full_migrated(alloc)?;
-    for calls in 0..182 {
-        let tool = if calls < first { 8 } else { 7 };
-        let (found, _) = stands(alloc, rig.stopped(calls, keep)?, &table(1, 8), 49);
-        if found != Ok((1_022, 1_000_000, Some(tool))) {
-            return Ok(Some(calls));
-        }
-    }
-    Ok(None)
-}
-
-/// Among these records are those in sectors 1706 to 1709, which are the tool areas of format 2.
-#[test]
-fn a_stopped_migration_keeps_all_records(rt: HostRuntime) -> Result<(), Fail> {
-    for (keep, first) in KEPT {
-        let found = first_bad_stop(rt.alloc(), keep, *first)?;
-        assert_eq!(rt; found, None, "{}", keep.len());
     }
     Ok(())
 }

@@ -1,6 +1,6 @@
 //! A device fails one of its calls, each in turn.
 use crate::devices::{
-    Device, LARGE, cut, formatted, formatted_of, found_on, give, powered, rig_of, shown,
+    Device, LARGE, cut, formatted, formatted_of, found_on, give, powered, rig_of, shown, stands_for,
 };
 use crate::old::{FILLING, of_format_1};
 use crate::rows::{EACH_KIND, Row, entries_after, event_of, reply_to};
@@ -9,7 +9,7 @@ use crate::scripts::{
     BEFORE_A_CUT_OF_A_PROGRAM, GIVEN_UP, READ_AHEAD, STORED_AND_RUN, STORED_THREE_TIMES, TOOLS,
     TOOLS_OF_A_PROGRAM, filling_the_log,
 };
-use crate::standing::Standing;
+use crate::standing::{Found, Standing};
 use ng_core::{Condition, Controller, HalfShown, Reply, Source, Status};
 use ng_num::Fault;
 use ng_rig::{FailRig, Rig};
@@ -197,38 +197,57 @@ impl<'a> Choice<'a> {
         made >= self.calls && made.saturating_sub(self.calls) < self.own.max(1)
     }
 
-    /// Whether a device that is powered on stands for one of the two. If nothing is kept that wasn't synced, only for
-    /// the state before, since an event that stores something ends with its sync.
-    fn is_standing(&self, alloc: Global, rig: Device) -> Result<bool, Fault> {
-        let cut = found_on(alloc, cut(&rig)?)?;
+    /// Whether one of the two was found.
+    fn either_is_found(&self, found: &Found) -> Result<bool, AllocError> {
+        Ok(self.before.is_found(found)? || self.after.is_found(found)?)
+    }
+
+    /// Whether a device that is powered on stands for one of the two.
+    fn stands_for_either(&self, alloc: Global, rig: Device) -> Result<bool, Fault> {
         let found = found_on(alloc, rig)?;
-        Ok(
-            self.before.is_found(&cut)?
-                && (self.before.is_found(&found)? || self.after.is_found(&found)?),
-        )
+        Ok(self.either_is_found(&found)?)
+    }
+
+    /// The same. If nothing is kept that wasn't synced, it has to stand for the state before, since an event that stores
+    /// something ends with its sync.
+    fn is_standing(&self, alloc: Global, rig: Device) -> Result<bool, Fault> {
+        let is_before = stands_for(alloc, cut(&rig)?, &self.before)?;
+        Ok(is_before && self.stands_for_either(alloc, rig)?)
+    }
+
+    /// What is wrong with a session that ended in this event, but for what its device stands for.
+    fn mismatch_within(&self, played: &Played) -> Result<Option<Mismatch>, Fault> {
+        if played.failures != 1 || !self.has_calls(played.rig.calls()) {
+            return Ok(Some(Mismatch::Failures));
+        }
+        if !played.is_refused {
+            return Ok(Some(Mismatch::Later));
+        }
+        let items = played.rig.handed(usize::MAX)?;
+        Ok(if items.as_slice() == self.before.items() {
+            None
+        } else {
+            Some(Mismatch::Items)
+        })
     }
 
     /// What is wrong after a session that ended in this event.
     fn mismatch(&self, alloc: Global, played: Played) -> Result<Option<Mismatch>, Fault> {
+        let within = self.mismatch_within(&played)?;
+        if within.is_some() {
+            return Ok(within);
+        }
         let Played {
             met: _,
-            is_refused,
-            failures,
+            is_refused: _,
+            failures: _,
             rig,
         } = played;
-        if failures != 1 || !self.has_calls(rig.calls()) {
-            return Ok(Some(Mismatch::Failures));
-        }
-        if !is_refused {
-            return Ok(Some(Mismatch::Later));
-        }
-        if rig.handed(usize::MAX)?.as_slice() != self.before.items() {
-            return Ok(Some(Mismatch::Items));
-        }
-        if !self.is_standing(alloc, rig)? {
-            return Ok(Some(Mismatch::Standing));
-        }
-        Ok(None)
+        Ok(if self.is_standing(alloc, rig)? {
+            None
+        } else {
+            Some(Mismatch::Standing)
+        })
     }
 }
 

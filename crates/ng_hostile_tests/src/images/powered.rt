@@ -175,26 +175,49 @@ fn recovered_mismatch(
     stored: &Stored<Global>,
 ) -> Result<Option<Mismatch>, AllocError> {
     let mut rig = rig;
-    let next = epoch.saturating_add(1);
     if in_force(&mut rig) != (epoch, 2) {
         return Ok(Some(Mismatch::Epoch));
     }
-    let wanted = header_as_of(&mut rig, epoch, next);
-    let (again, mut rig) = match recovered(alloc, rig) {
-        Ok(recovered) => recovered,
-        Err((fault, _)) => return Ok(not_used_up(fault, epoch)),
-    };
-    if header_as_of(&mut rig, next, next) != wanted {
+    let wanted = header_as_of(&mut rig, epoch, epoch.saturating_add(1));
+    match recovered(alloc, rig) {
+        Ok((again, rig)) => again_mismatch(alloc, rig, &wanted, &again, stored),
+        Err((fault, _)) => Ok(not_used_up(fault, epoch)),
+    }
+}
+
+/// What is wrong with a device that was recovered once more, which has to have this header in force, and with what was
+/// recovered.
+fn again_mismatch(
+    alloc: Global,
+    rig: Device,
+    wanted: &[u8; 512],
+    again: &Stored<Global>,
+    stored: &Stored<Global>,
+) -> Result<Option<Mismatch>, AllocError> {
+    let mut rig = rig;
+    let epoch = number_at(wanted, 16, 8);
+    if header_as_of(&mut rig, epoch, epoch) != *wanted {
         return Ok(Some(Mismatch::Header));
     }
-    if !is_same(stored, &again)? {
-        return Ok(Some(Mismatch::State));
-    }
-    Ok(if is_shown(alloc, rig, next, &again) {
+    let is_same = is_same(stored, again)?;
+    Ok(status_mismatch(alloc, rig, epoch, again, is_same))
+}
+
+/// What is wrong with it, if this is whether its state is the same.
+fn status_mismatch(
+    alloc: Global,
+    rig: Device,
+    epoch: u64,
+    again: &Stored<Global>,
+    is_same: bool,
+) -> Option<Mismatch> {
+    if !is_same {
+        Some(Mismatch::State)
+    } else if is_shown(alloc, rig, epoch, again) {
         None
     } else {
         Some(Mismatch::Status)
-    })
+    }
 }
 
 /// What is wrong with a refusal that is allowed only under the last epoch, since the epochs are used up.

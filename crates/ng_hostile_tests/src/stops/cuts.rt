@@ -1,8 +1,8 @@
 //! A stop at each call of a device.
-use crate::devices::Device;
+use crate::devices::{Device, LARGE, stands_for};
 use crate::rows::{Does, Row};
 use crate::standing::{Found, Standing};
-use crate::stops::devices::{Kept, found, played, stands_for, stopped};
+use crate::stops::devices::{Kept, PoweredOn, left_on, played, powered_on, standing_on, stopped};
 use crate::stops::recorder::Notes;
 use ng_num::Fault;
 use std::alloc::{AllocError, Global};
@@ -12,6 +12,9 @@ pub const POWER_ON: usize = 92;
 
 /// How many it makes over a device of format 1.
 pub const MIGRATION: usize = 181;
+
+/// How many of those come before the header of format 2 is written.
+const CONVERTED: usize = 179;
 
 /// The states that a stop may leave.
 #[derive(Drop)]
@@ -31,12 +34,11 @@ impl Choice {
         })
     }
 
-    /// Before power on over a device of format 1: until that is over, its settings' tools aren't stored.
-    pub fn in_migration(wanted: Standing) -> Result<Choice, AllocError> {
-        let before = wanted.copy()?;
-        let mut after = wanted;
-        after.migrate();
-        Ok(Choice { before, after })
+    /// The header of format 2 is written to a device of format 1: once it is synced, the settings' tools are stored.
+    pub fn migrate(&mut self) -> Result<(), AllocError> {
+        self.before = self.after.copy()?;
+        self.after.migrate();
+        Ok(())
     }
 
     /// The next event comes.
@@ -68,14 +70,16 @@ impl Choice {
     }
 }
 
-/// What is tried after each call.
+/// What is tried after each call. What leaves the same image as an earlier stop isn't tried again.
 #[derive(Clone, Copy, Debug, PartialEq, Eq, Drop)]
 pub enum Depth {
     /// A stop with all unsynced sectors lost, and one with all kept.
     Whole,
-    /// In addition, for each unsynced sector, a stop that keeps only that one, and a stop that loses only that one.
+    /// `Whole`, and for each unsynced sector a stop that keeps only that one; where no write comes next, `Deep`.
+    Ends,
+    /// `Whole`, and for each unsynced sector a stop that keeps only that one, and one that loses only that one.
     Alone,
-    /// In addition, stops of the power on after these.
+    /// `Alone`, and stops of the power on after all are lost, and after all are kept.
     Deep,
 }
 
@@ -87,16 +91,8 @@ pub struct Cuts {
     pub depth: Depth,
 }
 
-impl Cuts {
-    /// These, and those of the power on after them.
-    pub fn deep(first: usize, last: usize) -> Cuts {
-        Cuts {
-            first,
-            last,
-            depth: Depth::Deep,
-        }
-    }
-}
+/// The sizes of devices, in sectors, and what is tried on each.
+pub const SIZES: &[(usize, Depth)] = &[(1_710, Depth::Deep), (LARGE, Depth::Ends)];
 
 /// The stop after which the device stands for something else: after how many calls, and what it keeps; and, if it is a
 /// stop in the power on after that, how many calls come before that one.
@@ -111,13 +107,30 @@ pub struct Played {
 }
 
 impl Played {
-    /// The first stop after this many calls, with which an event is over or not, that leaves something else. The stops
-    /// are one with all unsynced sectors lost, one with all kept, and for each sector one that keeps only that one and
-    /// one that loses only that one.
+    /// Power on and these events over a device, after this many entries.
+    fn of(
+        alloc: Global,
+        rig: Device,
+        rows: &[Row],
+        entries: u64,
+        cuts: Cuts,
+    ) -> Result<Played, Fault> {
+        let (rig, notes) = played(alloc, rig, rows, entries)?;
+        Ok(Played { rig, notes, cuts })
+    }
+
+    /// What is tried after this many calls.
+    fn depth_at(&self, calls: usize) -> Depth {
+        match self.cuts.depth {
+            Depth::Ends if self.notes.sector(calls).is_none() => Depth::Deep,
+            depth => depth,
+        }
+    }
+
+    /// The first stop after this many calls, with which an event is over or not, that leaves something else.
     ///
-    /// Power on is stopped too if the image is new. It isn't new if all are lost, since an earlier stop with all kept
-    /// leaves the same; nor if all are kept and the last call isn't a write, since the stop before that call leaves the
-    /// same.
+    /// If the last call is a write, all lost leaves the same as the stop before it; if not, all kept does. If all are
+    /// lost, power on is stopped too after the first call alone, since an earlier stop with all kept leaves the same.
     fn first_mismatch_after(
         &self,
         alloc: Global,
@@ -126,21 +139,25 @@ impl Played {
         is_over: bool,
     ) -> Result<Mismatch, Fault> {
         let is_new = self.notes.ends_in_write(calls);
-        let is_deep = self.cuts.depth == Depth::Deep;
-        let is_first = is_deep && calls == self.cuts.first;
-        let mismatch = self.mismatch(alloc, calls, Kept::None, choice, is_over, is_first)?;
-        if mismatch.is_some() {
-            return Ok(mismatch);
+        let is_deep = self.depth_at(calls) == Depth::Deep;
+        let is_first = calls == self.cuts.first;
+        let mut mismatch = None;
+        if is_first || is_over || !is_new {
+            let is_deep = is_first && is_deep;
+            mismatch = self.mismatch(alloc, calls, Kept::None, choice, is_over, is_deep)?;
         }
-        let mismatch = self.mismatch(alloc, calls, Kept::All, choice, is_over, is_deep && is_new)?;
+        if mismatch.is_none() && (is_first || is_over || is_new) {
+            let is_deep = is_new && is_deep;
+            mismatch = self.mismatch(alloc, calls, Kept::All, choice, is_over, is_deep)?;
+        }
         if mismatch.is_some() || !is_new || self.cuts.depth == Depth::Whole {
             return Ok(mismatch);
         }
         self.first_mismatch_alone(alloc, calls, choice, is_over)
     }
 
-    /// The first stop after this many calls that keeps only one unsynced sector, or loses only one, and leaves
-    /// something else.
+    /// The first stop after this many calls, the last of which is a write, that keeps only one unsynced sector, or loses
+    /// only one, and leaves something else. Only what was written last is kept alone, since the others were before.
     fn first_mismatch_alone(
         &self,
         alloc: Global,
@@ -148,19 +165,31 @@ impl Played {
         choice: &Choice,
         is_over: bool,
     ) -> Result<Mismatch, Fault> {
-        for call in self.notes.synced(calls)..calls {
+        let Some(sector) = self.notes.sector(calls.saturating_sub(1)) else {
+            return Ok(None);
+        };
+        let mismatch = self.mismatch(alloc, calls, Kept::Only(sector), choice, is_over, false)?;
+        if mismatch.is_some() || self.depth_at(calls) == Depth::Ends {
+            return Ok(mismatch);
+        }
+        self.first_mismatch_but_one(alloc, calls, choice, is_over)
+    }
+
+    /// The first stop after this many calls that loses only one unsynced sector, and leaves something else. Without the
+    /// one that was written last it is the stop before with all kept.
+    fn first_mismatch_but_one(
+        &self,
+        alloc: Global,
+        calls: usize,
+        choice: &Choice,
+        is_over: bool,
+    ) -> Result<Mismatch, Fault> {
+        for call in self.notes.synced(calls)..calls.saturating_sub(1) {
             if let Some(sector) = self.notes.sector(call) {
-                let only = self.mismatch(alloc, calls, Kept::Only(sector), choice, is_over, false)?;
-                let but = self.mismatch(
-                    alloc,
-                    calls,
-                    Kept::AllBut(sector),
-                    choice,
-                    is_over,
-                    false,
-                )?;
-                if only.is_some() || but.is_some() {
-                    return Ok(only.or(but));
+                let kept = Kept::AllBut(sector);
+                let mismatch = self.mismatch(alloc, calls, kept, choice, is_over, false)?;
+                if mismatch.is_some() {
+                    return Ok(mismatch);
                 }
             }
         }
@@ -178,16 +207,72 @@ impl Played {
         is_over: bool,
         is_deep: bool,
     ) -> Result<Mismatch, Fault> {
-        let (found, notes, rig) = found(alloc, stopped(&self.rig, calls, kept)?)?;
-        let Some(wanted) = choice.found(&found, is_over)? else {
-            return Ok(Some((calls, kept, None)));
-        };
-        if !is_deep {
-            return Ok(None);
-        }
-        let mismatch = first_mismatch_in_power_on(alloc, &rig, &notes, wanted)?;
-        Ok(mismatch.map(|stop| (calls, kept, Some(stop))))
+        let powered = powered_on(alloc, stopped(&self.rig, calls, kept)?)?;
+        let wrong = wrong_stop(alloc, &powered, choice, is_over, is_deep)?;
+        Ok(wrong.map(|stop| (calls, kept, stop)))
     }
+
+    /// The first stop that leaves something else, after `first` to `over` calls, the last of power on, and in these
+    /// events after it.
+    fn first_mismatch_from(
+        &self,
+        alloc: Global,
+        first: usize,
+        over: usize,
+        choice: &mut Choice,
+        rows: &[Row],
+    ) -> Result<Mismatch, Fault> {
+        let mut over = over;
+        let mut mismatch = first_mismatch_between(alloc, self, first, over, choice)?;
+        for (_, does, calls) in rows {
+            let begin = over.saturating_add(1);
+            over = over.saturating_add(*calls);
+            choice.take(*does)?;
+            if mismatch.is_none() {
+                mismatch = first_mismatch_between(alloc, self, begin, over, choice)?;
+            }
+        }
+        if over == self.rig.calls() {
+            Ok(mismatch)
+        } else {
+            // an event made other calls than its row says
+            Err(Fault::Broken)
+        }
+    }
+
+    /// The same from the first call on, where power comes on over a device of format 1.
+    fn first_mismatch_in_migration(
+        &self,
+        alloc: Global,
+        choice: &mut Choice,
+        rows: &[Row],
+    ) -> Result<Mismatch, Fault> {
+        let mismatch = first_mismatch_between(alloc, self, 0, CONVERTED, choice)?;
+        if mismatch.is_some() {
+            return Ok(mismatch);
+        }
+        choice.migrate()?;
+        self.first_mismatch_from(alloc, CONVERTED + 1, MIGRATION, choice, rows)
+    }
+}
+
+/// The stop that leaves something else, if there is one: that after which a device was powered on, or one in its power
+/// on, after this many calls.
+fn wrong_stop(
+    alloc: Global,
+    powered: &PoweredOn,
+    choice: &Choice,
+    is_over: bool,
+    is_deep: bool,
+) -> Result<Option<Option<usize>>, Fault> {
+    let Some(wanted) = choice.found(&powered.found, is_over)? else {
+        return Ok(Some(None));
+    };
+    if !is_deep {
+        return Ok(None);
+    }
+    let stop = first_mismatch_in_power_on(alloc, &powered.rig, &powered.notes, wanted)?;
+    Ok(stop.map(|calls| Some(calls)))
 }
 
 /// The first stop in power on, which made these calls of this device, that leaves something else: after this many
@@ -237,11 +322,9 @@ pub fn first_mismatch(
     rows: &[Row],
     cuts: Cuts,
 ) -> Result<Mismatch, Fault> {
-    let power = PowerOn {
-        choice: Choice::one(wanted)?,
-        calls: POWER_ON,
-    };
-    first_mismatch_from(alloc, rig, power, rows, cuts)
+    let played = Played::of(alloc, rig, rows, wanted.entries(), cuts)?;
+    let mut choice = Choice::one(wanted)?;
+    played.first_mismatch_from(alloc, 0, POWER_ON, &mut choice, rows)
 }
 
 /// The same over a device of format 1.
@@ -252,46 +335,20 @@ pub fn first_mismatch_in_migration(
     rows: &[Row],
     cuts: Cuts,
 ) -> Result<Mismatch, Fault> {
-    let power = PowerOn {
-        choice: Choice::in_migration(wanted)?,
-        calls: MIGRATION,
-    };
-    first_mismatch_from(alloc, rig, power, rows, cuts)
+    let played = Played::of(alloc, rig, rows, wanted.entries(), cuts)?;
+    let mut choice = Choice::one(wanted)?;
+    played.first_mismatch_in_migration(alloc, &mut choice, rows)
 }
 
-/// A power on: which states a stop in it may leave, and how many calls it makes.
-#[derive(Drop)]
-struct PowerOn {
-    choice: Choice,
-    calls: usize,
-}
-
-/// The first stop that leaves something else during this power on and these events, over a device.
-fn first_mismatch_from(
+/// The same on a device with this many sectors, which was just formatted or has had a session with other events.
+pub fn first_mismatch_on(
     alloc: Global,
-    rig: Device,
-    power: PowerOn,
+    sectors: usize,
+    before: &[Row],
     rows: &[Row],
     cuts: Cuts,
 ) -> Result<Mismatch, Fault> {
-    let PowerOn { choice, calls } = power;
-    let mut choice = choice;
-    let (rig, notes) = played(alloc, rig, rows, choice.after().entries())?;
-    let played = Played { rig, notes, cuts };
-    let mut over = calls;
-    let mut mismatch = first_mismatch_between(alloc, &played, 0, over, &choice)?;
-    for (_, does, calls) in rows {
-        let begin = over.saturating_add(1);
-        over = over.saturating_add(*calls);
-        choice.take(*does)?;
-        if mismatch.is_none() {
-            mismatch = first_mismatch_between(alloc, &played, begin, over, &choice)?;
-        }
-    }
-    if over == played.rig.calls() {
-        Ok(mismatch)
-    } else {
-        // an event made other calls than its row says
-        Err(Fault::Broken)
-    }
+    let wanted = standing_on(alloc, sectors, before)?;
+    let rig = left_on(alloc, sectors, before)?;
+    first_mismatch(alloc, rig, wanted, rows, cuts)
 }

@@ -1,9 +1,9 @@
 //! Power comes and goes many times.
-use crate::devices::{Device, formatted, give, powered, rig_of};
+use crate::devices::{Device, LARGE, copy_of, formatted_of, found_on, give, powered, rig_of};
 use crate::rows::{Does, MOVED, Order, Row, event_of, reply_to};
 use crate::standing::Standing;
 use crate::stops::cuts::Choice;
-use crate::stops::devices::{Kept, found, stopped};
+use crate::stops::devices::{Kept, stopped};
 use ng_core::{Controller, Reply, Source};
 use ng_num::Fault;
 use ng_rig::{FuseRig, Rig};
@@ -71,53 +71,75 @@ fn work<R: Rig>(
     Err(Fault::Broken)
 }
 
-/// The device after power was cut this many calls after it came on, and which states are allowed.
-fn cut_after(
+/// The device of a controller that works until the device fails.
+fn worked<R: Rig + Drop>(
     alloc: Global,
-    rig: Device,
-    wanted: Standing,
-    calls: u64,
-) -> Result<(Device, Choice), Fault> {
-    let mut choice = Choice::one(wanted)?;
+    controller: Controller<R, Global>,
+    choice: &mut Choice,
+) -> Result<R, Fault> {
+    let mut controller = controller;
+    let worked = work(alloc, &mut controller, choice);
+    let rig = rig_of(controller);
+    match worked {
+        Ok(()) => Ok(rig),
+        Err(fault) => Err(fault),
+    }
+}
+
+/// The device after power was cut this many calls after it came on, if these states are allowed before that. They are
+/// those that are allowed then.
+fn cut_after(alloc: Global, rig: Device, choice: &mut Choice, calls: u64) -> Result<Device, Fault> {
     match powered(alloc, FuseRig::new(rig, calls)) {
-        Ok(mut controller) => {
-            let worked = work(alloc, &mut controller, &mut choice);
-            let fuse = rig_of(controller);
-            worked?;
-            Ok((fuse.into_inner(), choice))
-        }
-        Err((Fault::DeviceFailed, fuse)) => Ok((fuse.into_inner(), choice)),
+        Ok(controller) => Ok(worked(alloc, controller, choice)?.into_inner()),
+        Err((Fault::DeviceFailed, fuse)) => Ok(fuse.into_inner()),
         Err((fault, _)) => Err(fault),
     }
 }
 
-/// A power cycle: the device that is left, with all unsynced sectors kept or none, and what it stands for, if that is
-/// as it has to be.
+/// The device that such a cut leaves, with all unsynced sectors kept after an odd number of calls and none after an even
+/// one.
+fn left_after(
+    alloc: Global,
+    rig: Device,
+    choice: &mut Choice,
+    calls: u64,
+) -> Result<Device, Fault> {
+    let kept = if calls % 2 == 0 {
+        Kept::None
+    } else {
+        Kept::All
+    };
+    let rig = cut_after(alloc, rig, choice, calls)?;
+    Ok(stopped(&rig, usize::MAX, kept)?)
+}
+
+/// Which of these states a device stands for.
+fn standing_of(alloc: Global, rig: Device, choice: &Choice) -> Result<Option<Standing>, Fault> {
+    let found = found_on(alloc, rig)?;
+    Ok(match choice.found(&found, false)? {
+        Some(wanted) => Some(wanted.copy()?),
+        None => None,
+    })
+}
+
+/// A power cycle: the device that is left, and what it stands for, if that is as it has to be.
 fn cycle(
     alloc: Global,
     rig: Device,
     wanted: Standing,
     calls: u64,
 ) -> Result<(Device, Option<Standing>), Fault> {
-    let kept = if calls % 2 == 0 {
-        Kept::None
-    } else {
-        Kept::All
-    };
-    let (rig, choice) = cut_after(alloc, rig, wanted, calls)?;
-    let (found, _, _) = found(alloc, stopped(&rig, usize::MAX, kept)?)?;
-    let wanted = match choice.found(&found, false)? {
-        Some(wanted) => Some(wanted.copy()?),
-        None => None,
-    };
-    Ok((stopped(&rig, usize::MAX, kept)?, wanted))
+    let mut choice = Choice::one(wanted)?;
+    let rig = left_after(alloc, rig, &mut choice, calls)?;
+    let stands = standing_of(alloc, copy_of(&rig)?, &choice)?;
+    Ok((rig, stands))
 }
 
-/// The first of 64 power cycles, each cut one call later than the one before, that leaves something else; and the
-/// entries then.
-fn first_mismatch(alloc: Global, first: u64) -> Result<(Option<u64>, u64), Fault> {
-    let mut rig = formatted(alloc)?;
-    let mut wanted = Standing::fresh(alloc)?;
+/// The first of 64 power cycles of a device with this many sectors, each cut one call later than the one before, that
+/// leaves something else; and the entries then.
+fn first_mismatch(alloc: Global, sectors: usize, first: u64) -> Result<(Option<u64>, u64), Fault> {
+    let mut rig = formatted_of(alloc, sectors)?;
+    let mut wanted = Standing::fresh_on(alloc, sectors)?;
     for calls in first..first.saturating_add(64) {
         let entries = wanted.entries();
         let (left, stands) = cycle(alloc, rig, wanted, calls)?;
@@ -134,10 +156,12 @@ fn first_mismatch(alloc: Global, first: u64) -> Result<(Option<u64>, u64), Fault
 /// end in work.
 #[test]
 fn power_comes_and_goes(rt: HostRuntime) -> Result<(), Fail> {
-    let Ok((mismatch, entries)) = first_mismatch(rt.alloc(), 154) else {
-        panic!(rt; "an event is answered otherwise")
-    };
-    assert_eq!(rt; mismatch, None);
-    assert!(rt; entries >= 20, "{entries}");
+    for sectors in [1_710, LARGE] {
+        let Ok((mismatch, entries)) = first_mismatch(rt.alloc(), sectors, 154) else {
+            panic!(rt; "an event is answered otherwise")
+        };
+        assert_eq!(rt; mismatch, None, "{sectors}");
+        assert!(rt; entries >= 20, "{sectors} {entries}");
+    }
     Ok(())
 }

@@ -1,5 +1,7 @@
 //! Devices, and what is found on them.
-use crate::devices::{Device, LARGE, give, read_again, rig_of, shown, started, started_bare};
+use crate::devices::{
+    Device, LARGE, formatted_of, give, read_again, rig_of, shown, started, started_bare,
+};
 use crate::rows::{Row, entries_after, event_of, reply_to};
 use crate::standing::{Found, Standing};
 use crate::stops::recorder::{Notes, Recorder};
@@ -37,9 +39,17 @@ pub fn stopped(rig: &Device, calls: usize, kept: Kept) -> Result<Device, AllocEr
     rig.stopped(calls, &writes_kept(kept))
 }
 
-/// What is found on a device that is powered on with settings that have no tools, the calls for that, and the device,
+/// A device that was powered on with settings that have no tools: what was found, the calls for that, and the device,
 /// which was read again after those calls.
-pub fn found(alloc: Global, rig: Device) -> Result<(Found, Notes, Device), Fault> {
+#[derive(Drop)]
+pub struct PoweredOn {
+    pub found: Found,
+    pub notes: Notes,
+    pub rig: Device,
+}
+
+/// Powers a device on with settings that have no tools, and reads it again.
+pub fn powered_on(alloc: Global, rig: Device) -> Result<PoweredOn, Fault> {
     let mut controller = started_bare(alloc, Recorder::new(alloc, rig))?;
     let status = shown(&mut controller);
     let (rig, notes) = rig_of(controller).into_parts();
@@ -49,13 +59,7 @@ pub fn found(alloc: Global, rig: Device) -> Result<(Found, Notes, Device), Fault
         stored,
         lines: lines?,
     };
-    Ok((found, notes, rig))
-}
-
-/// Whether a device stands for this once it is powered on.
-pub fn stands_for(alloc: Global, rig: Device, wanted: &Standing) -> Result<bool, Fault> {
-    let (found, _, _) = found(alloc, rig)?;
-    Ok(wanted.is_found(&found)?)
+    Ok(PoweredOn { found, notes, rig })
 }
 
 /// The first of these events, after this many entries, with another reply.
@@ -92,15 +96,25 @@ pub fn played(
     }
 }
 
-/// The device that a session over it leaves if its last call is a sync or a hand-out, and what it stands for.
-pub fn left_by(
-    alloc: Global,
-    rig: Device,
-    wanted: Standing,
-    rows: &[Row],
-) -> Result<(Device, Standing), Fault> {
-    let (rig, _) = played(alloc, rig, rows, wanted.entries())?;
-    let mut wanted = wanted;
+/// The device that a session with these events over it leaves if its last call is a sync or a hand-out.
+pub fn left_by(alloc: Global, rig: Device, rows: &[Row], entries: u64) -> Result<Device, Fault> {
+    let (rig, _) = played(alloc, rig, rows, entries)?;
+    Ok(stopped(&rig, usize::MAX, Kept::None)?)
+}
+
+/// A device with this many sectors after a session with these events; just formatted, if there are none.
+pub fn left_on(alloc: Global, sectors: usize, rows: &[Row]) -> Result<Device, Fault> {
+    let rig = formatted_of(alloc, sectors)?;
+    if rows.is_empty() {
+        Ok(rig)
+    } else {
+        left_by(alloc, rig, rows, 0)
+    }
+}
+
+/// What such a device stands for.
+pub fn standing_on(alloc: Global, sectors: usize, rows: &[Row]) -> Result<Standing, Fault> {
+    let mut wanted = Standing::fresh_on(alloc, sectors)?;
     wanted.take_all(rows)?;
-    Ok((stopped(&rig, usize::MAX, Kept::None)?, wanted))
+    Ok(wanted)
 }

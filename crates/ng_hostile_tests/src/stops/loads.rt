@@ -1,11 +1,7 @@
 //! A program replaces another.
-use crate::devices::{LARGE, formatted_of};
+use crate::devices::LARGE;
 use crate::rows::{Does, Order, Row};
-use crate::standing::Standing;
-use crate::stops::cuts::{Cuts, Depth, Mismatch, first_mismatch};
-use crate::stops::devices::left_by;
-use ng_num::Fault;
-use std::alloc::Global;
+use crate::stops::cuts::{Cuts, Depth, first_mismatch_on};
 use std::test::Fail;
 
 const OLD: &str = "G0 X0.002\nM2\n";
@@ -26,22 +22,14 @@ const BEFORE: &[Row] = &[
 /// 91 writes and 3 syncs.
 const LOADS: &[Row] = &[(Order::Load(NEW), Does::Loads(NEW), 94)];
 
-/// The first of these stops in a load, after power on, that leaves something else, over a device with this many
-/// sectors, after these events.
-fn first_mismatch_in_load(
-    alloc: Global,
-    sectors: usize,
-    before: &[Row],
-    cuts: Cuts,
-) -> Result<Mismatch, Fault> {
-    let wanted = Standing::fresh_on(alloc, sectors)?;
-    let (rig, wanted) = left_by(alloc, formatted_of(alloc, sectors)?, wanted, before)?;
-    first_mismatch(alloc, rig, wanted, LOADS, cuts)
-}
-
 #[test]
 fn a_stop_at_each_call_of_a_load_over_a_program(rt: HostRuntime) -> Result<(), Fail> {
-    let found = first_mismatch_in_load(rt.alloc(), 1_710, BEFORE, Cuts::deep(92, 186));
+    let cuts = Cuts {
+        first: 92,
+        last: 186,
+        depth: Depth::Deep,
+    };
+    let found = first_mismatch_on(rt.alloc(), 1_710, BEFORE, LOADS, cuts);
     assert_eq!(rt; found, Ok(None));
     Ok(())
 }
@@ -56,41 +44,16 @@ const TWICE: &[Row] = &[
 /// writes 3; area 3, so it writes 2.
 const BEFORE_LARGE: &[&[Row]] = &[&[], BEFORE, TWICE];
 
-/// Stops of a load, after power on: in the text, up to its sync; in the snapshot and the tool area; when all of that is
-/// written, and at the header.
-const CUTS: &[Cuts] = &[
-    Cuts {
-        first: 92,
-        last: 95,
-        depth: Depth::Alone,
-    },
-    Cuts {
-        first: 96,
-        last: 182,
-        depth: Depth::Whole,
-    },
-    Cuts {
-        first: 183,
-        last: 186,
-        depth: Depth::Alone,
-    },
-];
-
-/// The first of those stops that leaves something else.
-fn first_mismatch_in_large_load(alloc: Global, before: &[Row]) -> Result<Mismatch, Fault> {
-    for cuts in CUTS {
-        let mismatch = first_mismatch_in_load(alloc, LARGE, before, *cuts)?;
-        if mismatch.is_some() {
-            return Ok(mismatch);
-        }
-    }
-    Ok(None)
-}
-
 #[test]
 fn a_stop_at_each_call_of_a_load_on_a_large_device(rt: HostRuntime) -> Result<(), Fail> {
     for before in BEFORE_LARGE {
-        assert_eq!(rt; first_mismatch_in_large_load(rt.alloc(), before), Ok(None));
+        let cuts = Cuts {
+            first: 92,
+            last: 186,
+            depth: Depth::Ends,
+        };
+        let found = first_mismatch_on(rt.alloc(), LARGE, before, LOADS, cuts);
+        assert_eq!(rt; found, Ok(None), "{}", before.len());
     }
     Ok(())
 }

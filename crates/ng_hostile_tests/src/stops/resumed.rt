@@ -1,12 +1,7 @@
 //! After a cut within a block the machine's position is entered, and the block is resumed.
-use crate::devices::formatted;
 use crate::rows::{BEGUN, Does, IDLE, MOVED, Order, Row};
-use crate::standing::Standing;
-use crate::stops::cuts::{Cuts, Mismatch, POWER_ON, first_mismatch};
-use crate::stops::devices::left_by;
+use crate::stops::cuts::{Cuts, POWER_ON, SIZES, first_mismatch_on};
 use ng_core::Source;
-use ng_num::Fault;
-use std::alloc::Global;
 use std::test::Fail;
 
 const TURNS: &str = "M3 S1000";
@@ -43,34 +38,45 @@ const GOES_ON: &[Row] = &[
     IDLE,
 ];
 
-/// The first stop in the session before the cut, after its power on, that leaves something else.
-fn first_mismatch_before(alloc: Global) -> Result<Mismatch, Fault> {
-    let cuts = Cuts::deep(POWER_ON, usize::MAX);
-    first_mismatch(alloc, formatted(alloc)?, Standing::fresh(alloc)?, CUT, cuts)
-}
-
+/// After power on.
 #[test]
 fn a_stop_at_each_call_before_the_cut(rt: HostRuntime) -> Result<(), Fail> {
-    assert_eq!(rt; first_mismatch_before(rt.alloc()), Ok(None));
+    for (sectors, depth) in SIZES {
+        let cuts = Cuts {
+            first: POWER_ON,
+            last: usize::MAX,
+            depth: *depth,
+        };
+        let found = first_mismatch_on(rt.alloc(), *sectors, &[], CUT, cuts);
+        assert_eq!(rt; found, Ok(None), "{sectors}");
+    }
     Ok(())
-}
-
-/// The first stop in the session after the cut that leaves something else.
-fn first_mismatch_after(alloc: Global, cuts: Cuts) -> Result<Mismatch, Fault> {
-    let (rig, wanted) = left_by(alloc, formatted(alloc)?, Standing::fresh(alloc)?, CUT)?;
-    first_mismatch(alloc, rig, wanted, GOES_ON, cuts)
 }
 
 #[test]
 fn a_stop_at_each_call_of_power_on_after_the_cut(rt: HostRuntime) -> Result<(), Fail> {
-    let cuts = Cuts::deep(0, POWER_ON);
-    assert_eq!(rt; first_mismatch_after(rt.alloc(), cuts), Ok(None));
+    for (sectors, depth) in SIZES {
+        let cuts = Cuts {
+            first: 0,
+            last: POWER_ON,
+            depth: *depth,
+        };
+        let found = first_mismatch_on(rt.alloc(), *sectors, CUT, GOES_ON, cuts);
+        assert_eq!(rt; found, Ok(None), "{sectors}");
+    }
     Ok(())
 }
 
 #[test]
 fn a_stop_at_each_call_of_a_resumed_block(rt: HostRuntime) -> Result<(), Fail> {
-    let cuts = Cuts::deep(POWER_ON, usize::MAX);
-    assert_eq!(rt; first_mismatch_after(rt.alloc(), cuts), Ok(None));
+    for (sectors, depth) in SIZES {
+        let cuts = Cuts {
+            first: POWER_ON,
+            last: usize::MAX,
+            depth: *depth,
+        };
+        let found = first_mismatch_on(rt.alloc(), *sectors, CUT, GOES_ON, cuts);
+        assert_eq!(rt; found, Ok(None), "{sectors}");
+    }
     Ok(())
 }

@@ -1,51 +1,68 @@
 //! A program is stored and run.
-use crate::devices::formatted;
+use crate::devices::{LARGE, formatted_of};
 use crate::scripts::STORED_AND_RUN;
-use crate::standing::Standing;
-use crate::stops::cuts::{Cuts, Mismatch, first_mismatch};
+use crate::stops::cuts::{Cuts, SIZES, first_mismatch_on};
 use crate::stops::devices::played;
 use ng_num::Fault;
 use std::alloc::Global;
 use std::test::Fail;
 
-/// How many writes, syncs and hand-outs there are, including power on.
-#[test]
-fn calls_of_a_session(rt: HostRuntime) -> Result<(), Fail> {
-    let Ok(rig) = formatted(rt.alloc()) else {
-        panic!(rt; "the device isn't formatted")
-    };
-    let Ok((rig, notes)) = played(rt.alloc(), rig, STORED_AND_RUN, 0) else {
-        panic!(rt; "an event is answered otherwise")
-    };
-    assert_eq!(rt; (notes.counts(), rig.calls()), ([183, 10, 3, 0], 196));
-    Ok(())
+/// How many writes, syncs and hand-outs there are, including power on, and how many calls aren't recorded.
+fn counts(alloc: Global, sectors: usize) -> Result<[usize; 4], Fault> {
+    let (_, notes) = played(alloc, formatted_of(alloc, sectors)?, STORED_AND_RUN, 0)?;
+    Ok(notes.counts())
 }
 
-/// The first of these stops that leaves something else.
-fn first_mismatch_of(alloc: Global, first: usize, last: usize) -> Result<Mismatch, Fault> {
-    first_mismatch(
-        alloc,
-        formatted(alloc)?,
-        Standing::fresh(alloc)?,
-        STORED_AND_RUN,
-        Cuts::deep(first, last),
-    )
+#[test]
+fn calls_of_a_session(rt: HostRuntime) -> Result<(), Fail> {
+    for sectors in [1_710, LARGE] {
+        assert_eq!(rt;
+            counts(rt.alloc(), sectors),
+            Ok([183, 10, 3, 0]),
+            "{sectors}"
+        );
+    }
+    Ok(())
 }
 
 #[test]
 fn a_stop_at_each_call_of_power_on(rt: HostRuntime) -> Result<(), Fail> {
-    assert_eq!(rt; first_mismatch_of(rt.alloc(), 0, 92), Ok(None));
+    for (sectors, depth) in SIZES {
+        let cuts = Cuts {
+            first: 0,
+            last: 92,
+            depth: *depth,
+        };
+        let found = first_mismatch_on(rt.alloc(), *sectors, &[], STORED_AND_RUN, cuts);
+        assert_eq!(rt; found, Ok(None), "{sectors}");
+    }
     Ok(())
 }
 
 #[test]
 fn a_stop_at_each_call_of_a_load(rt: HostRuntime) -> Result<(), Fail> {
-    assert_eq!(rt; first_mismatch_of(rt.alloc(), 92, 185), Ok(None));
+    for (sectors, depth) in SIZES {
+        let cuts = Cuts {
+            first: 92,
+            last: 185,
+            depth: *depth,
+        };
+        let found = first_mismatch_on(rt.alloc(), *sectors, &[], STORED_AND_RUN, cuts);
+        assert_eq!(rt; found, Ok(None), "{sectors}");
+    }
     Ok(())
 }
 
 #[test]
 fn a_stop_at_each_call_of_a_program(rt: HostRuntime) -> Result<(), Fail> {
-    assert_eq!(rt; first_mismatch_of(rt.alloc(), 185, 196), Ok(None));
+    for (sectors, depth) in SIZES {
+        let cuts = Cuts {
+            first: 185,
+            last: 196,
+            depth: *depth,
+        };
+        let found = first_mismatch_on(rt.alloc(), *sectors, &[], STORED_AND_RUN, cuts);
+        assert_eq!(rt; found, Ok(None), "{sectors}");
+    }
     Ok(())
 }

@@ -193,7 +193,7 @@ fn records_with_a_number_changed(rt: HostRuntime) -> Result<(), Fail> {
 
 /// Writes this many records of one part, each with one entry more, and after them one record of two parts that sets
 /// parameter 49 to 1.
-pub fn write_to_the_end<R: Rig>(rig: &mut R, records: usize) -> bool {
+fn write_to_the_end<R: Rig>(rig: &mut R, records: usize) -> bool {
     let mut is_laid = true;
     let mut number = 0;
     for sector in 686..records.saturating_add(686) {
