@@ -15,6 +15,7 @@ from player_support import InC, InProcess, PlayerTest, Sanitized, record  # noqa
 from session_support import FIRST, PATIENCE_S  # noqa: E402
 from sink_support import ServedSink  # noqa: E402
 from test_moves import MACHINE, Moving, program  # noqa: E402
+from test_moves_sink import OverSink as MovingOverSink  # noqa: E402
 from test_ramps import COARSE, EXAMPLES  # noqa: E402
 from test_sink_player import disturbed_out  # noqa: E402
 
@@ -344,6 +345,22 @@ class WithoutLines(InC, Moving):
         self.assertEqual(self.link.machine().touched, "-8.000000 -7.000000 2.000000")  # 7 mm below where it was homed
 
 
+class HomedOverSink(MovingOverSink):
+    """Home over a step sink, whose switches follow the motors."""
+
+    def test_home(self) -> None:
+        """The motors go the pull-off away from the switch, 2, 2 and 1 mm, and the backlash before; the place counts the
+        pull-off alone."""
+        with open("mill.toml", "a") as file:
+            file.write("[backlash]\nsteps = [50, 300, 999]\n")
+        self.started()
+        self.assertEqual(self.how(self.link.home()), "done")
+        self.assertEqual(self.at(), (-8, -7, 9))
+        self.kept("reference -8.000000 -7.000000 9.000000", "screws + + -", "homed XYZ", "off")
+        self.assertEqual(self.ended(0), "")
+        self.assertEqual(self.made()[1], (-10_000 + 50 + 2_000, -10_000 + 300 + 2_000, 5_000 - 999 - 1_000))
+
+
 class OverSink(InC, PlayerTest):
     """Over a step sink, whose count is of lines alone."""
 
@@ -375,8 +392,8 @@ class OverSink(InC, PlayerTest):
         self.assertEqual(len(Path("times").read_text().splitlines()), 803)
         whole = Path("out").read_text()
         self.assertEqual(path(self.made(sink), Screws()), told(whole, back(whole)))
-        self.assertEqual(record().splitlines()[0], "lines 0")
-        self.assertIn("\nscrews - - +\n", record())
+        self.assertEqual(record(), "lines 0\nbytes 0\noutputs S 0 9.000000 0 0 0 0\n"
+                                   "reference 0.000000 0.000000 0.000000\nscrews - - +\n")
 
     def test_killed(self) -> None:
         """A player that is killed: the next one counts the lines that the sink made after the record, and the extra
