@@ -311,6 +311,7 @@ class WithoutLines(InC, Moving):
                                    ("X+", "2", (-7_500, -8_000, 4_000)), ("Z+", "0.1", (-7_500, -8_000, 4_100))):
             self.assertEqual(self.how(self.link.jog(way, "600", length)), "done")
             self.assertEqual(self.world.place, place)
+        self.told()  # the same place, so the screws stay known
         self.pipe.write(b"P -1 -1 -1 50\n" * 10)
         self.link.last()
         self.wait_for("lines go on", lambda: self.link.ask().carried == 10)
