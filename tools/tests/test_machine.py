@@ -10,9 +10,11 @@ sys.path.insert(0, str(Path(__file__).resolve().parent))
 
 from session_support import InFolder, ngc, told  # noqa: E402
 
+from ngc_tools import files  # noqa: E402
 from ngc_tools.cli import check, plot  # noqa: E402
 from ngc_tools.cli import machine as words  # noqa: E402
 from ngc_tools.ngc import timing  # noqa: E402
+from ngc_tools.ngc.machine_report import Motion  # noqa: E402
 from ngc_tools.ngc.pacing import NotTimed, Pacing  # noqa: E402
 
 MOTION = "[motion]\naccel_mm_s2 = [500, 500, 500]\n"
@@ -152,6 +154,13 @@ motion.toml: warning: a traverse of 3,000 mm/min is slowed down along Z: rate_mm
             status, _, wrong = told(tool.main, "--ngc", ngc(), "--machine", "motion.toml", "part.ngc", *given)
             self.assertEqual(status, 2)
             self.assertIn("error: --machine takes --settings FILE too, whose steps it counts in\n", wrong)
+
+    def test_without_end(self) -> None:
+        """A machine's file that is far too long, as /dev/zero is, isn't read to its end, nor given to `ngc pace`."""
+        Path("motion.toml").write_text(MOTION + "# " + "x" * 1000 + "\n")
+        with patch.object(files, "MOST", 1000), patch.object(subprocess, "run") as run:
+            self.assertRaisesRegex(OSError, "more than 1,000 bytes", Motion.read, ngc(), "motion.toml", "first.toml")
+        run.assert_not_called()
 
 
 class Times(MachineTest):

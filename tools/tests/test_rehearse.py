@@ -318,6 +318,9 @@ there is no program
         self.assertIn("goes with --carried-out", self.refused(2, "--before", "mill.dev"))
         self.assertEqual(self.refused(2, "--carried-out", "5", "--before", "none.dev"),
                          "ngc-rehearse: none.dev: No such file or directory\n")
+        Path("zeros.dev").write_bytes(bytes(1710 * 512))
+        self.assertIn("ngc-rehearse: zeros.dev: not a device: it isn't formatted",
+                      self.refused(2, "--carried-out", "5", "--before", "zeros.dev"))
         Path("first.toml").write_text(FIRST.replace("high_nm = [1000000000", "high_nm = [1500000"))
         said = self.refused(1, "1", "2", "5")
         self.assertIn("ngc-rehearse: mill.dev: resume: refused X2 OutsideTravel: the end of a move lies outside", said)

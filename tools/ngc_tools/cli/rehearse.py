@@ -142,7 +142,8 @@ def _find(args: argparse.Namespace, ngc: str, image: bytes) -> tuple[Found, Devi
     if args.carried_out < 1:
         raise CannotTell("N is at least 1: where no line was carried out, the motors didn't move")
     if args.before:
-        base = Device(copied(args.before))
+        with speaking_of(args.before, NoDevice):
+            base = Device(copied(args.before))
         if base.program != device.program:
             raise CannotTell(f"{args.before} has another program than {args.device}")
         command = "resume" if base.state.half else "start"

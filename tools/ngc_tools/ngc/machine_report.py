@@ -6,6 +6,7 @@ from collections.abc import Iterator
 from dataclasses import dataclass
 from pathlib import Path
 
+from ngc_tools.files import read
 from ngc_tools.formats.settings import AXES, Settings, read_table
 from ngc_tools.ngc.settings_report import number
 from ngc_tools.player.machine import BadMachine, Machine, read_machine
@@ -32,8 +33,7 @@ class Motion:
     def read(ngc: str, path: str | Path, settings_path: str | Path) -> "Motion":
         """Reads a machine's file. Raises BadMachine, with the key and its range, if it is refused; BadSettings if it
         isn't TOML, OSError."""
-        with open(path, "rb") as file:
-            file.read()
+        read(path)
         words = [ngc, "pace", str(settings_path), str(path), "--total"]
         done = subprocess.run(words, stdin=subprocess.DEVNULL, stdout=subprocess.PIPE, check=False)
         said = done.stdout.decode("latin-1").strip()
