@@ -683,7 +683,7 @@ class Faults(SinkTest):
     def test_word(self) -> None:
         """A word that isn't one: nothing of its frame is taken, and it comes to rest."""
         bad = [(39, 1), (0, REST), (LEAST, OUTPUT), (LEAST, OUTPUT | SWITCH), (LEAST, OUTPUT | REST | 4),
-               (LEAST, OUTPUT | REST | 32), (3, OUTPUT | SWITCH | REST),
+               (LEAST, OUTPUT | REST | 32), (3, OUTPUT | SWITCH | REST), (LEAST, OUTPUT | SWITCH | 4),
                (129 << 4, OUTPUT | SWITCH | REST), (129 << 12, OUTPUT | SWITCH | REST)]
         for each in bad:
             session = self.began()
