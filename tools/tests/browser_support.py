@@ -51,6 +51,10 @@ class Browser:
         """A finger, or the mouse's button, comes down."""
         raise NotImplementedError
 
+    def move(self, x: float, y: float) -> None:
+        """It moves, while it is down."""
+        raise NotImplementedError
+
     def up(self, x: float, y: float) -> None:
         """It is lifted."""
         raise NotImplementedError
@@ -70,7 +74,7 @@ class Browser:
                     return found
             except Failed as error:  # as while a page is loaded
                 failed = str(error)
-            time.sleep(0.02)
+            time.sleep(0.04)
         state = self.js("window.ngc && JSON.stringify(ngc.state).slice(0, 2000)")
         raise Failed(f"waited in vain for {expression} {failed}; {state}")
 
@@ -197,6 +201,10 @@ class Chromium(Browser):
         """A finger, or the mouse's button, comes down."""
         self.call("Input.dispatchMouseEvent", type="mouseMoved", x=x, y=y)
         self.call("Input.dispatchMouseEvent", type="mousePressed", x=x, y=y, button="left", buttons=1, clickCount=1)
+
+    def move(self, x: float, y: float) -> None:
+        """It moves, while it is down."""
+        self.call("Input.dispatchMouseEvent", type="mouseMoved", x=x, y=y, button="left", buttons=1)
 
     def up(self, x: float, y: float) -> None:
         """It is lifted."""

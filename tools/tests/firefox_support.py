@@ -1,4 +1,5 @@
-"""Firefox without a window, driven by its own remote protocol, Marionette. It needs nothing but Firefox."""
+"""Firefox without a window, driven by its own remote protocol, Marionette, which needs nothing but Firefox; and the
+choice of a browser: Chromium, or Firefox where the environment has NGC_BROWSER=firefox."""
 import base64
 import json
 import os
@@ -9,7 +10,7 @@ import tempfile
 import time
 from pathlib import Path
 
-from browser_support import PATIENCE_S, Browser, Failed
+from browser_support import PATIENCE_S, Browser, Chromium, Failed, chromium
 
 NAMES = ("firefox-esr", "firefox")
 _WORDS = ("--headless", "--no-remote", "--marionette", "--remote-allow-system-access")
@@ -133,6 +134,10 @@ class Firefox(Browser):
         """A finger, or the mouse's button, comes down."""
         self._act("pointer", _to(x, y), {"type": "pointerDown", "button": 0})
 
+    def move(self, x: float, y: float) -> None:
+        """It moves, while it is down."""
+        self._act("pointer", _to(x, y))
+
     def up(self, x: float, y: float) -> None:
         """It is lifted."""
         self._act("pointer", _to(x, y), {"type": "pointerUp", "button": 0})
@@ -162,3 +167,14 @@ class Firefox(Browser):
 def _to(x: float, y: float) -> dict:
     """The way of the mouse to a place."""
     return {"type": "pointerMove", "x": round(x), "y": round(y)}
+
+
+IS_FIREFOX = os.environ.get("NGC_BROWSER") == "firefox"
+PATH = firefox() if IS_FIREFOX else chromium()
+"""The browser's, None where it isn't installed."""
+MISSING = f"{'Firefox' if IS_FIREFOX else 'Chromium'} isn't installed: tools/tests/install_browser.sh"
+
+
+def start() -> Browser:
+    """Starts the browser. Raises OSError or Failed."""
+    return (Firefox if IS_FIREFOX else Chromium)(PATH or "")

@@ -1,5 +1,4 @@
-"""The page in a browser: Chromium without a window. Skipped where there is none: tools/tests/install_browser.sh."""
-import json
+"""The page in a browser without a window: Chromium, or Firefox by NGC_BROWSER=firefox. Skipped where there is none."""
 import os
 import re
 import signal
@@ -14,8 +13,8 @@ from statistics import median
 
 sys.path.insert(0, str(Path(__file__).resolve().parent))
 
-from browser_support import Browser, Chromium, chromium  # noqa: E402
-from firefox_support import Firefox, firefox  # noqa: E402
+from browser_support import Browser  # noqa: E402
+from firefox_support import IS_FIREFOX, MISSING, PATH, start  # noqa: E402
 from machine_support import SocketMachine  # noqa: E402
 from page_support import OTHER, SHORT, SLOW, Page, Served  # noqa: E402
 from session_support import PATIENCE_S, TOOLS, ngc  # noqa: E402
@@ -103,13 +102,10 @@ PAN_LONG = """(async () => {
 })()""".replace("FRAME", FRAME)
 
 
-IS_FIREFOX = os.environ.get("NGC_BROWSER") == "firefox"
-
-
 @cache
 def started() -> Browser:
     """One browser for all tests."""
-    browser = Firefox(firefox() or "") if IS_FIREFOX else Chromium(chromium() or "")
+    browser = start()
     unittest.addModuleCleanup(browser.close)
     return browser
 
@@ -128,7 +124,7 @@ def slow_by() -> float:
     return (time.monotonic() - begun) / 0.03
 
 
-@unittest.skipUnless(firefox() if IS_FIREFOX else chromium(), "it isn't installed: tools/tests/install_browser.sh")
+@unittest.skipUnless(PATH, MISSING)
 class InBrowser(Served):
     """The page of a session of its own for each test."""
 
@@ -233,8 +229,7 @@ class Looks(InBrowser):
         self.look("a stop")
         self.no_complaints()
 
-
-
+    @unittest.skipIf(IS_FIREFOX, "Firefox doesn't tell its processor time")
     def test_long(self) -> None:
         """A program of a mebibyte is shown within two seconds of processor time, and moves at 30 frames a second."""
         browser = self.browser

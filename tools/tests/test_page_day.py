@@ -1,4 +1,5 @@
-"""docs/PAGE.md as it is written, step by step, in each browser that is installed: a day, and a loss of power."""
+"""docs/PAGE.md as it is written, step by step: a day, and a loss of power. In Chromium, or in Firefox where
+NGC_BROWSER says so; skipped where it isn't installed."""
 import os
 import re
 import subprocess
@@ -9,8 +10,8 @@ from pathlib import Path
 
 sys.path.insert(0, str(Path(__file__).resolve().parent))
 
-from browser_support import Browser, Chromium, chromium  # noqa: E402
-from firefox_support import Firefox, firefox  # noqa: E402
+from browser_support import Browser  # noqa: E402
+from firefox_support import MISSING, PATH, start  # noqa: E402
 from page_support import OTHER, Served  # noqa: E402
 from session_support import PATIENCE_S, TOOLS, ngc  # noqa: E402
 from test_moves import MACHINE, PROBE, World, program  # noqa: E402
@@ -216,7 +217,7 @@ class Day(Walk):
             self.browser.press(kind, ".path button")
             before = self.browser.js(f"String(ngc.picture.view.{shown})")
             self.browser.down(600, 400)
-            self.browser.down(640, 420)
+            self.browser.move(640, 420)
             self.browser.up(640, 420)
             self.assertNotEqual(self.browser.js(f"String(ngc.picture.view.{shown})"), before)
 
@@ -391,18 +392,14 @@ class Loss(Walk):
             self.browser.press("", "#over .go")
 
 
-class InChromium(Day, Loss):
-    """In Chromium."""
-
-    find, kind = staticmethod(chromium), Chromium
+@unittest.skipUnless(PATH, MISSING)
+class Walks(Day, Loss):
+    """Both, in one browser."""
 
     @classmethod
     def setUpClass(cls) -> None:
-        """Starts the browser. Raises SkipTest where it isn't installed."""
-        path = cls.find()
-        if path is None:
-            raise unittest.SkipTest(f"{cls.kind.__name__} isn't installed: tools/tests/install_browser.sh")
-        cls.browser = cls.kind(path)
+        """Starts the browser."""
+        cls.browser = start()
         cls.addClassCleanup(cls.browser.close)
 
     def test_day(self) -> None:
@@ -412,12 +409,6 @@ class InChromium(Day, Loss):
     def test_loss(self) -> None:
         """A loss of power, and what else is said with it."""
         self.loss()
-
-
-class InFirefox(InChromium):
-    """In Firefox."""
-
-    find, kind = staticmethod(firefox), Firefox
 
 
 if __name__ == "__main__":
