@@ -90,46 +90,6 @@ static void report(struct player *player, char *text, size_t room, const char *q
              player->out);
 }
 
-/* Whether it may be told that the machine stands at these steps: where it does anyhow also with lines in hand, which
- * wait for that. The lock is held. */
-static bool takes_place(const struct player *player, const int64_t steps[3]) {
-    bool is_there = memcmp(player->steps, steps, sizeof player->steps) == 0;
-    bool is_behind = player->source.received != player->lines && !player->is_broken && !is_there;
-    bool moves = player->errand.is_there || player->manual.is_there;
-    return player->alarm == NO_ALARM ? !is_behind && !moves : alarm_takes_place(player, steps);
-}
-
-/* It stands at these steps, and `ngc` knows it; where an alarm is over by that, `ngc` has to be told yet. The lock is
- * held. */
-static void take_place(struct player *player, const int64_t steps[3]) {
-    for (int axis = 0; axis < 3; axis++) {
-        player->screws[axis] = steps[axis] == player->steps[axis] ? player->screws[axis] : SCREW_UNKNOWN;
-    }
-    memcpy(player->steps, steps, sizeof player->steps);
-    atomic_store(&player->is_untold, player->alarm != NO_ALARM);
-    if (player->alarm != NO_ALARM) {
-        alarm_end(player);
-    }
-}
-
-/* Takes where the machine stands, as after its axes were moved by hand, if nothing is behind. In an alarm it tells
- * where the axes are that can't be homed. */
-static void stand_at(struct player *player, const int64_t nm[3]) {
-    int64_t steps[3];
-    for (int axis = 0; axis < 3; axis++) {
-        steps[axis] = in_steps(nm[axis], player->step_nm[axis]);
-    }
-    player_lock(player);
-    bool took = source_take_all(&player->source);
-    if (takes_place(player, steps)) {
-        take_place(player, steps);
-    }
-    player_unlock(player);
-    if (took) {
-        eventfd_write(player->wake, 1);
-    }
-}
-
 /* What stands in OUT now is all that comes for now. */
 static void note_last(struct player *player) {
     player_lock(player);
@@ -226,21 +186,12 @@ static void override_spindle(struct player *player, int percent) {
     }
 }
 
-/* Does what a datagram asks for; others are left alone. */
-static void heed(struct player *player, const char *text, size_t size, const struct sockaddr_un *from,
-                 socklen_t named) {
-    static char answer[2 * PATH_MAX];
+/* Does what a datagram asks for that is done at once and not answered. Whether it was one. */
+static bool heed_order(struct player *player, const char *text, size_t size) {
     int64_t nm[3];
     int percent = 0;
     uint64_t bytes = 0;
-    struct wish wish;
-    if (is_question(text, size, "progress ")) {
-        askers_note(from, named);
-        atomic_store(&player->has_ended, false);
-        atomic_store(&player->asked_at, schedule_now());
-        report(player, answer, sizeof answer, text);
-        sendto(player->socket, answer, strlen(answer), MSG_DONTWAIT, (const struct sockaddr *)from, named);
-    } else if (is_word(text, size, "go")) {
+    if (is_word(text, size, "go")) {
         atomic_store(&player->tool, NO_TOOL);
     } else if (is_word(text, size, "hold")) {
         atomic_store(&player->is_held, true);
@@ -254,20 +205,40 @@ static void heed(struct player *player, const char *text, size_t size, const str
         note_last(player);
     } else if (read_synced(text, size, &bytes)) {
         take_synced(player, bytes);
-    } else if (is_question(text, size, "kept ")) {
-        int length = kept(player, answer, sizeof answer, text);
-        sendto(player->socket, answer, (size_t)length, MSG_DONTWAIT, (const struct sockaddr *)from, named);
-    } else if (wish_read(text, size, &wish)) {
-        send_there(player, &wish);
-    } else if (manual_heed(player, text, size, answer, sizeof answer)) {
-        if (answer[0] != '\0') {
-            sendto(player->socket, answer, strlen(answer), MSG_DONTWAIT, (const struct sockaddr *)from, named);
-        }
     } else if (is_word(text, size, "end")) {
         note_last(player);
         atomic_store(&player->has_ended, true);
     } else if (size > 3 && memcmp(text, "at ", 3) == 0 && place_read(text + 3, size - 3, nm)) {
-        stand_at(player, nm);
+        told_place(player, nm);
+    } else {
+        return false;
+    }
+    return true;
+}
+
+/* Does what a datagram asks for; others are left alone. */
+static void heed(struct player *player, const char *text, size_t size, const struct sockaddr_un *from,
+                 socklen_t named) {
+    static char answer[2 * PATH_MAX];
+    struct wish wish;
+    size_t length = 0;
+    if (is_question(text, size, "progress ")) {
+        askers_note(from, named);
+        atomic_store(&player->has_ended, false);
+        atomic_store(&player->asked_at, schedule_now());
+        report(player, answer, sizeof answer, text);
+        length = strlen(answer);
+    } else if (heed_order(player, text, size)) {
+        return;
+    } else if (is_question(text, size, "kept ")) {
+        length = (size_t)kept(player, answer, sizeof answer, text);
+    } else if (wish_read(text, size, &wish)) {
+        send_there(player, &wish);
+    } else if (manual_heed(player, text, size, answer, sizeof answer)) {
+        length = strlen(answer);
+    }
+    if (length > 0) {
+        sendto(player->socket, answer, length, MSG_DONTWAIT, (const struct sockaddr *)from, named);
     }
 }
 
