@@ -357,8 +357,9 @@ class HomedOverSink(MovingOverSink):
         self.started()
         self.assertEqual(self.how(self.link.home()), "done")
         self.assertEqual(self.at(), (-8, -7, 9))
-        self.kept("reference -8.000000 -7.000000 9.000000", "screws + + -", "homed XYZ", "off")
+        self.kept("reference -8.000000 -7.000000 9.000000", "screws + + -", "homed XYZ", "off", "stopped killed")
         self.assertEqual(self.ended(0), "")
+        self.kept("screws + + -", "homed XYZ", "off")
         self.assertEqual(self.made()[1], (-10_000 + 50 + 2_000, -10_000 + 300 + 2_000, 5_000 - 999 - 1_000))
 
 
