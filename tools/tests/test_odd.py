@@ -292,6 +292,8 @@ class Odd(InFolder):
                 option = words[words.index("ODD") - 1] in ("--settings", "--device", "--machine", "--before")
                 if option or path in ("folder", "loop", "none", "none/none"):
                     self.assertEqual(end.status, 0 if is_made and name != "ngc-page" else 2, (name, words, path))
+                is_named = path in end.error or not path.isprintable() or "stopped" in end.error
+                self.assertTrue(end.status != 2 or is_named, (name, words, path, end.error))
                 if data is not None:
                     self.assertTrue(Path(path).read_bytes()[:len(data)] == data, (name, words, path))
 
