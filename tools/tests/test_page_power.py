@@ -105,6 +105,7 @@ class Kept(InFolder):
 
     def test_kept(self) -> None:
         """It is of one program, until it is forgotten; another file that stands there is left alone."""
+        self.device()
         losses, loss = Losses("mill.dev"), Loss(9, 0, 1.5, 3, 3000, [[0, 0, 0], [3, 0, 0]])
         self.assertEqual(losses.of(b"M2\n"), [])
         losses.keep(b"M2\n", [loss])
@@ -119,6 +120,8 @@ class Kept(InFolder):
             with self.assertRaisesRegex(NotWritten, "mill.dev.never-cut: it isn't what ngc-page keeps there"):
                 losses.keep(b"M2\n", [loss])
             self.assertEqual(losses.path.read_text(), text)
+        with self.assertRaisesRegex(NotWritten, "null: it is no file"):
+            Losses("/dev/null").keep(b"M2\n", [loss])
 
 
 class OverPipe(Served):

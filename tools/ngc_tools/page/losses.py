@@ -34,7 +34,7 @@ class Losses:
 
     def __init__(self, device: str) -> None:
         """`device` is the path of the device; the file needn't be there."""
-        self.path = Path(device + SUFFIX)
+        self._device, self.path = Path(device), Path(device + SUFFIX)
 
     def of(self, program: bytes) -> list[Loss]:
         """Those of a program, the earliest first; none where the file isn't there, can't be read, or is of another
@@ -43,7 +43,9 @@ class Losses:
         return told[1] if told is not None and told[0] == _name(program) else []
 
     def keep(self, program: bytes, losses: list[Loss]) -> None:
-        """Keeps these. Raises NotWritten where another file stands there, OSError."""
+        """Keeps these. Raises NotWritten where another file stands there, or the device is a disk, OSError."""
+        if not self._device.is_file():
+            raise NotWritten(f"{self._device}: it is no file, beside which that could be kept")
         is_there = self.path.exists()
         if is_there and self._read() is None:
             raise NotWritten(f"{self.path}: it isn't what ngc-page keeps there, and isn't written over")

@@ -26,7 +26,7 @@ _LEFT = """\
 NEVER CUT: {lines} handed out before the half-done segment, {length} mm, which no motor carried out by the record. \
 Nothing makes them: cut them by lines of your own first, or live with it{may}"""
 _EARLIER = """\
-NEVER CUT: an earlier loss of power in this job, told of at {when}, left {lines} uncut, {length} mm. They are told of \
+NEVER CUT: an earlier loss of power in this job left {lines} uncut, {length} mm, as was found at {when}. That is told \
 until the program is loaded, or begins, anew"""
 _MAY = ". The motors' path comes to that place more than once, so it may be as few as {least}"
 
@@ -76,20 +76,21 @@ class NeverCutSearch:
         self._asked: Asked | None = None
         self._thread = threading.Thread()
 
-    def begin(self, losses: Losses, program: bytes) -> None:
-        """Takes up what was kept of a device, which has this program."""
-        self._asked, self._losses, self._program = None, losses, program
-        self._earlier = losses.of(program)
+    def begin(self, losses: Losses, program: bytes, asked: Asked | None) -> None:
+        """Takes up what was kept of a device, which has this program, and finds what the last session left, if a block
+        is half-done; that isn't to be found where nothing is asked."""
+        self._losses, self._program, self._earlier = losses, program, losses.of(program)
+        self._asked = asked if asked is not None and Device(asked.image).state.half else None
         self._take(dict(_NONE, earlier=_plain(self._earlier)) if self._earlier else None)
-        for loss in self._earlier:
-            self._face.say(_said(loss), WARNING)
+        if self._asked is None:
+            self._tell(self._earlier)
+            return
+        self._thread = threading.Thread(target=self._find, args=[asked], daemon=True)
+        self._thread.start()
 
-    def search(self, asked: Asked) -> None:
-        """Finds what the last session left, if a block of the device is half-done."""
-        if Device(asked.image).state.half:
-            self._asked = asked
-            self._thread = threading.Thread(target=self._find, args=[asked], daemon=True)
-            self._thread.start()
+    def _tell(self, losses: list[Loss]) -> None:
+        for loss in losses:
+            self._face.say(_said(loss), WARNING)
 
     def awaited(self) -> dict | None:
         """What is found, once it is."""
@@ -113,6 +114,7 @@ class NeverCutSearch:
             earlier = self._kept(asked, told) if told["lines"] else self._earlier
             self._take(told | {"earlier": _plain(earlier)})
             self._face.say(told["words"], SAID if told["words"] == _KEPT else WARNING)
+            self._tell(earlier)
 
     def _kept(self, asked: Asked, told: dict) -> list[Loss]:
         """Keeps what was found; the earlier ones, without this one, where it was found before."""

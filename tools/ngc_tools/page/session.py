@@ -145,10 +145,10 @@ class Session:
         """Finds what the last session left uncut. Of a file that is followed no line is lost."""
         meter, report, found = self.operator.session.meter, self.stand.report, self.opened.found
         console = self.operator.console
-        self.never_cut.begin(Losses(console.device), self.kept.device.program)
+        asked = None
         if meter and report and found and self.operator.recover.found is None:
-            self.never_cut.search(Asked(console.ngc, console.settings, found.image, report.at.split(),
-                                        meter.most_ahead(report)))
+            asked = Asked(console.ngc, console.settings, found.image, report.at.split(), meter.most_ahead(report))
+        self.never_cut.begin(Losses(console.device), self.kept.device.program, asked)
 
     # what pages ask for
 
