@@ -155,9 +155,9 @@ abbrev pub handing : Item → List ℕ → SessionModel → Transition
 handing item program s = record { reply = reply.Moved; items = item ∷ []; entries = []; program = program; next = s }
 
 -- The answer to an outcome and what it leaves, of an honest device and of any; what an honest device is called for, and
--- what the journal keeps then. If a line is read for it, it is that line's. An error has its cause, depending on what the
--- answer needs. The journal is broken, and the device counted a failure, exactly if the device failed. The device keeps
--- its size.
+-- what the journal keeps then. If a line is read for it, it is that line's. An error has its cause, depending on what
+-- the answer needs. The journal is broken, and the device counted a failure, exactly if the device failed. The device
+-- keeps its size.
 pub record CarriesOut {R : Type 0} (seen : R → Device) (needs : Needs) (out : List ℕ → Transition) (answer : Result Reply Fault) (old new : ControllerModel R) : Type 0 where
   pub does : IsCarriedOutIfHonest seen answer out old new
   pub calls : CallsIfHonest seen answer out old new
