@@ -565,7 +565,8 @@ class Machine(Documents):
         os.symlink(player(), "bin/player")
         Path("out").touch()
         tools = [block for block in blocks(chapters("TOOLS.md")[PLAYER]) if block.startswith("[")]
-        self.assertEqual(len(tools), 3)
+        self.assertEqual([block.split()[0] for block in tools],
+                         ["[motion]", "[window]", "[wait]", "[backlash]", "[spindle]"])
         Path("player.toml").write_text("\n".join(tools))
         for command in ("player -m", "ngc-player --machine"):
             said = self.shell(f"{command} player.toml out mill.toml position 2>&1")
