@@ -190,7 +190,8 @@ static bool is_in_time(void) {
         lasts = wire_is_speed(sink.bits[at % WIRE_FIFO]) ? 0 : lasts;
         behind -= is_output ? 0 : wire_slope(value);
         bool has_rest = taken->rest - at - 1 < WIRE_FIFO;
-        is_right = has_rest || lasts == 0 || ticks > 2 * POLL_TICKS || (double)lasts * (double)lasts * behind >= 4398046511104.0;
+        is_right = has_rest || lasts == 0 || ticks > 2 * POLL_TICKS
+            || (double)lasts * (double)lasts * behind >= 4398046511104.0;
         ticks += lasts;
     }
     return is_right && silent < (ticks < HAS_MS * WIRE_TICKS_A_MS ? 1 : HEARS_MS) * WIRE_TICKS_A_MS;

@@ -1041,8 +1041,8 @@ class Motors(Core):
             "the player keeps the spindle at 10 %: it takes more than 100 where its machine's file has max_rpm in"
             " [spindle]"])
         wrong = "spindle percent takes a whole number from 10 to 200: so many percent of OUT's speeds"
-        self.assertEqual(self.do("spindle percent 9", "spindle percent 201", "spindle percent x", "spindle", "spindle 50"),
-                         [wrong] * 5)
+        typed = ("spindle percent 9", "spindle percent 201", "spindle percent x", "spindle", "spindle 50")
+        self.assertEqual(self.do(*typed), [wrong] * 5)
         self.load("G21 G90\nM3 S1000\nG1 X0.5 F600\nM2\n")
         self.face.given = ["spindle percent 70"]
         self.assertEqual(self.do("run")[0], "the spindle at 70 % of OUT's speeds")

@@ -11,8 +11,8 @@ _CAME = "{cause}: the motors stand, spindle and coolant are off, and where the m
 _FORBIDS = "nothing is done: {cause}. home comes first; until then where and quit alone are taken"
 _BROKEN = ("nothing is done: what the player had in hand in the alarm is never carried out, and so nothing that comes"
            " after. quit, start the player and this again, and go on as after a loss of power")
-_LEFT = ("the alarm stands: {left} isn't homed. home {left} does it, where the machine's file says how; else measure it,"
-         " and type reference X Y Z with what you measured: the player counts {at}")
+_LEFT = ("the alarm stands: {left} isn't homed. home {left} does it, where the machine's file says how; else measure"
+         " it, and type reference X Y Z with what you measured: the player counts {at}")
 _NUMBERS = ("reference X Y Z, in mm: the player counts {at}; player stands for the number of an axis that is homed"
             " ({homed})")
 _NOT_TAKEN = ("the player doesn't take that: all axes have to be homed that can be, with their numbers as the player"

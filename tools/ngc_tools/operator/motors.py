@@ -172,8 +172,8 @@ class Motors:
         if percent == report.spindle:
             self.session.face.say(f"the spindle at {percent} % of OUT's speeds", WHERE)
             return
-        self.session.face.say(f"the player keeps the spindle at {report.spindle} %: it takes more than {WHOLE} where its"
-                              " machine's file has max_rpm in [spindle]", REFUSED)
+        self.session.face.say(f"the player keeps the spindle at {report.spindle} %: it takes more than {WHOLE} where"
+                              " its machine's file has max_rpm in [spindle]", REFUSED)
 
     def _set(self, report: Report, percent: int) -> None:
         """Tells the player an override, and says whether it takes it."""

@@ -35,8 +35,8 @@ class BadMachine(Failure):
 @dataclass(frozen=True, slots=True)
 class Machine:
     """What the motors allow; how many lines a player wants in hand, 0 for as many as are needed; how long the spindle
-    takes to start, to stop or to turn the other way; how fast it may turn, 0 where the file doesn't say it; the backlash
-    of each axis in steps."""
+    takes to start, to stop or to turn the other way; how fast it may turn, 0 where the file doesn't say it; the
+    backlash of each axis in steps."""
 
     limits: Limits
     window_lines: int = 0

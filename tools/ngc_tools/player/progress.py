@@ -132,8 +132,8 @@ class Report:
 @dataclass(frozen=True, slots=True)
 class Machine:
     """What a player says of moves without lines. `does` is `stands`, `home X`, `jog X+` or `seek Z-`; `homed` the axes
-    that were homed, as `XYZ`; `alarm` is `emergency_stop`, `limits` or `sink`, "" for none; `on` the inputs that are on;
-    `touched` where the probe was touched last, in machine millimetres. The move of the number `ended` is over, 0 for
+    that were homed, as `XYZ`; `alarm` is `emergency_stop`, `limits` or `sink`, "" for none; `on` the inputs that are
+    on; `touched` where the probe was touched last, in machine millimetres. The move of the number `ended` is over, 0 for
     none, and `how` is `done`, or says in words why it came to rest."""
 
     does: str

@@ -11,7 +11,7 @@ PERCENTS = range(10, 201)
 
 @dataclass(slots=True)
 class Spindle:
-    """It turns at `percent` of OUT's speeds, and no faster than `most`, in millionths; 0 doesn't say how fast it may."""
+    """It turns at `percent` of OUT's speeds, and no faster than `most`, in millionths; 0 is no bound."""
 
     most: int = 0
     percent: int = WHOLE
