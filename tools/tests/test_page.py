@@ -361,6 +361,29 @@ class Ramps(Served):
         self.assertTrue(page.last()["over"])
 
 
+    def test_spindle(self) -> None:
+        """The spindle is overridden while a program runs, and at rest; what the machine's file doesn't allow isn't
+        taken. What `ngc` knows stays the program's speed."""
+        page = self.page()
+        self.assertEqual(page.next()["spindle_percent"], 100)
+        self.load(page, "G21 G90\nM3 S1000\nG1 X40 F60\nM2\n")
+        self.cuts(page)
+        self.assertEqual(page.post("spindle", {"percent": 50}), (200, {}))
+        state = page.until("it turns slower", lambda state: state["spindle_percent"] == 50)
+        self.assertEqual((state["busy"], state["spindle"], state["speed"], state["percent"]), (True, 1, 1000.0, 100))
+        self.assertEqual(self.link.ask().spindle, 50)
+        self.assertEqual(page.post("spindle", {"percent": 110}), (200, {}))
+        state = page.until("it is refused", lambda state: "max_rpm in [spindle]" in page.said())
+        self.assertEqual((state["busy"], state["spindle_percent"]), (True, 50))
+        for percent in (201, "50", -10, True, None):
+            self.assertEqual(page.post("spindle", {"percent": percent})[0], 422, percent)
+        page.post("hold")
+        page.rested()
+        self.assertEqual(page.post("spindle", {"percent": 100}), (200, {}))
+        page.until("it turns as it was", lambda state: state["spindle_percent"] == 100 and not state["busy"])
+        self.assertEqual(self.link.ask().spindle, 100)
+
+
 class WithRamps(SocketMachine):
     """A player with a machine's file."""
 

@@ -39,6 +39,8 @@ SIGHT = """(() => {
 CUT = """[...document.querySelectorAll('.axis output, .axis div, #word, #risk, #left, nav button, h1, h2, dt, dd')]
     .filter(one => one.checkVisibility() && one.scrollWidth > one.clientWidth + 1).map(one => one.textContent)"""
 """What a person reads from afar, and that is cut."""
+LOW = "(place => place.scrollHeight - place.clientHeight)(document.querySelector('.place'))"
+"""By how much what stands on the left goes below its edge."""
 FAR = """(() => {
     document.querySelectorAll('.axis output').forEach(one => { one.textContent = '\\u22121000.000'; });
     ngc.readout.fit();
@@ -157,6 +159,7 @@ class InBrowser(Served):
             self.browser.size(width, height)
             self.assertEqual(self.browser.js(SIGHT), [], (what, width))
             self.assertEqual(self.browser.js(CUT), [], (what, width))
+            self.assertLessEqual(self.browser.js(LOW), 0, (what, width))
         for _ in range(2):
             self.assertEqual(self.browser.js(CONTRAST), [], what)
             self.browser.js("document.getElementById('theme').click()")

@@ -5,7 +5,7 @@ from collections.abc import Callable
 from dataclasses import dataclass
 from http import HTTPStatus
 
-from ngc_tools.operator.motors import PERCENTS
+from ngc_tools.operator.motors import PERCENTS, SPINDLE_PERCENTS
 from ngc_tools.page.http import Refused
 from ngc_tools.page.pages import Pages
 from ngc_tools.page.rehearse import rehearse
@@ -189,5 +189,7 @@ DEEDS: dict[str, Callable[[Given], dict | None]] = {
     "quit": lambda given: given.session.quit(),
 }
 """What the page that commands may ask for."""
-WAITING = {"load", "rehearse", "reference", "tool", "switch", "abandon", "go", "percent", "restart"}
+WAITING = {"load", "rehearse", "reference", "stands", "tool", "switch", "abandon", "go", "percent", "spindle",
+           "restart"}
 """Those that wait for what they ask for; the others only give it to the session's thread."""
+    "spindle": lambda given: given.session.tell(f"spindle percent {given.count('percent', SPINDLE_PERCENTS[-1])}"),

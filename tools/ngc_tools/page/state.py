@@ -85,11 +85,12 @@ class Pictured:
                 "past": self.session.past if report and report.at == self.session.past_at else ""}
         if not report or not meter:
             return said | {"behind": None, "waits": False, "ahead": None, "percent": 100, "has_percent": False,
-                           "held_motors": False, "behind_mm": None, "keeps": False}
+                           "spindle_percent": None, "held_motors": False, "behind_mm": None, "keeps": False}
         return said | {"behind": report.behind, "waits": report.waits, "waits_tool": report.tool,
                        "ahead": meter.limit(report), "percent": report.percent, "has_percent": report.wants > 0,
                        "held_motors": report.is_held, "keeps": self.operator.recover.found is not None,
                        "behind_mm": way_nm(report, self.session.settings) / 10**6}
+                       "spindle_percent": report.spindle,
 
     def _moves_too(self) -> dict:
         """What the player says of moves without lines."""
