@@ -487,6 +487,31 @@ class Moves(Served):
         page.until("it is begun anew", lambda state: state["session"] != session and state["word"] == "Idle")
 
 
+    def test_axis_without_home(self) -> None:
+        """Of an axis that can't be homed a page tells where it stands; what the player counts isn't taken for it."""
+        page, axes = self.page(), self.machine.axes
+        axes.switches, axes.at_nm, axes.home_at[1] = "XZ", [0, 7_000_000, 0], 7_000_000
+        axes.alarm("limits")
+        self.assertEqual(page.until("it is told", lambda state: state["alarm"])["left"], "")
+        self.assertIn("home comes first", page.post("stands", {"at": {"Y": "8.5"}})[1]["refused"])
+        self.assertEqual(page.post("home", {}), (200, {}))
+        state = page.until("an axis is left", lambda state: state["left"])
+        self.assertEqual((state["left"], state["homed"], state["word"], state["motors"][1]),
+                         ("Y", "XZ", "ALARM", "7.000000"))
+        self.assertIn("Not homed: Y.", state["detail"])
+        for at in (None, {}, ["1", "2", "3"], {"A": "1"}, {"Y": "player"}, {"Y": 8.5}, {"Y": "8\nquit"}):
+            self.assertEqual(page.post("stands", {"at": at})[0], 422, at)
+        for at, says in (({"Z": "-2"}, "player stands for the number of an axis that is homed (X Z)"),
+                         ({"X": "1", "Y": "8.5"}, "the player doesn't take that")):
+            self.assertIn(says, page.post("stands", {"at": at})[1]["refused"])
+        state = page.rested()
+        self.assertEqual((state["left"], state["entries"]), ("Y", 0))
+        self.assertEqual(page.post("stands", {"at": {"Y": "8.5"}}), (200, {"refused": ""}))
+        state = page.until("it is over", lambda state: not state["alarm"])
+        self.assertEqual((state["left"], state["word"], state["at"]),
+                         ("", "Idle", ["-298.000000", "8.500000", "-2.000000"]))
+
+
 class Power(Served):
     """A loss of power with a pipe: the machine is told where it stands, and goes straight back."""
 

@@ -374,6 +374,27 @@ class Moves(InBrowser):
         browser.wait("ngc.state.alarm === '' && ngc.state.word === 'Idle'")
         self.no_complaints()
 
+    def test_axis_without_home(self) -> None:
+        """Of an axis that can't be homed after an alarm a person writes where it stands: the entry is empty."""
+        browser, axes = self.browser, self.machine.axes
+        axes.switches, axes.at_nm, axes.home_at[1] = "XZ", [0, 7_000_000, 0], 7_000_000
+        axes.alarm("limits")
+        browser.wait("ngc.state.word === 'ALARM'")
+        browser.press("Home all", "#run")
+        browser.press("Home", "#over button")
+        browser.wait("ngc.state.left === 'Y' && !ngc.state.busy")
+        browser.press("Where is Y?", "#run")
+        self.look("where an axis is")
+        entry, give = "input[aria-label='Machine Y']", "document.querySelector('#over .go')"
+        shown = browser.js(f"""[document.querySelector("{entry}").value, {give}.disabled, {give}.parentElement
+            .parentElement.querySelector('small').textContent]""")
+        self.assertEqual(shown, ["", True, "not homed; the player counts 7.000"])
+        browser.fill(entry, "8,5")
+        browser.press("It stands there", "#over button")
+        browser.wait("ngc.state.alarm === '' && ngc.state.word === 'Idle' && ngc.state.at[1] === '8.500000'")
+        self.assertTrue(browser.js("document.getElementById('over').hidden"))
+        self.no_complaints()
+
 
 class Setting(InBrowser):
     """A tool and the work are set up over the simulated machine, by tools/player."""

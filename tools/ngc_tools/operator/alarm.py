@@ -11,8 +11,8 @@ _CAME = "{cause}: the motors stand, spindle and coolant are off, and where the m
 _FORBIDS = "nothing is done: {cause}. home comes first; until then where and quit alone are taken"
 _BROKEN = ("nothing is done: what the player had in hand in the alarm is never carried out, and so nothing that comes"
            " after. quit, start the player and this again, and go on as after a loss of power")
-_LEFT = ("the alarm stands: {left} isn't homed. home {left} does it, where the machine's file says how; else measure it,"
-         " and type reference X Y Z with what you measured: the player counts {at}")
+_LEFT = ("the alarm stands: {left} isn't homed. home {left} does it, where the machine's file says how; else measure"
+         " it, and type reference X Y Z with what you measured: the player counts {at}")
 _NUMBERS = ("reference X Y Z, in mm: the player counts {at}; player stands for the number of an axis that is homed"
             " ({homed})")
 _NOT_TAKEN = ("the player doesn't take that: all axes have to be homed that can be, with their numbers as the player"
@@ -50,7 +50,7 @@ class Alarm:
         """Where axes were homed, and the alarm stands all the same: says which one isn't, and asks for it."""
         machine = self._machine()
         if machine and machine.homed:
-            self.session.face.say(_LEFT.format(left=_left(machine), at=self._counted()), WARNING)
+            self.session.face.say(_LEFT.format(left=" ".join(left_of(machine)), at=self._counted()), WARNING)
 
     def place(self, words: list[str]) -> bool:
         """Tells the player where the machine stands; whether the alarm is over by that. Of an axis that isn't homed
@@ -114,6 +114,6 @@ class Alarm:
         return " of ".join([_CAUSES.get(machine.alarm, "alarm"), *([", ".join(on)] if on else [])])
 
 
-def _left(machine: Machine) -> str:
-    """The axes that aren't homed."""
-    return " ".join(axis for axis in "XYZ" if axis not in machine.homed)
+def left_of(machine: Machine) -> str:
+    """The axes that aren't homed, as `XY`."""
+    return "".join(axis for axis in "XYZ" if axis not in machine.homed)
