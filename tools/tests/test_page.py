@@ -475,7 +475,11 @@ class Moves(Served):
         state = page.until("it is told", lambda state: state["alarm"])
         self.assertEqual((state["word"], state["tone"], state["alarm"]), ("ALARM", "fail", "emergency_stop"))
         page.post("run")
-        page.until("it is refused", lambda state: "home comes first" in page.said() and not state["busy"])
+        state = page.until("it is refused", lambda state: "home comes first" in page.said() and not state["busy"])
+        self.assertTrue(state["detail"].endswith("Home comes first"), state["detail"])
+        self.machine.axes.refuses = "the emergency stop is on"
+        page.post("home", {})
+        page.until("it is told", lambda state: state["detail"] == "home: the emergency stop is on")
         state = self.moved(page, "home", {})
         self.assertEqual((state["word"], state["alarm"], state["broken"]), ("Idle", "", False))
         self.assertEqual(page.post("restart")[0], 409)

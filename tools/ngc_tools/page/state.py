@@ -151,8 +151,7 @@ class Pictured:
         if self.stand.gone:
             return "Player gone", "fail", "Nothing more is handed out. Start the player again"
         if report and report.word in _TROUBLES:
-            word, tone, detail = _TROUBLES[report.word]
-            return word, tone, _LEFT.format(axes=", ".join(self._left)) if self._left else detail
+            return self._trouble(report.word)
         if report and report.waits:
             detail = f"Put in tool {report.tool}" if report.tool else "Take the tool out"
             return "Tool change", "ask", detail
@@ -163,6 +162,15 @@ class Pictured:
         if self._is_running():
             return "Running", "run", self.operator.session.own or self._here
         return self._at_rest()
+
+    def _trouble(self, stands: str) -> tuple[str, str, str]:
+        """The same of an alarm, or behind one."""
+        word, tone, detail = _TROUBLES[stands]
+        if self.face.refusal.startswith("home: "):
+            detail = _short(self.face.refusal)
+        elif self._left:
+            detail = _LEFT.format(axes=", ".join(self._left))
+        return word, tone, detail
 
     def _is_running(self) -> bool:
         if self.status.does == "held" and self.face.interrupted():
