@@ -361,6 +361,29 @@ class Ramps(Served):
         self.assertTrue(page.last()["over"])
 
 
+    def test_spindle(self) -> None:
+        """The spindle is overridden while a program runs, and at rest; what the machine's file doesn't allow isn't
+        taken. What `ngc` knows stays the program's speed."""
+        page = self.page()
+        self.assertEqual(page.next()["spindle_percent"], 100)
+        self.load(page, "G21 G90\nM3 S1000\nG1 X40 F60\nM2\n")
+        self.cuts(page)
+        self.assertEqual(page.post("spindle", {"percent": 50}), (200, {}))
+        state = page.until("it turns slower", lambda state: state["spindle_percent"] == 50)
+        self.assertEqual((state["busy"], state["spindle"], state["speed"], state["percent"]), (True, 1, 1000.0, 100))
+        self.assertEqual(self.link.ask().spindle, 50)
+        self.assertEqual(page.post("spindle", {"percent": 110}), (200, {}))
+        state = page.until("it is refused", lambda state: "max_rpm in [spindle]" in page.said())
+        self.assertEqual((state["busy"], state["spindle_percent"]), (True, 50))
+        for percent in (201, "50", -10, True, None):
+            self.assertEqual(page.post("spindle", {"percent": percent})[0], 422, percent)
+        page.post("hold")
+        page.rested()
+        self.assertEqual(page.post("spindle", {"percent": 100}), (200, {}))
+        page.until("it turns as it was", lambda state: state["spindle_percent"] == 100 and not state["busy"])
+        self.assertEqual(self.link.ask().spindle, 100)
+
+
 class WithRamps(SocketMachine):
     """A player with a machine's file."""
 
@@ -452,7 +475,11 @@ class Moves(Served):
         state = page.until("it is told", lambda state: state["alarm"])
         self.assertEqual((state["word"], state["tone"], state["alarm"]), ("ALARM", "fail", "emergency_stop"))
         page.post("run")
-        page.until("it is refused", lambda state: "home comes first" in page.said() and not state["busy"])
+        state = page.until("it is refused", lambda state: "home comes first" in page.said() and not state["busy"])
+        self.assertTrue(state["detail"].endswith("Home comes first"), state["detail"])
+        self.machine.axes.refuses = "the emergency stop is on"
+        page.post("home", {})
+        page.until("it is told", lambda state: state["detail"] == "home: the emergency stop is on")
         state = self.moved(page, "home", {})
         self.assertEqual((state["word"], state["alarm"], state["broken"]), ("Idle", "", False))
         self.assertEqual(page.post("restart")[0], 409)
@@ -462,6 +489,31 @@ class Moves(Served):
         self.assertEqual(page.post("restart"), (200, {}))
         self.machine.axes.word = "works"
         page.until("it is begun anew", lambda state: state["session"] != session and state["word"] == "Idle")
+
+
+    def test_axis_without_home(self) -> None:
+        """Of an axis that can't be homed a page tells where it stands; what the player counts isn't taken for it."""
+        page, axes = self.page(), self.machine.axes
+        axes.switches, axes.at_nm, axes.home_at[1] = "XZ", [0, 7_000_000, 0], 7_000_000
+        axes.alarm("limits")
+        self.assertEqual(page.until("it is told", lambda state: state["alarm"])["left"], "")
+        self.assertIn("home comes first", page.post("stands", {"at": {"Y": "8.5"}})[1]["refused"])
+        self.assertEqual(page.post("home", {}), (200, {}))
+        state = page.until("an axis is left", lambda state: state["left"])
+        self.assertEqual((state["left"], state["homed"], state["word"], state["motors"][1]),
+                         ("Y", "XZ", "ALARM", "7.000000"))
+        self.assertIn("Not homed: Y.", state["detail"])
+        for at in (None, {}, ["1", "2", "3"], {"A": "1"}, {"Y": "player"}, {"Y": 8.5}, {"Y": "8\nquit"}):
+            self.assertEqual(page.post("stands", {"at": at})[0], 422, at)
+        for at, says in (({"Z": "-2"}, "player stands for the number of an axis that is homed (X Z)"),
+                         ({"X": "1", "Y": "8.5"}, "the player doesn't take that")):
+            self.assertIn(says, page.post("stands", {"at": at})[1]["refused"])
+        state = page.rested()
+        self.assertEqual((state["left"], state["entries"]), ("Y", 0))
+        self.assertEqual(page.post("stands", {"at": {"Y": "8.5"}}), (200, {"refused": ""}))
+        state = page.until("it is over", lambda state: not state["alarm"])
+        self.assertEqual((state["left"], state["word"], state["at"]),
+                         ("", "Idle", ["-298.000000", "8.500000", "-2.000000"]))
 
 
 class Power(Served):

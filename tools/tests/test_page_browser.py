@@ -39,6 +39,8 @@ SIGHT = """(() => {
 CUT = """[...document.querySelectorAll('.axis output, .axis div, #word, #risk, #left, nav button, h1, h2, dt, dd')]
     .filter(one => one.checkVisibility() && one.scrollWidth > one.clientWidth + 1).map(one => one.textContent)"""
 """What a person reads from afar, and that is cut."""
+LOW = "(place => place.scrollHeight - place.clientHeight)(document.querySelector('.place'))"
+"""By how much what stands on the left goes below its edge."""
 FAR = """(() => {
     document.querySelectorAll('.axis output').forEach(one => { one.textContent = '\\u22121000.000'; });
     ngc.readout.fit();
@@ -157,6 +159,7 @@ class InBrowser(Served):
             self.browser.size(width, height)
             self.assertEqual(self.browser.js(SIGHT), [], (what, width))
             self.assertEqual(self.browser.js(CUT), [], (what, width))
+            self.assertLessEqual(self.browser.js(LOW), 0, (what, width))
         for _ in range(2):
             self.assertEqual(self.browser.js(CONTRAST), [], what)
             self.browser.js("document.getElementById('theme').click()")
@@ -369,6 +372,27 @@ class Moves(InBrowser):
         self.assertEqual(browser.js("ngc.state.alarm"), "emergency_stop")
         browser.press("Home", "#over button")
         browser.wait("ngc.state.alarm === '' && ngc.state.word === 'Idle'")
+        self.no_complaints()
+
+    def test_axis_without_home(self) -> None:
+        """Of an axis that can't be homed after an alarm a person writes where it stands: the entry is empty."""
+        browser, axes = self.browser, self.machine.axes
+        axes.switches, axes.at_nm, axes.home_at[1] = "XZ", [0, 7_000_000, 0], 7_000_000
+        axes.alarm("limits")
+        browser.wait("ngc.state.word === 'ALARM'")
+        browser.press("Home all", "#run")
+        browser.press("Home", "#over button")
+        browser.wait("ngc.state.left === 'Y' && !ngc.state.busy")
+        browser.press("Where is Y?", "#run")
+        self.look("where an axis is")
+        entry, give = "input[aria-label='Machine Y']", "document.querySelector('#over .go')"
+        shown = browser.js(f"""[document.querySelector("{entry}").value, {give}.disabled, {give}.parentElement
+            .parentElement.querySelector('small').textContent]""")
+        self.assertEqual(shown, ["", True, "not homed; the player counts 7.000"])
+        browser.fill(entry, "8,5")
+        browser.press("It stands there", "#over button")
+        browser.wait("ngc.state.alarm === '' && ngc.state.word === 'Idle' && ngc.state.at[1] === '8.500000'")
+        self.assertTrue(browser.js("document.getElementById('over').hidden"))
         self.no_complaints()
 
 

@@ -50,7 +50,7 @@ class Alarm:
         """Where axes were homed, and the alarm stands all the same: says which one isn't, and asks for it."""
         machine = self._machine()
         if machine and machine.homed:
-            self.session.face.say(_LEFT.format(left=_left(machine), at=self._counted()), WARNING)
+            self.session.face.say(_LEFT.format(left=" ".join(left_of(machine)), at=self._counted()), WARNING)
 
     def place(self, words: list[str]) -> bool:
         """Tells the player where the machine stands; whether the alarm is over by that. Of an axis that isn't homed
@@ -114,6 +114,6 @@ class Alarm:
         return " of ".join([_CAUSES.get(machine.alarm, "alarm"), *([", ".join(on)] if on else [])])
 
 
-def _left(machine: Machine) -> str:
-    """The axes that aren't homed."""
-    return " ".join(axis for axis in "XYZ" if axis not in machine.homed)
+def left_of(machine: Machine) -> str:
+    """The axes that aren't homed, as `XY`."""
+    return "".join(axis for axis in "XYZ" if axis not in machine.homed)

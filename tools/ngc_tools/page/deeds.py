@@ -5,7 +5,7 @@ from collections.abc import Callable
 from dataclasses import dataclass
 from http import HTTPStatus
 
-from ngc_tools.operator.motors import PERCENTS
+from ngc_tools.operator.motors import PERCENTS, SPINDLE_PERCENTS
 from ngc_tools.page.http import Refused
 from ngc_tools.page.pages import Pages
 from ngc_tools.page.rehearse import rehearse
@@ -56,6 +56,13 @@ class Given:
             raise BadWords(f"{name}: three numbers in millimetres")
         return list(map(number_of, found))
 
+    def axes(self, name: str) -> dict[str, str]:
+        """Numbers in millimetres of some axes. Raises BadWords."""
+        found = self.words.get(name)
+        if not isinstance(found, dict) or not found or not set(found) <= set("XYZ"):
+            raise BadWords(f'{name}: as {{"X": "0"}}')
+        return {axis: number_of(number) for axis, number in found.items()}
+
     def line(self, name: str, longest: int) -> str:
         """A line of printable characters. Raises BadWords."""
         value = self.words.get(name)
@@ -100,6 +107,14 @@ def _reference(given: Given) -> None:
     given.session.tell(f"reference {at}{given.anyway()}")
 
 
+def _stands(given: Given) -> dict:
+    """In an alarm: where the axes stand that aren't homed; of the others the player's numbers are told. Says why that
+    isn't taken, nothing where it is."""
+    axes = given.axes("at")
+    given.session.tell("reference " + " ".join(axes.get(axis, "player") for axis in "XYZ"))
+    return {"refused": given.session.face.refusal}
+
+
 def _tool(given: Given) -> None:
     given.session.tell(f"tool {given.count('slot', 128)} {given.number('length')}")
 
@@ -138,10 +153,7 @@ def _seek(given: Given) -> None:
 
 
 def _zero(given: Given) -> None:
-    axes = given.words.get("axes")
-    if not isinstance(axes, dict) or not axes or not set(axes) <= set("XYZ"):
-        raise BadWords('axes: as {"X": "0"}')
-    words = " ".join(f"{axis}{number_of(axes[axis])}mm" for axis in sorted(axes))
+    words = " ".join(f"{axis}{number}mm" for axis, number in sorted(given.axes("axes").items()))
     given.session.type(f"zero {words}{_by_probe(given)}{given.anyway()}")
 
 
@@ -171,8 +183,8 @@ def _rehearse(given: Given) -> dict:
 
 
 DEEDS: dict[str, Callable[[Given], dict | None]] = {
-    "load": _load, "mdi": _mdi, "reference": _reference, "tool": _tool, "switch": _switch, "answer": _answer,
-    "rehearse": _rehearse, "home": _home, "jog": _jog, "seek": _seek, "zero": _zero, "touch": _touch,
+    "load": _load, "mdi": _mdi, "reference": _reference, "stands": _stands, "tool": _tool, "switch": _switch,
+    "answer": _answer, "rehearse": _rehearse, "home": _home, "jog": _jog, "seek": _seek, "zero": _zero, "touch": _touch,
     "recover": _recover,
     "jogstop": lambda given: given.session.jogs.let_go(given.count("press", _MOST_PRESSES)),
     "undo": lambda given: given.session.type("undo"),
@@ -184,10 +196,12 @@ DEEDS: dict[str, Callable[[Given], dict | None]] = {
     "abandon": lambda given: given.session.tell("abandon"),
     "go": lambda given: given.session.tell("go"),
     "percent": lambda given: given.session.tell(f"percent {given.count('percent', PERCENTS[-1])}"),
+    "spindle": lambda given: given.session.tell(f"spindle percent {given.count('percent', SPINDLE_PERCENTS[-1])}"),
     "loss": lambda given: given.pages.choose(given.flag("goes")),
     "restart": lambda given: given.session.restart(),
     "quit": lambda given: given.session.quit(),
 }
 """What the page that commands may ask for."""
-WAITING = {"load", "rehearse", "reference", "tool", "switch", "abandon", "go", "percent", "restart"}
+WAITING = {"load", "rehearse", "reference", "stands", "tool", "switch", "abandon", "go", "percent", "spindle",
+           "restart"}
 """Those that wait for what they ask for; the others only give it to the session's thread."""

@@ -191,6 +191,6 @@ class PageFace:
             self.publish()
 
 
-def _state(report: Report) -> tuple[bool, bool, int]:
+def _state(report: Report) -> tuple[bool, bool, int, int]:
     """What of a report is shown at once."""
-    return report.waits, report.is_held, report.percent
+    return report.waits, report.is_held, report.percent, report.spindle

@@ -36,7 +36,7 @@ MOVES = {"run", "mdi", "resume", "recover", "restore", "release", *WITHOUT_LINES
 """The commands that move the machine, and those of them that the player makes without lines of OUT."""
 _LEAVE_S = 10.0
 _LOOK_S = 0.15  # how often it looks while nothing runs
-_ASIDES = {"percent", "go", "optional", "delete", "single"}
+_ASIDES = {"percent", "spindle", "go", "optional", "delete", "single"}
 
 
 class Busy(Failure):

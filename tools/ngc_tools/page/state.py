@@ -5,6 +5,7 @@ from ngc_tools.formats.position import millimetres, nanometres
 from ngc_tools.formats.text import shown_line
 from ngc_tools.job.in_force import in_force_on
 from ngc_tools.ngc.console import Status
+from ngc_tools.operator.alarm import left_of
 from ngc_tools.operator.display import outputs_on
 from ngc_tools.operator.motors import way_nm
 from ngc_tools.operator.session import ALARM, BROKEN
@@ -17,6 +18,7 @@ _TROUBLES = {
     BROKEN: ("Broken off", "fail", "No more line of this session is carried out. Start the player again, and begin"
              " anew"),
 }
+_LEFT = "Not homed: {axes}. Home each, or measure and tell where it stands"
 _IN_MODES = ("unit", "distance", "plane", "system", "feed_mode", "motion")
 
 
@@ -85,9 +87,10 @@ class Pictured:
                 "past": self.session.past if report and report.at == self.session.past_at else ""}
         if not report or not meter:
             return said | {"behind": None, "waits": False, "ahead": None, "percent": 100, "has_percent": False,
-                           "held_motors": False, "behind_mm": None, "keeps": False}
+                           "spindle_percent": None, "held_motors": False, "behind_mm": None, "keeps": False}
         return said | {"behind": report.behind, "waits": report.waits, "waits_tool": report.tool,
                        "ahead": meter.limit(report), "percent": report.percent, "has_percent": report.wants > 0,
+                       "spindle_percent": report.spindle,
                        "held_motors": report.is_held, "keeps": self.operator.recover.found is not None,
                        "behind_mm": way_nm(report, self.session.settings) / 10**6}
 
@@ -95,10 +98,17 @@ class Pictured:
         """What the player says of moves without lines."""
         machine = self.stand.machine
         if machine is None:
-            return {"machine": None, "homed": "", "alarm": "", "inputs": [], "touched": None}
+            return {"machine": None, "homed": "", "alarm": "", "left": "", "inputs": [], "touched": None}
         touched = machine.touched.split() if machine.touched else None
-        return {"machine": machine.does, "homed": machine.homed, "alarm": machine.alarm, "inputs": machine.on,
-                "touched": touched}
+        return {"machine": machine.does, "homed": machine.homed, "alarm": machine.alarm, "left": self._left,
+                "inputs": machine.on, "touched": touched}
+
+    @property
+    def _left(self) -> str:
+        """The axes of which somebody has to tell where they stand, or to home them, before an alarm is over, as `XY`;
+        nothing as long as none is homed."""
+        machine = self.stand.machine
+        return left_of(machine) if machine and machine.alarm and machine.homed else ""
 
     def _in_force(self) -> dict:
         state = self._state
@@ -141,7 +151,7 @@ class Pictured:
         if self.stand.gone:
             return "Player gone", "fail", "Nothing more is handed out. Start the player again"
         if report and report.word in _TROUBLES:
-            return _TROUBLES[report.word]
+            return self._trouble(report.word)
         if report and report.waits:
             detail = f"Put in tool {report.tool}" if report.tool else "Take the tool out"
             return "Tool change", "ask", detail
@@ -152,6 +162,15 @@ class Pictured:
         if self._is_running():
             return "Running", "run", self.operator.session.own or self._here
         return self._at_rest()
+
+    def _trouble(self, stands: str) -> tuple[str, str, str]:
+        """The same of an alarm, or behind one."""
+        word, tone, detail = _TROUBLES[stands]
+        if self.face.refusal.startswith("home: "):
+            detail = _short(self.face.refusal)
+        elif self._left:
+            detail = _LEFT.format(axes=", ".join(self._left))
+        return word, tone, detail
 
     def _is_running(self) -> bool:
         if self.status.does == "held" and self.face.interrupted():

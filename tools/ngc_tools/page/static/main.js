@@ -1,4 +1,5 @@
 // The page: what the server says is shown, what people touch is asked. It decides nothing.
+import { Alarm } from './alarm.js';
 import { $, el, grouped, lasting, micrometres, point, text, zeroOf } from './dom.js';
 import { Job, TRAVERSE } from './job.js';
 import { connect, get, post } from './link.js';
@@ -30,6 +31,7 @@ const picture = new Picture($('canvas'), (um, px) => {
   $('scale').style.width = `${px}px`;
 });
 const recovery = new Recovery(app, asks, log);
+const alarm = new Alarm(asks, () => { if (recovery.isOpen) recovery.later(); });
 Object.assign(app, { picture, program, readout });
 
 // Asks the server for something. Gives its answer, or null where it isn't done, which is said.
@@ -63,9 +65,10 @@ function show(s) {
   tools.show(s, app.isIdle, asks);
   log.show(s.log);
   recovery.show(s);
+  alarm.show(s);
   showQuestion(s);
   const isHalf = s.half !== 'none' && !s.busy && s.does === 'idle' && !s.ended;
-  if (isHalf && !recovery.isOpen && !recovery.isLater) recovery.begin();
+  if (isHalf && !s.alarm && !recovery.isOpen && !recovery.isLater) recovery.begin();
   if (s.half === 'none') recovery.isLater = false;
   fetchNew(s);
 }
@@ -103,9 +106,9 @@ function running(s) {
   const isHalf = s.half !== 'none' && !s.busy && s.does === 'idle';
   if (s.waits) return [s.waits_tool ? `Tool ${s.waits_tool} is in` : 'Tool is out', s.yours, () => asks('go')];
   if (s.question) return ['Answer first', false, null];
+  if (s.alarm) return alarm.button(s);
   if (isHalf) return ['Recover', s.yours && !recovery.isOpen, () => recovery.begin()];
   if (s.player_gone) return ['Run', false, null];
-  if (s.alarm) return ['Home all', s.yours && !s.busy, homeAll];
   if (s.recover?.left && !s.busy && s.half === 'none') return ['Recover', s.yours, takeUpLines];
   if (s.held_motors && s.does !== 'held' && !s.busy) return ['Let go on', s.yours, () => asks('release')];
   if (s.does === 'held') return ['Continue', s.yours && !s.busy, run];
@@ -182,12 +185,6 @@ async function fetchNew(s) {
   picture.show(app.job, app.travel);
   recovery.job();
   show(app.state);
-}
-
-// After an alarm; asked for, since this button was another one a moment before.
-function homeAll() {
-  sheet.ask('Home all axes?', [sheet.said('Each goes to its switch, in the order of the machine\u2019s file. Where the '
-    + 'tool stands in the work, free it by hand first.')], 'Home', () => asks('home', { axes: '' }));
 }
 
 // Lines stand in OUT that no motor carried out, and no block is half-done.

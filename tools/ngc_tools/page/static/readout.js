@@ -7,13 +7,10 @@ const APART_MM = 0.0006;
 export class Readout {
   // `asks` sends a request: asks('percent', {percent}).
   constructor(asks) {
-    this.asks = asks;
-    this.percent = 100;
+    this.feed = new Override($('override'), 'Feed', 100, percent => asks('percent', { percent }));
+    this.spindle = new Override($('spindle-override'), 'Spindle', 200, percent => asks('spindle', { percent }));
     this.axes = AXES.map(axis => this.axis(axis));
     this.gauges = Object.fromEntries(['Feed', 'Spindle', 'Coolant', 'Tool'].map(name => [name, this.gauge(name)]));
-    $('slower').onclick = () => this.sets(this.percent - 10);
-    $('faster').onclick = () => this.sets(this.percent + 10);
-    $('percent').onclick = () => this.sets(100);
     window.addEventListener('resize', () => this.fit());
   }
 
@@ -35,7 +32,9 @@ export class Readout {
     this.axes.forEach((axis, i) => this.showAxis(axis, s, i));
     this.fit();
     this.showGauges(s, rate);
-    this.showOverride(s);
+    const isFree = s.yours && !s.player_gone && !s.ended;
+    this.feed.show(s.has_percent ? s.percent : null, isFree);
+    this.spindle.show(s.spindle_percent ?? null, isFree);
     this.showRisk(s);
     const words = [systemName(s.system), `G${s.distance}`, `G${s.unit}`, `G${s.plane}`, `G${s.feed_mode}`];
     text($('modes'), words.join(' ') + (Number(s.tool_length) ? `  length ${mm(s.tool_length)}` : ''));
@@ -74,30 +73,42 @@ export class Readout {
       fill(gauges.Coolant, 'not known', '', true);
       return;
     }
-    const speed = grouped(s.speed);
-    if (s.spindle) fill(gauges.Spindle, `${TURNS[s.spindle]} ${speed}`, '/min');
+    const speed = grouped(s.speed), percent = s.spindle_percent ?? 100;
+    const times = percent === 100 ? '/min' : `\u00d7 ${percent} %`;
+    if (s.spindle) fill(gauges.Spindle, `${TURNS[s.spindle]} ${speed}`, times);
     else fill(gauges.Spindle, 'off', s.speed ? `set ${speed}` : '', true);
     const flows = [s.mist && 'mist', s.flood && 'flood'].filter(Boolean);
     fill(gauges.Coolant, flows.join(' + ') || 'off', '', !flows.length);
-  }
-
-  showOverride(s) {
-    this.percent = s.percent ?? 100;
-    $('override').hidden = !s.has_percent;
-    text($('percent'), `Override ${this.percent} %`);
-    $('percent').classList.toggle('apart', this.percent !== 100);
-    const isFree = s.yours && !s.player_gone && !s.ended;
-    $('percent').disabled = !isFree;
-    $('slower').disabled = !isFree || this.percent <= 10;
-    $('faster').disabled = !isFree || this.percent >= 100;
   }
 
   // What a loss of power would cost now: lines that were handed out, and that no motor has carried out.
   showRisk(s) {
     text($('risk'), s.behind === null || s.behind === undefined ? '' : `A loss of power costs ${cost(s)}`);
   }
+}
 
-  sets(percent) { this.asks('percent', { percent: Math.min(100, Math.max(10, percent)) }); }
+// An override: ten percent less, the whole, ten percent more, up to `most`. `sets` asks for so many percent.
+class Override {
+  constructor(box, name, most, sets) {
+    Object.assign(this, { box, name, most, percent: 100 });
+    const tens = (says, label, by) => el('button', { class: 'tens', 'aria-label': `${name}: 10 percent ${label}`,
+      onclick: () => sets(Math.min(most, Math.max(10, this.percent + by))) }, says);
+    this.less = tens('\u2212', 'less', -10);
+    this.more = tens('+', 'more', 10);
+    this.whole = el('button', { onclick: () => sets(100) });
+    box.append(this.less, this.whole, this.more);
+  }
+
+  // `percent` is what the motors have; null where nothing takes one.
+  show(percent, isFree) {
+    this.box.hidden = percent === null;
+    this.percent = percent ?? 100;
+    text(this.whole, `${this.name} ${this.percent} %`);
+    this.whole.classList.toggle('apart', this.percent !== 100);
+    this.whole.disabled = !isFree;
+    this.less.disabled = !isFree || this.percent <= 10;
+    this.more.disabled = !isFree || this.percent >= this.most;
+  }
 }
 
 function fill(box, value, small = '', isOff = false) {
