@@ -2,7 +2,6 @@
 import os
 import re
 import signal
-import subprocess
 import sys
 import threading
 import time
@@ -18,7 +17,6 @@ from firefox_support import IS_FIREFOX, MISSING, PATH, start  # noqa: E402
 from machine_support import SocketMachine  # noqa: E402
 from page_support import OTHER, SHORT, SLOW, Page, Served  # noqa: E402
 from session_support import PATIENCE_S, TOOLS, ngc  # noqa: E402
-from test_moves import MACHINE, PROBE, World, program  # noqa: E402
 
 DOCS = TOOLS.parent / "docs"
 SIZES = ((1280, 800), (1024, 768), (1920, 1080))
@@ -393,49 +391,6 @@ class Moves(InBrowser):
         browser.press("It stands there", "#over button")
         browser.wait("ngc.state.alarm === '' && ngc.state.word === 'Idle' && ngc.state.at[1] === '8.500000'")
         self.assertTrue(browser.js("document.getElementById('over').hidden"))
-        self.no_complaints()
-
-
-class Setting(InBrowser):
-    """A tool and the work are set up over the simulated machine, by tools/player."""
-
-    def begin_player(self) -> None:
-        """The player, and a machine whose probe is on from machine Z 2 down, once it is homed."""
-        world = World()
-        self.addCleanup(world.close)
-        world.switch(3, PROBE, 2, -1, -3_000)  # home is at 4,000 steps of its own, which is Z 9
-        Path("mill.toml").write_text(MACHINE)
-        self.player = subprocess.Popen([program(), "--untimed", "--no-ask-tool", "--machine", "mill.toml", "--progress",
-                                        "progress", "axis", "first.toml", "position"], stdin=subprocess.DEVNULL,
-                                       stdout=subprocess.PIPE, stderr=subprocess.PIPE, text=True)
-        self.addCleanup(self._end, self.player)
-        self.wait_for("the player listens", lambda: os.path.exists("progress"))
-
-    def test_tool(self) -> None:
-        """A length is typed, the tool put in, the machine homed, the probe sought; the tool's length and the work's
-        zero are taken from where it was touched."""
-        browser = self.browser
-        browser.press("Tools", "nav button")
-        browser.fill("#tab-tools input", "1.5")
-        browser.press("Add", "#tab-tools button")
-        browser.wait("ngc.state.tools[0] === '1.500000' && !ngc.state.busy")
-        browser.fill("#line", "T1 M6")
-        browser.press("Do", "#do")
-        browser.wait("ngc.state.slot === 1 && !ngc.state.busy")
-        browser.press("Setup", "nav button")
-        browser.press("Home all", "#tab-setup button")
-        browser.wait("ngc.state.homed === 'XYZ' && !ngc.state.busy && ngc.state.at[2] === '9.000000'")
-        browser.press("Z\u2212", "#tab-setup .five button")
-        browser.wait("ngc.state.touched?.[2] === '2.000000' && !ngc.state.busy")
-        self.look("the probe was touched")
-        browser.press("Where the probe was touched", "#tab-setup button")
-        browser.fill("input[aria-label='Machine Z of the setter, in mm']", "-48")
-        browser.press("Tool 1 stands on the setter", "#tab-setup button")
-        browser.wait("ngc.state.tools[0] === '50.000000' && !ngc.state.busy")
-        browser.press("Set Z", "#tab-setup button")
-        browser.wait("ngc.state.origin[2] === '2.000000' && !ngc.state.busy")
-        browser.press("Undo: G10", "#tab-setup button")
-        browser.wait("ngc.state.origin[2] === '0.000000' && !ngc.state.busy")
         self.no_complaints()
 
 
