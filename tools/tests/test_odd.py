@@ -194,7 +194,8 @@ class Odd(InFolder):
             self.assertFalse(sign in end.out + end.error, (what, end.error[-400:]))
         self.assertIn(end.status, (0, 1, 2), (what, end.error[-400:]))
         if end.status == 2:
-            self.assertTrue(end.error.startswith((f"{name}: ", "usage: ")), (what, end.error[-400:]))
+            says = [line for line in end.error.splitlines() if line.startswith((f"{name}: ", "usage: "))]
+            self.assertTrue(says, (what, end.error[-400:]))
 
     def test_closed_streams(self) -> None:
         """Each tool does its work with some of the streams closed, and what goes to the others is as ever."""

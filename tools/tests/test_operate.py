@@ -684,7 +684,7 @@ class AtTerminal(InFolder):
         said = terminal.send_to_end(b"\x03").decode()
         self.assertTrue(said.startswith("^C^C^C"), said)
         self.assertIn("ngc-operate: ended; a block that was under way is half-done\r\n", said)
-        self.assertEqual(terminal.status(), 2)
+        self.assertIn(terminal.status(), (2, -signal.SIGINT))  # of one that came as it was about to end
 
     def test_serial_line(self) -> None:
         """A serial line has to be raw."""

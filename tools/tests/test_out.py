@@ -13,8 +13,9 @@ from ngc_tools.formats.out import BadLine, Dwell, Pulse, Switch, read_line  # no
 from ngc_tools.formats.position import Position, millimetres, nanometres  # noqa: E402
 from ngc_tools.formats.record import BadRecord, FileMark, Record  # noqa: E402
 
-GREATEST = Record("/" + "x" * 254, 10**15 - 1, 10**15 - 1, Switch(2, 9_999_999_999_999, True, True, 128, 128),
-                  (-(10**18 - 1),) * 3, FileMark(2**63 - 1, 2**63 - 1, 2**32 - 1), "emergency", 9999, "XYZ", True)
+GREATEST = Record("/" + "x" * 235, 10**15 - 1, 10**15 - 1, Switch(2, 9_999_999_999_999, True, True, 128, 128),
+                  (-(10**18 - 1),) * 3, FileMark(2**63 - 1, 2**63 - 1, 2**32 - 1), "emergency", 9999, "XYZ", True,
+                  "998 998 998")
 
 
 class Lines(unittest.TestCase):
@@ -91,18 +92,18 @@ class Records(InFolder):
         self.assertEqual(Record.read("position"), record)
 
     def test_all_lines(self) -> None:
-        """A file's mark, an age, what a home and a move leave, and a stop have lines of their own. With the longest
-        path all has room, each at its greatest: a count has fifteen digits, which are years of lines."""
+        """A file's mark, screws, an age, what a home and a move leave, and a stop have lines of their own. With the
+        longest path all has room, each at its greatest: a count has fifteen digits, which are years of lines."""
         text = GREATEST.text()
-        self.assertIn(b"\nfile 9223372036854775807 9223372036854775807 ffffffff\nage 9999\nhomed XYZ\noff\n"
-                      b"stopped emergency\n", text)
+        self.assertIn(b"\nfile 9223372036854775807 9223372036854775807 ffffffff\nscrews 998 998 998\nage 9999\n"
+                      b"homed XYZ\noff\nstopped emergency\n", text)
         self.assertEqual(len(text), 512)
         self.assertEqual(Record.of_text(text, "position"), GREATEST)
 
     @unittest.skipUnless(shutil.which("cc"), "no C compiler")
     def test_all_lines_in_c(self) -> None:
         """The player in C reads the same record, and writes the same bytes."""
-        names = ("record.c", "place.c", "scan.c", "line.c", "cause.c", "utf8.c")
+        names = ("record.c", "place.c", "scan.c", "line.c", "cause.c", "utf8.c", "backlash.c")
         sources = [str(TOOLS / "player" / name) for name in names]
         Path("copy.c").write_text('''#include "record.h"
 #include <stdio.h>
