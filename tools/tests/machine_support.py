@@ -10,7 +10,7 @@ from session_support import TOOLS  # noqa: F401  which puts the tools on the pat
 
 from ngc_tools.formats.out import OFF, Switch, read_line
 from ngc_tools.formats.position import Position, nanometres
-from ngc_tools.player.progress import Listener, Machine, NoAnswer, Report
+from ngc_tools.player.progress import Listener, MoveReport, NoAnswer, Report
 
 STEP_NM = (1000, 1000, 1000)
 ASKS = 3
@@ -18,8 +18,8 @@ ASKS = 3
 
 class Axes:
     """The axes of a machine, and what they do. `home` leads to `home_at`; the probe is on at `probe_nm` of Z, and a
-    stop takes `way_nm` more. `switches` are the axes that can be homed. `refuses` is why a move is refused, `fails` how one ends; both are for one move. An alarm
-    comes at the question of the number `alarm_at`."""
+    stop takes `way_nm` more. `switches` are the axes that can be homed. `refuses` is why a move is refused, `fails` how
+    one ends; both are for one move. An alarm comes at the question of the number `alarm_at`."""
 
     def __init__(self) -> None:
         self.at_nm = [0, 0, 0]
@@ -28,7 +28,7 @@ class Axes:
         self.refuses = self.fails = ""
         self.switches = "XYZ"
         self.word = "works"
-        self.stands = Machine("stands")
+        self.stands = MoveReport("stands")
         self.machine = self.stands
         self.words: list[str] = []
         self.asked = self.alarm_at = 0
@@ -76,7 +76,7 @@ class Axes:
         nm = nm if way[1] == "+" else -nm
         return [at + nm * (number == axis) for number, at in enumerate(self.at_nm)]
 
-    def ask(self) -> Machine:
+    def ask(self) -> MoveReport:
         """What moves; a move that goes on comes nearer to its end."""
         self.asked += 1
         if self.asked == self.alarm_at:
@@ -159,7 +159,7 @@ class MachineLink:
         self.outputs = OFF if self.axes.word == "alarm" else self.outputs
         return Report(self.carried, len(lines), False, str(position), "out", self.outputs, word=self.axes.word)
 
-    def machine(self) -> Machine:
+    def machine(self) -> MoveReport:
         """What moves without lines."""
         if not self.knows:
             raise NoAnswer("progress: the player doesn't answer")
@@ -251,7 +251,7 @@ class SocketMachine:
         self.listener.close()
 
 
-def _said(machine: Machine) -> bytes:
+def _said(machine: MoveReport) -> bytes:
     """What is answered to `machine N`."""
     return (f"does {machine.does} homed {machine.homed or 'none'} alarm {machine.alarm or 'none'} on"
             f" {','.join(machine.on) or 'none'} touched {machine.touched or 'none'} ended {machine.ended}"

@@ -37,7 +37,7 @@ from ngc_tools.operator.display import on_words  # noqa: E402
 from ngc_tools.operator.face import SAID, UnderWay  # noqa: E402
 from ngc_tools.operator.meter import Meter  # noqa: E402
 from ngc_tools.operator.operator import Operator  # noqa: E402
-from ngc_tools.operator.recovery import Found  # noqa: E402
+from ngc_tools.operator.recovery import OutFound  # noqa: E402
 from ngc_tools.operator.synced import SyncedLink  # noqa: E402
 from ngc_tools.player.progress import NoAnswer, Report  # noqa: E402
 from ngc_tools.player.source import Source  # noqa: E402
@@ -329,7 +329,7 @@ class Session:
         folder, ngc, settings = self.folder, self.options.ngc, str(self.folder / "settings.toml")
         self.link.cut_part()
         before = self.link.size()
-        found = Found.of(ngc, settings, self.link, Device.read(folder / "job.dev"))
+        found = OutFound.of(ngc, settings, self.link, Device.read(folder / "job.dev"))
         self.begun = self.link.size()
         self.put_back = self.begun > before
         self.console = Console(ngc, folder / "job.dev", settings, folder / "out")

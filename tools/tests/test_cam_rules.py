@@ -7,21 +7,21 @@ sys.path.insert(0, str(Path(__file__).resolve().parents[1]))
 
 from ngc_tools.formats.program_text import ProgramText  # noqa: E402
 from ngc_tools.job.cam import rewritten, whole_text  # noqa: E402
-from ngc_tools.job.cam_homes import Answers, Missing, length  # noqa: E402
+from ngc_tools.job.cam_homes import HomeAnswers, Missing, length  # noqa: E402
 from ngc_tools.job.cam_line import CamLine  # noqa: E402
 
-LIFT = Answers(lift_nm=5_000_000)
-BOTH = Answers(lift_nm=5_000_000, park_nm=(1_000_000, -2_500_000))
+LIFT = HomeAnswers(lift_nm=5_000_000)
+BOTH = HomeAnswers(lift_nm=5_000_000, park_nm=(1_000_000, -2_500_000))
 
 
-def told(*lines: str, answers: Answers = LIFT) -> tuple[list[str], list[int]]:
+def told(*lines: str, answers: HomeAnswers = LIFT) -> tuple[list[str], list[int]]:
     """Lines as they are written for `ngc`, arcs by radius aside, and the numbers of those that are warned of."""
     warned: list[int] = []
     found = rewritten(list(lines), answers, lambda number, why: warned.append(number))
     return [line.text for line in found], warned
 
 
-def adapted(*lines: str, answers: Answers = LIFT) -> list[str]:
+def adapted(*lines: str, answers: HomeAnswers = LIFT) -> list[str]:
     """Lines as they are written, none of which is warned of."""
     found, warned = told(*lines, answers=answers)
     assert not warned, (lines, warned)
@@ -98,7 +98,7 @@ class Rules(unittest.TestCase):
 
     def test_slots(self) -> None:
         """Tools by the table; one above 128 that it hasn't is asked for."""
-        table = Answers(slots={201: 1, 7: 2})
+        table = HomeAnswers(slots={201: 1, 7: 2})
         self.assertEqual(adapted("T201 M6", "g43h201", "T07 T3", "T128 S201", "H3", answers=table),
                          ["T1 M6", "g43H1", "T2 T3", "T128 S201", "H3"])
         for word in ("T201", "G43 H129"):
@@ -168,7 +168,7 @@ class Motions(unittest.TestCase):
         self.assertEqual(told(*stay, answers=BOTH), (stay, [1, 2, 3, 4, 5]))
         for text, what in (("G91 G28 Z0", "lift"), ("G91 G28 Y0", "park")):
             with self.assertRaises(Missing) as caught:
-                adapted(text, answers=Answers())
+                adapted(text, answers=HomeAnswers())
             self.assertEqual(caught.exception.what, what)
 
     def test_homes_in_the_unit(self) -> None:

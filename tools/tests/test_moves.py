@@ -17,7 +17,7 @@ from session_support import PATIENCE_S, TOOLS, told  # noqa: E402
 from ngc_tools.cli import player  # noqa: E402
 from ngc_tools.formats.out import Switch  # noqa: E402
 from ngc_tools.formats.record import BadRecord, FileMark, Record  # noqa: E402
-from ngc_tools.player.progress import Machine  # noqa: E402
+from ngc_tools.player.progress import MoveReport  # noqa: E402
 
 STOP, X_LOW, Y_LOW, Z_HIGH, DOOR, AT_SPEED, PROBE, X_HIGH = range(8)  # inputs
 UM = 1  # a step is 1 um
@@ -168,11 +168,11 @@ class Homing(Moving):
     def test_all(self) -> None:
         """Z first, then X and Y: each stands its pull-off away from the switch, at its coordinate."""
         self.started("--untimed")
-        self.assertEqual(self.link.machine(), Machine("stands"))
+        self.assertEqual(self.link.machine(), MoveReport("stands"))
         self.assertEqual(self.how(self.link.home()), "done")
         self.assertEqual(self.world.place, (-8_000, -8_000, 4_000))
         self.assertEqual(self.at(), (-8, -7, 9))
-        self.assertEqual(self.link.machine(), Machine("stands", "XYZ", ended=self.link.machine().ended, how="done"))
+        self.assertEqual(self.link.machine(), MoveReport("stands", "XYZ", ended=self.link.machine().ended, how="done"))
         self.kept("reference -8.000000 -7.000000 9.000000", "homed XYZ", "off")
         self.assertEqual(Record.read("position").homed, "XYZ")
         self.assertEqual(self.ended(0), "")
@@ -241,7 +241,7 @@ class Homing(Moving):
         self.assertEqual(self.link.machine().does, "home Z")
         self.link.stop()
         self.assertEqual(self.how((number, "")), "stopped")
-        self.assertEqual(self.link.machine(), Machine("stands", ended=number, how="stopped"))
+        self.assertEqual(self.link.machine(), MoveReport("stands", ended=number, how="stopped"))
         self.assertEqual(self.world.place[2], round(self.at()[2] * 1000))
 
 
@@ -326,7 +326,7 @@ class Jogging(Moving):
         self.kept_still()
         self.assertLess(self.world.place[0], 9_000)
         self.link = self.linked()
-        self.assertEqual(self.link.machine(), Machine("stands", ended=number, how="nobody asks any more"))
+        self.assertEqual(self.link.machine(), MoveReport("stands", ended=number, how="nobody asks any more"))
 
     def kept_still(self) -> None:
         """Waits until the motors stood for half a second."""

@@ -16,7 +16,7 @@ from test_operator import Core  # noqa: E402
 from ngc_tools.cli.keys import TerminalKeys  # noqa: E402
 from ngc_tools.formats.position import Position  # noqa: E402
 from ngc_tools.ngc.carried import CannotTell  # noqa: E402
-from ngc_tools.ngc.handed_out import Finder, Kept  # noqa: E402
+from ngc_tools.ngc.handed_out import Finder, FileRecord  # noqa: E402
 from ngc_tools.operator import jog_keys  # noqa: E402
 
 HOMED = "-298.000000 -198.000000 -2.000000"
@@ -328,7 +328,7 @@ class OffThePath(InFolder):
             self.assertEqual(Path("out").read_text(), "P 1 0 0 50\n" * 10 + "P 0 1 0 100\n" * 20)
             finder = Finder(ngc(), "first.toml", Path("mill.dev").read_bytes())
             for carried in (110, 110 + 12 * 7):
-                found = finder.find("out", Kept(carried, (-300, -200, 0)))
+                found = finder.find("out", FileRecord(carried, (-300, -200, 0)))
                 self.assertEqual((found.size, found.steps, found.missing, found.is_off), (110, begins, b"", True))
 
     def test_not_told(self) -> None:
@@ -339,7 +339,7 @@ class OffThePath(InFolder):
         self.assertEqual(Path("out").read_text(), "P 1 0 0 50\n" * 30)
         finder = Finder(ngc(), "first.toml", Path("mill.dev").read_bytes())
         with self.assertRaisesRegex(CannotTell, "out doesn't end with lines of the half-done block"):
-            finder.find("out", Kept(220, (-300, -200, 0)))
+            finder.find("out", FileRecord(220, (-300, -200, 0)))
 
 
 class ByKeys(InFolder):

@@ -24,12 +24,12 @@ from ngc_tools.ngc.console import Console  # noqa: E402
 from ngc_tools.operator.sentences import SWITCHED  # noqa: E402
 from ngc_tools.page import server as server_module  # noqa: E402
 from ngc_tools.page.aside import Aside, NotDone  # noqa: E402
-from ngc_tools.page.drawing import SWITCH, Source, draw, draw_exactly, job_of  # noqa: E402
+from ngc_tools.page.drawing import SWITCH, DrawingRequest, draw, draw_exactly, job_of  # noqa: E402
 from ngc_tools.page.face import PageFace  # noqa: E402
 from ngc_tools.page.jog import HeldJog  # noqa: E402
 from ngc_tools.page.pages import LOST_S  # noqa: E402
-from ngc_tools.page.rehearse import Asked, rehearsed  # noqa: E402
-from ngc_tools.page.session import Command, Session  # noqa: E402
+from ngc_tools.page.rehearse import RehearsalRequest, rehearsed  # noqa: E402
+from ngc_tools.page.session import SessionCommand, PageSession  # noqa: E402
 from ngc_tools.player.progress import NoAnswer  # noqa: E402
 
 EXAMPLES = TOOLS.parent / "examples"
@@ -605,7 +605,7 @@ class Jobs(InFolder):
                 console.ask(f"tool {number} {length}")
             text = (EXAMPLES / f"{name}.ngc").read_bytes()
             console.load(text)
-            job = job_of(Source(ngc(), "coarse.toml", "", Path(f"{name}.dev").read_bytes(), True, False))
+            job = job_of(DrawingRequest(ngc(), "coarse.toml", "", Path(f"{name}.dev").read_bytes(), True, False))
             console.ask("start")
             opened: dict[int, int] = {}
             while not any(reply in ("idle", "stopped") or reply.startswith("refused")
@@ -621,7 +621,7 @@ class Jobs(InFolder):
         """A job begins with the device's own offsets, and its exact times are those of the pulses."""
         self.device()
         self.run_ngc("mdi G10 L2 P1 X3 Y0 Z-1\ntick 5\nload 29\nG21 G90\nG0 X0\nM3 S5\nG0 Z0\nM2\n")
-        source = Source(ngc(), "first.toml", "", Path("mill.dev").read_bytes(), True, False)
+        source = DrawingRequest(ngc(), "first.toml", "", Path("mill.dev").read_bytes(), True, False)
         job = json.loads(draw_exactly(source).text)
         # 3 mm and 1 mm at 100 mm/s
         self.assertEqual([(step["p"], step["us"]) for step in job["steps"]],
@@ -636,9 +636,9 @@ class Jobs(InFolder):
         self.device()
         before = Path("mill.dev").read_bytes()
         text = b"G21 G90\nG0 X1\nM2\n"
-        preview = Source(ngc(), "first.toml", "", before, True, False, text)
+        preview = DrawingRequest(ngc(), "first.toml", "", before, True, False, text)
         self.run_ngc(f"load {len(text)}\n{text.decode()}")
-        loaded = Source(ngc(), "first.toml", "", Path("mill.dev").read_bytes(), True, False)
+        loaded = DrawingRequest(ngc(), "first.toml", "", Path("mill.dev").read_bytes(), True, False)
         self.assertEqual(draw(preview).text, draw(loaded).text)
         self.assertTrue(loaded.begins_as(preview))
         for other in (replace(preview, other=b"M2\n"), replace(preview, block_delete=True)):
@@ -652,13 +652,13 @@ class Jobs(InFolder):
         program = b"G21 G90\nG1 X0.1 F6\nM0\nX0\nM2\n"
         self.run_ngc(f"load {len(program)}\n{program.decode()}")
         begun = Path("mill.dev").read_bytes()
-        drawing = draw_exactly(Source(ngc(), "first.toml", "", begun, True, False))
+        drawing = draw_exactly(DrawingRequest(ngc(), "first.toml", "", begun, True, False))
         for line, differs in (("", []), ("mdi G0 X0.1\ntick 9\n", [
                 "Line 4 goes by a traverse to X 0.000 Y 0.000 Z 0.000. As it was drawn, it cuts to X 0.000 Y 0.000"
                 " Z 0.000.", "From line 4 to the end it takes 0.005 s. As it was drawn, that takes 1.000 s."])):
             Path("mill.dev").write_bytes(begun)
             self.run_ngc(f"start\ntick 9999\n{line}")
-            asked = Asked(ngc(), "first.toml", Path("mill.dev").read_bytes(), None, drawing, None)
+            asked = RehearsalRequest(ngc(), "first.toml", Path("mill.dev").read_bytes(), None, drawing, None)
             self.assertEqual(rehearsed(asked)["differs"], differs)
 
 
@@ -714,11 +714,11 @@ class Given(unittest.TestCase):
 
     def test_aside(self) -> None:
         """What a command didn't take up is done at its end, not within the next one."""
-        session, done = Session.__new__(Session), []
+        session, done = PageSession.__new__(PageSession), []
         session.face, session.stand = PageFace(), SimpleNamespace(status=None)
         session.operator = SimpleNamespace(do=done.append, over=False)
         session.face.give_aside("percent 50")
-        session._do(Command("reference", lambda: done.append("reference"), 0, 0))
+        session._do(SessionCommand("reference", lambda: done.append("reference"), 0, 0))
         self.assertEqual((done, session.face.asides()), (["reference", "percent 50"], []))
 
 

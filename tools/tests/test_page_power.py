@@ -22,9 +22,9 @@ from ngc_tools.ngc.handed_out import Finder  # noqa: E402
 from ngc_tools.page.aside import Aside, NotDone  # noqa: E402
 from ngc_tools.page.face import LOOKS, PageFace  # noqa: E402
 from ngc_tools.page.losses import Loss, Losses  # noqa: E402
-from ngc_tools.page.never_cut import Asked, found  # noqa: E402
+from ngc_tools.page.never_cut import LossRequest, found  # noqa: E402
 from ngc_tools.page.rehearse import finished, rehearse  # noqa: E402
-from ngc_tools.page.session import Session  # noqa: E402
+from ngc_tools.page.session import PageSession  # noqa: E402
 from ngc_tools.player.progress import Report  # noqa: E402
 
 BACK = "G21 G90 G94\nG1 X0.01 F60\nX0\nX0.02\nM2\n"
@@ -75,7 +75,7 @@ class Found(InFolder):
                 ("0.004000", 4, [[4, 0, 0], [0, 0, 0]], "NEVER CUT: 4 lines handed out before the half-done segment,"
                  " 0.004 mm, which no motor carried out"),
                 ("0.015000", 0, [], "This loss of power left nothing uncut before the half-done segment")):
-            told = found(Asked(ngc(), "first.toml", self.image, [x, "0.000000", "0.000000"], 10))
+            told = found(LossRequest(ngc(), "first.toml", self.image, [x, "0.000000", "0.000000"], 10))
             self.assertEqual((told["lines"], told["points"][:1] + told["points"][-1:]), (lines, ends))
             self.assertIn(words, told["words"])
 
@@ -232,13 +232,13 @@ class Moments(InFolder):
         Path("out").write_bytes(b"")
         Path("position").unlink(missing_ok=True)
 
-    def session(self) -> Session:
+    def session(self) -> PageSession:
         """A player, and a session of a page."""
         self.player = self.start("ngc-player", "out", "first.toml", "position", "--progress", "progress", "--follow",
                                  "--untimed")
         self.wait_for("the player listens", lambda: os.path.exists("progress"))
         words = ["mill.dev", "first.toml", "out", "--player", "progress", "--ngc", ngc()]
-        session = Session(Opener(ngc(), make_parser().parse_args(words)), PageFace())
+        session = PageSession(Opener(ngc(), make_parser().parse_args(words)), PageFace())
         self.addCleanup(session.leave)
         self.addCleanup(session.operator.console.kill)
         return session
@@ -293,7 +293,7 @@ class Moments(InFolder):
         self.end_player()
         return is_half
 
-    def agrees(self, session: Session) -> list[str]:
+    def agrees(self, session: PageSession) -> list[str]:
         """Agrees to all that is asked until nothing is under way; what was asked."""
         asked: list[str] = []
         seen = 0
@@ -307,7 +307,7 @@ class Moments(InFolder):
             session.face.answer(seen, "yes" if question.kind == "yes" else "1")
 
 
-def is_new(session: Session, seen: int) -> bool:
+def is_new(session: PageSession, seen: int) -> bool:
     """Whether something is asked that wasn't before."""
     question = session.face.question
     return question is not None and question.id != seen

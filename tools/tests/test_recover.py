@@ -25,11 +25,11 @@ from ngc_tools.formats.record import Record  # noqa: E402
 from ngc_tools.formats.settings import Settings  # noqa: E402
 from ngc_tools.ngc.carried import CannotTell  # noqa: E402
 from ngc_tools.ngc.console import Console, Status  # noqa: E402
-from ngc_tools.ngc.handed_out import Finder, Kept  # noqa: E402
+from ngc_tools.ngc.handed_out import Finder, FileRecord  # noqa: E402
 from ngc_tools.operator.meter import Meter  # noqa: E402
 from ngc_tools.operator.operator import Operator  # noqa: E402
 from ngc_tools.operator.past import along_out, by_rate  # noqa: E402
-from ngc_tools.operator.recovery import Found, Recovery  # noqa: E402
+from ngc_tools.operator.recovery import OutFound, Recovery  # noqa: E402
 from ngc_tools.operator.synced import SyncedLink  # noqa: E402
 from ngc_tools.player.source import Source  # noqa: E402
 
@@ -344,7 +344,7 @@ class Finding(InFolder):
         there = len(lines) - chance.choice((0, chance.randint(1, min(100, len(lines) - 1))))
         carried = chance.randint(max(0, there - 150), there)
         Path("c.out").write_bytes(b"".join(lines[:there]) + b"P 1 0"[:chance.randint(0, 5)])
-        kept = Kept(sum(map(len, lines[:carried])), uncut.at(carried))
+        kept = FileRecord(sum(map(len, lines[:carried])), uncut.at(carried))
         image = Path(chance.choice(("c.dev", "x.dev"))).read_bytes()
         found = Finder(ngc(), "settings.toml", image).find("c.out", kept)
         whole = b"".join(lines[:there]) + found.missing
@@ -360,10 +360,10 @@ class Finding(InFolder):
         image = Path("mill.dev").read_bytes()
         Path("other").write_text("P 0 0 1 50\n" * 4)
         with self.assertRaisesRegex(CannotTell, "other doesn't end with lines of the half-done block"):
-            Finder(ngc(), "first.toml", image).find("other", Kept(11, (0, 0, 1)))
+            Finder(ngc(), "first.toml", image).find("other", FileRecord(11, (0, 0, 1)))
         with self.assertRaisesRegex(CannotTell, "other has 44 bytes of whole lines, and the record counts 45"):
-            Finder(ngc(), "first.toml", image).find("other", Kept(45, (0, 0, 1)))
-        found = Finder(ngc(), "first.toml", image).find("out", Kept(22, (2, 1, 0)))
+            Finder(ngc(), "first.toml", image).find("other", FileRecord(45, (0, 0, 1)))
+        found = Finder(ngc(), "first.toml", image).find("out", FileRecord(22, (2, 1, 0)))
         self.assertEqual((found.size, found.steps), (0, (0, 0, 0)))
 
     def test_no_block(self) -> None:
@@ -372,8 +372,8 @@ class Finding(InFolder):
         Path("other").write_text("P 0 0 1 50\n" * 4)
         finder = Finder(ngc(), "first.toml", Path("mill.dev").read_bytes())
         with self.assertRaisesRegex(CannotTell, "other doesn't lead to where the device has the machine"):
-            finder.find("other", Kept(11, (0, 0, 1)))
-        self.assertEqual(finder.find("other", Kept(11, (0, 0, -3))).size, 44)
+            finder.find("other", FileRecord(11, (0, 0, 1)))
+        self.assertEqual(finder.find("other", FileRecord(11, (0, 0, -3))).size, 44)
 
     def test_rehearsal(self) -> None:
         """Of a move of 20 steps that was cut after 6 lines, of which 5 are carried out, behind one of 3 steps."""
@@ -493,7 +493,7 @@ class Recovering(PlayerTest):
         if out == "out":
             link.cut = partial(self.cut, link.cut)
         image = Device.read("mill.dev")
-        found = Found.of(ngc(), "first.toml", link, image) if out == "out" else None
+        found = OutFound.of(ngc(), "first.toml", link, image) if out == "out" else None
         console = Console(ngc(), "mill.dev", "first.toml", out)
         self.addCleanup(console.kill)
         face = Typing(*answers)
@@ -707,7 +707,7 @@ class Recovering(PlayerTest):
         link.__dict__.update(file=os.open("out", os.O_RDWR), patience_s=60, follow=lambda: None,
                              kept=lambda: (0, counts.pop(0)))
         self.addCleanup(os.close, link.file)
-        Found(link, None, Recovery(), []).cut(22)
+        OutFound(link, None, Recovery(), []).cut(22)
         self.assertEqual((counts, Path("out").stat().st_size), ([], 22))
 
     def test_room(self) -> None:

@@ -52,6 +52,13 @@ class Tools(InFolder):
             self.assertEqual("--ngc PATH" in said, name not in ("ngc-player", "ngc-device"))
             self.assertTrue((TOOLS / name).stat().st_mode & 0o111, name)
 
+    def test_one_name(self) -> None:
+        """No two modules have a public class of one name."""
+        names = [node.name for path in (TOOLS / "ngc_tools").rglob("*.py") for node in ast.parse(path.read_text()).body
+                 if isinstance(node, ast.ClassDef) and not node.name.startswith("_")]
+        self.assertGreater(len(names), 200)
+        self.assertEqual({name for name in names if names.count(name) > 1}, set())
+
     def test_entry_points(self) -> None:
         """What `pip install` puts on PATH is what the scripts call, and all of its folders are packages."""
         points = tomllib.loads((TOOLS / "pyproject.toml").read_text())["project"]["scripts"]

@@ -14,7 +14,7 @@ from ngc_tools.formats.program_text import NotText, ProgramText
 from ngc_tools.formats.settings import DEFAULT, Settings
 from ngc_tools.formats.text import shown
 from ngc_tools.job.cam import rewritten, whole_text
-from ngc_tools.job.cam_homes import Answers, Missing
+from ngc_tools.job.cam_homes import HomeAnswers, Missing
 from ngc_tools.job.cam_line import CamLine
 from ngc_tools.job.cam_program import SharedSlot
 from ngc_tools.job.outside import widest
@@ -111,7 +111,7 @@ def _write(args: argparse.Namespace, data: bytes, inputs: Sequence[str | None]) 
         sys.stdout.flush()
 
 
-def given(args: argparse.Namespace) -> Answers:
+def given(args: argparse.Namespace) -> HomeAnswers:
     """What the command line says of heights, places and slots. Raises BadNumber, WrongWords."""
     x_y = [nanometres(word) for word in args.park or ()]
     slots: dict[int, int] = {}
@@ -120,7 +120,7 @@ def given(args: argparse.Namespace) -> Answers:
         if not _is_count(number) or int(number) in (0, *slots):
             raise WrongWords(f"--tool {word}: write NUMBER=SLOT, as 201=1, and each number once")
         slots[int(number)] = slot_number(slot)
-    return Answers(None if args.lift is None else nanometres(args.lift), (x_y[0], x_y[1]) if x_y else None, slots)
+    return HomeAnswers(None if args.lift is None else nanometres(args.lift), (x_y[0], x_y[1]) if x_y else None, slots)
 
 
 def slot_number(word: str) -> int:
@@ -134,7 +134,7 @@ def _is_count(word: str) -> bool:
     return word.isascii() and word.isdecimal() and len(word) < 10
 
 
-def _rewritten(program: str, text: ProgramText, answers: Answers) -> tuple[list[CamLine], list[str]]:
+def _rewritten(program: str, text: ProgramText, answers: HomeAnswers) -> tuple[list[CamLine], list[str]]:
     """The lines as they are to be written, and warnings. A person at a terminal is asked for what is missing; else all
     of it is told. Raises Failures."""
     missing: list[str] = []
@@ -174,7 +174,7 @@ def asked_for(missing: Missing) -> tuple[str, str]:
     return f"--tool {missing.tool}=SLOT", f"the slot of tool {missing.tool}, 1 to {SLOTS}"
 
 
-def _ask(program: str, missing: Missing, answers: Answers) -> Answers:
+def _ask(program: str, missing: Missing, answers: HomeAnswers) -> HomeAnswers:
     """Asks at the terminal. Raises Failure if there is no answer, or another one than is needed."""
     print(f"{shown(f'{program}: {missing.said()}')}\n{asked_for(missing)[1]}: ", end="", file=sys.stderr, flush=True)
     said = sys.stdin.readline()
@@ -185,7 +185,7 @@ def _ask(program: str, missing: Missing, answers: Answers) -> Answers:
     return _answered(missing, answers, said)
 
 
-def _answered(missing: Missing, answers: Answers, said: str) -> Answers:
+def _answered(missing: Missing, answers: HomeAnswers, said: str) -> HomeAnswers:
     """The answers with one more. Raises BadNumber."""
     words = said.split()
     if missing.what == "tool":

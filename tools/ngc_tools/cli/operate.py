@@ -19,7 +19,7 @@ from ngc_tools.ngc.console import Console, Ended
 from ngc_tools.ngc.machine_report import Motion
 from ngc_tools.operator.meter import LIMIT, LIMITS, Meter, check_limit
 from ngc_tools.operator.operator import Operator
-from ngc_tools.operator.recovery import Found
+from ngc_tools.operator.recovery import OutFound
 from ngc_tools.operator.sentences import explained
 from ngc_tools.operator.setter import read_setter
 from ngc_tools.operator.synced import SYNCED_AT_ONCE, SYNCED_PARTS, SyncedLink
@@ -154,7 +154,7 @@ def session(ngc: str, args: argparse.Namespace, meter: Meter | None, pipe: int |
     """From the start of `ngc` to its end. Raises Ended if it ends by itself."""
     found = as_found(args.device)
     link = meter.link if meter else None
-    out = Found.of(ngc, args.settings, link, found) if isinstance(link, SyncedLink) else None
+    out = OutFound.of(ngc, args.settings, link, found) if isinstance(link, SyncedLink) else None
     with closing(Screen()) as screen, ExitStack() as stack:
         console = Console(ngc, args.device, args.settings, args.out, Patience(screen))
         try:

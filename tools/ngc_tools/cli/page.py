@@ -18,12 +18,12 @@ from ngc_tools.ngc.run import find_ngc
 from ngc_tools.ngc.usable_settings import look_at_settings
 from ngc_tools.operator.meter import LIMIT, Meter
 from ngc_tools.operator.operator import Operator
-from ngc_tools.operator.recovery import Found
+from ngc_tools.operator.recovery import OutFound
 from ngc_tools.operator.setter import read_setter
 from ngc_tools.operator.synced import SyncedLink
 from ngc_tools.page.face import PageFace
 from ngc_tools.page.server import Server
-from ngc_tools.page.session import Opened, Session
+from ngc_tools.page.session import Opened, PageSession
 from ngc_tools.player.machine import read_limits
 from ngc_tools.player.progress import Link, NoAnswer
 
@@ -87,7 +87,7 @@ def work(args: argparse.Namespace) -> int:
         Motion.read(ngc, args.machine, args.settings)
     sys.setswitchinterval(_SWITCH_S)
     with listening(host, port) as file:
-        session = Session(Opener(ngc, args), PageFace(), args.machine or "")
+        session = PageSession(Opener(ngc, args), PageFace(), args.machine or "")
         try:
             serve(session, host, file, args.address)
         finally:
@@ -131,8 +131,8 @@ class Opener:
         look_at_settings(self.ngc, args.settings)
         found, left_at = as_found(args.device), os.stat(args.device).st_mtime
         link = meter.link if meter else None
-        out = Found.of(self.ngc, args.settings, link, found) if isinstance(link, SyncedLink) else None
-        console = Console(self.ngc, args.device, args.settings, args.out, Patience(face))
+        out = OutFound.of(self.ngc, args.settings, link, found) if isinstance(link, SyncedLink) else None
+        console = Console(self.ngc, args.device, args.settings, args.out, PagePatience(face))
         try:
             return self._opened(console, face, meter, (found, left_at), out, pipe)
         except BaseException:
@@ -141,7 +141,7 @@ class Opener:
             raise
 
     def _opened(self, console: Console, face: PageFace, meter: Meter | None, before: tuple[Device | None, float],
-                out: Found | None, pipe: int | None) -> Opened:
+                out: OutFound | None, pipe: int | None) -> Opened:
         console.status()
         operator = Operator(console, face, meter)
         operator.recover.found = out
@@ -170,7 +170,7 @@ class Opener:
         return True
 
 
-class Patience:
+class PagePatience:
     """Says it once if `ngc` doesn't answer, since nobody reads OUT."""
 
     def __init__(self, face: PageFace) -> None:
@@ -185,7 +185,7 @@ class Patience:
                 raise CannotBegin("ended; a block that was under way is half-done")
 
 
-def serve(session: Session, host: str, file: socket.socket, addresses: list[str]) -> None:
+def serve(session: PageSession, host: str, file: socket.socket, addresses: list[str]) -> None:
     """Serves pages until the session is over. Raises OSError."""
     server = Server(os.environ.get("NGC_PAGE_KEY") or secrets.token_urlsafe(16), session, addresses)
     server.listen(host, file)
@@ -198,7 +198,7 @@ def serve(session: Session, host: str, file: socket.socket, addresses: list[str]
         server.close()
 
 
-def ended(session: Session) -> int:
+def ended(session: PageSession) -> int:
     """Ends what is left of `ngc`, as a loss of power would where it doesn't answer, and returns its exit status."""
     operator = session.operator
     if not session.leave():

@@ -39,7 +39,7 @@ exit status:
   2  the words are wrong, or a file can't be used"""
 
 
-class Refused(Failure):
+class RehearsalRefused(Failure):
     """`ngc` refuses a command over the copy; the text names it, and says why."""
 
     exit_status = 1
@@ -82,7 +82,7 @@ def work(args: argparse.Namespace) -> int:
             return rehearse(args)
     except CommandRefused as error:
         why = rehearsed(error.reply, error.asked, Settings.read(args.settings))
-        raise Refused(f"{args.device}: {why}") from None
+        raise RehearsalRefused(f"{args.device}: {why}") from None
 
 
 def rehearse(args: argparse.Namespace) -> int:

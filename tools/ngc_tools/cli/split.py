@@ -38,7 +38,7 @@ exit status:
 SYSTEMS = tuple(f"G{system}" for system in (54, 55, 56, 57, 58, 59, 59.1, 59.2, 59.3))
 
 
-class Refused(Failure):
+class ProgramRefused(Failure):
     """A line of the program is refused; the text names it, and says what to write in its place."""
 
     exit_status = 1
@@ -78,7 +78,7 @@ def work(args: argparse.Namespace) -> int:
             return write_parts(args)
     except LineRefused as error:
         cure = cures.cure(error.refused.code, [])
-        raise Refused(f"{args.program}:{error.refused.line}: {error}\n  {cure}") from None
+        raise ProgramRefused(f"{args.program}:{error.refused.line}: {error}\n  {cure}") from None
 
 
 def write_parts(args: argparse.Namespace) -> int:

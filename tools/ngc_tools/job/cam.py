@@ -8,12 +8,12 @@ from dataclasses import dataclass, field
 from ngc_tools.failure import speaking_of
 from ngc_tools.formats.program_text import ProgramText
 from ngc_tools.job import cam_homes, cam_motion, cam_program, cam_words
-from ngc_tools.job.cam_homes import Answers, Missing
+from ngc_tools.job.cam_homes import HomeAnswers, Missing
 from ngc_tools.job.cam_line import LONGEST, CamLine
 from ngc_tools.job.cam_modes import Modes, Named
 
 
-def rewritten(texts: Sequence[str], answers: Answers, warn: Callable[[int, str], None]) -> list[CamLine]:
+def rewritten(texts: Sequence[str], answers: HomeAnswers, warn: Callable[[int, str], None]) -> list[CamLine]:
     """The lines, each as it is to be written for `ngc`, but for arcs by radius. Raises Missing, SharedSlot.
 
     `warn` is told of lines that stay and are dangerous or not understood: the number from 1, and why."""
@@ -33,7 +33,7 @@ class _Writer:
     `ngc` has by what is written, `named` the coordinates by the text."""
 
     whole: cam_program.Whole
-    answers: Answers
+    answers: HomeAnswers
     meant: Modes = field(default_factory=Modes)
     written: Modes = field(default_factory=Modes)
     named: Named = field(default_factory=Named)

@@ -12,7 +12,7 @@ _MILLIMETRE_NM = 1_000_000
 
 
 @dataclass(frozen=True, slots=True)
-class Answers:
+class HomeAnswers:
     """What a text doesn't say, and people do: where G28 and G30 are to go instead, in nm of machine coordinates, and
     the slots of tools, by their numbers in the text. None where nobody said it."""
 
@@ -36,7 +36,7 @@ def look_for_home(line: CamLine, warn: Callable[[str], None]) -> None:
         warn(f"{word.text} moves all three axes to the home, in one straight line; it is left as it is")
 
 
-def home(line: CamLine, written: Modes, unit: int | None, answers: Answers, warn: Callable[[str], None]) -> None:
+def home(line: CamLine, written: Modes, unit: int | None, answers: HomeAnswers, warn: Callable[[str], None]) -> None:
     """G28 and G30 under G91 with zeros: Z alone, or X and Y alone. `unit` is the one that the text names first. Raises
     Missing."""
     word = line.find("G", 28, 30)

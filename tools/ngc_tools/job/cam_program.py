@@ -5,7 +5,7 @@ from dataclasses import dataclass
 
 from ngc_tools.failure import Failure
 from ngc_tools.formats.device import SLOTS
-from ngc_tools.job.cam_homes import Answers, Missing
+from ngc_tools.job.cam_homes import HomeAnswers, Missing
 from ngc_tools.job.cam_line import CamLine, Token
 from ngc_tools.job.cam_motion import Warn
 
@@ -65,7 +65,7 @@ class SharedSlot(Failure):
     """Two tools of a text would be in one slot."""
 
 
-def look_at_slots(whole: Whole, answers: Answers) -> None:
+def look_at_slots(whole: Whole, answers: HomeAnswers) -> None:
     """Raises SharedSlot."""
     tools: dict[tuple[str, int], int] = {}
     for letter, number in sorted(whole.tools):
@@ -76,7 +76,7 @@ def look_at_slots(whole: Whole, answers: Answers) -> None:
                              " by --tool NUMBER=SLOT")
 
 
-def slots(line: CamLine, answers: Answers) -> None:
+def slots(line: CamLine, answers: HomeAnswers) -> None:
     """Tools by another number than that of their slot. Raises Missing."""
     for piece in list(line.pieces):
         number = _tool(piece)

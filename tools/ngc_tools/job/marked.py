@@ -1,9 +1,9 @@
 """A refused line as people see it: carets below its words, and how a check goes on after it."""
 from ngc_tools.formats.text import shown
-from ngc_tools.job.refused import Finding, Piece
+from ngc_tools.job.refused import Finding, Span
 
 
-def carets(text: bytes, marks: tuple[Piece, ...]) -> str:
+def carets(text: bytes, marks: tuple[Span, ...]) -> str:
     """A line of carets below the marked pieces, as `shown` shows the line."""
     row = [" "] * (len(shown(text)) + 1)
     for mark in marks:

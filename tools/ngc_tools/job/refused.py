@@ -32,7 +32,7 @@ _LONGEST = 512  # bytes of a line whose pieces are looked at; a line has 256 at 
 
 
 @dataclass(frozen=True, slots=True)
-class Piece:
+class Span:
     """A piece of a line: its first byte, and the one after its last."""
 
     begin: int
@@ -48,8 +48,8 @@ class Finding:
 
     refusal: Refusal
     text: bytes
-    marks: tuple[Piece, ...] = ()
-    left_out: tuple[Piece, ...] | None = None
+    marks: tuple[Span, ...] = ()
+    left_out: tuple[Span, ...] | None = None
     added: bytes = b""
 
     def words(self) -> list[bytes]:
@@ -57,17 +57,17 @@ class Finding:
         return [self.text[mark.begin:mark.end] for mark in self.marks]
 
 
-def pieces(line: bytes) -> list[Piece]:
+def pieces(line: bytes) -> list[Span]:
     """The pieces of a line without its end, blanks aside."""
     found = []
     for match in _PIECE.finditer(line):
         end = match.start() + len(match[0].rstrip(b" \t"))
         if match[0].strip(b" \t"):
-            found.append(Piece(match.start(), end))
+            found.append(Span(match.start(), end))
     return found
 
 
-def without(line: bytes, left_out: tuple[Piece, ...], code: str) -> bytes:
+def without(line: bytes, left_out: tuple[Span, ...], code: str) -> bytes:
     """The line with these pieces blank, so that the others keep their columns; of a line that is too long (E2) they are
     taken away."""
     for piece in reversed(left_out):
@@ -128,7 +128,7 @@ def _looked_at(lines: Lines, refusal: Refusal, ask: Ask) -> tuple[Finding, bytes
     number, code = refusal.line, refusal.code
     body = lines.body(number)
 
-    def asked(left_out: tuple[Piece, ...], added: bytes = b"") -> str | None:
+    def asked(left_out: tuple[Span, ...], added: bytes = b"") -> str | None:
         """The code that the line itself is refused with, if these pieces are left out."""
         found = ask(lines.beginning(number, without(body, left_out, code) + added))
         return found.code if found is not None and found.line == number else None
@@ -163,7 +163,7 @@ def goes(code: str, found: str | None) -> bool:
     return found is None or _RANKS.get(found, 0) > _RANKS.get(code, 0)
 
 
-def _together(all_pieces: list[Piece], gone: Callable[[tuple[Piece, ...]], bool]) -> tuple[Piece, ...]:
+def _together(all_pieces: list[Span], gone: Callable[[tuple[Span, ...]], bool]) -> tuple[Span, ...]:
     """Pieces without all of which the fault goes away, as few as are found by putting back one or two in turn; none
     if it stays even without the whole line."""
     left_out = tuple(all_pieces)

@@ -27,7 +27,7 @@ _DELETES = ("delete on",)
 
 
 @dataclass(frozen=True, slots=True)
-class Kept:
+class FileRecord:
     """A player's record of a file: the motors are at `steps`, where the first `size` bytes of OUT lead."""
 
     size: int
@@ -35,7 +35,7 @@ class Kept:
 
 
 @dataclass(frozen=True, slots=True)
-class Beginning:
+class SegmentBeginning:
     """The first `size` bytes of OUT, with the lines `missing` behind what it has, lead to where the open segment
     begins, or to the end of what was handed out if no block is half-done. That is at `steps`. `is_off`: by the record
     the motors aren't on the path of OUT. `is_new`: OUT has none of the lines that were handed out, so it may be another
@@ -94,7 +94,7 @@ class Finder:
         self.step_nm = Settings.read(settings).step_nm
         self.device = Device(image)
 
-    def find(self, out: str | Path, kept: Kept) -> Beginning:
+    def find(self, out: str | Path, kept: FileRecord) -> SegmentBeginning:
         """Where the open segment begins. Raises CannotTell, which names what doesn't belong together, CommandRefused,
         Ended, OSError."""
         with open(out, "rb") as file:
@@ -107,7 +107,7 @@ class Finder:
             ends = _moved(kept.steps, text[kept.size:size])
             return self._found(text, size, ends, str(out))
 
-    def _found(self, text: "bytes | mmap.mmap", size: int, ends: Steps, out: str) -> Beginning:
+    def _found(self, text: "bytes | mmap.mmap", size: int, ends: Steps, out: str) -> SegmentBeginning:
         """OUT leads to `ends`, by the record."""
         lines = self._by_log()
         if lines is not None:
@@ -120,7 +120,7 @@ class Finder:
                 return self._beginning(size, lines, at, is_off)
         if not self.device.state.half:
             self._check_end(out, ends)
-            return Beginning(size, ends)
+            return SegmentBeginning(size, ends)
         own = self._own()
         at = _shortest(text, size, own.own, own.start, ends)
         if at is None:
@@ -170,10 +170,10 @@ class Finder:
                              " or the record isn't that of this OUT")
 
     @staticmethod
-    def _beginning(size: int, lines: _Lines, at: int, is_off: bool) -> Beginning:
+    def _beginning(size: int, lines: _Lines, at: int, is_off: bool) -> SegmentBeginning:
         """OUT ends with the first `at` bytes of the lines."""
         before = len(lines.before)
-        return Beginning(size - at + before, _moved(lines.start, lines.before), lines.before[at:], is_off,
+        return SegmentBeginning(size - at + before, _moved(lines.start, lines.before), lines.before[at:], is_off,
                          at == 0 and before > 0)
 
     def _by_log(self, how: tuple[str, ...] | None = None) -> _Lines | None:

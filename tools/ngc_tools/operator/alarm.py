@@ -2,7 +2,7 @@
 from ngc_tools.operator.face import REFUSED, WARNING, axes
 from ngc_tools.operator.numbers import nanometres_of
 from ngc_tools.operator.session import ALARM, BROKEN, Session
-from ngc_tools.player.progress import Machine, NoAnswer
+from ngc_tools.player.progress import MoveReport, NoAnswer
 
 _TAKEN = ("home", "where", "status", "help", "?", "quit", "exit", "reference")
 _TAKEN_BROKEN = ("jog", "seek", "reference", "hold")
@@ -89,7 +89,7 @@ class Alarm:
         """Where the machine is by the player's count."""
         return axes(self.session.seen.at.split())
 
-    def _machine(self) -> Machine | None:
+    def _machine(self) -> MoveReport | None:
         """What the player says of its axes; None where it doesn't answer, which is said."""
         try:
             return self.session.meter.link.machine()
@@ -114,6 +114,6 @@ class Alarm:
         return " of ".join([_CAUSES.get(machine.alarm, "alarm"), *([", ".join(on)] if on else [])])
 
 
-def left_of(machine: Machine) -> str:
+def left_of(machine: MoveReport) -> str:
     """The axes that aren't homed, as `XY`."""
     return "".join(axis for axis in "XYZ" if axis not in machine.homed)

@@ -16,7 +16,7 @@ from ngc_tools.operator.motors import Motors
 from ngc_tools.operator.numbers import length_of, nanometres_of
 from ngc_tools.operator.recover import Recover
 from ngc_tools.operator.session import ALARM, BROKEN, Session
-from ngc_tools.player.progress import Link, Machine, NoAnswer
+from ngc_tools.player.progress import Link, MoveReport, NoAnswer
 
 ASKED_S = 0.05
 """Between two questions: without one for a second the player brings a move to rest."""
@@ -37,7 +37,7 @@ _NOT_KNOWN = "home, jog and seek are of tools/player with -m"
 _LATER = ("ngc isn't told where the machine is, since {half} is under way: quit, start the player and this again, and"
           " go on as after a loss of power")
 
-Asked = tuple[int, str]
+MoveAnswer = tuple[int, str]
 """The number of a move, and why it is refused; nothing where it is taken."""
 
 
@@ -108,7 +108,7 @@ class Moves:
     def _refuse(self, text: str) -> None:
         self.session.face.say(text, REFUSED)
 
-    def _go(self, name: str, begin: Callable[[Link], Asked], keep: Callable[[int], None] | None = None) -> None:
+    def _go(self, name: str, begin: Callable[[Link], MoveAnswer], keep: Callable[[int], None] | None = None) -> None:
         """Makes a move, and says how it ended. `keep` is called with its number as long as it goes."""
         try:
             number, why = begin(self.session.meter.link)
@@ -130,7 +130,7 @@ class Moves:
         is_there = str(error).endswith("doesn't answer")
         self.session.face.say(f"{error}; {_NOT_KNOWN}" if is_there else str(error), WARNING)
 
-    def _ended(self, number: int, name: str, keep: Callable[[int], None] | None) -> Machine:
+    def _ended(self, number: int, name: str, keep: Callable[[int], None] | None) -> MoveReport:
         """Waits until a move is over. Whoever wants to hold ends it. Raises NoAnswer."""
         session, is_told = self.session, False
         status = session.console.status()
@@ -152,7 +152,7 @@ class Moves:
         self.session.take(report)
         self.session.face.live(UnderWay(name, status, report.at))
 
-    def _say(self, name: str, machine: Machine) -> None:
+    def _say(self, name: str, machine: MoveReport) -> None:
         """Says how a move ended."""
         if machine.how != DONE:
             self.session.face.say(f"{name}: {machine.how}", WARNING)

@@ -12,7 +12,7 @@ from ngc_tools.formats.settings import Settings
 from ngc_tools.job.figures import millimetres as rounded
 from ngc_tools.operator.motors import diagonal_nm
 from ngc_tools.player.keeper import KEEPS_MS
-from ngc_tools.player.way import Move, look, moves
+from ngc_tools.player.way import CarriedLine, look, moves
 
 
 @dataclass(frozen=True, slots=True)
@@ -52,7 +52,7 @@ def along_out(file: int, lines: int, size: int, settings: Settings, age_ms: int,
     return Past(max(way.lines for way in ways), max(way.length_nm for way in ways), True, age_ms)
 
 
-def _within(found: Iterable[Move], us: int) -> Iterator[Move]:
+def _within(found: Iterable[CarriedLine], us: int) -> Iterator[CarriedLine]:
     """The moves that begin before so much time has passed; none behind a line that can't be read."""
     try:
         for move in found:

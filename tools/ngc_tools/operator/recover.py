@@ -17,7 +17,7 @@ from ngc_tools.operator.causes import taken
 from ngc_tools.operator.display import on_words
 from ngc_tools.operator.face import REFUSED, WARNING, axes
 from ngc_tools.operator.past import Past, along_out, by_rate
-from ngc_tools.operator.recovery import Found, Recovery
+from ngc_tools.operator.recovery import OutFound, Recovery
 from ngc_tools.operator.rehearsing import segment_begins
 from ngc_tools.operator.session import ALARM, BROKEN, Session
 from ngc_tools.player.machine import MOST_PERCENTS
@@ -59,7 +59,7 @@ class Recover:
 
     def __init__(self, session: Session) -> None:
         self.session = session
-        self.found: Found | None = None
+        self.found: OutFound | None = None
         self.most_percent = MOST_PERCENTS[-1]
         self.confirmed_nm: tuple[int, ...] | None = None
         self._entries: int | None = None  # as the session began
@@ -150,7 +150,7 @@ class Recover:
                 return False
         return taken(session, session.console.ask(f"reference {wanted}")[0], f"reference {wanted}")
 
-    def _is_brought(self, found: Found) -> bool:
+    def _is_brought(self, found: OutFound) -> bool:
         """Along OUT, or by legs to it; whether the motors are there."""
         face, report = self.session.face, found.link.ask()
         if report.behind:  # it was held on its way
@@ -173,14 +173,14 @@ class Recover:
         found.cut(recovery.beginning.size)  # what stands behind the line is handed out again
         return True
 
-    def _gives_up(self, found: Found, report: Report) -> bool:
+    def _gives_up(self, found: OutFound, report: Report) -> bool:
         """Goes on without OUT's lines; whether a person wants that."""
         if not self.session.agrees(NO_LINES.format(at=axes(report.at.split()))):
             return False
         found.cut(found.recovery.size)
         return True
 
-    def _puts_back(self, found: Found) -> bool:
+    def _puts_back(self, found: OutFound) -> bool:
         count = found.recovery.beginning.missing.count(b"\n")
         if not self.session.agrees(f"{found.link.out} has none of the {count} lines that were handed out before the"
                                    " half-done block. Were they lost with the power, and is it the OUT of that session?"
@@ -189,7 +189,7 @@ class Recover:
         found.put_back()
         return True
 
-    def _sends(self, found: Found, recovery: Recovery, report: Report) -> bool:
+    def _sends(self, found: OutFound, recovery: Recovery, report: Report) -> bool:
         """Sends the player; whether it came there."""
         link, size = found.link, recovery.beginning.size
         lift = None

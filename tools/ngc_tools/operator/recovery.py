@@ -14,7 +14,7 @@ from ngc_tools.job.figures import millimetres as rounded
 from ngc_tools.ngc.console import Ended
 from ngc_tools.ngc.carried import CannotTell
 from ngc_tools.ngc.copies import CommandRefused
-from ngc_tools.ngc.handed_out import Beginning, Finder, Kept
+from ngc_tools.ngc.handed_out import SegmentBeginning, Finder, FileRecord
 from ngc_tools.operator.display import outputs_on
 from ngc_tools.operator.synced import SyncedLink
 from ngc_tools.player.progress import Report
@@ -36,7 +36,7 @@ class Recovery:
     stands_nm: Point = (0, 0, 0)
     outputs: Switch = OFF
     line: int = 0
-    beginning: Beginning | None = None
+    beginning: SegmentBeginning | None = None
     at_nm: Point = (0, 0, 0)
     legs_nm: Point = (0, 0, 0)
     way: Way | None = None
@@ -85,7 +85,7 @@ class Looking:
         position = Position(self.settings.step_nm, at_nm)
         x, y, z = position.steps
         try:
-            found = self.finder.find(out, Kept(size, (x, y, z)))
+            found = self.finder.find(out, FileRecord(size, (x, y, z)))
             outputs = self._outputs(file, size, found.size - len(found.missing), kept)
             return self._way(file, Recovery(lines, size, at_nm, outputs, lines, found), position)
         except (CannotTell, CommandRefused, Ended, BadLine) as error:
@@ -124,7 +124,7 @@ class Looking:
 
 
 @dataclass(slots=True)
-class Found:
+class OutFound:
     """What a session finds of OUT, a file. `looking` looks again with the device as it stood before `ngc` was started;
     None where that can't be read."""
 
@@ -136,10 +136,10 @@ class Found:
     _at_nm: Point = (0, 0, 0)
 
     @staticmethod
-    def of(ngc: str, settings: str, link: SyncedLink, device: Device | None) -> "Found":
+    def of(ngc: str, settings: str, link: SyncedLink, device: Device | None) -> "OutFound":
         """Looks, and mends. The player goes on at once where no line is left. Raises NoAnswer, BadSettings, OSError."""
         looking = Looking(ngc, settings, device.image) if device else None
-        found = Found(link, looking, Recovery(), [])
+        found = OutFound(link, looking, Recovery(), [])
         found.look()
         lost = found.recovery.beginning.missing if found.recovery.beginning else b""
         if lost and not found.recovery.beginning.is_new:
@@ -157,7 +157,7 @@ class Found:
         x, y, z = map(nanometres, report.at.split())
         self._at_nm = (x, y, z)
         if self.looking and self.looking.is_through(size == self.link.size(), (x, y, z)):
-            end = Beginning(size, (0, 0, 0))
+            end = SegmentBeginning(size, (0, 0, 0))
             self.recovery = Recovery(lines, size, (x, y, z), report.outputs, lines, end, (x, y, z), (x, y, z), _NO_WAY)
         elif self.looking is None:
             self.recovery = Recovery(lines, size, (x, y, z), report.outputs, lines, problem="the device can't be read")

@@ -36,16 +36,16 @@ class Timeline:
         """What is in force on a line."""
         return self.views.get(number) or self.views.get(_last(self.views, number), None)
 
-    def times(self, number: int) -> "Times":
+    def times(self, number: int) -> "ProgramTimes":
         """How long the lines before a line take, and how long it and those after it: with ramps if that is known."""
         if self.ramps and (found := self.ramps.times_us(number)):
-            return Times("with ramps", *found)
+            return ProgramTimes("with ramps", *found)
         done = self.ends_us.get(_last(self.ends_us, number - 1), 0)
-        return Times("about", done, self.total_us - done)
+        return ProgramTimes("about", done, self.total_us - done)
 
 
 @dataclass(frozen=True, slots=True)
-class Times:
+class ProgramTimes:
     """How long a program takes up to a line, and from there on: `about`, or `with ramps`."""
 
     kind: str

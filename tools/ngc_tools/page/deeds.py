@@ -6,10 +6,10 @@ from dataclasses import dataclass
 from http import HTTPStatus
 
 from ngc_tools.operator.motors import PERCENTS, SPINDLE_PERCENTS
-from ngc_tools.page.http import Refused
+from ngc_tools.page.http import RequestRefused
 from ngc_tools.page.pages import Pages
 from ngc_tools.page.rehearse import rehearse
-from ngc_tools.page.session import Session
+from ngc_tools.page.session import PageSession
 
 _NUMBER = re.compile(r"[-+]?(?:[0-9]{1,7}\.?[0-9]{0,6}|\.[0-9]{1,6})")
 _LONGEST_LINE = 256
@@ -26,7 +26,7 @@ class BadWords(ValueError):
 class Given:
     """What a deed is done with: the session, its pages, the programs that were looked at, and the words."""
 
-    session: Session
+    session: PageSession
     pages: Pages
     checked: dict[str, tuple[str, bytes]]
     words: dict
@@ -92,7 +92,7 @@ def keep_checked(checked: dict[str, tuple[str, bytes]], name: str, text: bytes, 
 def _load(given: Given) -> dict:
     found = given.checked.get(str(given.words.get("id")))
     if found is None:
-        raise Refused(HTTPStatus.GONE, "check it again")
+        raise RequestRefused(HTTPStatus.GONE, "check it again")
     return {"taken": given.session.load(*found)}
 
 

@@ -8,12 +8,13 @@ from ngc_tools.job.figures import duration, micrometres
 from ngc_tools.job.figures import millimetres as rounded
 from ngc_tools.job.moves import TRAVERSE, Move
 from ngc_tools.ngc.beginning import Beginning
-from ngc_tools.page.drawing import Job, Source
+from ngc_tools.page.drawing import DrawnJob, DrawingRequest
 
 _SLACK_US = 200_000  # by which times may differ, with a fiftieth of the whole
 
 
-def differences(source: Source, job: Job, now: Device, line: int, rest_us: int, drawn: bytes) -> Iterator[str]:
+def differences(source: DrawingRequest, job: DrawnJob, now: Device, line: int, rest_us: int,
+                drawn: bytes) -> Iterator[str]:
     """What is otherwise, from a line on, if the program goes on as a device stands now. `drawn` is the job with its
     exact times, in JSON; without them times aren't compared. Raises NoDevice, BadText, OSError."""
     yield from _path(source, job, now, line)
@@ -26,7 +27,7 @@ def differences(source: Source, job: Job, now: Device, line: int, rest_us: int, 
                f" {duration(was_us)}.")
 
 
-def _path(source: Source, job: Job, now: Device, line: int) -> Iterator[str]:
+def _path(source: DrawingRequest, job: DrawnJob, now: Device, line: int) -> Iterator[str]:
     """The first motion that goes elsewhere, or in another manner."""
     text = now.program[now.state.place:]
     said = Beginning.of(now).dry(source.ngc, text, source.settings, source.block_delete)[1]

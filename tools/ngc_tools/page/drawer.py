@@ -6,7 +6,7 @@ from typing import Any
 
 from ngc_tools.formats.device import Device
 from ngc_tools.page.aside import Aside, Child, NotDone
-from ngc_tools.page.drawing import Drawing, Source, draw, draw_exactly, setup_of
+from ngc_tools.page.drawing import Drawing, DrawingRequest, draw, draw_exactly, setup_of
 
 
 class Drawer:
@@ -20,12 +20,12 @@ class Drawer:
         self.count = 0
         self._aside, self._changed = aside, changed
         self._lock = threading.Lock()
-        self._source: Source | None = None
+        self._source: DrawingRequest | None = None
         self._child: Child | None = None
         self._setup: tuple = ()
         self._entries, self._program = -1, b""
 
-    def begin(self, source: Source) -> None:
+    def begin(self, source: DrawingRequest) -> None:
         """Draws the program of a device, as that stands or stood. Nothing that was begun before is taken any more."""
         device = Device(source.image)
         if device.program != self._program:
@@ -33,7 +33,7 @@ class Drawer:
         self._setup, self._entries, self._program = setup_of(device), device.state.entries, device.program
         self._start(source)
 
-    def preview(self, source: Source) -> Drawing:
+    def preview(self, source: DrawingRequest) -> Drawing:
         """A program that isn't loaded, as it would be drawn, with times by length. Where it is loaded then, that isn't
         done again. Raises NotDone, OSError."""
         self._preview = drawing = self._aside.call(draw, source)
@@ -60,7 +60,7 @@ class Drawer:
         if self._source is not None:
             self._start(replace(self._source, block_delete=block_delete))
 
-    def _start(self, source: Source) -> None:
+    def _start(self, source: DrawingRequest) -> None:
         with self._lock:
             self._source = source
             before, self._child = self._child, None
@@ -71,7 +71,7 @@ class Drawer:
         else:
             self._take(source, None)
 
-    def _draw(self, source: Source) -> None:
+    def _draw(self, source: DrawingRequest) -> None:
         preview, self._preview = self._preview, None
         is_same = preview is not None and source.begins_as(preview.source)
         if is_same:
@@ -85,7 +85,7 @@ class Drawer:
         except (NotDone, OSError) as error:
             self._take(source, None, str(error))
 
-    def _call(self, source: Source, work: Callable[[Source], Drawing]) -> Any:
+    def _call(self, source: DrawingRequest, work: Callable[[DrawingRequest], Drawing]) -> Any:
         """What is drawn aside; None where something else is wanted by now. Raises NotDone, OSError."""
         with self._lock:
             if source is not self._source:
@@ -93,7 +93,7 @@ class Drawer:
             child = self._child = self._aside.begin(work, source)
         return self._aside.finish(child)
 
-    def _take(self, source: Source, drawing: Drawing | None, failed: str = "") -> None:
+    def _take(self, source: DrawingRequest, drawing: Drawing | None, failed: str = "") -> None:
         """Takes what was drawn, if nothing else is wanted. Where exact times failed, the others stay."""
         with self._lock:
             if source is not self._source:

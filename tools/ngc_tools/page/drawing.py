@@ -31,7 +31,7 @@ _FRESH = "G17 G21 G90 G94 G98"
 
 
 @dataclass(frozen=True, slots=True)
-class Source:
+class DrawingRequest:
     """What is drawn: by which `ngc` and settings, over which image of a device, with which machine's file, nothing for
     none. `is_begun_there` says that the program begins as that device stands; else nothing says where it began. It is
     the device's program, or `other`, which isn't loaded."""
@@ -44,7 +44,7 @@ class Source:
     block_delete: bool
     other: bytes | None = None
 
-    def begins_as(self, before: "Source") -> bool:
+    def begins_as(self, before: "DrawingRequest") -> bool:
         """Whether this one, of a device's program, draws the same as one before, of the same text before it was
         loaded."""
         now, then = Device(self.image), Device(before.image)
@@ -53,7 +53,7 @@ class Source:
 
 
 @dataclass(frozen=True, slots=True)
-class Job:
+class DrawnJob:
     """`steps` are the moves and waits in turn, `lines` the line of each, from 1. `segments` has for each line its
     segments, each the number of its step or SWITCH. `tools` has the tools that lines change to. `is_exact` says that
     each step has its time; `ramps_us` is that of all with ramps, 0 where it isn't known. `refused` is the line at which
@@ -82,7 +82,7 @@ class Job:
 class Drawing:
     """A job as a session keeps it: `text` for pages, in JSON, and what was drawn. `tools` are those of the job."""
 
-    source: Source
+    source: DrawingRequest
     text: bytes
     tools: dict[int, int]
     is_exact: bool
@@ -104,13 +104,13 @@ def setup_of(device: Device) -> tuple:
             device.parameters)
 
 
-def draw(source: Source) -> Drawing:
+def draw(source: DrawingRequest) -> Drawing:
     """The job of the stored program, with times by length and rate, which is quick. Raises CannotSetUp, NoDevice,
     BadText, CannotRun, OSError, BadSettings."""
     return _kept(source, job_of(source))
 
 
-def draw_exactly(source: Source) -> Drawing:
+def draw_exactly(source: DrawingRequest) -> Drawing:
     """The same with the times that `ngc run` gives each step. Raises NotTimed too."""
     job = job_of(source)
     steps = timed(source.ngc, source.settings, job.steps)
@@ -123,7 +123,7 @@ def draw_exactly(source: Source) -> Drawing:
     return _kept(source, replace(job, steps=steps, is_exact=True, ramps_us=ramps_us))
 
 
-def job_of(source: Source) -> Job:
+def job_of(source: DrawingRequest) -> DrawnJob:
     """The job; its moves have no times yet. Raises what `draw` raises."""
     device = Device(source.image)
     beginning, text = Beginning.of(device), device.program if source.other is None else source.other
@@ -143,7 +143,7 @@ def job_of(source: Source) -> Job:
     lines = [number for number, command in numbered if command.name in _STEPS]
     if not is_known and steps and isinstance(steps[0], Move):  # nobody knows where the machine stood before it
         steps[0] = replace(steps[0], points=(steps[0].points[-1],) * 2, arc=None)
-    return Job(steps, lines, *_segments(printed), is_known, False, 0, refused)
+    return DrawnJob(steps, lines, *_segments(printed), is_known, False, 0, refused)
 
 
 def _segments(printed: Printed) -> tuple[dict[int, list[int]], dict[int, int]]:
@@ -192,6 +192,6 @@ def _point(point: Point) -> str:
     return f"{micrometres(x)},{micrometres(y)},{micrometres(z)}"
 
 
-def _kept(source: Source, job: Job) -> Drawing:
+def _kept(source: DrawingRequest, job: DrawnJob) -> Drawing:
     text = job.text(Settings.read(source.settings).traverse_nm_per_min)
     return Drawing(source, text, job.tools, job.is_exact)

@@ -15,7 +15,7 @@ _HEADER = re.compile(rb"([A-Za-z0-9-]{1,64}):([\x20-\x7e\x80-\xff\t]*)")  # blan
 _FORM = re.compile("[0-9]{1,9}")
 
 
-class Refused(Exception):
+class RequestRefused(Exception):
     """A request that isn't done: the status, and why in words."""
 
     def __init__(self, status: HTTPStatus, why: str = "") -> None:
@@ -35,10 +35,10 @@ class Request:
     def length(self) -> int:
         """The bytes of the body, which follows. Raises Refused where that isn't told."""
         if "transfer-encoding" in self.headers:
-            raise Refused(HTTPStatus.NOT_IMPLEMENTED, "a body without a length")
+            raise RequestRefused(HTTPStatus.NOT_IMPLEMENTED, "a body without a length")
         length = self.headers.get("content-length", "" if self.method == "POST" else "0")
         if not _FORM.fullmatch(length):
-            raise Refused(HTTPStatus.LENGTH_REQUIRED)
+            raise RequestRefused(HTTPStatus.LENGTH_REQUIRED)
         return int(length)
 
 
@@ -49,13 +49,13 @@ async def read_request(reader: asyncio.StreamReader) -> Request | None:
     except asyncio.IncompleteReadError:
         return None
     except asyncio.LimitOverrunError:
-        raise Refused(HTTPStatus.REQUEST_HEADER_FIELDS_TOO_LARGE) from None
+        raise RequestRefused(HTTPStatus.REQUEST_HEADER_FIELDS_TOO_LARGE) from None
     first, *lines = head[:-4].split(b"\r\n")
     match = _FIRST.fullmatch(first)
     if match is None:
-        raise Refused(HTTPStatus.BAD_REQUEST)
+        raise RequestRefused(HTTPStatus.BAD_REQUEST)
     if match[1] not in (b"GET", b"POST"):
-        raise Refused(HTTPStatus.NOT_IMPLEMENTED)
+        raise RequestRefused(HTTPStatus.NOT_IMPLEMENTED)
     return Request(match[1].decode(), match[2].decode(), _headers(lines))
 
 
@@ -65,7 +65,7 @@ def _headers(lines: list[bytes]) -> dict[str, str]:
         match = _HEADER.fullmatch(line)
         name = match[1].decode().lower() if match else ""
         if match is None or name in found:
-            raise Refused(HTTPStatus.BAD_REQUEST)
+            raise RequestRefused(HTTPStatus.BAD_REQUEST)
         found[name] = match[2].decode("latin-1").strip()
     return found
 
@@ -74,11 +74,11 @@ async def read_body(reader: asyncio.StreamReader, request: Request, most: int) -
     """The body of a request. Raises Refused, OSError."""
     if request.length > most:
         await _pass_over(reader, request.length)
-        raise Refused(HTTPStatus.REQUEST_ENTITY_TOO_LARGE, f"at most {most:,} bytes")
+        raise RequestRefused(HTTPStatus.REQUEST_ENTITY_TOO_LARGE, f"at most {most:,} bytes")
     try:
         return await reader.readexactly(request.length)
     except asyncio.IncompleteReadError:
-        raise Refused(HTTPStatus.BAD_REQUEST) from None
+        raise RequestRefused(HTTPStatus.BAD_REQUEST) from None
 
 
 async def _pass_over(reader: asyncio.StreamReader, length: int) -> None:

@@ -34,7 +34,7 @@ _NONE = {"words": "", "lines": 0, "length_nm": 0, "points": []}
 
 
 @dataclass(frozen=True, slots=True)
-class Asked:
+class LossRequest:
     """By which `ngc` and settings, over the image of which device; where the motors are, in machine millimetres; how
     many lines OUT may have been ahead of them."""
 
@@ -45,7 +45,7 @@ class Asked:
     ahead: int
 
 
-def found(asked: Asked) -> dict:
+def found(asked: LossRequest) -> dict:
     """In words, with its points in micrometres; in a process aside. Raises CannotTell, CommandRefused, Ended, OSError,
     BadLine, BadSettings, NoDevice."""
     lost = Finder(asked.ngc, asked.settings, asked.image).never_cut(asked.at, asked.ahead)
@@ -73,10 +73,10 @@ class NeverCutSearch:
         self.found: dict | None = None
         self.count = 0
         self._aside, self._face = aside, face
-        self._asked: Asked | None = None
+        self._asked: LossRequest | None = None
         self._thread = threading.Thread()
 
-    def begin(self, losses: Losses, program: bytes, asked: Asked | None) -> None:
+    def begin(self, losses: Losses, program: bytes, asked: LossRequest | None) -> None:
         """Takes up what was kept of a device, which has this program, and finds what the last session left, if a block
         is half-done; that isn't to be found where nothing is asked."""
         self._losses, self._program, self._earlier = losses, program, losses.of(program)
@@ -105,7 +105,7 @@ class NeverCutSearch:
             self._losses.forget()
         self._take(None)
 
-    def _find(self, asked: Asked) -> None:
+    def _find(self, asked: LossRequest) -> None:
         try:
             told = self._aside.call(found, asked)
         except (NotDone, OSError) as error:
@@ -116,7 +116,7 @@ class NeverCutSearch:
             self._face.say(told["words"], SAID if told["words"] == _KEPT else WARNING)
             self._tell(earlier)
 
-    def _kept(self, asked: Asked, told: dict) -> list[Loss]:
+    def _kept(self, asked: LossRequest, told: dict) -> list[Loss]:
         """Keeps what was found; the earlier ones, without this one, where it was found before."""
         state = Device(asked.image).state
         loss = Loss(state.place, state.segment, time.time(), told["lines"], told["length_nm"], told["points"])

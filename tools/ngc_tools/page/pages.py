@@ -2,7 +2,7 @@
 import asyncio
 
 from ngc_tools.operator.face import WARNING
-from ngc_tools.page.session import Session
+from ngc_tools.page.session import PageSession
 
 MOST = 4
 """Pages at once. A browser has six connections to a server, and each page keeps one of them for its stream: with more
@@ -15,7 +15,7 @@ class Pages:
     """The pages with a stream. `commands` is the one whose wishes are done; the others watch, and hold. `on_loss` is
     `hold` or `go`: what becomes of what runs when that one is lost."""
 
-    def __init__(self, session: Session) -> None:
+    def __init__(self, session: PageSession) -> None:
         self.session = session
         self.commands = ""
         self.on_loss = "hold"

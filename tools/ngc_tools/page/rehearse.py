@@ -10,12 +10,12 @@ from ngc_tools.job.figures import duration, micrometres
 from ngc_tools.job.figures import millimetres as rounded
 from ngc_tools.job.moves import CUT, Move, Point, distance, of_out
 from ngc_tools.ngc.copies import CommandRefused
-from ngc_tools.operator.recovery import Found
+from ngc_tools.operator.recovery import OutFound
 from ngc_tools.operator.rehearsal import Rehearsal, outputs
 from ngc_tools.operator.sentences import explained
 from ngc_tools.page.differs import differences
 from ngc_tools.page.drawing import Drawing, job_of
-from ngc_tools.page.session import Busy, Session
+from ngc_tools.page.session import Busy, PageSession
 
 _NEAR_NM = 100_000  # so near a finished cut the way counts as within it
 _ON_NM = 20_000  # the motors are on a step if they are as near
@@ -36,7 +36,7 @@ class Along:
 
 
 @dataclass(frozen=True, slots=True)
-class Asked:
+class RehearsalRequest:
     """What is rehearsed: by which `ngc` and settings, over which image, from where, with what is drawn, where the
     motors are, if that is known, and the way of `recover` along OUT, if it goes so. `lost` is what a loss of power left
     uncut: where it begins, and how long it is in nm."""
@@ -51,7 +51,7 @@ class Asked:
     lost: tuple[Point, int] | None = None
 
 
-def rehearse(session: Session, at: list[str] | None, by_recover: bool = False) -> dict:
+def rehearse(session: PageSession, at: list[str] | None, by_recover: bool = False) -> dict:
     """What a page is told of `resume`, or `run`, from a point, or of `recover`. It takes no turn of the session's,
     since nothing but a copy is touched. Raises Busy where something runs, NotDone, OSError."""
     if session.is_busy or session.ended:
@@ -61,11 +61,12 @@ def rehearse(session: Session, at: list[str] | None, by_recover: bool = False) -
     if found is not None and found.recovery.beginning is not None:
         at = list(map(millimetres, found.recovery.at_nm))
     motors, along = report.at.split() if report else None, _along(found) if found else None
-    asked = Asked(console.ngc, console.settings, image, at, session.drawer.drawing, motors, along, _lost(session))
+    asked = RehearsalRequest(console.ngc, console.settings, image, at, session.drawer.drawing, motors, along,
+                             _lost(session))
     return session.aside.call(rehearsed, asked)
 
 
-def _lost(session: Session) -> tuple[Point, int] | None:
+def _lost(session: PageSession) -> tuple[Point, int] | None:
     """What a loss of power left uncut, once that is known."""
     found = session.never_cut.awaited()
     if not found or not found["points"]:
@@ -74,7 +75,7 @@ def _lost(session: Session) -> tuple[Point, int] | None:
     return (x, y, z), found["length_nm"]
 
 
-def _along(found: Found) -> Along | None:
+def _along(found: OutFound) -> Along | None:
     """The way of `recover`, if it goes along OUT."""
     recovery, beginning = found.recovery, found.recovery.beginning
     if beginning is None or recovery.way is None:
@@ -84,7 +85,7 @@ def _along(found: Found) -> Along | None:
     return Along(found.link.out, low, high, recovery.at_nm if is_back else recovery.stands_nm, is_back)
 
 
-def rehearsed(asked: Asked) -> dict:
+def rehearsed(asked: RehearsalRequest) -> dict:
     """The rehearsal, in a process aside."""
     rehearsal = Rehearsal(asked.ngc, asked.settings, asked.image, asked.at)
     found = {"begins": [], "rest": "", "rest_us": 0, "comes_on": "", "approach": None, "differs": [], "along": None}
@@ -100,7 +101,7 @@ def rehearsed(asked: Asked) -> dict:
                     "along": _points(asked) if asked.along else None}
 
 
-def _differs(asked: Asked, rest_us: int) -> list[str]:
+def _differs(asked: RehearsalRequest, rest_us: int) -> list[str]:
     """What is otherwise than it was drawn, where the program goes on with a line."""
     now = Device(asked.image)
     if asked.drawing is None or now.state.half or not now.state.place:
@@ -113,7 +114,7 @@ def _differs(asked: Asked, rest_us: int) -> list[str]:
         return [f"It can't be compared with what is drawn: {error}"]
 
 
-def _points(asked: Asked) -> list[list[int]]:
+def _points(asked: RehearsalRequest) -> list[list[int]]:
     """The points of the way along OUT, in micrometres."""
     along, settings = asked.along, Settings.read(asked.settings)
     with open(along.out, "rb") as file:
@@ -124,7 +125,7 @@ def _points(asked: Asked) -> list[list[int]]:
     return points[::-1] if along.is_back else points
 
 
-def _approach(asked: Asked, start: tuple[str, ...], end: tuple[str, ...], us: int) -> dict:
+def _approach(asked: RehearsalRequest, start: tuple[str, ...], end: tuple[str, ...], us: int) -> dict:
     """The straight way of an approach, with what is dangerous about it."""
     a, b = _point(start), _point(end)
     return {"from": start, "to": end, "length": rounded(distance(a, b)), "time": duration(us),
@@ -145,7 +146,7 @@ def _goes_down(a: Point, b: Point) -> list[str]:
     return [f"It goes DOWN {rounded(a[2] - b[2])} mm, to Z {rounded(b[2])}{at_once}, at the traverse rate."]
 
 
-def _goes_beside(asked: Asked, a: Point, b: Point) -> list[str]:
+def _goes_beside(asked: RehearsalRequest, a: Point, b: Point) -> list[str]:
     """Where the way goes below the highest cut and beside all that is cut already. Geometry alone."""
     if asked.drawing is None:
         return []
@@ -165,7 +166,7 @@ class _Cut:
     top: int
 
     @staticmethod
-    def of(asked: Asked) -> "_Cut":
+    def of(asked: RehearsalRequest) -> "_Cut":
         """By the job, up to the half-done segment, and in it up to the motors."""
         job = job_of(asked.drawing.source)
         state = Device(asked.image).state

@@ -23,9 +23,9 @@ from ngc_tools.failure import Failure
 from ngc_tools.files import cause
 from ngc_tools.formats.device import MOST_LARGE_PROGRAM
 from ngc_tools.page.deeds import DEEDS, WAITING, BadWords, Given, keep_checked
-from ngc_tools.page.http import MOST_HEAD, Refused, Request, head_of, read_body, read_request
+from ngc_tools.page.http import MOST_HEAD, RequestRefused, Request, head_of, read_body, read_request
 from ngc_tools.page.pages import Pages
-from ngc_tools.page.session import Busy, Session
+from ngc_tools.page.session import Busy, PageSession
 from ngc_tools.page.state import state_of
 
 STATIC = Path(__file__).resolve().parent / "static"
@@ -53,7 +53,7 @@ _APART_S = 0.03  # and not more often than so
 class Server:
     """`key` is the secret in the path; `port` is where it listens, once it does."""
 
-    def __init__(self, key: str, session: Session, addresses: Iterable[str] = ()) -> None:
+    def __init__(self, key: str, session: PageSession, addresses: Iterable[str] = ()) -> None:
         """`addresses` are other ones by which pages come, as `https://mill.example` through a proxy. Reads what is
         served. Raises OSError."""
         self.key, self.session, self.pages, self.port = key, session, Pages(session), 0
@@ -145,15 +145,15 @@ class Server:
         """The path after the key. Raises Refused for whoever doesn't know the key, comes by another name, as after DNS
         was rebound, or from another site."""
         if request.headers.get("host", "") not in self._names:
-            raise Refused(HTTPStatus.MISDIRECTED_REQUEST)
+            raise RequestRefused(HTTPStatus.MISDIRECTED_REQUEST)
         key, _, path = request.path.removeprefix("/").partition("/")
         if not hmac.compare_digest(key.encode(), self.key.encode()):
-            raise Refused(HTTPStatus.NOT_FOUND)
+            raise RequestRefused(HTTPStatus.NOT_FOUND)
         origin = request.headers.get("origin")
         if origin is not None and origin not in self._origins or request.method == "POST" and origin is None:
-            raise Refused(HTTPStatus.FORBIDDEN, "another origin")
+            raise RequestRefused(HTTPStatus.FORBIDDEN, "another origin")
         if request.headers.get("sec-fetch-site", "same-origin") not in ("same-origin", "none"):
-            raise Refused(HTTPStatus.FORBIDDEN, "another site")
+            raise RequestRefused(HTTPStatus.FORBIDDEN, "another site")
         return path
 
     # what is answered
@@ -161,7 +161,7 @@ class Server:
     def static(self, name: str) -> tuple[bytes, str]:
         """What is served by a name, and its kind. Raises Refused."""
         if (name or "index.html") not in self._static:
-            raise Refused(HTTPStatus.NOT_FOUND)
+            raise RequestRefused(HTTPStatus.NOT_FOUND)
         return self._static[name or "index.html"]
 
     def program(self) -> bytes:
@@ -204,9 +204,9 @@ class Server:
             self.pages.take_over(page)
             return {}
         if page != self.pages.commands:
-            raise Refused(HTTPStatus.FORBIDDEN, "another page commands: take over first")
+            raise RequestRefused(HTTPStatus.FORBIDDEN, "another page commands: take over first")
         if name not in DEEDS:
-            raise Refused(HTTPStatus.NOT_FOUND)
+            raise RequestRefused(HTTPStatus.NOT_FOUND)
         given = Given(self.session, self.pages, self._checked, words)
         done = await asyncio.to_thread(DEEDS[name], given) if name in WAITING else DEEDS[name](given)
         return done or {}
@@ -248,7 +248,7 @@ class _Connection:
                 async with asyncio.timeout(_REQUEST_S):
                     body = await self._body(request, path)
                 await self._send(*await self._answered(request, path, body))
-        except Refused as error:
+        except RequestRefused as error:
             await self._send(error.status, _json({"why": str(error)}), _JSON, {"Connection": "close"})
 
     async def _body(self, request: Request, path: str) -> bytes:
@@ -261,7 +261,7 @@ class _Connection:
             if request.method == "GET":
                 return HTTPStatus.OK, *self._got(path)
             return HTTPStatus.OK, await self._posted(request, path, body), _JSON
-        except Refused as error:
+        except RequestRefused as error:
             status, why = error.status, str(error)
         except Busy as error:
             status, why = HTTPStatus.CONFLICT, str(error)
@@ -281,28 +281,28 @@ class _Connection:
         """Does what is asked. Raises what `do`, `check` and `draw` raise."""
         page = request.headers.get("x-page", "")
         if not _PAGE.fullmatch(page):
-            raise Refused(HTTPStatus.BAD_REQUEST, "no page")
+            raise RequestRefused(HTTPStatus.BAD_REQUEST, "no page")
         if path in _UPLOADS:
             async with self.server.uploads:
                 name = _name(request.headers.get("x-name", ""))
                 return await (self.server.check(name, body) if path == "check" else self.server.draw(body))
         if request.headers.get("content-type", "").partition(";")[0].strip() != _JSON:
-            raise Refused(HTTPStatus.UNSUPPORTED_MEDIA_TYPE)
+            raise RequestRefused(HTTPStatus.UNSUPPORTED_MEDIA_TYPE)
         try:
             words = json.loads(body)
         except (ValueError, RecursionError):
-            raise Refused(HTTPStatus.BAD_REQUEST, "no JSON") from None
+            raise RequestRefused(HTTPStatus.BAD_REQUEST, "no JSON") from None
         if not isinstance(words, dict):
-            raise Refused(HTTPStatus.BAD_REQUEST, "no object")
+            raise RequestRefused(HTTPStatus.BAD_REQUEST, "no object")
         return _json(await self.server.do(path, page, words))
 
     async def _stream(self, path: str) -> None:
         """Tells a page all that changes, as server-sent events."""
         page = urllib.parse.parse_qs(path.partition("?")[2]).get("page", [""])[0]
         if not _PAGE.fullmatch(page):
-            raise Refused(HTTPStatus.BAD_REQUEST, "no page")
+            raise RequestRefused(HTTPStatus.BAD_REQUEST, "no page")
         if not self.server.pages.came(page):
-            raise Refused(HTTPStatus.SERVICE_UNAVAILABLE, "too many pages")
+            raise RequestRefused(HTTPStatus.SERVICE_UNAVAILABLE, "too many pages")
         try:
             self.writer.get_extra_info("socket").setsockopt(socket.IPPROTO_TCP, socket.TCP_USER_TIMEOUT,
                                                             int(1000 * _LOST_S))

@@ -22,10 +22,10 @@ from ngc_tools.operator.operator import Operator
 from ngc_tools.operator.sentences import explained
 from ngc_tools.page.aside import Aside
 from ngc_tools.page.drawer import Drawer
-from ngc_tools.page.drawing import Source, as_begun
+from ngc_tools.page.drawing import DrawingRequest, as_begun
 from ngc_tools.page.face import PageFace
 from ngc_tools.page.findings import Check, find
-from ngc_tools.page.never_cut import Asked, NeverCutSearch
+from ngc_tools.page.never_cut import LossRequest, NeverCutSearch
 from ngc_tools.page.jog import HeldJog
 from ngc_tools.page.losses import Losses
 from ngc_tools.page.stand import Kept, Stand, recovery_of
@@ -68,7 +68,7 @@ Opens = Callable[[PageFace], Opened]
 
 
 @dataclass(slots=True)
-class Command:
+class SessionCommand:
     """Something that the session's thread does: its word, the wishes to hold and the entries of the log before it, and
     once it is done its result, or why it failed."""
 
@@ -81,7 +81,7 @@ class Command:
     failed: Failure | OSError | None = None
 
 
-class Session:
+class PageSession:
     """All that pages may do. `name` is that of the program that was loaded last, `program_id` grows with each. `ended`
     says why `ngc` has ended, if it has; `over` is set once nothing follows."""
 
@@ -96,8 +96,8 @@ class Session:
         self.past, self.past_at = "", ""  # how far the motors may be past the player's record, which has them there
         self.started = 0.0  # when the program was started in this session, in seconds since 1970
         self.is_finished = False  # it ran to its end, and nothing was begun since
-        self._next: Command | None = None
-        self.under: Command | None = None
+        self._next: SessionCommand | None = None
+        self.under: SessionCommand | None = None
         self._wake = threading.Condition()
         self._restarts = threading.Lock()
         self._begin()
@@ -147,7 +147,7 @@ class Session:
         console = self.operator.console
         asked = None
         if meter and report and found and self.operator.recover.found is None:
-            asked = Asked(console.ngc, console.settings, found.image, report.at.split(), meter.most_ahead(report))
+            asked = LossRequest(console.ngc, console.settings, found.image, report.at.split(), meter.most_ahead(report))
         self.never_cut.begin(Losses(console.device), self.kept.device.program, asked)
 
     # what pages ask for
@@ -157,14 +157,14 @@ class Session:
         """Whether a command is under way."""
         return self.under is not None or self._next is not None
 
-    def give(self, word: str, does: Callable[[], Any]) -> Command:
+    def give(self, word: str, does: Callable[[], Any]) -> SessionCommand:
         """Gives the session's thread something to do. Raises Busy."""
         with self._wake:
             if self.ended or self.over.is_set():
                 raise Busy(self.ended or "the session is over")
             if self.is_busy:
                 raise Busy("something runs: hold first")
-            command = self._next = Command(word, does, self.face.holds, self.face.last_id())
+            command = self._next = SessionCommand(word, does, self.face.holds, self.face.last_id())
             self._wake.notify_all()
         return command
 
@@ -313,7 +313,7 @@ class Session:
                     command.done.set()
                     self.face.publish()
 
-    def _do(self, command: Command) -> None:
+    def _do(self, command: SessionCommand) -> None:
         """Does a command, and sees how it ended."""
         self.face.begin(command.holds)
         self.face.publish()
@@ -335,7 +335,7 @@ class Session:
             self._see_end(command, before)
             self._look_at_way(command)
 
-    def _look_at_way(self, command: Command) -> None:
+    def _look_at_way(self, command: SessionCommand) -> None:
         """Looks again which way `recover` would take, where the motors were moved without lines, as by home."""
         found, report = self.operator.recover.found, self.operator.session.report()
         if command.word in WITHOUT_LINES and found is not None and report is not None and report.behind == 0:
@@ -343,14 +343,14 @@ class Session:
             if is_half or found.is_left():
                 found.look_again(report)
 
-    def _tell_bug(self, command: Command, error: Exception) -> None:
+    def _tell_bug(self, command: SessionCommand, error: Exception) -> None:
         """An error of this program itself."""
         if os.environ.get("NGC_DEBUG"):
             traceback.print_exception(error)
         command.failed = Failure(f"internal error: {type(error).__name__}: {error}")
         self.face.say(str(command.failed), REFUSED)
 
-    def _see_end(self, command: Command, before: Status) -> None:
+    def _see_end(self, command: SessionCommand, before: Status) -> None:
         """Sees whether the program ran to its end."""
         status = self.operator.console.status()
         ran = command.word in ("run", "resume", "recover") and (before.place or before.half == "program"
@@ -406,7 +406,7 @@ class Session:
         """Draws the program as it would be if it were begun now."""
         self.drawer.begin(self._source_of(self.kept.read()))
 
-    def _source_of(self, device: Device) -> Source:
+    def _source_of(self, device: Device) -> DrawingRequest:
         """What is drawn where a program is to begin, or began, as a device stands."""
         console, delete = self.operator.console, self.operator.session.delete
-        return Source(console.ngc, console.settings, self.machine, device.image, not device.state.place, delete)
+        return DrawingRequest(console.ngc, console.settings, self.machine, device.image, not device.state.place, delete)

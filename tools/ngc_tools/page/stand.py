@@ -9,9 +9,9 @@ from ngc_tools.job.figures import duration
 from ngc_tools.job.figures import millimetres as rounded
 from ngc_tools.ngc.console import Status
 from ngc_tools.operator.display import on_words
-from ngc_tools.operator.recovery import Found, Recovery
+from ngc_tools.operator.recovery import OutFound, Recovery
 from ngc_tools.operator.session import BROKEN
-from ngc_tools.player.progress import Machine, Report
+from ngc_tools.player.progress import MoveReport, Report
 from ngc_tools.player.way import count_lines
 
 _OFTEN_S = 0.25
@@ -30,7 +30,7 @@ class Stand:
     recovery: dict | None = None
     typed: bool = False
     restore: tuple[str, ...] = ()
-    machine: Machine | None = None
+    machine: MoveReport | None = None
 
     @property
     def has_ramps(self) -> bool:
@@ -70,7 +70,7 @@ class Kept:
         return self.device
 
 
-def recovery_of(found: Found | None) -> dict | None:
+def recovery_of(found: OutFound | None) -> dict | None:
     """What `recover` would do, as a page shows it; None where OUT is no file that is followed."""
     if found is None:
         return None

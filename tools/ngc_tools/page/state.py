@@ -10,7 +10,7 @@ from ngc_tools.operator.display import outputs_on
 from ngc_tools.operator.motors import way_nm
 from ngc_tools.operator.session import ALARM, BROKEN
 from ngc_tools.page.face import LOOKS
-from ngc_tools.page.session import MOVES, Session
+from ngc_tools.page.session import MOVES, PageSession
 from ngc_tools.player.progress import Report
 
 _TROUBLES = {
@@ -25,7 +25,7 @@ _IN_MODES = ("unit", "distance", "plane", "system", "feed_mode", "motion")
 class Pictured:
     """How a session stands at one moment."""
 
-    def __init__(self, session: Session) -> None:
+    def __init__(self, session: PageSession) -> None:
         self.session, self.face = session, session.face
         self.operator, self.stand = session.operator, session.stand
         self.command, view = session.under, session.face.view
@@ -214,6 +214,6 @@ def _short(refusal: str) -> str:
     return f"{where.strip()}: {what}" if where else what
 
 
-def state_of(session: Session) -> dict:
+def state_of(session: PageSession) -> dict:
     """All that a page shows and that changes."""
     return Pictured(session).plain()

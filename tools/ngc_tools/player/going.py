@@ -12,7 +12,7 @@ from ngc_tools.job.figures import millimetres as rounded
 from ngc_tools.player.person import Voice
 from ngc_tools.player.player import Player
 from ngc_tools.player.retrace import Point, leg_pulses, legs_to
-from ngc_tools.player.way import Move, NoWay, Way, end_of_line, look, moves, outputs_at, tool_change
+from ngc_tools.player.way import CarriedLine, NoWay, Way, end_of_line, look, moves, outputs_at, tool_change
 
 _TURNS = ("", "spindle clockwise", "spindle counter-clockwise")
 
@@ -100,7 +100,7 @@ class Going:
         start = self.player.position.nm
         legs = legs_to(start, end, lift_nm)
         pulses = leg_pulses(Position(self.settings.step_nm, start), legs, self.player.manner)
-        way = look((Move(pulse, 0, 0) for pulse in pulses), Position(self.settings.step_nm, start))
+        way = look((CarriedLine(pulse, 0, 0) for pulse in pulses), Position(self.settings.step_nm, start))
         self.voice.say(way_words(way, f"by legs over Z {millimetres(lift_nm)} to {_point(end)}"))
 
     def _agreed(self, outputs: Switch) -> Switch | None:

@@ -13,7 +13,7 @@ from ngc_tools.player.pins import Pins
 from ngc_tools.player.player import Player
 from ngc_tools.player.source import Source
 from ngc_tools.player.spindle import Spindle
-from ngc_tools.player.way import Move
+from ngc_tools.player.way import CarriedLine
 from ngc_tools.player.window import Window
 
 _FEW = 8  # lines are read after each one while it moves: more would make the next one late
@@ -156,7 +156,7 @@ class PacedPlayer(Player):
             self._carry_out_now(text, line, ns)
         else:
             self._extras -= 1
-            self._make(Move(line, self.lines, self.size, is_extra=True), ns)
+            self._make(CarriedLine(line, self.lines, self.size, is_extra=True), ns)
         self._window.leave(self._pace.first)
         return True
 

@@ -130,11 +130,11 @@ class Report:
 
 
 @dataclass(frozen=True, slots=True)
-class Machine:
+class MoveReport:
     """What a player says of moves without lines. `does` is `stands`, `home X`, `jog X+` or `seek Z-`; `homed` the axes
     that were homed, as `XYZ`; `alarm` is `emergency_stop`, `limits` or `sink`, "" for none; `on` the inputs that are
-    on; `touched` where the probe was touched last, in machine millimetres. The move of the number `ended` is over, 0 for
-    none, and `how` is `done`, or says in words why it came to rest."""
+    on; `touched` where the probe was touched last, in machine millimetres. The move of the number `ended` is over, 0
+    for none, and `how` is `done`, or says in words why it came to rest."""
 
     does: str
     homed: str = ""
@@ -145,7 +145,7 @@ class Machine:
     how: str = ""
 
     @staticmethod
-    def read(answer: bytes) -> "Machine":
+    def read(answer: bytes) -> "MoveReport":
         """Reads what was answered. Raises ValueError for any other text."""
         match = _MACHINE.fullmatch(answer.decode("utf-8", "replace"))
         if match is None:
@@ -153,7 +153,7 @@ class Machine:
         does, homed, alarm, on, touched = (each if each != "none" else "" for each in match.groups()[:5])
         ended = int(match[6])
         inputs = tuple(on.split(",")) if on else ()
-        return Machine(does, homed, alarm, inputs, touched, ended, match[7] if ended else "")
+        return MoveReport(does, homed, alarm, inputs, touched, ended, match[7] if ended else "")
 
 
 def _switch(text: str) -> Switch | None:
@@ -347,12 +347,12 @@ class Link:
         """Tells a player that is held to go on. Raises NoAnswer."""
         self._send(b"release")
 
-    def machine(self) -> Machine:
+    def machine(self) -> MoveReport:
         """What moves without lines, which inputs are on, and how the last such move ended. Raises NoAnswer; so it does
         where the player has no such moves."""
         self.count += 1
         try:
-            return Machine.read(self._answer(b"machine %d" % self.count))
+            return MoveReport.read(self._answer(b"machine %d" % self.count))
         except ValueError as error:
             raise NoAnswer(f"{self.path}: {error}; {_OTHER}") from None
 

@@ -31,7 +31,7 @@ from ngc_tools.player.pace_path import Limits
 from ngc_tools.player.pins import Pins
 from ngc_tools.player.schedule import Schedule
 from ngc_tools.player.source import Source
-from ngc_tools.player.way import Move, NoWay, count_lines, moves
+from ngc_tools.player.way import CarriedLine, NoWay, count_lines, moves
 
 Point = tuple[int, int, int]
 _DOZE_S = 0.005
@@ -182,18 +182,18 @@ class Goes:
             self._wait_until(time.monotonic_ns() + self.manner.spindle_us * 1000)
         self.schedule.pause()
 
-    def _by_legs(self, errand: Errand) -> Iterator[Move]:
+    def _by_legs(self, errand: Errand) -> Iterator[CarriedLine]:
         """With the last pulse the counts are those of the errand."""
         start = Position(self.position.step_nm, self.position.nm)
         later: Pulse | None = None
         for pulse in leg_pulses(start, errand.legs, self.manner):
             if later:
-                yield Move(later, self.lines, self.size)
+                yield CarriedLine(later, self.lines, self.size)
             later = pulse
         if later:
-            yield Move(later, errand.legs_lines, errand.legs_size)
+            yield CarriedLine(later, errand.legs_lines, errand.legs_size)
 
-    def _go(self, found: Iterator[Move]) -> None:
+    def _go(self, found: Iterator[CarriedLine]) -> None:
         """Makes moves, each in its time, or by ramps."""
         if self._limits:
             self._go_paced(self._with_extras(found), Pace(self._limits))
@@ -206,20 +206,20 @@ class Goes:
         self._stands_held = False
         self._await_due()
 
-    def _with_extras(self, found: Iterator[Move]) -> Iterator[Move]:
+    def _with_extras(self, found: Iterator[CarriedLine]) -> Iterator[CarriedLine]:
         """The moves, and before each the extra pulses that take up backlash, with the counts of the move before."""
         screws, lines, size = list(self.screws), self.lines, self.size
         for move in found:
             while move.line and (extra := self.backlash.before(screws, move.line)):
                 self.backlash.take(screws, extra, is_extra=True)
-                yield Move(extra, lines, size, is_extra=True)
+                yield CarriedLine(extra, lines, size, is_extra=True)
             if move.line:
                 self.backlash.take(screws, move.line)
             lines, size = move.lines, move.size
             yield move
 
-    def _go_paced(self, found: Iterator[Move], pace: Pace) -> None:
-        ahead: deque[Move] = deque()
+    def _go_paced(self, found: Iterator[CarriedLine], pace: Pace) -> None:
+        ahead: deque[CarriedLine] = deque()
         is_all = False
         while not is_all or ahead:
             self._await_due()
@@ -239,7 +239,7 @@ class Goes:
         self._await_due()
 
     @staticmethod
-    def _take(found: Iterator[Move], ahead: deque[Move], pace: Pace) -> bool:
+    def _take(found: Iterator[CarriedLine], ahead: deque[CarriedLine], pace: Pace) -> bool:
         """Takes a move into the window; whether there is none any more."""
         move = next(found, None)
         if move is None:
@@ -258,7 +258,7 @@ class Goes:
         time.sleep(_DOZE_S)
         self.schedule.pause()
 
-    def _make(self, move: Move, lasts_ns: int) -> None:
+    def _make(self, move: CarriedLine, lasts_ns: int) -> None:
         """Makes a pulse now, which is counted."""
         line = move.line
         if line is not None:

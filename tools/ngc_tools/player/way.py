@@ -19,7 +19,7 @@ class NoWay(Failure):
 
 
 @dataclass(frozen=True, slots=True)
-class Move:
+class CarriedLine:
     """A line that was carried out, or taken back: then the motors are where the first `lines` lines lead, the first
     `size` bytes of OUT. Of a wait or a switch that is taken back `line` is None: nothing is done."""
 
@@ -43,20 +43,20 @@ class Way:
     end_nm: tuple[int, int, int]
 
 
-def moves(file: int, lines: int, size: int, to: int, least_us: int) -> Iterator[Move]:
+def moves(file: int, lines: int, size: int, to: int, least_us: int) -> Iterator[CarriedLine]:
     """The moves from where the motors are, after so many lines and bytes of OUT, to where its first `to` bytes lead.
     Raises BadLine."""
     return _back(file, lines, size, to, least_us) if to < size else _on(file, lines, size, to, least_us)
 
 
-def _on(file: int, lines: int, size: int, to: int, least_us: int) -> Iterator[Move]:
+def _on(file: int, lines: int, size: int, to: int, least_us: int) -> Iterator[CarriedLine]:
     for text in _texts_on(file, size, to):
         lines += 1
         size += len(text) + 1
-        yield Move(read_line(text, lines, least_us), lines, size)
+        yield CarriedLine(read_line(text, lines, least_us), lines, size)
 
 
-def _back(file: int, lines: int, size: int, to: int, least_us: int) -> Iterator[Move]:
+def _back(file: int, lines: int, size: int, to: int, least_us: int) -> Iterator[CarriedLine]:
     """Between two pulses lies the time that lay between them."""
     later: tuple[Pulse, int, int] | None = None
     for text in _texts_back(file, to, size):
@@ -67,16 +67,16 @@ def _back(file: int, lines: int, size: int, to: int, least_us: int) -> Iterator[
             yield _taken_back(*later, line.period_us if isinstance(line, Pulse) else later[0].period_us)
         later = (line, lines, size) if isinstance(line, Pulse) else None
         if later is None:
-            yield Move(None, lines, size)
+            yield CarriedLine(None, lines, size)
     if later is not None:
         yield _taken_back(*later, later[0].period_us)
 
 
-def _taken_back(pulse: Pulse, lines: int, size: int, period_us: int) -> Move:
-    return Move(Pulse(-pulse.x, -pulse.y, -pulse.z, period_us), lines, size)
+def _taken_back(pulse: Pulse, lines: int, size: int, period_us: int) -> CarriedLine:
+    return CarriedLine(Pulse(-pulse.x, -pulse.y, -pulse.z, period_us), lines, size)
 
 
-def look(found: Iterable[Move], position: Position) -> Way:
+def look(found: Iterable[CarriedLine], position: Position) -> Way:
     """What moves come to, from a point on, which is moved along. Raises as they do."""
     lines = pulses = switches = length = us = 0
     low = position.steps[2]
