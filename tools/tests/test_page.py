@@ -333,7 +333,7 @@ class Work(Served):
 class Ramps(Served):
     """A player with ramps: its motors are held, and go slower."""
 
-    MACHINE = "[motion]\naccel_mm_s2 = [500, 500, 300]\n"
+    MACHINE = "[motion]\naccel_mm_s2 = [500, 500, 300]\nmost_percent = 120\n"
 
     def test_held(self) -> None:
         """The motors stand with lines in hand; `release` carries them out; `quit` asks about a half-done line."""
@@ -360,12 +360,12 @@ class Ramps(Served):
         page.agree(state)
         self.assertTrue(page.last()["over"])
 
-
     def test_spindle(self) -> None:
         """The spindle is overridden while a program runs, and at rest; what the machine's file doesn't allow isn't
         taken. What `ngc` knows stays the program's speed."""
         page = self.page()
-        self.assertEqual(page.next()["spindle_percent"], 100)
+        state = page.next()
+        self.assertEqual((state["spindle_percent"], state["most_percents"]), (100, [120, 100]))
         self.load(page, "G21 G90\nM3 S1000\nG1 X40 F60\nM2\n")
         self.cuts(page)
         self.assertEqual(page.post("spindle", {"percent": 50}), (200, {}))

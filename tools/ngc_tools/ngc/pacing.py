@@ -1,6 +1,9 @@
-"""How long lines of OUT take with ramps: `ngc pace` times them, as they are given to it piece by piece."""
+"""How long lines of OUT take with ramps, at OUT's own rates: `ngc pace` times them, as they are given to it piece by
+piece."""
+import os
 import subprocess
 import threading
+import tomllib
 from collections import Counter
 from contextlib import suppress
 from pathlib import Path
@@ -14,14 +17,38 @@ class NotTimed(Failure):
     """`ngc run` didn't hand out the moves, or `ngc pace` gave no time; it says why."""
 
 
+def _begin(ngc: str, settings: str | Path, machine: str | Path, *words: str, bufsize: int = -1) -> subprocess.Popen:
+    """Starts `ngc pace`. It would go as fast as an override may; a copy of the machine's file says that none may be.
+    Raises OSError."""
+    with os.fdopen(os.memfd_create("machine"), "wb") as copy:
+        slower = _without_override(machine)
+        copy.write(slower)
+        copy.flush()
+        path = f"/proc/self/fd/{copy.fileno()}" if slower else str(machine)
+        return subprocess.Popen([ngc, "pace", str(settings), path, *words], stdin=subprocess.PIPE,
+                                stdout=subprocess.PIPE, bufsize=bufsize, pass_fds=(copy.fileno(),))
+
+
+def _without_override(machine: str | Path) -> bytes:
+    """The table `[motion]` of a machine's file that takes an override above 100 percent, without that; nothing of
+    another file, which `ngc` reads itself, or refuses."""
+    try:
+        motion = tomllib.loads(Path(machine).read_text()).get("motion")
+    except (OSError, ValueError):
+        return b""
+    if not isinstance(motion, dict) or motion.get("most_percent", 100) == 100:
+        return b""
+    kept = [f"{key} = {value}\n" for key, value in motion.items() if key != "most_percent"]
+    return "".join(["[motion]\n", *kept]).encode()
+
+
 class Pacing:
     """A running `ngc pace --total`. `lines` were given to it, which last `us` microseconds by themselves. Once they are
     all given, `with_ramps_us` is how long they take with ramps, rounded half up."""
 
     def __init__(self, ngc: str, settings: str | Path, machine: str | Path) -> None:
         """Raises OSError if it can't be started."""
-        words = [ngc, "pace", str(settings), str(machine), "--total"]
-        self._child = subprocess.Popen(words, stdin=subprocess.PIPE, stdout=subprocess.PIPE)
+        self._child = _begin(ngc, settings, machine, "--total")
         self.lines = self.us = self.with_ramps_us = 0
 
     def __enter__(self) -> "Pacing":
@@ -60,8 +87,7 @@ class DueTimes:
 
     def __init__(self, ngc: str, settings: str | Path, machine: str | Path) -> None:
         """Raises OSError if it can't be started."""
-        words = [ngc, "pace", str(settings), str(machine)]
-        self._child = subprocess.Popen(words, stdin=subprocess.PIPE, stdout=subprocess.PIPE, bufsize=0)
+        self._child = _begin(ngc, settings, machine, bufsize=0)
         self._lines = 0
         self._marks: list[int] = []  # lines before those that are asked for
         self._due_ns: list[int] = []

@@ -18,6 +18,7 @@ from ngc_tools.formats.position import nanometres
 from ngc_tools.formats.settings import Settings
 from ngc_tools.ngc.console import Ended, Status
 from ngc_tools.operator.face import REFUSED, WARNING
+from ngc_tools.operator.motors import SPINDLE_PERCENTS, WHOLE
 from ngc_tools.operator.operator import Operator
 from ngc_tools.operator.sentences import explained
 from ngc_tools.page.aside import Aside
@@ -29,6 +30,7 @@ from ngc_tools.page.never_cut import LossRequest, NeverCutSearch
 from ngc_tools.page.jog import HeldJog
 from ngc_tools.page.losses import Losses
 from ngc_tools.page.stand import Kept, Stand, recovery_of
+from ngc_tools.player.machine import read_machine
 from ngc_tools.player.progress import Link, NoAnswer
 
 WITHOUT_LINES = {"home", "jog", "seek"}
@@ -118,6 +120,7 @@ class PageSession:
         """Says and sees how all stands at first."""
         console = operator.console
         self.settings = Settings.read(console.settings)
+        self.most_percents = _most_percents(self.machine, self.settings)
         self.face.begin(self.face.holds)
         operator.begin(self.opened.bound, self.opened.found)
         self.operator, self.ident = operator, secrets.token_hex(8)  # a page that saw another one begins anew
@@ -410,3 +413,15 @@ class PageSession:
         """What is drawn where a program is to begin, or began, as a device stands."""
         console, delete = self.operator.console, self.operator.session.delete
         return DrawingRequest(console.ngc, console.settings, self.machine, device.image, not device.state.place, delete)
+
+
+def _most_percents(path: str, settings: Settings) -> tuple[int, int]:
+    """The most that the overrides of the feed and of the spindle may be by a machine's file; 100 where none is given, or
+    it is wrong: the player says why."""
+    if not path:
+        return WHOLE, WHOLE
+    try:
+        machine = read_machine(path, settings.step_nm)
+    except (Failure, OSError):
+        return WHOLE, WHOLE
+    return machine.limits.most_percent, SPINDLE_PERCENTS[-1] if machine.max_rpm else WHOLE

@@ -83,7 +83,8 @@ class Pictured:
         out = report.outputs if report else outputs_on(self.device.state)
         said = {"player": meter is not None, "player_gone": self.stand.gone, "motors": report and report.at.split(),
                 "speed": out.speed / 10**6, "spindle": out.spindle, "mist": out.mist, "flood": out.flood,
-                "slot": out.slot, "selected": out.selected, "recover": self.stand.recovery,
+                "slot": out.slot, "selected": out.selected, "most_percents": self.session.most_percents,
+                "recover": self.stand.recovery,
                 "past": self.session.past if report and report.at == self.session.past_at else ""}
         if not report or not meter:
             return said | {"behind": None, "waits": False, "ahead": None, "percent": 100, "has_percent": False,

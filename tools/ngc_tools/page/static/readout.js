@@ -7,8 +7,8 @@ const APART_MM = 0.0006;
 export class Readout {
   // `asks` sends a request: asks('percent', {percent}).
   constructor(asks) {
-    this.feed = new Override($('override'), 'Feed', 100, percent => asks('percent', { percent }));
-    this.spindle = new Override($('spindle-override'), 'Spindle', 200, percent => asks('spindle', { percent }));
+    this.feed = new Override($('override'), 'Feed', percent => asks('percent', { percent }));
+    this.spindle = new Override($('spindle-override'), 'Spindle', percent => asks('spindle', { percent }));
     this.axes = AXES.map(axis => this.axis(axis));
     this.gauges = Object.fromEntries(['Feed', 'Spindle', 'Coolant', 'Tool'].map(name => [name, this.gauge(name)]));
     window.addEventListener('resize', () => this.fit());
@@ -33,8 +33,8 @@ export class Readout {
     this.fit();
     this.showGauges(s, rate);
     const isFree = s.yours && !s.player_gone && !s.ended;
-    this.feed.show(s.has_percent ? s.percent : null, isFree);
-    this.spindle.show(s.spindle_percent ?? null, isFree);
+    this.feed.show(s.has_percent ? s.percent : null, s.most_percents[0], isFree);
+    this.spindle.show(s.spindle_percent ?? null, s.most_percents[1], isFree);
     this.showRisk(s);
     const words = [systemName(s.system), `G${s.distance}`, `G${s.unit}`, `G${s.plane}`, `G${s.feed_mode}`];
     text($('modes'), words.join(' ') + (Number(s.tool_length) ? `  length ${mm(s.tool_length)}` : ''));
@@ -87,27 +87,27 @@ export class Readout {
   }
 }
 
-// An override: ten percent less, the whole, ten percent more, up to `most`. `sets` asks for so many percent.
+// An override: ten percent less, the whole, ten percent more. `sets` asks for so many percent.
 class Override {
-  constructor(box, name, most, sets) {
-    Object.assign(this, { box, name, most, percent: 100 });
+  constructor(box, name, sets) {
+    Object.assign(this, { box, name, percent: 100, most: 100 });
     const tens = (says, label, by) => el('button', { class: 'tens', 'aria-label': `${name}: 10 percent ${label}`,
-      onclick: () => sets(Math.min(most, Math.max(10, this.percent + by))) }, says);
+      onclick: () => sets(Math.min(this.most, Math.max(10, this.percent + by))) }, says);
     this.less = tens('\u2212', 'less', -10);
     this.more = tens('+', 'more', 10);
     this.whole = el('button', { onclick: () => sets(100) });
     box.append(this.less, this.whole, this.more);
   }
 
-  // `percent` is what the motors have; null where nothing takes one.
-  show(percent, isFree) {
+  // `percent` is what the motors have, null where nothing takes one; `most` is what the machine's file allows.
+  show(percent, most, isFree) {
     this.box.hidden = percent === null;
-    this.percent = percent ?? 100;
+    Object.assign(this, { percent: percent ?? 100, most });
     text(this.whole, `${this.name} ${this.percent} %`);
     this.whole.classList.toggle('apart', this.percent !== 100);
     this.whole.disabled = !isFree;
     this.less.disabled = !isFree || this.percent <= 10;
-    this.more.disabled = !isFree || this.percent >= this.most;
+    this.more.disabled = !isFree || this.percent >= most;
   }
 }
 
