@@ -170,6 +170,8 @@ class Times(MachineTest):
         """100 mm at 50 mm/s take 2 s, and 50 / 500 s more to start and to stop."""
         self.assertEqual(self.times(HEAD + "G1 X100\nM2\n"), "part.ngc: 2.000 s, with ramps 2.100 s")
         self.assertEqual(self.plot("part.ngc"), "in all    2.000 s, with ramps 2.100 s")
+        Path("motion.toml").write_text(MOTION + "most_percent = 200\n")  # of an override, for which nobody asked
+        self.assertEqual(self.times(HEAD + "G1 X100\nM2\n"), "part.ngc: 2.000 s, with ramps 2.100 s")
 
     def test_rests(self) -> None:
         """Two moves of 10 mm in one line take 0.4 s and 0.1 s; each by itself, 0.1 s more. Everything stands at a

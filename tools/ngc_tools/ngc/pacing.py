@@ -3,7 +3,6 @@ piece."""
 import os
 import subprocess
 import threading
-import tomllib
 from collections import Counter
 from contextlib import suppress
 from pathlib import Path
@@ -11,6 +10,7 @@ from types import TracebackType
 
 from ngc_tools.failure import Failure
 from ngc_tools.formats.out import read_line
+from ngc_tools.formats.settings import read_table
 
 
 class NotTimed(Failure):
@@ -33,8 +33,8 @@ def _without_override(machine: str | Path) -> bytes:
     """The table `[motion]` of a machine's file that takes an override above 100 percent, without that; nothing of
     another file, which `ngc` reads itself, or refuses."""
     try:
-        motion = tomllib.loads(Path(machine).read_text()).get("motion")
-    except (OSError, ValueError):
+        motion = read_table(machine).get("motion")
+    except (OSError, Failure):
         return b""
     if not isinstance(motion, dict) or motion.get("most_percent", 100) == 100:
         return b""
