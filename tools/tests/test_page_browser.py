@@ -37,8 +37,9 @@ SIGHT = """(() => {
 CUT = """[...document.querySelectorAll('.axis output, .axis div, #word, #risk, #left, nav button, h1, h2, dt, dd')]
     .filter(one => one.checkVisibility() && one.scrollWidth > one.clientWidth + 1).map(one => one.textContent)"""
 """What a person reads from afar, and that is cut."""
-LOW = "(place => place.scrollHeight - place.clientHeight)(document.querySelector('.place'))"
-"""By how much what stands on the left goes below its edge."""
+LOW = """Math.max(...['.place', '#modes'].map(name => document.querySelector(name))
+    .map(one => one.scrollHeight - one.clientHeight))"""
+"""By how much what stands on the left, or its last line, goes below its edge."""
 FAR = """(() => {
     document.querySelectorAll('.axis output').forEach(one => { one.textContent = '\\u22121000.000'; });
     ngc.readout.fit();
