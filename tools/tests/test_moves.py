@@ -154,8 +154,9 @@ class Moving(PlayerTest):
         return tuple(map(float, self.link.ask().at.split()))
 
     def told(self) -> None:
-        """Says to the player that `ngc` knows where the machine is."""
+        """Says to the player that `ngc` knows where the machine is; once it answers after that, it has heard it."""
         self.link.at(self.link.ask().at)
+        self.link.ask()
 
     def kept(self, *lines: str) -> None:
         """Waits until the record on the disk ends with these lines."""

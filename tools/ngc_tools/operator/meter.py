@@ -56,6 +56,7 @@ class Meter:
                 return 0
             if report.word == MOVED:  # who asks for room has compared the points, or goes on all the same
                 self.link.at(report.at)
+                report = self.link.ask()  # it has heard that before a line comes
             limit = self.limit(report)
             free = limit - report.behind
             if free >= max(1, limit // self.parts):
