@@ -135,6 +135,15 @@ class Ends(unittest.TestCase):
             done = script(body.format(name))
             self.assertEqual((done.returncode, done.stderr), (status, said), name)
 
+    def test_half_made(self) -> None:
+        """What was half made as a signal came is let go without a word."""
+        body = ("class Half:\n        def __init__(self):\n            os.kill(os.getpid(), signal.{0})\n"
+                "            self.made = True\n        def __del__(self):\n            self.made\n"
+                "    return len(str(Half()))")
+        for name, status, said in (("SIGINT", 2, "try: stopped\n"), ("SIGTERM", -15, "")):
+            done = script(body.format(name))
+            self.assertEqual((done.returncode, done.stderr), (status, said), name)
+
     def test_ignored_signals(self) -> None:
         """What the shell made it ignore stays so, as under nohup."""
         done = script("os.kill(os.getpid(), signal.SIGINT); os.kill(os.getpid(), signal.SIGHUP); return 0",

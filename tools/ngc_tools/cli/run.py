@@ -38,9 +38,11 @@ def run(parser: argparse.ArgumentParser, work: Work, arguments: list[str] | None
     try:
         with _heeding(), nothing_left(), _raised_after_finalizers(), _told_of_threads(parser.prog):
             status = _ended(parser, work, arguments)
-    except KeyboardInterrupt:
+    except KeyboardInterrupt as stopped:
+        _let_go(stopped)
         status = _say(f"{parser.prog}: stopped")
     except _Killed as killed:
+        _let_go(killed)
         ending = killed.number
     if ending:  # what the work held is given back by now
         signal.signal(ending, signal.SIG_DFL)
@@ -165,6 +167,15 @@ def _heeding() -> Iterator[None]:
                 signal.signal(number, handler)
 
 
+def _let_go(ending: BaseException) -> None:
+    """Frees what was under way as a signal came. What was half made by then has nothing to say of that."""
+    before, sys.unraisablehook = sys.unraisablehook, lambda _what: None
+    try:
+        ending.__traceback__ = ending.__context__ = None
+    finally:
+        sys.unraisablehook = before
+
+
 @contextmanager
 def _raised_after_finalizers() -> Iterator[None]:
     """A signal that comes within a finalizer, out of which Python raises nothing, ends the work a moment later."""
@@ -172,7 +183,8 @@ def _raised_after_finalizers() -> Iterator[None]:
 
     def raise_later(what: "sys.UnraisableHookArgs") -> None:
         if not isinstance(what.exc_value, (KeyboardInterrupt, _Killed)):
-            before(what)
+            if signal.getsignal(signal.SIGINT) is not signal.SIG_IGN:  # else it ends, and what was half made goes
+                before(what)
             return
         ending = type(what.exc_value)(*what.exc_value.args)
 
