@@ -12,7 +12,8 @@ use Rattle.ng_arc.specs.Asked.{arc_of}
 use Rattle.ng_arc.specs.Check.{causes, checked, have_radii_differing, start_square, end_square, tolerance}
 use Rattle.ng_arc.proofs.RadiiLemmas.{alike_law}
 
-pub least : (asked : AskedArc) (r : Result Arc Fault) → r ≡ checked asked → MatchResult r (λ _. NoneHolds (causes asked)) (λ fault. IsFirstFault (causes asked) fault)
+pub least : (asked : AskedArc) (r : Result Arc Fault) → r ≡ checked asked
+    → MatchResult r (λ _. NoneHolds (causes asked)) (λ fault. IsFirstFault (causes asked) fault)
 least asked r e = rw e (first_of (causes asked) (arc_of asked) (first_fault (causes asked)) refl)
 
 not_law : (b : Bool) (P : Type 0) → IsTrue b ↔ P → IsFalse (not b) ↔ P

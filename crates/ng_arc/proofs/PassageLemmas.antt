@@ -1,5 +1,6 @@
 -- An arc passes the direction at which a quadrant begins exactly if it enters the quadrant.
-use Rattle.std.proofs.Common.{arith, ℕ, zero, suc, ◌+◌, ◌-◌, ◌*◌, ◌%◌, ◌<◌, ◌≤◌, ◌≡◌, ◌∙◌, ◌⊎◌, inl, inr, refl, sym, ap, ℤ, pos, negsuc, neg_ℤ, ◌-ℤ◌, Bool, true, false}
+use Rattle.std.proofs.Common.{arith, ℕ, zero, suc, ◌+◌, ◌-◌, ◌*◌, ◌%◌, ◌<◌, ◌≤◌, ◌≡◌, ◌∙◌, ◌⊎◌, inl, inr, refl, sym}
+use Rattle.std.proofs.Common.{ap, ℤ, pos, negsuc, neg_ℤ, ◌-ℤ◌, Bool, true, false}
 use Rattle.std.proofs.lemmas.Int.{ints}
 use Rattle.std.proofs.lemmas.Nat.{mul-le}
 use Rattle.std.proofs.lemmas.Bool.{cases_order, lt-ltb}
@@ -15,7 +16,8 @@ use Rattle.ng_canon.specs.Planes.{cross, dot, mirror}
 use Rattle.ng_arc.specs.Extremes.{sweep_by, sweep, is_passed}
 use Rattle.ng_canon.specs.Quadrants.{quadrant, quadrant_number, same_quadrant, mirror_quadrant}
 use Rattle.ng_arc.specs.Private.Quadrants.{direction, changes, is_entered, passes_toward}
-use Rattle.ng_arc.proofs.TurnLemmas.{times_neg, passed_mirrored, cross-turned, dot-turned, passed-turned, point_of_quadrant, relative, turned-place, quadrant-place}
+use Rattle.ng_arc.proofs.TurnLemmas.{times_neg, passed_mirrored, cross-turned, dot-turned, passed-turned}
+use Rattle.ng_arc.proofs.TurnLemmas.{point_of_quadrant, relative, turned-place, quadrant-place}
 
 -- ---- the turn from a point of the first quadrant
 
@@ -63,10 +65,20 @@ some_first : (m n k : ℕ) → k < m * n → 0 < m
 some_first zero n k h = absurd (omega arith)
 some_first (suc m) n k h = omega arith
 
-far_first : (i o j p x : ℕ) → x ≡ sweep Counterclockwise (point_of_quadrant First i o) (point_of_quadrant First j p) → (i * p ≡ o * j) ⊎ ((i * p < o * j) ⊎ (o * j < i * p)) → IsFar First o p x
+far_first : (i o j p x : ℕ) → x ≡ sweep Counterclockwise (point_of_quadrant First i o) (point_of_quadrant First j p)
+    → (i * p ≡ o * j) ⊎ ((i * p < o * j) ⊎ (o * j < i * p)) → IsFar First o p x
 far_first i o j p x is (inl same) = inr (inr (is ∙ sweep_whole (i * p) (o * j) (i * j + o * p) same))
-far_first i o j p x is (inr (inl less)) = inr (inl (is ∙ sweep_more (i * p) (o * j) (dot (point_of_quadrant First i o) (point_of_quadrant First j p)) less, some_first o j (i * p) less))
-far_first i o j p x is (inr (inr more)) = inl (is ∙ sweep_less (i * p) (o * j) (dot (point_of_quadrant First i o) (point_of_quadrant First j p)) more, some_factor i p (o * j) more)
+far_first i o j p x is (inr (inl less)) =
+    inr (inl (
+      is ∙ sweep_more (i * p) (o * j) (dot (point_of_quadrant First i o) (point_of_quadrant First j p))
+          less,
+      some_first o j (i * p) less,
+    ))
+far_first i o j p x is (inr (inr more)) =
+    inl (
+      is ∙ sweep_less (i * p) (o * j) (dot (point_of_quadrant First i o) (point_of_quadrant First j p)) more,
+      some_factor i p (o * j) more,
+    )
 
 cross_third : (i o j p : ℕ) → cross (point_of_quadrant First i o) (point_of_quadrant Third j p) ≡ pos (o * j) -ℤ pos (i * p)
 cross_third i o j p = rw (times_neg (pos i) (pos p), times_neg (pos o) (pos j)) (omega (arith, ints))
@@ -74,7 +86,9 @@ cross_third i o j p = rw (times_neg (pos i) (pos p), times_neg (pos o) (pos j)) 
 dot_third : (i o j p : ℕ) → dot (point_of_quadrant First i o) (point_of_quadrant Third j p) ≡ neg_ℤ (pos (i * j + o * p))
 dot_third i o j p = rw (times_neg (pos i) (pos j), times_neg (pos o) (pos p)) (omega (arith, ints))
 
-far_third_by : (i o j p x : ℕ) (d : ℤ) → 0 < i * j → d ≡ neg_ℤ (pos (i * j + o * p)) → x ≡ sweep_by (pos (o * j) -ℤ pos (i * p)) d → (o * j ≡ i * p) ⊎ ((o * j < i * p) ⊎ (i * p < o * j)) → IsFar Third o p x
+far_third_by : (i o j p x : ℕ) (d : ℤ) → 0 < i * j → d ≡ neg_ℤ (pos (i * j + o * p))
+    → x ≡ sweep_by (pos (o * j) -ℤ pos (i * p)) d → (o * j ≡ i * p) ⊎ ((o * j < i * p) ⊎ (i * p < o * j))
+    → IsFar Third o p x
 far_third_by i o j p x d some e by (inl same) = inr (inl (by ∙ rw e (sweep_half (o * j) (i * p) (i * j + o * p) same (omega arith))))
 far_third_by i o j p x d some e by (inr (inl less)) = inr (inr (by ∙ sweep_more (o * j) (i * p) d less, some_factor i p (o * j) less))
 far_third_by i o j p x d some e by (inr (inr more)) = inl (by ∙ sweep_less (o * j) (i * p) d more, some_first o j (i * p) more)
@@ -91,19 +105,34 @@ cross_fourth i o j p = rw (times_neg (pos i) (pos j)) (omega (arith, ints))
 
 far : (r : Quadrant) (i o j p : ℕ) → 0 < i → 0 < j → IsFar r o p (sweep Counterclockwise (point_of_quadrant First i o) (point_of_quadrant r j p))
 far First i o j p hi hj = far_first i o j p _ refl (cases_order (i * p) (o * j))
-far Second i o j p hi hj = rw (cross_second i o j p) (let some = some_product i j hi hj in sweep_less (i * j + o * p) 0 (dot (point_of_quadrant First i o) (point_of_quadrant Second j p)) (omega arith))
+far Second i o j p hi hj =
+    rw (cross_second i o j p) (let some = some_product i j hi hj in sweep_less (i * j + o * p) 0
+    (dot (point_of_quadrant First i o) (point_of_quadrant Second j p)) (omega arith))
 far Third i o j p hi hj = far_third i o j p hi hj
-far Fourth i o j p hi hj = rw (cross_fourth i o j p) (let some = some_product i j hi hj in sweep_more 0 (i * j + o * p) (dot (point_of_quadrant First i o) (point_of_quadrant Fourth j p)) (omega arith))
+far Fourth i o j p hi hj =
+    rw (cross_fourth i o j p) (let some = some_product i j hi hj in sweep_more 0 (i * j + o * p)
+    (dot (point_of_quadrant First i o) (point_of_quadrant Fourth j p)) (omega arith))
 
 toward_half : (i o : ℕ) → 0 < i → o ≡ 0 → sweep Counterclockwise (point_of_quadrant First i o) (point_of_quadrant Third 1 0) ≡ 2
 toward_half i o h none = rw (cross_third i o 1 0, dot_third i o 1 0) (sweep_half (o * 1) (i * 0) (i * 1 + o * 0) (omega arith) (omega arith))
 
 toward : (k : Quadrant) (i o : ℕ) → 0 < i → IsToward k o (sweep Counterclockwise (point_of_quadrant First i o) (point_of_quadrant k 1 0))
 toward First i zero h = inr (sweep_whole (i * 0) (0 * 1) (i * 1 + 0 * 0) (omega arith), refl)
-toward First i (suc o) h = inl (sweep_more (i * 0) (suc o * 1) (dot (point_of_quadrant First i (suc o)) (point_of_quadrant First 1 0)) (omega arith), omega arith)
+toward First i (suc o) h =
+    inl (
+      sweep_more (i * 0) (suc o * 1) (dot (point_of_quadrant First i (suc o)) (point_of_quadrant First 1 0))
+          (omega arith),
+      omega arith,
+    )
 toward Second i o h = far Second i o 1 0 h (omega arith)
 toward Third i zero h = inr (toward_half i zero h refl, refl)
-toward Third i (suc o) h = inl (rw (cross_third i (suc o) 1 0) (sweep_less (suc o * 1) (i * 0) (dot (point_of_quadrant First i (suc o)) (point_of_quadrant Third 1 0)) (omega arith)), omega arith)
+toward Third i (suc o) h =
+    inl (
+      rw (cross_third i (suc o) 1 0)
+          (sweep_less (suc o * 1) (i * 0) (dot (point_of_quadrant First i (suc o)) (point_of_quadrant Third 1 0))
+          (omega arith)),
+      omega arith,
+    )
 toward Fourth i o h = far Fourth i o 1 0 h (omega arith)
 
 lies_past_first : (r : Quadrant) (j p : ℕ) → 0 < j → LiesPast r p (int_le (pos 0) (cross (point_of_quadrant First 1 0) (point_of_quadrant r j p)))
@@ -120,16 +149,23 @@ relative-self Second = refl
 relative-self Third = refl
 relative-self Fourth = refl
 
-cross-place : (q r : Quadrant) (i o j p : ℕ) → cross (point_of_quadrant q i o) (point_of_quadrant r j p) ≡ cross (point_of_quadrant First i o) (point_of_quadrant (relative q r) j p)
-cross-place q r i o j p = sym (cross-turned q (point_of_quadrant q i o) (point_of_quadrant r j p)) ∙ rw (turned-place q q i o, turned-place q r j p, relative-self q) refl
+cross-place : (q r : Quadrant) (i o j p : ℕ) → cross (point_of_quadrant q i o) (point_of_quadrant r j p) ≡ cross
+    (point_of_quadrant First i o) (point_of_quadrant (relative q r) j p)
+cross-place q r i o j p = sym (cross-turned q (point_of_quadrant q i o) (point_of_quadrant r j p))
+    ∙ rw (turned-place q q i o, turned-place q r j p, relative-self q) refl
 
-dot-place : (q r : Quadrant) (i o j p : ℕ) → dot (point_of_quadrant q i o) (point_of_quadrant r j p) ≡ dot (point_of_quadrant First i o) (point_of_quadrant (relative q r) j p)
-dot-place q r i o j p = sym (dot-turned q (point_of_quadrant q i o) (point_of_quadrant r j p)) ∙ rw (turned-place q q i o, turned-place q r j p, relative-self q) refl
+dot-place : (q r : Quadrant) (i o j p : ℕ) → dot (point_of_quadrant q i o) (point_of_quadrant r j p) ≡ dot
+    (point_of_quadrant First i o) (point_of_quadrant (relative q r) j p)
+dot-place q r i o j p = sym (dot-turned q (point_of_quadrant q i o) (point_of_quadrant r j p))
+    ∙ rw (turned-place q q i o, turned-place q r j p, relative-self q) refl
 
 passed-place : (q r k : Quadrant) (i o j p : ℕ)
-    → is_passed Counterclockwise (point_of_quadrant q i o) (point_of_quadrant r j p) (point_of_quadrant k 1 0) ≡ is_passed Counterclockwise (point_of_quadrant First i o) (point_of_quadrant (relative q r) j p) (point_of_quadrant (relative q k) 1 0)
+    → is_passed Counterclockwise (point_of_quadrant q i o) (point_of_quadrant r j p) (point_of_quadrant k 1 0)
+    ≡ is_passed Counterclockwise (point_of_quadrant First i o) (point_of_quadrant (relative q r) j p)
+    (point_of_quadrant (relative q k) 1 0)
 passed-place q r k i o j p =
-    sym (passed-turned q (point_of_quadrant q i o) (point_of_quadrant r j p) (point_of_quadrant k 1 0)) ∙ rw (turned-place q q i o, turned-place q r j p, turned-place q k 1 0, relative-self q) refl
+    sym (passed-turned q (point_of_quadrant q i o) (point_of_quadrant r j p) (point_of_quadrant k 1 0))
+    ∙ rw (turned-place q q i o, turned-place q r j p, turned-place q k 1 0, relative-self q) refl
 
 lies_past : (k r : Quadrant) (j p : ℕ) → 0 < j → LiesPast (relative k r) p (int_le (pos 0) (cross (point_of_quadrant k 1 0) (point_of_quadrant r j p)))
 lies_past k r j p h = rw (cross-place k r 1 0 j p) (lies_past_first (relative k r) j p h)
@@ -145,7 +181,8 @@ changes_first Fourth x = 3
 abbrev within : ℕ → ℕ → Bool → Bool
 within x y b = (x == 4) || (nat_lt y x || ((y == x) && b))
 
-table : (r k : Quadrant) (o p x y : ℕ) (b : Bool) → IsFar r o p x → IsToward k o y → LiesPast (relative k r) p b → within x y b ≡ nat_lt ((quadrant_number k + 3) % 4) (changes_first r x)
+table : (r k : Quadrant) (o p x y : ℕ) (b : Bool) → IsFar r o p x → IsToward k o y → LiesPast (relative k r) p b
+    → within x y b ≡ nat_lt ((quadrant_number k + 3) % 4) (changes_first r x)
 table First First o p x y b (inl e) (inl f) g = rw (e.0, f.0) refl
 table First First o p x y b (inl e) (inr f) g = rw (e.0, f.0) refl
 table First Second o p x y b (inl e) f g = rw (e.0, f, g) refl
@@ -194,7 +231,9 @@ table Fourth Third o p x y b e (inr f) g = rw (e, f.0) refl
 table Fourth Fourth o p x y b e f g = rw (e, f, g) refl
 
 first_passed : (r k : Quadrant) (i o j p : ℕ) → 0 < i → 0 < j
-    → is_passed Counterclockwise (point_of_quadrant First i o) (point_of_quadrant r j p) (point_of_quadrant k 1 0) ≡ nat_lt ((quadrant_number k + 3) % 4) (changes_first r (sweep Counterclockwise (point_of_quadrant First i o) (point_of_quadrant r j p)))
+    → is_passed Counterclockwise (point_of_quadrant First i o) (point_of_quadrant r j p) (point_of_quadrant k 1 0)
+    ≡ nat_lt ((quadrant_number k + 3) % 4)
+    (changes_first r (sweep Counterclockwise (point_of_quadrant First i o) (point_of_quadrant r j p)))
 unfolding is_passed
 first_passed r k i o j p hi hj = table r k o p _ _ _ (far r i o j p hi hj) (toward k i o hi) (lies_past k r j p hj)
 
@@ -251,11 +290,14 @@ changes_are Fourth Third c d o p h = rw (not_whole_fourth o p (sweep_by c d) h) 
 changes_are Fourth Fourth c d o p h = changes_same c d
 
 changes-place : (q r : Quadrant) (i o j p : ℕ) → 0 < i → 0 < j
-    → changes (point_of_quadrant q i o) (point_of_quadrant r j p) ≡ changes_first (relative q r) (sweep Counterclockwise (point_of_quadrant First i o) (point_of_quadrant (relative q r) j p))
+    → changes (point_of_quadrant q i o) (point_of_quadrant r j p) ≡ changes_first (relative q r)
+    (sweep Counterclockwise (point_of_quadrant First i o) (point_of_quadrant (relative q r) j p))
 unfolding changes
 changes-place q r i o j p hi hj =
     rw (quadrant-place q i o hi, quadrant-place r j p hj, cross-place q r i o j p, dot-place q r i o j p)
-    (changes_are q r (cross (point_of_quadrant First i o) (point_of_quadrant (relative q r) j p)) (dot (point_of_quadrant First i o) (point_of_quadrant (relative q r) j p)) o p (far (relative q r) i o j p hi hj))
+    (changes_are q r (cross (point_of_quadrant First i o) (point_of_quadrant (relative q r) j p))
+    (dot (point_of_quadrant First i o) (point_of_quadrant (relative q r) j p)) o p
+    (far (relative q r) i o j p hi hj))
 
 turn_number : (q k : Quadrant) → (quadrant_number k + 7 - quadrant_number q) % 4 ≡ (quadrant_number (relative q k) + 3) % 4
 turn_number First First = refl
@@ -282,16 +324,26 @@ direction_is Third = refl
 direction_is Fourth = refl
 
 entered-place : (q r k : Quadrant) (i o j p : ℕ) → 0 < i → 0 < j
-    → is_entered (quadrant_number (quadrant (point_of_quadrant q i o))) (changes (point_of_quadrant q i o) (point_of_quadrant r j p)) (quadrant_number k) ≡ is_passed Counterclockwise (point_of_quadrant q i o) (point_of_quadrant r j p) (direction k)
+    → is_entered (quadrant_number (quadrant (point_of_quadrant q i o)))
+    (changes (point_of_quadrant q i o) (point_of_quadrant r j p)) (quadrant_number k) ≡ is_passed
+    Counterclockwise (point_of_quadrant q i o) (point_of_quadrant r j p) (direction k)
 entered-place q r k i o j p hi hj =
-    rw (quadrant-place q i o hi, changes-place q r i o j p hi hj, direction_is k, passed-place q r k i o j p, turn_number q k) (sym (first_passed (relative q r) (relative q k) i o j p hi hj))
+    rw (
+      quadrant-place q i o hi,
+      changes-place q r i o j p hi hj,
+      direction_is k,
+      passed-place q r k i o j p,
+      turn_number q k,
+    ) (sym (first_passed (relative q r) (relative q k) i o j p hi hj))
 
 -- ---- a whole turn, also from or to the centre
 
 rest_below : (m : ℕ) → nat_lt (m % 4) 4 ≡ true
 rest_below m = lt-ltb (m % 4) 4 (omega arith)
 
-whole_entered : (s e : PlanePoint) (k : Quadrant) → sweep_by (cross s e) (dot s e) ≡ 4 → is_entered (quadrant_number (quadrant s)) (changes s e) (quadrant_number k) ≡ is_passed Counterclockwise s e (direction k)
+whole_entered : (s e : PlanePoint) (k : Quadrant) → sweep_by (cross s e) (dot s e) ≡ 4
+    → is_entered (quadrant_number (quadrant s)) (changes s e) (quadrant_number k) ≡ is_passed Counterclockwise s e
+    (direction k)
 unfolding changes is_passed
 whole_entered s e k whole = rw (whole, rest_below (quadrant_number k + 7 - quadrant_number (quadrant s))) refl
 
@@ -324,7 +376,8 @@ entered_by s e k (inl is) h = whole_entered s e k (rw is (from_centre e))
 entered_by s e k (inr f) (inl is) = whole_entered s e k (rw is (to_centre s))
 entered_by s e k (inr f) (inr g) = rw (f.is, g.is) (entered-place f.q g.q k f.i f.o g.i g.o f.some g.some)
 
-entered : (s e : PlanePoint) (k : Quadrant) → is_entered (quadrant_number (quadrant s)) (changes s e) (quadrant_number k) ≡ is_passed Counterclockwise s e (direction k)
+entered : (s e : PlanePoint) (k : Quadrant) → is_entered (quadrant_number (quadrant s)) (changes s e)
+    (quadrant_number k) ≡ is_passed Counterclockwise s e (direction k)
 entered s e k = entered_by s e k (centre_or_placed s.a s.b) (centre_or_placed e.a e.b)
 
 -- ---- the code's span

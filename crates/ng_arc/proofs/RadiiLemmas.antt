@@ -60,9 +60,11 @@ apart e v t p q fine more near short less =
     let square : (e * (q * q)) * (e * (q * q)) ≤ (p * (2 * (t * q) + 2)) * (p * (2 * (t * q) + 2)) = mul-le _ _ _ _ less less in
     let root : p * p ≤ q * (v * q + 2 * (v + 2)) = omega arith in
     let times : (2 * (t * q) + 2) * (2 * (t * q) + 2) ≤ q * (4 * (t * t) * q + 8 * t + 4) = omega arith in
-    let product : (p * p) * ((2 * (t * q) + 2) * (2 * (t * q) + 2)) ≤ (q * (v * q + 2 * (v + 2))) * (q * (4 * (t * t) * q + 8 * t + 4)) = mul-le _ _ _ _ root times in
+    let product : (p * p) * ((2 * (t * q) + 2) * (2 * (t * q) + 2)) ≤ (q * (v * q + 2 * (v + 2))) *
+    (q * (4 * (t * t) * q + 8 * t + 4)) = mul-le _ _ _ _ root times in
     let large : (4 * (t * t) * v + 1) * ((q * q) * (q * q)) ≤ (e * e) * ((q * q) * (q * q)) = mul-le _ _ _ _ (omega arith) (omega arith) in
-    let rest : (2 * (v + 2) * (8 * t + 4)) * (q * q * 1) ≤ (2 * (v + 2) * (8 * t + 4)) * (q * q * q) = mul-le _ _ _ _ (omega arith) (mul-le _ _ _ _ (omega arith) (omega arith)) in
+    let rest : (2 * (v + 2) * (8 * t + 4)) * (q * q * 1) ≤ (2 * (v + 2) * (8 * t + 4)) * (q * q * q) =
+    mul-le _ _ _ _ (omega arith) (mul-le _ _ _ _ (omega arith) (omega arith)) in
     let some : 1 * 1 ≤ q * q = mul-le 1 1 q q (omega arith) (omega arith) in
     let cube : 1 * 1 ≤ (q * q) * q = mul-le 1 1 (q * q) q (omega arith) (omega arith) in
     let step : (fineness v t + 1) * (q * q * q) ≤ q * (q * q * q) = mul-le _ _ _ _ (omega arith) (omega arith) in
@@ -125,11 +127,13 @@ far_square : (t v e : ℕ) → t ≤ 5_080 → v < 2 ^ 91 → 1_000_000_000_000_
 far_square t v e small range far =
     let square : t * t ≤ 5_080 * 5_080 = mul-le t t 5_080 5_080 small small in
     let most : (4 * (t * t)) * v ≤ (4 * (5_080 * 5_080)) * (2 ^ 91) = mul-le (4 * (t * t)) v (4 * (5_080 * 5_080)) (2 ^ 91) (omega arith) (omega arith) in
-    let least : 1_000_000_000_000_000_000 * 1_000_000_000_000_000_000 ≤ e * e = mul-le 1_000_000_000_000_000_000 1_000_000_000_000_000_000 e e (omega arith) (omega arith) in
+    let least : 1_000_000_000_000_000_000 * 1_000_000_000_000_000_000 ≤ e * e =
+    mul-le 1_000_000_000_000_000_000 1_000_000_000_000_000_000 e e (omega arith) (omega arith) in
     omega arith
 
 -- a greater excess is more than any radii allow
-pub too_far : (t u v e : ℕ) → t ≤ 5_080 → v < 2 ^ 91 → e ≡ u - (v + t * t) → 1_000_000_000_000_000_000 < e → nat_le e 1_000_000_000_000_000_000 ≡ is_excess_allowed t u v
+pub too_far : (t u v e : ℕ) → t ≤ 5_080 → v < 2 ^ 91 → e ≡ u - (v + t * t) → 1_000_000_000_000_000_000 < e
+    → nat_le e 1_000_000_000_000_000_000 ≡ is_excess_allowed t u v
 unfolding is_excess_allowed
 too_far t u v e small range is far =
     let same : e ≡ excess t u v = omega arith in

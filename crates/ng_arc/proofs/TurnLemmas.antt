@@ -43,10 +43,12 @@ cross-flip-right p q = rw (times_neg p.a q.b, times_neg q.a p.b, *ℤ_comm p.a q
 dot-flip : (p q : PlanePoint) → dot p (flip q) ≡ dot (flip p) q
 dot-flip p q = rw (times_neg p.b q.b, neg_times p.b q.b) refl
 
-within_same : (x x' y y' z z' u u' v v' : ℤ) → x ≡ x' → y ≡ y' → z ≡ z' → u ≡ u' → v ≡ v' → is_sweep_within (sweep_by x y) (sweep_by z u) v ≡ is_sweep_within (sweep_by x' y') (sweep_by z' u') v'
+within_same : (x x' y y' z z' u u' v v' : ℤ) → x ≡ x' → y ≡ y' → z ≡ z' → u ≡ u' → v ≡ v'
+    → is_sweep_within (sweep_by x y) (sweep_by z u) v ≡ is_sweep_within (sweep_by x' y') (sweep_by z' u') v'
 within_same x x' y y' z z' u u' v v' ex ey ez eu ev = rw (ex, ey, ez, eu, ev) refl
 
-pub passed_mirrored : (turn : ArcDirection) (s e d : PlanePoint) → is_passed turn s e (mirror turn d) ≡ is_passed Counterclockwise (mirror turn s) (mirror turn e) d
+pub passed_mirrored : (turn : ArcDirection) (s e d : PlanePoint)
+    → is_passed turn s e (mirror turn d) ≡ is_passed Counterclockwise (mirror turn s) (mirror turn e) d
 unfolding is_passed
 passed_mirrored Counterclockwise s e d = refl
 passed_mirrored Clockwise s e d =

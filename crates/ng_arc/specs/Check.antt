@@ -29,7 +29,8 @@ has_no_end asked = not (pick_a asked.plane asked.named.x asked.named.y asked.nam
 -- C2: no centre offset in the plane
 abbrev pub has_no_centre : AskedArc → Bool
 has_no_centre asked =
-    not (is_some (pick_a asked.plane asked.offsets.i asked.offsets.j asked.offsets.k) || is_some (pick_b asked.plane asked.offsets.i asked.offsets.j asked.offsets.k))
+    not (is_some (pick_a asked.plane asked.offsets.i asked.offsets.j asked.offsets.k) || is_some
+    (pick_b asked.plane asked.offsets.i asked.offsets.j asked.offsets.k))
 
 -- how much the radii may differ, in nanometres: two thousandths of a millimetre, or two ten-thousandths of an inch
 abbrev pub tolerance : LengthUnit → ℕ

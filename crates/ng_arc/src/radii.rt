@@ -22,7 +22,7 @@ fn is_longer_by_at_most(tolerance_nm: u64, greater: u128, less: u128) -> bool
 }
 
 /// Whether two radii differ by at most a tolerance. They are given by their squares, in square nanometres (own).
-pub fn are_alike(first: u128, second: u128, tolerance_nm: u64) -> bool
+pub(crate) fn are_alike(first: u128, second: u128, tolerance_nm: u64) -> bool
     requires first { first < 2 ^ 91 }
     requires second { second < 2 ^ 91 }
     requires tolerance { tolerance_nm ≤ 5_080 }

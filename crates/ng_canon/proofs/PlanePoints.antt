@@ -15,7 +15,11 @@ stored_difference : (p c : ℤ) → IsCount p → IsCount c → to_z w64 (of_z w
 stored_difference p c h k = omega (arith, ints)
 
 abbrev stored_point : ℤ → ℤ → ℤ → ℤ → PlanePoint
-stored_point p c q d = record { a = to_z w64 (of_z w64 (to_z w64 (of_z w64 p) -ℤ to_z w64 (of_z w64 c))); b = to_z w64 (of_z w64 (to_z w64 (of_z w64 q) -ℤ to_z w64 (of_z w64 d))) }
+stored_point p c q d = record {
+  a = to_z w64 (of_z w64 (to_z w64 (of_z w64 p) -ℤ to_z w64 (of_z w64 c)));
+  b =
+      to_z w64 (of_z w64 (to_z w64 (of_z w64 q) -ℤ to_z w64 (of_z w64 d)));
+}
 
 pub from_centre_is : (arc : Arc) (at : Point) (n m k l p q : ℤ) → IsCount p → IsCount arc.centre_a → IsCount q → IsCount arc.centre_b
     → n ≡ p → m ≡ arc.centre_a → k ≡ q → l ≡ arc.centre_b → p ≡ pick_a arc.plane at.x at.y at.z → q ≡ pick_b arc.plane at.x at.y at.z
@@ -60,7 +64,9 @@ wide_product_fits p q h k = rw (widened p h, widened q k) (fits_signed_from_abs 
 stored_product : (p q x : ℤ) → unsigned_abs p < 2 ^ 50 → unsigned_abs q < 2 ^ 50 → x ≡ to_z w64 (of_z w64 p) *ℤ to_z w64 (of_z w64 q) → x ≡ p *ℤ q
 stored_product p q x hp hq e = e ∙ rw (stored p hp, stored q hq) refl
 
-pub stored_cross : (p q : PlanePoint) (x y : ℤ) → AreBelowInSize p (2 ^ 50) → AreBelowInSize q (2 ^ 50) → x ≡ to_z w64 (of_z w64 p.a) *ℤ to_z w64 (of_z w64 q.b) → y ≡ to_z w64 (of_z w64 p.b) *ℤ to_z w64 (of_z w64 q.a)
+pub stored_cross : (p q : PlanePoint) (x y : ℤ) → AreBelowInSize p (2 ^ 50) → AreBelowInSize q (2 ^ 50)
+    → x ≡ to_z w64 (of_z w64 p.a) *ℤ to_z w64 (of_z w64 q.b)
+    → y ≡ to_z w64 (of_z w64 p.b) *ℤ to_z w64 (of_z w64 q.a)
     → unsigned_abs x ≤ 2 ^ 100 → unsigned_abs y ≤ 2 ^ 100 → to_z w128 (of_z w128 (to_z w128 (of_z w128 x) -ℤ to_z w128 (of_z w128 y))) ≡ cross p q
 stored_cross p q x y hp hq ex ey hx hy =
     let first = stored_wide x (omega arith) in
@@ -68,7 +74,9 @@ stored_cross p q x y hp hq ex ey hx hy =
     let whole : to_z w128 (of_z w128 (x -ℤ y)) ≡ x -ℤ y = stored_wide (x -ℤ y) (omega (arith, ints)) in
     rw (first, second, whole, stored_product p.a q.b x hp.a hq.b ex, stored_product p.b q.a y hp.b hq.a ey) refl
 
-pub stored_dot : (p q : PlanePoint) (x y : ℤ) → AreBelowInSize p (2 ^ 50) → AreBelowInSize q (2 ^ 50) → x ≡ to_z w64 (of_z w64 p.a) *ℤ to_z w64 (of_z w64 q.a) → y ≡ to_z w64 (of_z w64 p.b) *ℤ to_z w64 (of_z w64 q.b)
+pub stored_dot : (p q : PlanePoint) (x y : ℤ) → AreBelowInSize p (2 ^ 50) → AreBelowInSize q (2 ^ 50)
+    → x ≡ to_z w64 (of_z w64 p.a) *ℤ to_z w64 (of_z w64 q.a)
+    → y ≡ to_z w64 (of_z w64 p.b) *ℤ to_z w64 (of_z w64 q.b)
     → unsigned_abs x ≤ 2 ^ 100 → unsigned_abs y ≤ 2 ^ 100 → to_z w128 (of_z w128 (to_z w128 (of_z w128 x) +ℤ to_z w128 (of_z w128 y))) ≡ dot p q
 stored_dot p q x y hp hq ex ey hx hy =
     let first = stored_wide x (omega arith) in

@@ -10,7 +10,15 @@ use Rattle.ng_canon.specs.declared.plane.ArcDirection.{ArcDirection}
 use Rattle.ng_canon.specs.declared.plane.ArcDirection.TheVariants.{Clockwise, Counterclockwise}
 use Rattle.ng_canon.specs.declared.command.ArcFeed.{ArcFeed as Arc}
 use Rattle.ng_canon.specs.declared.command.CanonicalCommand.{CanonicalCommand}
-use Rattle.ng_canon.specs.declared.command.CanonicalCommand.TheVariants.{FeedRate, InverseTime, SpindleSpeed, SelectTool, ChangeTool, StartSpindleClockwise, StartSpindleCounterclockwise, StopSpindle, MistOn, MistOff, FloodOn, FloodOff, Dwell, SelectPlane, LengthUnits, ToolLength, OriginOffsets, Traverse, Feed, ArcFeed, ProgramStop, OptionalStop, PalletShuttle, ProgramEnd}
+use Rattle.ng_canon.specs.declared.command.CanonicalCommand.TheVariants.{FeedRate, InverseTime, SpindleSpeed}
+use Rattle.ng_canon.specs.declared.command.CanonicalCommand.TheVariants.{SelectTool, ChangeTool}
+use Rattle.ng_canon.specs.declared.command.CanonicalCommand.TheVariants.{StartSpindleClockwise}
+use Rattle.ng_canon.specs.declared.command.CanonicalCommand.TheVariants.{StartSpindleCounterclockwise, StopSpindle}
+use Rattle.ng_canon.specs.declared.command.CanonicalCommand.TheVariants.{MistOn, MistOff, FloodOn, FloodOff, Dwell}
+use Rattle.ng_canon.specs.declared.command.CanonicalCommand.TheVariants.{SelectPlane, LengthUnits, ToolLength}
+use Rattle.ng_canon.specs.declared.command.CanonicalCommand.TheVariants.{OriginOffsets, Traverse, Feed, ArcFeed}
+use Rattle.ng_canon.specs.declared.command.CanonicalCommand.TheVariants.{ProgramStop, OptionalStop, PalletShuttle}
+use Rattle.ng_canon.specs.declared.command.CanonicalCommand.TheVariants.{ProgramEnd}
 use Rattle.ng_canon.specs.declared.command.Canon.{Canon}
 use Rattle.ng_canon.specs.declared.command.Canon.TheVariants.{Comment, Message, Command as Numeric}
 

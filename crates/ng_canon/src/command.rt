@@ -1,3 +1,4 @@
+//! The canonical commands, as values.
 use crate::pace::Feed;
 use crate::plane::{ArcDirection, Plane};
 use ng_num::{Len, Num, Point, Unit};

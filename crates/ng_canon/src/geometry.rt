@@ -1,3 +1,4 @@
+//! The machine's geometry: the steps and the travel of its axes, the rate of traverses, the shortest time of a pulse.
 ghost use Rattle.std.specs.Prelude.{◌≡◌, ◌≤◌, ◌≤ℤ◌, ◌↔◌, pos, negsuc, IsSome, IfSome};
 ghost use Rattle.ng_canon.specs.Limits.{IsAxis, IsPacing};
 

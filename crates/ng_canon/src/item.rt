@@ -1,3 +1,4 @@
+//! What is handed out: pulses, dwells, the state of the outputs.
 use crate::outputs::Outputs;
 
 /// How a pulse moves one axis.

@@ -1,3 +1,4 @@
+//! The outputs of the machine: spindle, coolant, tools.
 use ng_num::Num;
 
 /// Whether and how the spindle turns (NISTIR 6556, 3.6.2).

@@ -1,3 +1,4 @@
+//! How fast a move is: a feed, a rate, an inverse time.
 ghost use Rattle.std.specs.Prelude.{◌≡◌, ◌<◌, ◌≤◌};
 
 use ng_num::{Len, Num};

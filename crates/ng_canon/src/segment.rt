@@ -1,3 +1,4 @@
+//! What a block is divided into: straight moves, arcs, dwells, states of the outputs.
 use crate::outputs::Outputs;
 use crate::pace::Pace;
 use crate::plane::{ArcDirection, Plane};

@@ -3,7 +3,9 @@ use Rattle.std.proofs.Common.{◌≡◌, ◌≢◌, ◌≤◌, ℕ, ℤ, List, �
 use Rattle.ng_num.specs.declared.point.Point.{Point}
 use Rattle.ng_commands.specs.Commands.{SpellsCommand, IsNoCommand, IsNoSwitch, IsPlain, AreDigitsOf, SpellsPoint, SpellsTool, switch_word}
 use Rattle.ng_commands.specs.declared.asked.ConsoleCommand.{ConsoleCommand}
-use Rattle.ng_commands.specs.declared.asked.ConsoleCommand.TheVariants.{Load, Start, Hold, Continue, Mdi, Reference, Resume, Abandon, Tool, OptionalStop, BlockDelete, Tick, Status, Quit}
+use Rattle.ng_commands.specs.declared.asked.ConsoleCommand.TheVariants.{Load, Start, Hold, Continue, Mdi, Reference}
+use Rattle.ng_commands.specs.declared.asked.ConsoleCommand.TheVariants.{Resume, Abandon, Tool, OptionalStop}
+use Rattle.ng_commands.specs.declared.asked.ConsoleCommand.TheVariants.{BlockDelete, Tick, Status, Quit}
 
 -- a line can't equal two texts that begin differently
 apart : (line xs ys : List ℕ) → line ≡ xs → line ≡ ys → get_or xs 0 0 ≢ get_or ys 0 0 → ⊥
@@ -27,8 +29,10 @@ not_loaded line digits is none (Reference point) (short, asks) = apart line (cod
 not_loaded line digits is none Resume (short, asks) = apart line (codes "load " ++ digits) (codes "resume") is asks (omega arith)
 not_loaded line digits is none Abandon (short, asks) = apart line (codes "load " ++ digits) (codes "abandon") is asks (omega arith)
 not_loaded line digits is none (Tool slot nm) (short, asks) = apart line (codes "load " ++ digits) (codes "tool " ++ asks.0) is asks.1 (omega arith)
-not_loaded line digits is none (OptionalStop is_on) (short, asks) = apart line (codes "load " ++ digits) (codes "optional " ++ switch_word is_on) is asks (omega arith)
-not_loaded line digits is none (BlockDelete is_on) (short, asks) = apart line (codes "load " ++ digits) (codes "delete " ++ switch_word is_on) is asks (omega arith)
+not_loaded line digits is none (OptionalStop is_on) (short, asks) = apart line (codes "load " ++ digits)
+    (codes "optional " ++ switch_word is_on) is asks (omega arith)
+not_loaded line digits is none (BlockDelete is_on) (short, asks) = apart line (codes "load " ++ digits)
+    (codes "delete " ++ switch_word is_on) is asks (omega arith)
 not_loaded line digits is none (Tick n) (short, asks) = apart line (codes "load " ++ digits) (codes "tick " ++ asks.0) is asks.1 (omega arith)
 not_loaded line digits is none Status (short, asks) = apart line (codes "load " ++ digits) (codes "status") is asks (omega arith)
 not_loaded line digits is none Quit (short, asks) = apart line (codes "load " ++ digits) (codes "quit") is asks (omega arith)
@@ -47,8 +51,10 @@ not_ticked line digits is none (Reference point) (short, asks) = apart line (cod
 not_ticked line digits is none Resume (short, asks) = apart line (codes "tick " ++ digits) (codes "resume") is asks (omega arith)
 not_ticked line digits is none Abandon (short, asks) = apart line (codes "tick " ++ digits) (codes "abandon") is asks (omega arith)
 not_ticked line digits is none (Tool slot nm) (short, asks) = apart_after line (codes "tick " ++ digits) (codes "tool " ++ asks.0) is asks.1 (omega arith)
-not_ticked line digits is none (OptionalStop is_on) (short, asks) = apart line (codes "tick " ++ digits) (codes "optional " ++ switch_word is_on) is asks (omega arith)
-not_ticked line digits is none (BlockDelete is_on) (short, asks) = apart line (codes "tick " ++ digits) (codes "delete " ++ switch_word is_on) is asks (omega arith)
+not_ticked line digits is none (OptionalStop is_on) (short, asks) = apart line (codes "tick " ++ digits)
+    (codes "optional " ++ switch_word is_on) is asks (omega arith)
+not_ticked line digits is none (BlockDelete is_on) (short, asks) = apart line (codes "tick " ++ digits)
+    (codes "delete " ++ switch_word is_on) is asks (omega arith)
 not_ticked line digits is none Status (short, asks) = apart line (codes "tick " ++ digits) (codes "status") is asks (omega arith)
 not_ticked line digits is none Quit (short, asks) = apart line (codes "tick " ++ digits) (codes "quit") is asks (omega arith)
 
@@ -65,8 +71,10 @@ not_placed line words is none (Mdi text) (short, asks) = apart line (codes "refe
 not_placed line words is none Resume (short, asks) = apart_after line (codes "reference " ++ words) (codes "resume") is asks (omega arith)
 not_placed line words is none Abandon (short, asks) = apart line (codes "reference " ++ words) (codes "abandon") is asks (omega arith)
 not_placed line words is none (Tool slot nm) (short, asks) = apart line (codes "reference " ++ words) (codes "tool " ++ asks.0) is asks.1 (omega arith)
-not_placed line words is none (OptionalStop is_on) (short, asks) = apart line (codes "reference " ++ words) (codes "optional " ++ switch_word is_on) is asks (omega arith)
-not_placed line words is none (BlockDelete is_on) (short, asks) = apart line (codes "reference " ++ words) (codes "delete " ++ switch_word is_on) is asks (omega arith)
+not_placed line words is none (OptionalStop is_on) (short, asks) = apart line (codes "reference " ++ words)
+    (codes "optional " ++ switch_word is_on) is asks (omega arith)
+not_placed line words is none (BlockDelete is_on) (short, asks) = apart line (codes "reference " ++ words)
+    (codes "delete " ++ switch_word is_on) is asks (omega arith)
 not_placed line words is none (Tick n) (short, asks) = apart line (codes "reference " ++ words) (codes "tick " ++ asks.0) is asks.1 (omega arith)
 not_placed line words is none Status (short, asks) = apart line (codes "reference " ++ words) (codes "status") is asks (omega arith)
 not_placed line words is none Quit (short, asks) = apart line (codes "reference " ++ words) (codes "quit") is asks (omega arith)
@@ -84,16 +92,20 @@ not_tooled line words is none (Mdi text) (short, asks) = apart line (codes "tool
 not_tooled line words is none (Reference point) (short, asks) = apart line (codes "tool " ++ words) (codes "reference " ++ asks.0) is asks.1 (omega arith)
 not_tooled line words is none Resume (short, asks) = apart line (codes "tool " ++ words) (codes "resume") is asks (omega arith)
 not_tooled line words is none Abandon (short, asks) = apart line (codes "tool " ++ words) (codes "abandon") is asks (omega arith)
-not_tooled line words is none (OptionalStop is_on) (short, asks) = apart line (codes "tool " ++ words) (codes "optional " ++ switch_word is_on) is asks (omega arith)
-not_tooled line words is none (BlockDelete is_on) (short, asks) = apart line (codes "tool " ++ words) (codes "delete " ++ switch_word is_on) is asks (omega arith)
+not_tooled line words is none (OptionalStop is_on) (short, asks) = apart line (codes "tool " ++ words)
+    (codes "optional " ++ switch_word is_on) is asks (omega arith)
+not_tooled line words is none (BlockDelete is_on) (short, asks) = apart line (codes "tool " ++ words)
+    (codes "delete " ++ switch_word is_on) is asks (omega arith)
 not_tooled line words is none (Tick n) (short, asks) = apart_after line (codes "tool " ++ words) (codes "tick " ++ asks.0) is asks.1 (omega arith)
 not_tooled line words is none Status (short, asks) = apart line (codes "tool " ++ words) (codes "status") is asks (omega arith)
 not_tooled line words is none Quit (short, asks) = apart line (codes "tool " ++ words) (codes "quit") is asks (omega arith)
 
 -- a line isn't a command if it doesn't begin with a word that takes a number or a text, and isn't a command with fixed
 -- words
-pub not_asked : (line : List ℕ) → ((rest : List ℕ) → line ≢ codes "mdi " ++ rest) → ((rest : List ℕ) → line ≢ codes "load " ++ rest) → ((rest : List ℕ) → line ≢ codes "tick " ++ rest)
-    → ((rest : List ℕ) → line ≢ codes "reference " ++ rest) → ((rest : List ℕ) → line ≢ codes "tool " ++ rest) → ((c : ConsoleCommand) → IsPlain c → SpellsCommand line c → ⊥) → IsNoCommand line
+pub not_asked : (line : List ℕ) → ((rest : List ℕ) → line ≢ codes "mdi " ++ rest)
+    → ((rest : List ℕ) → line ≢ codes "load " ++ rest) → ((rest : List ℕ) → line ≢ codes "tick " ++ rest)
+    → ((rest : List ℕ) → line ≢ codes "reference " ++ rest) → ((rest : List ℕ) → line ≢ codes "tool " ++ rest)
+    → ((c : ConsoleCommand) → IsPlain c → SpellsCommand line c → ⊥) → IsNoCommand line
 not_asked line mdi load tick place tool plain (Load n) (short, asks) = load asks.0 asks.1
 not_asked line mdi load tick place tool plain Start (short, asks) = plain Start tt asks
 not_asked line mdi load tick place tool plain Hold (short, asks) = plain Hold tt asks
@@ -109,7 +121,8 @@ not_asked line mdi load tick place tool plain (Tick n) (short, asks) = tick asks
 not_asked line mdi load tick place tool plain Status (short, asks) = plain Status tt asks
 not_asked line mdi load tick place tool plain Quit (short, asks) = plain Quit tt asks
 
-no_plain : (line : List ℕ) → line ≢ codes "start" → line ≢ codes "hold" → line ≢ codes "continue" → line ≢ codes "resume" → line ≢ codes "abandon" → line ≢ codes "status" → line ≢ codes "quit" → IsNoSwitch line
+no_plain : (line : List ℕ) → line ≢ codes "start" → line ≢ codes "hold" → line ≢ codes "continue"
+    → line ≢ codes "resume" → line ≢ codes "abandon" → line ≢ codes "status" → line ≢ codes "quit" → IsNoSwitch line
     → (c : ConsoleCommand) → IsPlain c → SpellsCommand line c → ⊥
 no_plain line start hold goes resume abandon status quit switch (Load n) plain asks = plain
 no_plain line start hold goes resume abandon status quit switch Start plain asks = start asks
@@ -127,7 +140,9 @@ no_plain line start hold goes resume abandon status quit switch Status plain ask
 no_plain line start hold goes resume abandon status quit switch Quit plain asks = quit asks
 
 -- a switch's words, if no other fixed words match
-pub plain_of : (line : List ℕ) (r : Option ConsoleCommand) → line ≢ codes "start" → line ≢ codes "hold" → line ≢ codes "continue" → line ≢ codes "resume" → line ≢ codes "abandon" → line ≢ codes "status" → line ≢ codes "quit"
+pub plain_of : (line : List ℕ) (r : Option ConsoleCommand) → line ≢ codes "start" → line ≢ codes "hold"
+    → line ≢ codes "continue" → line ≢ codes "resume" → line ≢ codes "abandon" → line ≢ codes "status"
+    → line ≢ codes "quit"
     → MatchOption r (IsNoSwitch line) (SpellsCommand line) → MatchOption r ((c : ConsoleCommand) → IsPlain c → SpellsCommand line c → ⊥) (SpellsCommand line)
 plain_of line None start hold goes resume abandon status quit switch = no_plain line start hold goes resume abandon status quit switch
 plain_of line (Some c) start hold goes resume abandon status quit asks = asks

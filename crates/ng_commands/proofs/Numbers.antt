@@ -1,5 +1,7 @@
 -- A text that is a number has no blank, and stands for at most one length.
-use Rattle.std.proofs.Common.{◌≡◌, ◌<◌, ◌≤◌, ℕ, ℤ, unsigned_abs, nat_le, Bool, true, false, if◌then◌else◌, List, [], ◌∷◌, Option, Some, None, Result, Ok, Err, MatchOption, refl, sym, ◌∙◌, ap, subst, arith}
+use Rattle.std.proofs.Common.{◌≡◌, ◌<◌, ◌≤◌, ℕ, ℤ, unsigned_abs, nat_le, Bool, true, false, if◌then◌else◌, List, []}
+use Rattle.std.proofs.Common.{◌∷◌, Option, Some, None, Result, Ok, Err, MatchOption, refl, sym, ◌∙◌, ap, subst}
+use Rattle.std.proofs.Common.{arith}
 use Rattle.std.proofs.lemmas.Bool.Decides.{nat_tests}
 use Rattle.std.specs.Result.{result_ok}
 use Rattle.ng_num.specs.Range.{IsCount, greatest, in_range}
@@ -28,7 +30,8 @@ in_range_count z small = at (nat_le (unsigned_abs z) greatest) (grind (arith, na
 length_only : (text : List ℕ) (read : Result ℤ Fault) → ((z : ℤ) → IsNumber text z → read ≡ in_range z) → (nm : ℤ) → SpellsLength text nm → read ≡ Ok nm
 length_only text read value nm writes = value nm writes.0 ∙ in_range_count nm writes.1
 
-pub length_unread : (text : List ℕ) (e : Fault) (read : Result ℤ Fault) → read ≡ Err e → ((z : ℤ) → IsNumber text z → read ≡ in_range z) → (nm : ℤ) → SpellsLength text nm → ⊥
+pub length_unread : (text : List ℕ) (e : Fault) (read : Result ℤ Fault) → read ≡ Err e
+    → ((z : ℤ) → IsNumber text z → read ≡ in_range z) → (nm : ℤ) → SpellsLength text nm → ⊥
 length_unread text e read is value nm writes = out e nm (sym is ∙ length_only text read value nm writes)
   where
     out : (e : Fault) (nm : ℤ) → ◌≡◌ {A = Result ℤ Fault} (Err e) (Ok nm) → ⊥
@@ -37,7 +40,8 @@ length_unread text e read is value nm writes = out e nm (sym is ∙ length_only 
 ok_same : (m n : ℤ) → ◌≡◌ {A = Result ℤ Fault} (Ok m) (Ok n) → m ≡ n
 ok_same m n e = cc
 
-pub length_read : (text : List ℕ) (n : ℤ) (read : Result ℤ Fault) (r : Option ℤ) → read ≡ Ok n → ((z : ℤ) → IsNumber text z → read ≡ in_range z) → IsNumber text n
+pub length_read : (text : List ℕ) (n : ℤ) (read : Result ℤ Fault) (r : Option ℤ) → read ≡ Ok n
+    → ((z : ℤ) → IsNumber text z → read ≡ in_range z) → IsNumber text n
     → r ≡ result_ok (in_range n) → MatchOption r ((nm : ℤ) → SpellsLength text nm → ⊥) (SpellsLength text)
 length_read text n read r is value number found = at (nat_le (unsigned_abs n) greatest) refl
   where

@@ -1,5 +1,6 @@
 -- Words that are separated at their first blank.
-use Rattle.std.proofs.Common.{◌≡◌, ◌≢◌, ◌≤◌, ◌<◌, ◌+◌, ◌-◌, ℕ, ℤ, zero, suc, List, [], ◌∷◌, ◌++◌, length, take, drop, get_or, Option, Some, None, MatchOption, refl, sym, ◌∙◌, ap, subst, arith}
+use Rattle.std.proofs.Common.{◌≡◌, ◌≢◌, ◌≤◌, ◌<◌, ◌+◌, ◌-◌, ℕ, ℤ, zero, suc, List, [], ◌∷◌, ◌++◌, length, take}
+use Rattle.std.proofs.Common.{drop, get_or, Option, Some, None, MatchOption, refl, sym, ◌∙◌, ap, subst, arith}
 use Rattle.std.proofs.lemmas.List.{take_all}
 use Rattle.ng_num.specs.declared.point.Point.{Point}
 use Rattle.ng_commands.specs.Commands.{AreDigitsOf, HasNo, SpellsLength, SpellsPoint, SpellsTool}
@@ -20,7 +21,8 @@ blank_after words n less none before = blank_within words n (n + 1) less refl no
 pub none_among : (words : List ℕ) (n : ℕ) → length words ≤ n → HasNo 32 (take n words) → HasNo 32 words
 none_among words n end before = subst (HasNo 32) (take_all n words end) before
 
-blank_at : (words : List ℕ) (n m k : ℕ) → n < length words → m ≡ n + 1 → length words ≤ k + m → get_or words n 0 ≡ 32 → words ≡ take n words ++ 32 ∷ take k (drop m words)
+blank_at : (words : List ℕ) (n m k : ℕ) → n < length words → m ≡ n + 1 → length words ≤ k + m
+    → get_or words n 0 ≡ 32 → words ≡ take n words ++ 32 ∷ take k (drop m words)
 blank_at [] n m k less next size is = absurd (omega (arith, less))
 blank_at (b ∷ words) n zero k less next size is = absurd (omega (arith, next))
 blank_at (b ∷ words) zero (suc zero) k less next size is = ap (λ l. b ∷ l) (sym (take_all k words (omega (arith, size)))) ∙ ap (λ c. c ∷ take k words) is
@@ -53,8 +55,12 @@ pub placed : (words x others y z : List ℕ) → words ≡ x ++ 32 ∷ others �
     → SpellsLength x p.x × SpellsLength y p.y × SpellsLength z p.z
 placed words x others y z is bare also bare_too p (x_as, y_as, z_as, are, writes_x, writes_y, writes_z) =
     let first = one_part x x_as others (y_as ++ 32 ∷ z_as) bare (length_bare x_as p.x writes_x) (sym is ∙ are) in
-    let second = one_part y y_as z z_as bare_too (length_bare y_as p.y writes_y) (sym also ∙ first.1) in
-    (subst (λ (l : List ℕ). SpellsLength l p.x) (sym first.0) writes_x, subst (λ (l : List ℕ). SpellsLength l p.y) (sym second.0) writes_y, subst (λ (l : List ℕ). SpellsLength l p.z) (sym second.1) writes_z)
+    let second = one_part y y_as z z_as bare_too (length_bare y_as p.y writes_y) (sym also ∙ first.1) in (
+      subst (λ (l : List ℕ). SpellsLength l p.x) (sym first.0) writes_x,
+      subst (λ (l : List ℕ). SpellsLength l p.y)
+          (sym second.0) writes_y,
+      subst (λ (l : List ℕ). SpellsLength l p.z) (sym second.1) writes_z,
+    )
 
 -- words without a first or a second blank aren't a point
 pub one_word : (words : List ℕ) → HasNo 32 words → (p : Point) → SpellsPoint words p → ⊥
@@ -65,7 +71,8 @@ two_words words x others is bare none p writes =
     let first = one_part x writes.0 others (writes.1 ++ 32 ∷ writes.2) bare (length_bare writes.0 p.x writes.4) (sym is ∙ writes.3) in
     not_whole others writes.1 writes.2 none first.1
 
-pub refused : (words : List ℕ) (r : Option Point) → r ≡ None → ((p : Point) → SpellsPoint words p → ⊥) → MatchOption r ((p : Point) → SpellsPoint words p → ⊥) (SpellsPoint words)
+pub refused : (words : List ℕ) (r : Option Point) → r ≡ None → ((p : Point) → SpellsPoint words p → ⊥)
+    → MatchOption r ((p : Point) → SpellsPoint words p → ⊥) (SpellsPoint words)
 refused words None e none = none
 refused words (Some p) e none = absurd cc
 
@@ -77,12 +84,18 @@ digits_whole digits are = bytes_without 32 digits (omega arith) (digits_bytes di
 pub tooled : (words digits text : List ℕ) → words ≡ digits ++ 32 ∷ text → HasNo 32 digits → (slot : ℕ) (nm : ℤ) → SpellsTool words slot nm
     → AreDigitsOf digits slot × (length digits ≤ 3) × SpellsLength text nm
 tooled words digits text is bare slot nm (digits_as, text_as, are, written, short, writes) =
-    let first = one_part digits digits_as text text_as bare (digits_whole digits_as written.0) (sym is ∙ are) in
-    (subst (λ (l : List ℕ). AreDigitsOf l slot) (sym first.0) written, subst (λ (l : List ℕ). length l ≤ 3) (sym first.0) short, subst (λ (l : List ℕ). SpellsLength l nm) (sym first.1) writes)
+    let first = one_part digits digits_as text text_as bare (digits_whole digits_as written.0) (sym is ∙ are) in (
+      subst (λ (l : List ℕ). AreDigitsOf l slot) (sym first.0) written,
+      subst (λ (l : List ℕ). length l ≤ 3)
+          (sym first.0) short,
+      subst (λ (l : List ℕ). SpellsLength l nm) (sym first.1) writes,
+    )
 
 pub no_tool : (words : List ℕ) → HasNo 32 words → (slot : ℕ) (nm : ℤ) → SpellsTool words slot nm → ⊥
 no_tool words none slot nm writes = not_whole words writes.0 writes.1 none writes.2
 
-pub refused_tool : (words : List ℕ) (r : Option (ℕ × ℤ)) → r ≡ None → ((slot : ℕ) (nm : ℤ) → SpellsTool words slot nm → ⊥) → MatchOption r ((slot : ℕ) (nm : ℤ) → SpellsTool words slot nm → ⊥) (λ t. SpellsTool words t.0 t.1)
+pub refused_tool : (words : List ℕ) (r : Option (ℕ × ℤ)) → r ≡ None
+    → ((slot : ℕ) (nm : ℤ) → SpellsTool words slot nm → ⊥)
+    → MatchOption r ((slot : ℕ) (nm : ℤ) → SpellsTool words slot nm → ⊥) (λ t. SpellsTool words t.0 t.1)
 refused_tool words None e none = none
 refused_tool words (Some t) e none = absurd cc

@@ -4,7 +4,9 @@ use Rattle.ng_num.specs.declared.point.Point.{Point}
 use Rattle.ng_num.specs.Range.{IsCount}
 use Rattle.ng_words.specs.Grammar.{AreDigits, IsNumber, written_after}
 use Rattle.ng_commands.specs.declared.asked.ConsoleCommand.{ConsoleCommand}
-use Rattle.ng_commands.specs.declared.asked.ConsoleCommand.TheVariants.{Load, Start, Hold, Continue, Mdi, Reference, Resume, Abandon, Tool, OptionalStop, BlockDelete, Tick, Status, Quit}
+use Rattle.ng_commands.specs.declared.asked.ConsoleCommand.TheVariants.{Load, Start, Hold, Continue, Mdi, Reference}
+use Rattle.ng_commands.specs.declared.asked.ConsoleCommand.TheVariants.{Resume, Abandon, Tool, OptionalStop}
+use Rattle.ng_commands.specs.declared.asked.ConsoleCommand.TheVariants.{BlockDelete, Tick, Status, Quit}
 
 -- digits that stand for this number, with any leading zeros
 abbrev pub AreDigitsOf : List ℕ → ℕ → Type 0
@@ -22,7 +24,8 @@ SpellsPoint words p =
 
 -- two words, separated by one blank, are a slot's number, with one to three digits, and a tool's length
 abbrev pub SpellsTool : List ℕ → ℕ → ℤ → Type 0
-SpellsTool words slot nm = (digits text : List ℕ) × (words ≡ digits ++ (codes " " ++ text)) × AreDigitsOf digits slot × (length digits ≤ 3) × SpellsLength text nm
+SpellsTool words slot nm = (digits text : List ℕ) × (words ≡ digits ++ (codes " " ++ text))
+    × AreDigitsOf digits slot × (length digits ≤ 3) × SpellsLength text nm
 
 abbrev pub switch_word : Bool → List ℕ
 switch_word true = codes "on"

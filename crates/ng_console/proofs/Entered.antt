@@ -7,7 +7,9 @@ use Rattle.clap.specs.Faults.{other_fault, step_fault, turn_fault, walk_fault, w
 use Rattle.clap.specs.Kinds.{Kinds, or_else}
 use Rattle.clap.specs.Simple.{Shape}
 use Rattle.clap.specs.declared.error.kind.ErrorKind.TheVariants as kind
-use Rattle.clap.specs.Walk.{Held, Names, Outcome, Rule, Step, Text, Waiting, Walk, after_flag, after_step, arg_by_index, bundle, long_met, arg_by_long, long_or_other, plain_word, short_or_plain, subcommand_met, subcommand_or_other, to_positional, walked, walked_from, word_met}
+use Rattle.clap.specs.Walk.{Held, Names, Outcome, Rule, Step, Text, Waiting, Walk, after_flag, after_step}
+use Rattle.clap.specs.Walk.{arg_by_index, bundle, long_met, arg_by_long, long_or_other, plain_word, short_or_plain}
+use Rattle.clap.specs.Walk.{subcommand_met, subcommand_or_other, to_positional, walked, walked_from, word_met}
 use Rattle.clap.specs.Walk.{done, waits, plain, refused, idle, option, positional, next, trailing, subcommand, value}
 
 -- what was entered isn't help
@@ -62,15 +64,18 @@ other_enters s None waiting position word h help none = go (bytes_eq word (45 �
     go false = long_enters s.rules waiting word (long_of word) h
 
 word_enters : (s : Shape) (names : Names) (is_trailing : Bool) (waiting : Waiting) (position : _) (word : Text) (h : Held)
-    → s.disable_help_subcommand ≡ false → word_fault s names is_trailing waiting word h ≡ [] → Enters (word_met s.rules names is_trailing waiting position word h).1
+    → s.disable_help_subcommand ≡ false → word_fault s names is_trailing waiting word h ≡ []
+    → Enters (word_met s.rules names is_trailing waiting position word h).1
 word_enters s names true waiting position word h help none = tt
 word_enters s names false waiting position word h help none = other_enters s (subcommand_met names waiting word) waiting position word h help none
 
-to_positional_enters : (c : List Rule) (a : Option Rule) (word : Text) (w : Walk) (h : Held) → IsNotHelp w.stopped → IsNotHelp (to_positional c a word w h).stopped
+to_positional_enters : (c : List Rule) (a : Option Rule) (word : Text) (w : Walk) (h : Held) → IsNotHelp w.stopped
+    → IsNotHelp (to_positional c a word w h).stopped
 to_positional_enters c None word w h so_far = so_far
 to_positional_enters c (Some a) word w h so_far = tt
 
-step_enters : (c : List Rule) (word : Text) (w : Walk) (h : Held) (step : Step) → IsNotHelp w.stopped → Enters step → IsNotHelp (after_step c word w h step).stopped
+step_enters : (c : List Rule) (word : Text) (w : Walk) (h : Held) (step : Step) → IsNotHelp w.stopped → Enters step
+    → IsNotHelp (after_step c word w h step).stopped
 step_enters c word w h (next waiting) so_far enters = so_far
 step_enters c word w h (trailing position) so_far enters = so_far
 step_enters c word w h (subcommand name) so_far enters = enters
@@ -79,7 +84,8 @@ step_enters c word w h value so_far enters = to_positional_enters c (arg_by_inde
 turn_enters : (s : Shape) (names : Names) (w : Walk) (word : Text) (stopped : Option (Text × List Text)) → w.stopped ≡ stopped
     → s.disable_help_subcommand ≡ false → IsNotHelp stopped
     → (if is_some stopped then [] else or_else (word_fault s names w.is_trailing w.waiting word w.held)
-    (step_fault s w.position (word_met s.rules names w.is_trailing w.waiting w.position word w.held).0 (word_met s.rules names w.is_trailing w.waiting w.position word w.held).1)) ≡ []
+    (step_fault s w.position (word_met s.rules names w.is_trailing w.waiting w.position word w.held).0
+    (word_met s.rules names w.is_trailing w.waiting w.position word w.held).1)) ≡ []
     → IsNotHelp (walked_from s.rules names stopped w word).stopped
 turn_enters s names w word (Some p) same help so_far none = so_far
 turn_enters s names w word None same help so_far none =

@@ -46,7 +46,8 @@ finds_stored tools held copy journal saved is says never = elim (cases_lt (secto
 abbrev pub IsOfImage : Fault → Type 0
 IsOfImage fault = (fault ≡ NotFormatted) ⊎ ((fault ≡ Damaged) ⊎ (fault ≡ CountersUsed))
 
-caused : {R : Type 0} (tools : List ℤ) (fault : Fault) (rig : R) (image : Image) → IsOfImage fault → FoundByRecover tools (Err (fault, rig)) image → HasCause fault image
+caused : {R : Type 0} (tools : List ℤ) (fault : Fault) (rig : R) (image : Image) → IsOfImage fault
+    → FoundByRecover tools (Err (fault, rig)) image → HasCause fault image
 caused {R} tools fault rig image (inl is) found =
     subst (λ (f : Fault). (let r : RecoverResult R = Err (f, rig) in FoundByRecover tools r image) → HasCause f image) (sym is) (λ h. h) found
 caused {R} tools fault rig image (inr (inl is)) found =
@@ -55,7 +56,8 @@ caused {R} tools fault rig image (inr (inr is)) found =
     subst (λ (f : Fault). (let r : RecoverResult R = Err (f, rig) in FoundByRecover tools r image) → HasCause f image) (sym is) (λ h. h) found
 
 finds_cause : {A : Type 0} (tools : List ℤ) (held : List ℕ) (copy : MemoryRig A) (fault : Fault) (rig : MemoryRig A)
-    → IsCopy large_size held copy → Recovers tools copy (Err (fault, rig)) → (sector_count copy < least_size → fault ≡ NotFormatted) → IsOfImage fault → Finds tools held (Err fault)
+    → IsCopy large_size held copy → Recovers tools copy (Err (fault, rig))
+    → (sector_count copy < least_size → fault ≡ NotFormatted) → IsOfImage fault → Finds tools held (Err fault)
 finds_cause tools held copy fault rig is says small of = elim (cases_lt (sector_count copy) least_size) [
   | inl few ↦ inl (small few, subst (λ (n : ℕ). n < least_size) is.size few)
   | inr enough ↦ inr (inl (record {
@@ -66,12 +68,15 @@ finds_cause tools held copy fault rig is says small of = elim (cases_lt (sector_
 ]
 
 pub finds_nothing : {A : Type 0} (tools : List ℤ) (held : List ℕ) (copy : MemoryRig A) (fault : Fault) (rig : MemoryRig A)
-    → IsCopy large_size held copy → Recovers tools copy (Err (fault, rig)) → (sector_count copy < least_size → fault ≡ NotFormatted) → IsRecoveryFault fault → Finds tools held (Err fault)
+    → IsCopy large_size held copy → Recovers tools copy (Err (fault, rig))
+    → (sector_count copy < least_size → fault ≡ NotFormatted) → IsRecoveryFault fault
+    → Finds tools held (Err fault)
 finds_nothing tools held copy fault rig is says small (inl memory) = inr (inr (inr memory))
 finds_nothing tools held copy fault rig is says small (inr (inl failed)) = inr (inr (inl failed))
 finds_nothing tools held copy fault rig is says small (inr (inr of)) = finds_cause tools held copy fault rig is says small of
 
 -- lack of memory may stand for it
-pub finds_otherwise : (tools : List ℤ) (held : List ℕ) (fault told : Fault) → (told ≡ fault) ⊎ (told ≡ OutOfMemory) → Finds tools held (Err fault) → Finds tools held (Err told)
+pub finds_otherwise : (tools : List ℤ) (held : List ℕ) (fault told : Fault) → (told ≡ fault) ⊎ (told ≡ OutOfMemory)
+    → Finds tools held (Err fault) → Finds tools held (Err told)
 finds_otherwise tools held fault told (inl same) found = subst (λ (f : Fault). Finds tools held (Err f)) (sym same) found
 finds_otherwise tools held fault told (inr memory) found = inr (inr (inr memory))

@@ -13,6 +13,7 @@ never_none found name got there is none =
     cc
 
 -- a value that was returned is the first one
-pub value_is : (found : Found) (name : Text) (got : Option (Bor Text)) (value : Bor Text) → option_map (λ s. s.now) got ≡ first_value found name → got ≡ Some value
+pub value_is : (found : Found) (name : Text) (got : Option (Bor Text)) (value : Bor Text)
+    → option_map (λ s. s.now) got ≡ first_value found name → got ≡ Some value
     → first_of name (rows_of found) ≡ Some value.now
 value_is found name got value is some = sym (first_value-rows found name) ∙ (sym is ∙ ap (option_map (λ (s : Bor Text). s.now)) some)

@@ -11,7 +11,9 @@ use Rattle.ng_console.specs.Growing.{has_header, is_device, large_bytes}
 
 -- if there are enough bytes, only the headers matter
 pub by_headers : (content : Option (List ℕ)) (n : ℕ) (even odd : Option Header) (found : Bool) → IfSome content (λ held. n ≡ length held) → 512 * least_size ≤ n
-    → IfSome content (λ held. even ≡ header_in (nat_le large_bytes n) 0 (sector_of 0 held)) → IfSome content (λ held. odd ≡ header_in (nat_le large_bytes n) 1 (sector_of 1 held)) → found ≡ is_some (newer even odd)
+    → IfSome content (λ held. even ≡ header_in (nat_le large_bytes n) 0 (sector_of 0 held))
+    → IfSome content (λ held. odd ≡ header_in (nat_le large_bytes n) 1 (sector_of 1 held))
+    → found ≡ is_some (newer even odd)
     → IfSome content (λ held. found ≡ is_device held)
 by_headers None n even odd found is enough first second either = tt
 by_headers (Some held) n even odd found is enough first second either =

@@ -10,7 +10,9 @@ use Rattle.std.proofs.lemmas.Slice.Eq.{bytes_eq-Decides}
 use Rattle.clap.specs.Faults.{walk_fault, check_fault, entered_fault, fault_of, is_simple_and_free, level_fault}
 use Rattle.clap.specs.Facts.{explicit_source}
 use Rattle.clap.specs.Kinds.{Kinds, check_kinds, or_else}
-use Rattle.clap.specs.Simple.{App, HasMatchesOf, Shape, argument_words, built, entered, label_of, matches_of, names_of, new_shape, is_simple, rows_at, subcommand_of, subcommand_rows, subcommand_rows_of}
+use Rattle.clap.specs.Simple.{App, HasMatchesOf, Shape, argument_words, built, entered, label_of, matches_of}
+use Rattle.clap.specs.Simple.{names_of, new_shape, is_simple, rows_at, subcommand_of, subcommand_rows}
+use Rattle.clap.specs.Simple.{subcommand_rows_of}
 use Rattle.clap.specs.Takes.{is_given}
 use Rattle.clap.specs.Walk.{Names, Row, Text, answers_to, first_of, nothing_held, rows_after, stop_after, walk_from}
 use Rattle.clap.specs.Matches.{subcommand_name_of}
@@ -88,7 +90,8 @@ abbrev pub Has : Subcommand → List Row → Type 0
 Has dry rows = (is_some (first_of (codes "PROGRAM") rows) ≡ true) × HasFlag (codes "block-delete") rows
 Has format rows = (is_some (first_of (codes "DEVICE") rows) ≡ true) × HasFlag (codes "large") rows
 Has grow rows = is_some (first_of (codes "DEVICE") rows) ≡ true
-Has run rows = (is_some (first_of (codes "DEVICE") rows) ≡ true) × (is_some (first_of (codes "SETTINGS") rows) ≡ true) × (is_some (first_of (codes "OUT") rows) ≡ true)
+Has run rows = (is_some (first_of (codes "DEVICE") rows) ≡ true)
+    × (is_some (first_of (codes "SETTINGS") rows) ≡ true) × (is_some (first_of (codes "OUT") rows) ≡ true)
 Has pace rows = (is_some (first_of (codes "SETTINGS") rows) ≡ true) × (is_some (first_of (codes "MACHINE") rows) ≡ true) × HasFlag (codes "total") rows
 
 -- ---- as clap builds them
@@ -221,9 +224,25 @@ names_one words h =
     go (stop_after app.top.rules (names_of app) rest) no_help (level_right app.top (names_of app) rest _ _ h)
   where
     met : (b f w r a d : Bool) (p : Text × List Text) (top : List Row) → d ≡ false
-        → option_map_or (λ s. level_fault s [] nothing_held p.1 false []) (if b then Some (shape_of dry) else (if f then Some (shape_of format) else (if w then Some (shape_of grow) else (if r then Some (shape_of run) else (if a then Some (shape_of pace) else (if d then Some help_built else None)))))) [] ≡ []
-        → check_fault (built ngc_app).top top (is_some (option_map (λ s. rows_at s p.1) (if b then Some (shape_of dry) else (if f then Some (shape_of format) else (if w then Some (shape_of grow) else (if r then Some (shape_of run) else (if a then Some (shape_of pace) else (if d then Some help_built else None)))))))) ≡ []
-        → IsOneNamed (option_map (λ s. rows_at s p.1) (if b then Some (shape_of dry) else (if f then Some (shape_of format) else (if w then Some (shape_of grow) else (if r then Some (shape_of run) else (if a then Some (shape_of pace) else (if d then Some help_built else None)))))))
+        → option_map_or (λ s. level_fault s [] nothing_held p.1 false [])
+        (if b then Some (shape_of dry) else
+        (if f then Some (shape_of format) else
+        (if w then Some (shape_of grow) else
+        (if r then Some (shape_of run) else
+        (if a then Some (shape_of pace) else (if d then Some help_built else None)))))) [] ≡ []
+        → check_fault (built ngc_app).top top
+        (is_some (option_map (λ s. rows_at s p.1)
+        (if b then Some (shape_of dry) else
+        (if f then Some (shape_of format) else
+        (if w then Some (shape_of grow) else
+        (if r then Some (shape_of run) else
+        (if a then Some (shape_of pace) else (if d then Some help_built else None)))))))) ≡ []
+        → IsOneNamed (option_map (λ s. rows_at s p.1)
+        (if b then Some (shape_of dry) else
+        (if f then Some (shape_of format) else
+        (if w then Some (shape_of grow) else
+        (if r then Some (shape_of run) else
+        (if a then Some (shape_of pace) else (if d then Some help_built else None)))))))
     met true f w r a d p top no_help below checked = (dry, rows_after (shape_of dry).rules [] p.1, (refl, right dry p.1 below))
     met false true w r a d p top no_help below checked = (format, rows_after (shape_of format).rules [] p.1, (refl, right format p.1 below))
     met false false true r a d p top no_help below checked = (grow, rows_after (shape_of grow).rules [] p.1, (refl, right grow p.1 below))
@@ -250,7 +269,9 @@ names_one words h =
         let no : true ≡ false = (nothing_wanted (built ngc_app).top (matches_of ngc_app words) false right.1).0 in
         cc
     go (Some p) differs right =
-        met (answers_to p.0 (label_of (shape_of dry))) (answers_to p.0 (label_of (shape_of format))) (answers_to p.0 (label_of (shape_of grow))) (answers_to p.0 (label_of (shape_of run))) (answers_to p.0 (label_of (shape_of pace))) (answers_to p.0 (label_of help_built)) p
+        met (answers_to p.0 (label_of (shape_of dry))) (answers_to p.0 (label_of (shape_of format)))
+        (answers_to p.0 (label_of (shape_of grow))) (answers_to p.0 (label_of (shape_of run)))
+        (answers_to p.0 (label_of (shape_of pace))) (answers_to p.0 (label_of help_built)) p
         (matches_of ngc_app words) (is_no_help p differs) right.0 right.1
 
 -- ---- what clap's matches then say
@@ -260,14 +281,17 @@ same_rows : (name : Text) (met : Option (Text × List Row)) (rows found : List R
 same_rows name met rows found is has = ap (λ o. unwrap_or o rows) (sym (ap (option_map (λ p. p.1)) is) ∙ has)
 
 -- what clap's matches say of the subcommand is what the words name
-met_by_words : (words : List Text) (app : App) (matches : ArgMatches) → app ≡ ngc_app → HasMatchesOf app words matches → subcommand_rows_of matches ≡ subcommand_of ngc_app words
+met_by_words : (words : List Text) (app : App) (matches : ArgMatches) → app ≡ ngc_app
+    → HasMatchesOf app words matches → subcommand_rows_of matches ≡ subcommand_of ngc_app words
 met_by_words words app matches is_ngc has = (has (ap is_simple is_ngc)).1 ∙ ap (λ a. subcommand_of a words) is_ngc
 
 name_met : (words : List Text) (app : App) (matches : ArgMatches) → app ≡ ngc_app → HasMatchesOf app words matches
     → subcommand_name_of matches ≡ option_map (λ p. p.0) (subcommand_of ngc_app words)
 name_met words app matches is_ngc has = sym (first (out-ArgMatches matches).subcommand) ∙ ap (option_map (λ p. p.0)) (met_by_words words app matches is_ngc has)
   where
-    first : {Z : Type 0} (met : Option (Box SubCommand Z)) → option_map (λ p. p.0) (subcommand_rows met) ≡ option_map (λ b. (out-SubCommand (box_value b)).name.now) met
+    first : {Z : Type 0} (met : Option (Box SubCommand Z))
+        → option_map (λ p. p.0) (subcommand_rows met) ≡ option_map (λ b. (out-SubCommand (box_value b)).name.now)
+        met
     first None = refl
     first (Some b) = refl
 
@@ -277,14 +301,18 @@ one_met words app is_ngc kinds = names_one words (ap (λ a. fault_of a words) (s
 -- if clap found no fault and the matches name a subcommand, its matches are what the words name, with its files and its
 -- flags
 pub found_of : (s : Subcommand) (words : List Text) (app : App) (matches : ArgMatches) (found : List Row) → app ≡ ngc_app
-    → (is_simple_and_free app ≡ true → fault_of app words ≡ []) → HasMatchesOf app words matches → option_map (λ p. p.1) (subcommand_rows_of matches) ≡ Some found
+    → (is_simple_and_free app ≡ true → fault_of app words ≡ []) → HasMatchesOf app words matches
+    → option_map (λ p. p.1) (subcommand_rows_of matches) ≡ Some found
     → subcommand_name_of matches ≡ Some (name_of s) → IsNamed s (subcommand_of ngc_app words) found
 found_of s words app matches found is_ngc kinds has below named = go (one_met words app is_ngc kinds)
   where
     go : IsOneNamed (subcommand_of ngc_app words) → IsNamed s (subcommand_of ngc_app words) found
     go (other, rows, names) =
-        let same : other ≡ s = same_name other s (ap (λ o. unwrap_or o []) (sym (ap (option_map (λ p. p.0)) names.0) ∙ (sym (name_met words app matches is_ngc has) ∙ named))) in
-        let these : rows ≡ found = same_rows (name_of other) _ rows found names.0 (sym (ap (option_map (λ p. p.1)) (met_by_words words app matches is_ngc has)) ∙ below) in
+        let same : other ≡ s =
+        same_name other s (ap (λ o. unwrap_or o []) (sym (ap (option_map (λ p. p.0)) names.0)
+        ∙ (sym (name_met words app matches is_ngc has) ∙ named))) in
+        let these : rows ≡ found = same_rows (name_of other) _ rows found names.0
+        (sym (ap (option_map (λ p. p.1)) (met_by_words words app matches is_ngc has)) ∙ below) in
         subst (λ t. IsNamed t (subcommand_of ngc_app words) found) same (subst (IsNamed other (subcommand_of ngc_app words)) these names)
 
 pub is_asked : (words : List Text) (job : Job) (found : List Row) → subcommand_of ngc_app words ≡ Some (subcommand_name job, found)

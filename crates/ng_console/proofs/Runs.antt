@@ -17,30 +17,46 @@ pub reports : (settings : Settings) (block_delete : Bool) (program old new : Opt
 reports settings block_delete None old new ended status is h = h
 reports settings block_delete (Some p) old new ended status is h = (ended, is, h)
 
-reports_from : (settings : Settings) (block_delete : Bool) (saved : StoredModel) (program old new : Option (List ℕ)) (ended : Result Ended DryFault) (status : ℕ)
+reports_from : (settings : Settings) (block_delete : Bool) (saved : StoredModel) (program old new : Option (List ℕ))
+    (ended : Result Ended DryFault) (status : ℕ)
     → status ≡ status_of ended
-    → IfSome program (λ p. DryRunSpec old new (output_from (terms_over block_delete settings saved) (record { params = cleared saved.setup.params; modal = saved.setup.modal }) p) ended)
+    → IfSome program (λ p.
+    DryRunSpec old new (output_from (terms_over block_delete settings saved)
+    (record { params = cleared saved.setup.params; modal = saved.setup.modal }) p) ended)
     → RunsFromFound settings block_delete (Ok saved) program old new status
 reports_from settings block_delete saved None old new ended status is h = h
 reports_from settings block_delete saved (Some p) old new ended status is h = (ended, is, h)
 
 -- the parameters that don't last are 0 before the run
-reports_stored : (settings : Settings) (block_delete : Bool) (saved : StoredModel) (params : List ℤ) (program old new : Option (List ℕ)) (ended : Result Ended DryFault)
+reports_stored : (settings : Settings) (block_delete : Bool) (saved : StoredModel) (params : List ℤ)
+    (program old new : Option (List ℕ)) (ended : Result Ended DryFault)
     (status : ℕ) → params ≡ cleared saved.setup.params → status ≡ status_of ended
-    → IfSome program (λ p. DryRunSpec old new (output_from (terms_over block_delete settings saved) (record { params = params; modal = saved.setup.modal }) p) ended)
+    → IfSome program (λ p.
+    DryRunSpec old new (output_from (terms_over block_delete settings saved)
+    (record { params = params; modal = saved.setup.modal }) p) ended)
     → RunsFromFound settings block_delete (Ok saved) program old new status
 reports_stored settings block_delete saved params program old new ended status cleared_is is h =
     reports_from settings block_delete saved program old new ended status is
-    (subst (λ (values : List ℤ). IfSome program (λ p. DryRunSpec old new (output_from (terms_over block_delete settings saved) (record { params = values; modal = saved.setup.modal }) p) ended))
+    (subst (λ (values : List ℤ).
+    IfSome program (λ p. DryRunSpec old new
+    (output_from (terms_over block_delete settings saved)
+    (record { params = values; modal = saved.setup.modal }) p) ended))
     cleared_is h)
 
 -- the same where the state was taken out of what is stored
-pub reports_taken : (settings : Settings) (block_delete : Bool) (saved within : StoredModel) (inside : StateModel) (params : List ℤ) (program old new : Option (List ℕ))
+pub reports_taken : (settings : Settings) (block_delete : Bool) (saved within : StoredModel) (inside : StateModel)
+    (params : List ℤ) (program old new : Option (List ℕ))
     (ended : Result Ended DryFault) (status : ℕ) → within ≡ saved → inside ≡ within.setup → params ≡ cleared inside.params → status ≡ status_of ended
-    → IfSome program (λ p. DryRunSpec old new (output_from (terms_over block_delete settings within) (record { params = params; modal = inside.modal }) p) ended)
+    → IfSome program (λ p.
+    DryRunSpec old new (output_from (terms_over block_delete settings within)
+    (record { params = params; modal = inside.modal }) p) ended)
     → RunsFromFound settings block_delete (Ok saved) program old new status
 reports_taken settings block_delete saved within inside params program old new ended status saved_is inside_is cleared_is is h =
-    let given = subst (λ (x : StateModel). IfSome program (λ p. DryRunSpec old new (output_from (terms_over block_delete settings within) (record { params = params; modal = x.modal }) p) ended))
+    let given = subst (λ (x : StateModel).
+    IfSome program (λ p. DryRunSpec old new
+    (output_from (terms_over block_delete settings within) (record { params = params; modal = x.modal }) p)
+    ended))
     inside_is h in
     subst (λ (s : StoredModel). RunsFromFound settings block_delete (Ok s) program old new status) saved_is
-    (reports_stored settings block_delete within params program old new ended status (cleared_is ∙ ap (λ (x : StateModel). cleared x.params) inside_is) is given)
+    (reports_stored settings block_delete within params program old new ended status
+    (cleared_is ∙ ap (λ (x : StateModel). cleared x.params) inside_is) is given)

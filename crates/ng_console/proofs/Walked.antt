@@ -1,13 +1,23 @@
 -- What any words leave in the rows of a command of one level: the row of a positional has a value, since only a word
 -- becomes a value of it, and the row of a flag says on or off.
-use Rattle.std.proofs.Common.{ℕ, zero, suc, ◌<◌, ◌==◌, ◌≡◌, ◌++◌, Bool, true, false, List, [], ◌∷◌, length, Option, Some, None, is_some, drop, cond, refl, sym, ap, ◌∙◌, arith, find, fold, slice_get, option_map, option_and_then, encode_utf8, bytes_eq, chars}
+use Rattle.std.proofs.Common.{ℕ, zero, suc, ◌<◌, ◌==◌, ◌≡◌, ◌++◌, Bool, true, false, List, [], ◌∷◌, length, Option}
+use Rattle.std.proofs.Common.{Some, None, is_some, drop, cond, refl, sym, ap, ◌∙◌, arith, find, fold, slice_get}
+use Rattle.std.proofs.Common.{option_map, option_and_then, encode_utf8, bytes_eq, chars}
 use Rattle.std.specs.Prelude.{◌&&◌, ◌||◌, not, nat_lt, if◌then◌else◌, ⊤}
 use Rattle.std.specs.List.{list_any}
 use Rattle.std.specs.Option.{option_map_or}
 use Rattle.std.proofs.lemmas.List.{length-append}
 use Rattle.std.proofs.lemmas.Slice.Eq.{bytes_eq-Decides}
 use Rattle.clap.specs.Lexer.{long_of, short_of}
-use Rattle.clap.specs.Walk.{Held, Outcome, Names, Row, Rule, Step, Text, Waiting, Walk, action_of, after_flag, after_step, arg_by_id, arg_by_index, arg_by_long, arg_by_short, attached_value, bundle_met, bundle_step, default_rows, first_of, flag_met, has_long, has_row, has_short, is_multiple, is_pending, long_met, long_or_other, more_values, most_values, nothing_held, option_met, option_word, pending_count, plain_word, positional_held, pushed, reacted, reading_by, row_text, rows_after, settled, settled_rows, short_met, short_or_plain, started, subcommand_met, subcommand_or_other, takes_several, takes_values, to_positional, used, used_as, used_by_id, values_or_missing, walk, walk_from, walked, walked_from, with_default, with_values, without, word_met}
+use Rattle.clap.specs.Walk.{Held, Outcome, Names, Row, Rule, Step, Text, Waiting, Walk, action_of, after_flag}
+use Rattle.clap.specs.Walk.{after_step, arg_by_id, arg_by_index, arg_by_long, arg_by_short, attached_value}
+use Rattle.clap.specs.Walk.{bundle_met, bundle_step, default_rows, first_of, flag_met, has_long, has_row, has_short}
+use Rattle.clap.specs.Walk.{is_multiple, is_pending, long_met, long_or_other, more_values, most_values}
+use Rattle.clap.specs.Walk.{nothing_held, option_met, option_word, pending_count, plain_word, positional_held}
+use Rattle.clap.specs.Walk.{pushed, reacted, reading_by, row_text, rows_after, settled, settled_rows, short_met}
+use Rattle.clap.specs.Walk.{short_or_plain, started, subcommand_met, subcommand_or_other, takes_several}
+use Rattle.clap.specs.Walk.{takes_values, to_positional, used, used_as, used_by_id, values_or_missing, walk}
+use Rattle.clap.specs.Walk.{walk_from, walked, walked_from, with_default, with_values, without, word_met}
 use Rattle.clap.specs.Walk.{done, waits, plain, refused, idle, option, positional, next, trailing, subcommand, value}
 use Rattle.clap.specs.Facts.{explicit_source}
 use Rattle.clap.specs.Takes.{is_given}
@@ -248,7 +258,8 @@ module _ (rules : List Rule) where
   set_full id how source values [] right h = (right, tt)
   set_full id how source values (r ∷ rs) right h = go (bytes_eq r.id id) (set_full id how source values rs right h.1)
     where
-      go : (b : Bool) → Full (with_values id how source values rs) → Full (if b then more_values source values r ++ rs else r ∷ with_values id how source values rs)
+      go : (b : Bool) → Full (with_values id how source values rs)
+          → Full (if b then more_values source values r ++ rs else r ∷ with_values id how source values rs)
       go true rest = (more_right r.id r.reading r.values values h.0, h.1)
       go false rest = (h.0, rest)
 
@@ -311,7 +322,8 @@ module _ (rules : List Rule) where
 
     -- ---- the flags of a word
 
-    option_good : (a : Rule) (v : Option Text) (h : Held) → IsDistinct a → is_some a.index ≡ false → takes_values a ≡ true → Good h → FlagGood (option_met rules a v h)
+    option_good : (a : Rule) (v : Option Text) (h : Held) → IsDistinct a → is_some a.index ≡ false
+        → takes_values a ≡ true → Good h → FlagGood (option_met rules a v h)
     option_good a v h own nowhere takes good = go v
       where
         no_switch : is_switch a.id ≡ false
@@ -367,7 +379,8 @@ module _ (rules : List Rule) where
     bundle_good : (k : ℕ) (flags : Text) (skip : ℕ) (so_far : Outcome) (h : Held) → Settles so_far → Good h → FlagGood (bundle_met rules k flags skip so_far h)
     unfolding bundle_met
     bundle_good zero flags skip so_far h settles good = (good, settles)
-    bundle_good (suc k) flags skip so_far h settles good = flags_good (slice_get (chars flags) 0) flags skip so_far h (bundle_met rules k) (bundle_good k) settles good
+    bundle_good (suc k) flags skip so_far h settles good = flags_good (slice_get (chars flags) 0) flags skip so_far
+        h (bundle_met rules k) (bundle_good k) settles good
 
     -- ---- a word
 
@@ -384,19 +397,22 @@ module _ (rules : List Rule) where
             waits_on false = tt
     plain_good positional word h steady good = (good, tt)
 
-    flag_good : (waiting : Waiting) (word : Text) (h : Held) (met : Outcome) → Steady waiting → Settles met → Good h → WordGood (after_flag rules waiting word h met)
+    flag_good : (waiting : Waiting) (word : Text) (h : Held) (met : Outcome) → Steady waiting → Settles met → Good h
+        → WordGood (after_flag rules waiting word h met)
     flag_good waiting word h done steady settles good = (good, tt)
     flag_good waiting word h (waits id) steady settles good = (good, settles)
     flag_good waiting word h plain steady settles good = plain_good waiting word h steady good
     flag_good waiting word h refused steady settles good = plain_good waiting word h steady good
 
-    short_word_good : (flags : Option Text) (waiting : Waiting) (word : Text) (h : Held) → Steady waiting → Good h → WordGood (short_or_plain rules waiting word flags h)
+    short_word_good : (flags : Option Text) (waiting : Waiting) (word : Text) (h : Held) → Steady waiting → Good h
+        → WordGood (short_or_plain rules waiting word flags h)
     short_word_good None waiting word h steady good = plain_good waiting word h steady good
     short_word_good (Some flags) waiting word h steady good =
         let met = bundle_good (length flags) flags h.skip plain (record h { skip = 0 }) tt good in
         flag_good waiting word _ _ steady met.1 met.0
 
-    long_word_good : (p : Option (Text × Option Text)) (waiting : Waiting) (word : Text) (h : Held) → Steady waiting → Good h → WordGood (long_or_other rules waiting word p h)
+    long_word_good : (p : Option (Text × Option Text)) (waiting : Waiting) (word : Text) (h : Held) → Steady waiting
+        → Good h → WordGood (long_or_other rules waiting word p h)
     long_word_good None waiting word h steady good = short_word_good (short_of word) waiting word h steady good
     long_word_good (Some p) waiting word h steady good =
         let met = long_good p.0 p.1 h good in
@@ -511,7 +527,8 @@ module _ (rules : List Rule) where
     abbrev pub Given : List Row → Rule → Type 0
     Given rows a = (a.required ≡ true → has_place a.id ≡ true → is_some (first_of a.id rows) ≡ true) × (is_switch a.id ≡ true → HasFlag a.id rows)
 
-    each_given : (rows : List Row) (xs : List Rule) → Full rows → Each IsDistinct xs → Each (Wanted rows) xs → Each (λ a. IsFlag a → has_row a.id rows ≡ true) xs
+    each_given : (rows : List Row) (xs : List Rule) → Full rows → Each IsDistinct xs → Each (Wanted rows) xs
+        → Each (λ a. IsFlag a → has_row a.id rows ≡ true) xs
         → Each (Given rows) xs
     each_given rows [] full own wanted has = tt
     each_given rows (a ∷ rest) full own wanted has = (
@@ -524,4 +541,5 @@ module _ (rules : List Rule) where
         → Each (Given (rows_after rules names words)) rules
     all_given names words none_wanting =
         let rows = rows_after rules names words in
-        each_given rows rules (rows_full names words) all (wanted_given rows rules none_wanting) (defaults_have rules (settled rules (walk rules names nothing_held words).held).rows)
+        each_given rows rules (rows_full names words) all (wanted_given rows rules none_wanting)
+        (defaults_have rules (settled rules (walk rules names nothing_held words).held).rows)

@@ -27,7 +27,10 @@ pub record FormatsRig {R : Type 0} (large : Bool) (seen : R → Device) (rig_old
   pub small : IsErrOf formatted NotFormatted ↔ ((seen rig_old).sectors < wanted_size large)
   pub unchanged : IsErrOf formatted NotFormatted → rig_new ≡ rig_old
   pub faults : IfErr formatted (λ fault. (fault ≡ NotFormatted) ⊎ (fault ≡ DeviceFailed))
-  pub formats : wanted_size large ≤ (seen rig_old).sectors → IfHonest (seen rig_old) (seen rig_new) (FormatSpec formatted (program_room (is_large_size (seen rig_old).sectors)) (seen rig_old).trace (seen rig_new).trace)
+  pub formats : wanted_size large ≤ (seen rig_old).sectors
+      → IfHonest (seen rig_old) (seen rig_new)
+      (FormatSpec formatted (program_room (is_large_size (seen rig_old).sectors)) (seen rig_old).trace
+      (seen rig_new).trace)
   pub tells : CountsFailure formatted (seen rig_old).failed (seen rig_new).failed
 
 -- The same for the device in a file; or its bytes can't be made a device, since their number can't be read, or there is

@@ -1,5 +1,6 @@
 -- What the job `grow` does (own).
-use Rattle.std.specs.Prelude.{ℕ, ◌≡◌, ◌⊎◌, ◌*◌, ◌&&◌, Bool, true, false, nat_le, List, Option, Some, Result, Ok, Err, IfErr, IfSome, IsErrOf, OnOk, is_some, length}
+use Rattle.std.specs.Prelude.{ℕ, ◌≡◌, ◌⊎◌, ◌*◌, ◌&&◌, Bool, true, false, nat_le, List, Option, Some, Result, Ok}
+use Rattle.std.specs.Prelude.{Err, IfErr, IfSome, IsErrOf, OnOk, is_some, length}
 use Rattle.ng_num.specs.declared.fault.Fault.{Fault}
 use Rattle.ng_num.specs.declared.fault.Fault.TheVariants.{DeviceFailed, NotFormatted}
 use Rattle.ng_file.specs.Bytes.{Lengthened, LengthenedInPart, sector_of}

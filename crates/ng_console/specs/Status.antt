@@ -40,7 +40,9 @@ module _ {F : Type 0} (bytes_of : F → Option (List ℕ)) where
       × (is_some settings_file ≡ is_some settings) × (is_some device ≡ is_some from)
       × ((chosen : Result Settings NoSettings) × GivesChoice bytes_of settings_file chosen
       × RunsChosen (λ (file : OpenedFile F). None) chosen block_delete device program_file old new status)
-  JobSpec (Format device large) text old new status = (opened : Result (OpenedFile F) NoDevice) × FormatsOpened (λ (file : OpenedFile F). None) (λ (file : OpenedFile F). no_promise) large opened old new status
+  JobSpec (Format device large) text old new status = (opened : Result (OpenedFile F) NoDevice)
+      × FormatsOpened (λ (file : OpenedFile F). None) (λ (file : OpenedFile F). no_promise) large opened old new
+      status
   JobSpec (Grow device) text old new status =
       (opened : Result (OpenedFile F) NoDevice) × GrowsOpened (λ (file : OpenedFile F). None) (λ (file : OpenedFile F). None) opened old new status
   JobSpec (Run device settings out) text old new status = Operates bytes_of text old new status

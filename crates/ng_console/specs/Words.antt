@@ -72,7 +72,10 @@ only_by_subcommands app = record app { top = record app.top { has_version = true
 -- ngc run DEVICE SETTINGS OUT, or ngc pace SETTINGS MACHINE [--total]
 abbrev pub ngc_app : App
 ngc_app =
-    with_subcommand (with_subcommand (with_subcommand (with_subcommand (with_subcommand (only_by_subcommands (new_app (codes "ngc"))) dry_app.top) format_app.top) grow_app.top) run_app.top) pace_app.top
+    with_subcommand (with_subcommand
+    (with_subcommand (with_subcommand
+    (with_subcommand (only_by_subcommands (new_app (codes "ngc"))) dry_app.top) format_app.top) grow_app.top)
+    run_app.top) pace_app.top
 
 -- the name of the job's subcommand
 abbrev pub subcommand_name : Job → Text

@@ -74,14 +74,14 @@ fn run_file_from<S: Storage + Drop, R: Read + Drop, W: Write, A: Allocator + Cop
 }
 
 /// Runs a program without a machine, writes its canonical text, and returns the exit status, as `run_dry` does. The
-/// program begins with what a controller over this device would begin it with, once it is loaded: its parameters, modes,
-/// offsets, tool table and point. A device of format 1 has the tools of the settings. What is half-done doesn't count, nor
-/// whether the point is known.
+/// program begins with what a controller over this device would begin it with, once it is loaded: its parameters,
+/// modes, offsets, tool table and point. A device of format 1 has the tools of the settings. What is half-done doesn't
+/// count, nor whether the point is known.
 ///
-/// If there is no such controller the status is 2, and the line of the fault is written: J2 if the device isn't formatted
-/// or too small, J3 if it is damaged, J4 if its epochs are used up, J1 if the file fails or changes all the time, M1 if
-/// there is no memory for a copy of the device. The device is only read. The error is the writer's while it writes that
-/// line.
+/// If there is no such controller the status is 2, and the line of the fault is written: J2 if the device isn't
+/// formatted or too small, J3 if it is damaged, J4 if its epochs are used up, J1 if the file fails or changes all the
+/// time, M1 if there is no memory for a copy of the device. The device is only read. The error is the writer's while it
+/// writes that line.
 pub fn dry_from_device<S: Storage, R: Read, W: Write, A: Allocator + Copy + Drop>(
     alloc: A,
     settings: &Settings,

@@ -91,8 +91,8 @@ where
 
 /// Operates the machine of the device in these bytes, and appends what is handed out to a file. Before that it makes
 /// what a read of them returns durable (`settle`). If that fails, the line of J1 is written, and nothing else is done.
-/// The error is the writer's, and is possible only then, or if the length can't be read or there is no memory for a line
-/// of the file.
+/// The error is the writer's, and is possible only then, or if the length can't be read or there is no memory for a
+/// line of the file.
 pub fn operate_device<S: Storage + Drop, O: Write + Drop, I: Read, W: Write>(
     alloc: Global,
     settings: Settings,
@@ -121,19 +121,19 @@ pub fn operate_device<S: Storage + Drop, O: Write + Drop, I: Read, W: Write>(
 /// Makes what a read of a device returns durable, before anything else is done with it. No byte changes, also where it
 /// fails. A file that isn't a device isn't written.
 ///
-/// A sync of an earlier session may have failed, and then the system may take what it couldn't write for written: a read
-/// returns it, and the disk has what was there before. A session makes no call after a failed one, so of what its sync
-/// should have kept each part either counts again only once it is written anew, or is lost with a loss of power without
-/// harm, or is written again here:
+/// A sync of an earlier session may have failed, and then the system may take what it couldn't write for written: a
+/// read returns it, and the disk has what was there before. A session makes no call after a failed one, so of what its
+/// sync should have kept each part either counts again only once it is written anew, or is lost with a loss of power
+/// without harm, or is written again here:
 ///
-/// - a snapshot, a program or a tool area, for which no header stood yet: no header that is read names them, and they are
-///   written anew before one does;
-/// - records: nobody was told of the entry or the segment, so it may be kept or lost; and power on stores all anew, what
-///   it read of them too, and then counts no record;
+/// - a snapshot, a program or a tool area, for which no header stood yet: no header that is read names them, and they
+///   are written anew before one does;
+/// - records: nobody was told of the entry or the segment, so it may be kept or lost; and power on stores all anew,
+///   what it read of them too, and then counts no record;
 /// - a header: power on would write over what the header before it names, which on the disk is in force. What it names
 ///   itself was synced before it was written. So both headers are written again;
-/// - the end of a device that was grown: a header may name its last areas only where the disk has its length. So its last
-///   sector is written again.
+/// - the end of a device that was grown: a header may name its last areas only where the disk has its length. So its
+///   last sector is written again.
 fn settle<S: Storage>(device: &mut S) -> io::Result<()>
     ensures same { IfSome (S.content device.old) (λ held. S.content device.new ≡ Some held) }
     ensures lasts { OnOk result (IfSome (S.lasting device.new) (λ kept. S.content device.new ≡ Some kept)) }

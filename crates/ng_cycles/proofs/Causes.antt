@@ -48,39 +48,50 @@ none_far xs x found y h = let e = far_ok xs x found h in rw e.0 refl
 
 -- ---- causes that are checked in turn
 
-pub hole_err : {X : Type 0} (below inverse : Bool) (work rest : List (Bool × Fault)) (fault : Fault) (x : X) → below ≡ false → inverse ≡ false → first_fault work ≡ Some fault →
+pub hole_err : {X : Type 0} (below inverse : Bool) (work rest : List (Bool × Fault)) (fault : Fault) (x : X)
+    → below ≡ false → inverse ≡ false → first_fault work ≡ Some fault →
     Err fault ≡ unless (first_fault ((below, RBelowZ) ∷ ((inverse, InverseTime) ∷ (work ++ rest)))) x
 hole_err below inverse work rest fault x b i f = rw (b, i, first_some work rest fault f) refl
 
-pub hole_unfed : {X : Type 0} (below inverse unfed : Bool) (work : List (Bool × Fault)) (x : X) → below ≡ false → inverse ≡ false → first_fault work ≡ None → unfed ≡ true →
+pub hole_unfed : {X : Type 0} (below inverse unfed : Bool) (work : List (Bool × Fault)) (x : X) → below ≡ false
+    → inverse ≡ false → first_fault work ≡ None → unfed ≡ true →
     Err NoFeed ≡ unless (first_fault ((below, RBelowZ) ∷ ((inverse, InverseTime) ∷ (work ++ (unfed, NoFeed) ∷ [])))) x
 hole_unfed below inverse unfed work x b i f e = rw (b, i, first_none work ((unfed, NoFeed) ∷ []) f, e) refl
 
-pub hole_ok : {X : Type 0} (below inverse unfed : Bool) (work : List (Bool × Fault)) (x y : X) → below ≡ false → inverse ≡ false → first_fault work ≡ None → unfed ≡ false → y ≡ x →
+pub hole_ok : {X : Type 0} (below inverse unfed : Bool) (work : List (Bool × Fault)) (x y : X) → below ≡ false
+    → inverse ≡ false → first_fault work ≡ None → unfed ≡ false → y ≡ x →
     Ok y ≡ unless (first_fault ((below, RBelowZ) ∷ ((inverse, InverseTime) ∷ (work ++ (unfed, NoFeed) ∷ [])))) x
 hole_ok below inverse unfed work x y b i f e is = rw (b, i, first_none work ((unfed, NoFeed) ∷ []) f, e, is) refl
 
-pub of_far : {X : Type 0} (far : Bool) (rest : List (Bool × Fault)) (fault : Fault) (x : X) → far ≡ true → fault ≡ OutOfRange → Err fault ≡ unless (first_fault ((far, OutOfRange) ∷ rest)) x
+pub of_far : {X : Type 0} (far : Bool) (rest : List (Bool × Fault)) (fault : Fault) (x : X) → far ≡ true
+    → fault ≡ OutOfRange → Err fault ≡ unless (first_fault ((far, OutOfRange) ∷ rest)) x
 of_far far rest fault x f e = rw (f, e) refl
 
-pub of_axis : {X : Type 0} (far axis : Bool) (rest : List (Bool × Fault)) (x : X) → far ≡ false → axis ≡ true → Err CycleNoAxis ≡ unless (first_fault ((far, OutOfRange) ∷ ((axis, CycleNoAxis) ∷ rest))) x
+pub of_axis : {X : Type 0} (far axis : Bool) (rest : List (Bool × Fault)) (x : X) → far ≡ false → axis ≡ true
+    → Err CycleNoAxis ≡ unless (first_fault ((far, OutOfRange) ∷ ((axis, CycleNoAxis) ∷ rest))) x
 of_axis far axis rest x f a = rw (f, a) refl
 
-pub of_z : {X : Type 0} (far axis z : Bool) (rest : List (Bool × Fault)) (x : X) → far ≡ false → axis ≡ false → z ≡ true → Err NoZ ≡ unless (first_fault ((far, OutOfRange) ∷ ((axis, CycleNoAxis) ∷ ((z, NoZ) ∷ rest)))) x
+pub of_z : {X : Type 0} (far axis z : Bool) (rest : List (Bool × Fault)) (x : X) → far ≡ false → axis ≡ false
+    → z ≡ true → Err NoZ ≡ unless (first_fault ((far, OutOfRange) ∷ ((axis, CycleNoAxis) ∷ ((z, NoZ) ∷ rest)))) x
 of_z far axis z rest x f a h = rw (f, a, h) refl
 
-pub of_r : {X : Type 0} (far axis z r : Bool) (rest : List (Bool × Fault)) (x : X) → far ≡ false → axis ≡ false → z ≡ false → r ≡ true → Err NoR ≡ unless (first_fault ((far, OutOfRange) ∷ ((axis, CycleNoAxis) ∷ ((z, NoZ) ∷ ((r, NoR) ∷ rest))))) x
+pub of_r : {X : Type 0} (far axis z r : Bool) (rest : List (Bool × Fault)) (x : X) → far ≡ false → axis ≡ false
+    → z ≡ false → r ≡ true
+    → Err NoR ≡ unless (first_fault ((far, OutOfRange) ∷ ((axis, CycleNoAxis) ∷ ((z, NoZ) ∷ ((r, NoR) ∷ rest))))) x
 of_r far axis z r rest x f a h k = rw (f, a, h, k) refl
 
 pub of_rest : {X : Type 0} (far axis z r : Bool) (rest : List (Bool × Fault)) (x : X) → far ≡ false → axis ≡ false → z ≡ false → r ≡ false →
     unless (first_fault rest) x ≡ unless (first_fault ((far, OutOfRange) ∷ ((axis, CycleNoAxis) ∷ ((z, NoZ) ∷ ((r, NoR) ∷ rest))))) x
 of_rest far axis z r rest x f a h k = rw (f, a, h, k) refl
 
-pub of_hole : {X : Type 0} (hole rest : List (Bool × Fault)) (fault : Fault) (x : X) → first_fault hole ≡ Some fault → Err fault ≡ unless (first_fault (hole ++ rest)) x
+pub of_hole : {X : Type 0} (hole rest : List (Bool × Fault)) (fault : Fault) (x : X) → first_fault hole ≡ Some fault
+    → Err fault ≡ unless (first_fault (hole ++ rest)) x
 of_hole hole rest fault x e = rw (first_some hole rest fault e) refl
 
-pub of_travel : {X : Type 0} (hole : List (Bool × Fault)) (leaves : Bool) (x : X) → first_fault hole ≡ None → leaves ≡ true → Err OutsideTravel ≡ unless (first_fault (hole ++ ((leaves, OutsideTravel) ∷ []))) x
+pub of_travel : {X : Type 0} (hole : List (Bool × Fault)) (leaves : Bool) (x : X) → first_fault hole ≡ None
+    → leaves ≡ true → Err OutsideTravel ≡ unless (first_fault (hole ++ ((leaves, OutsideTravel) ∷ []))) x
 of_travel hole leaves x e l = rw (first_none hole ((leaves, OutsideTravel) ∷ []) e, l) refl
 
-pub of_none : {X : Type 0} (hole : List (Bool × Fault)) (leaves : Bool) (x : X) → first_fault hole ≡ None → leaves ≡ false → Ok x ≡ unless (first_fault (hole ++ ((leaves, OutsideTravel) ∷ []))) x
+pub of_none : {X : Type 0} (hole : List (Bool × Fault)) (leaves : Bool) (x : X) → first_fault hole ≡ None
+    → leaves ≡ false → Ok x ≡ unless (first_fault (hole ++ ((leaves, OutsideTravel) ∷ []))) x
 of_none hole leaves x e l = rw (first_none hole ((leaves, OutsideTravel) ∷ []) e, l) refl

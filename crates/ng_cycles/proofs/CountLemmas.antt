@@ -1,5 +1,6 @@
 -- How many segments a cycle has.
-use Rattle.std.proofs.Common.{arith, ℕ, zero, suc, ◌+◌, ◌-◌, ◌*◌, ◌≡◌, ◌≤◌, Bool, true, false, List, [], ◌∷◌, ◌++◌, length, flat_map, refl, sym, ◌∙◌, ap, if◌then◌else◌, int_lt}
+use Rattle.std.proofs.Common.{arith, ℕ, zero, suc, ◌+◌, ◌-◌, ◌*◌, ◌≡◌, ◌≤◌, Bool, true, false, List, [], ◌∷◌, ◌++◌}
+use Rattle.std.proofs.Common.{length, flat_map, refl, sym, ◌∙◌, ap, if◌then◌else◌, int_lt}
 use Rattle.std.specs.Ordering.{int_eq}
 use Rattle.std.proofs.lemmas.List.{length-append}
 use Rattle.ng_num.specs.declared.point.Point.{Point}
@@ -16,7 +17,8 @@ first-length : (d : Drill) (p : Point) (r : ℕ) → length (traced d (stand d p
 first-length d p r =
     let here = if int_eq p.z d.r then 0 else 1 in
     let long : length (traced d (stand d p) (repeat d r)) ≡ suc (here + work_length d d.work) =
-    ap suc (r-length d (record p { x = coordinate d.x r; y = coordinate d.y r }) (int_eq p.z d.r) (strokes_of d d.work) (work_length d d.work) (λ q. work-length d q d.work)) in
+    ap suc (r-length d (record p { x = coordinate d.x r; y = coordinate d.y r }) (int_eq p.z d.r)
+    (strokes_of d d.work) (work_length d d.work) (λ q. work-length d q d.work)) in
     let one : suc (here + work_length d d.work) ≡ 1 + (here + work_length d d.work) = omega arith in
     long ∙ one
 
@@ -37,7 +39,8 @@ later-length d p b (suc m) e =
     omega (arith, split, first, more)
 
 all-length : (d : Drill) (p : Point) (m : ℕ) →
-    length (traced d (stand d p) (flat_map (repeat d) (numbers_from 1 (suc m)))) ≡ (1 + ((if int_eq p.z d.r then 0 else 1) + work_length d d.work)) + m * repeat_length d
+    length (traced d (stand d p) (flat_map (repeat d) (numbers_from 1 (suc m))))
+    ≡ (1 + ((if int_eq p.z d.r then 0 else 1) + work_length d d.work)) + m * repeat_length d
 all-length d p m =
     let split = length-repeats d p 1 (flat_map (repeat d) (numbers_from 2 m)) in
     let first = first-length d p 1 in
@@ -65,7 +68,8 @@ total : Drill → ℕ
 total d = (lead_length d + work_length d d.work) + (d.repeats - 1) * repeat_length d
 
 -- the number of segments, in the code's terms
-pub counted : (d own : Drill) (lead work repeat later : ℕ) → own ≡ d → 1 ≤ d.repeats → lead ≡ lead_length own → work ≡ work_length own own.work → repeat ≡ repeat_length own → later ≡ (own.repeats - 1) * repeat →
+pub counted : (d own : Drill) (lead work repeat later : ℕ) → own ≡ d → 1 ≤ d.repeats → lead ≡ lead_length own
+    → work ≡ work_length own own.work → repeat ≡ repeat_length own → later ≡ (own.repeats - 1) * repeat →
     (lead + work) + later ≡ length (cycle_segments d)
 unfolding total
 counted d own lead work repeat later o some a b c e =

@@ -9,7 +9,13 @@ use Rattle.ng_cycles.specs.declared.heights.Lengths.{Lengths}
 use Rattle.ng_cycles.specs.Lengths.{lengths_in, r_of, z_of, z_by}
 
 abbrev found : HoleAxis → HoleAxis → Bool → Option ℤ → Option ℤ → ℤ → ℤ → OptionalLengths
-found x y incremental r z shift at = record { x = x; y = y; heights = record { r = option_map (λ r. r_of incremental r shift at) r; z = z_by incremental r z shift at } }
+found x y incremental r z shift at =
+    record {
+      x = x;
+      y = y;
+      heights =
+          record { r = option_map (λ r. r_of incremental r shift at) r; z = z_by incremental r z shift at };
+    }
 
 abbrev named : HoleAxis → HoleAxis → Bool → Option ℤ → Option ℤ → ℤ → ℤ → Lengths
 named x y incremental r z shift at =
@@ -21,13 +27,15 @@ pub record HasBoth (r z : Option ℤ) (l m : Lengths) : Type 0 where
   pub has_z : is_none z ≡ false
   pub lengths : l ≡ m
 
-pub has_both : (x y : HoleAxis) (incremental : Bool) (r z : Option ℤ) (shift at : ℤ) (l : Lengths) → Some l ≡ lengths_in (found x y incremental r z shift at) → HasBoth r z l (named x y incremental r z shift at)
+pub has_both : (x y : HoleAxis) (incremental : Bool) (r z : Option ℤ) (shift at : ℤ) (l : Lengths)
+    → Some l ≡ lengths_in (found x y incremental r z shift at) → HasBoth r z l (named x y incremental r z shift at)
 has_both x y incremental None z shift at l e = absurd (cc e)
 has_both x y incremental (Some r) None shift at l e = absurd (cc e)
 has_both x y false (Some r) (Some z) shift at l e = record { has_r = refl; has_z = refl; lengths = cc e }
 has_both x y true (Some r) (Some z) shift at l e = record { has_r = refl; has_z = refl; lengths = cc e }
 
-pub lacks_r : (x y : HoleAxis) (incremental : Bool) (r z : Option ℤ) (shift at : ℤ) → None ≡ lengths_in (found x y incremental r z shift at) → is_none z ≡ false → is_none r ≡ true
+pub lacks_r : (x y : HoleAxis) (incremental : Bool) (r z : Option ℤ) (shift at : ℤ)
+    → None ≡ lengths_in (found x y incremental r z shift at) → is_none z ≡ false → is_none r ≡ true
 lacks_r x y incremental None z shift at e h = refl
 lacks_r x y incremental (Some r) None shift at e h = absurd (cc h)
 lacks_r x y false (Some r) (Some z) shift at e h = absurd (cc e)

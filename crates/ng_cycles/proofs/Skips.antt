@@ -1,5 +1,7 @@
 -- Whole repeats and whole pecks of a cycle are skipped at once.
-use Rattle.std.proofs.Common.{arith, ℕ, zero, suc, ◌+◌, ◌-◌, ◌*◌, ◌/◌, min, ◌≡◌, ◌≤◌, Bool, true, false, ℤ, List, [], ◌∷◌, ◌++◌, length, take, drop, flat_map, refl, sym, ◌∙◌, ap, append_assoc, if◌then◌else◌, int_lt}
+use Rattle.std.proofs.Common.{arith, ℕ, zero, suc, ◌+◌, ◌-◌, ◌*◌, ◌/◌, min, ◌≡◌, ◌≤◌, Bool, true, false, ℤ, List}
+use Rattle.std.proofs.Common.{[], ◌∷◌, ◌++◌, length, take, drop, flat_map, refl, sym, ◌∙◌, ap, append_assoc}
+use Rattle.std.proofs.Common.{if◌then◌else◌, int_lt}
 use Rattle.std.specs.Ordering.{int_eq}
 use Rattle.std.proofs.lemmas.List.Sums.{fold-append}
 use Rattle.std.proofs.lemmas.Nat.{mul-le}
@@ -19,7 +21,8 @@ use Rattle.ng_cycles.specs.Segments.{begin, cycle_segments, traced, segments_of,
 abbrev pub ahead : Drill → MotionState → List Stroke → CycleModel
 ahead d at ss = record { standing = at; segments = traced d at ss }
 
-pub traced-append : (d : Drill) (at : MotionState) (xs ys : List Stroke) → traced d at (xs ++ ys) ≡ traced d at xs ++ traced d (after_segments at (traced d at xs)) ys
+pub traced-append : (d : Drill) (at : MotionState) (xs ys : List Stroke)
+    → traced d at (xs ++ ys) ≡ traced d at xs ++ traced d (after_segments at (traced d at xs)) ys
 traced-append d at [] ys = refl
 traced-append d at (s ∷ xs) ys =
     let here = segments_of d at s in
@@ -28,10 +31,13 @@ traced-append d at (s ∷ xs) ys =
     ∙ (sym (append_assoc here (traced d after xs) (traced d (after_segments after (traced d after xs)) ys))
     ∙ ap (λ (end : MotionState). (here ++ traced d after xs) ++ traced d end ys) (sym (fold-append after_segment at here (traced d after xs))))
 
-later-append : (at : MotionState) (xs ys : List Segment) (k : ℕ) → later (length xs + k) (record { standing = at; segments = xs ++ ys }) ≡ later k (record { standing = after_segments at xs; segments = ys })
+later-append : (at : MotionState) (xs ys : List Segment) (k : ℕ)
+    → later (length xs + k) (record { standing = at; segments = xs ++ ys }) ≡ later k
+    (record { standing = after_segments at xs; segments = ys })
 later-append at xs ys k = rw (take-append-add xs ys k, drop-append-add xs ys k, fold-append after_segment at xs (take k ys)) refl
 
-skip-strokes : (d : Drill) (at : MotionState) (xs ys : List Stroke) (k n : ℕ) → n ≡ length (traced d at xs) → later (n + k) (ahead d at (xs ++ ys)) ≡ later k (ahead d (after_segments at (traced d at xs)) ys)
+skip-strokes : (d : Drill) (at : MotionState) (xs ys : List Stroke) (k n : ℕ) → n ≡ length (traced d at xs)
+    → later (n + k) (ahead d at (xs ++ ys)) ≡ later k (ahead d (after_segments at (traced d at xs)) ys)
 skip-strokes d at xs ys k n e =
     ap (λ (m : ℕ). later (m + k) (ahead d at (xs ++ ys))) e
     ∙ (ap (λ (segments : List Segment). later (length (traced d at xs) + k) (record { standing = at; segments = segments })) (traced-append d at xs ys)
@@ -78,8 +84,11 @@ work-length d p (BoringWithDwell seconds) = refl
 abbrev to_r : Drill → MotionState → Bool → List Segment
 to_r d at there = if there then [] else segments_of d at (TraverseTo d.r)
 
-r-end : (d : Drill) (p : Point) (there : Bool) (ss : List Stroke) → ((p : Point) → after_segments (stand d p) (traced d (stand d p) ss) ≡ stand d (record p { z = d.clear })) →
-    after_segments (stand d p) (to_r d (stand d p) there ++ traced d (after_segments (stand d p) (to_r d (stand d p) there)) ss) ≡ stand d (record p { z = d.clear })
+r-end : (d : Drill) (p : Point) (there : Bool) (ss : List Stroke)
+    → ((p : Point) → after_segments (stand d p) (traced d (stand d p) ss) ≡ stand d (record p { z = d.clear })) →
+    after_segments (stand d p)
+    (to_r d (stand d p) there ++ traced d (after_segments (stand d p) (to_r d (stand d p) there)) ss) ≡ stand d
+    (record p { z = d.clear })
 r-end d p true ss ends = ends p
 r-end d p false ss ends = ends (record p { z = d.r })
 
@@ -95,19 +104,24 @@ pub repeat-length : (d : Drill) (p : Point) (r : ℕ) → p.z ≡ d.clear → re
 repeat-length d p r e =
     let here = if int_eq p.z d.r then 0 else 1 in
     let long : length (traced d (stand d p) (repeat d r)) ≡ suc (here + work_length d d.work) =
-    ap suc (r-length d (record p { x = coordinate d.x r; y = coordinate d.y r }) (int_eq p.z d.r) (strokes_of d d.work) (work_length d d.work) (λ q. work-length d q d.work)) in
+    ap suc (r-length d (record p { x = coordinate d.x r; y = coordinate d.y r }) (int_eq p.z d.r)
+    (strokes_of d d.work) (work_length d d.work) (λ q. work-length d q d.work)) in
     let same : repeat_length d ≡ 1 + (here + work_length d d.work) = ap (λ (z : ℤ). 1 + ((if int_eq z d.r then 0 else 1) + work_length d d.work)) (sym e) in
     let one : 1 + (here + work_length d d.work) ≡ suc (here + work_length d d.work) = omega arith in
     same ∙ (one ∙ sym long)
 
-one_repeat : (d : Drill) (p : Point) (b m k : ℕ) → p.z ≡ d.clear → later (repeat_length d + k) (ahead d (stand d p) (flat_map (repeat d) (numbers_from (suc b) (suc m)))) ≡ later k (ahead d (stand d (hole_at d (suc b))) (flat_map (repeat d) (numbers_from (suc (suc b)) m)))
+one_repeat : (d : Drill) (p : Point) (b m k : ℕ) → p.z ≡ d.clear
+    → later (repeat_length d + k) (ahead d (stand d p) (flat_map (repeat d) (numbers_from (suc b) (suc m)))) ≡ later
+    k (ahead d (stand d (hole_at d (suc b))) (flat_map (repeat d) (numbers_from (suc (suc b)) m)))
 one_repeat d p b m k e =
     let rest = flat_map (repeat d) (numbers_from (suc (suc b)) m) in
     skip-strokes d (stand d p) (repeat d (suc b)) rest k (repeat_length d) (repeat-length d p (suc b) e)
     ∙ ap (λ (at : MotionState). later k (ahead d at rest)) (repeat-end d p (suc b))
 
 skips : (d : Drill) (p : Point) (b q m k : ℕ) → p.z ≡ d.clear →
-    later (suc q * repeat_length d + k) (ahead d (stand d p) (flat_map (repeat d) (numbers_from (suc b) (suc q + m)))) ≡ later k (ahead d (stand d (hole_at d (b + suc q))) (flat_map (repeat d) (numbers_from (suc (b + suc q)) m)))
+    later (suc q * repeat_length d + k)
+    (ahead d (stand d p) (flat_map (repeat d) (numbers_from (suc b) (suc q + m)))) ≡ later k
+    (ahead d (stand d (hole_at d (b + suc q))) (flat_map (repeat d) (numbers_from (suc (b + suc q)) m)))
 skips d p b zero m k e =
     let all : suc zero + m ≡ suc m = omega arith in
     let n : suc zero * repeat_length d + k ≡ repeat_length d + k = omega arith in
@@ -120,28 +134,41 @@ skips d p b (suc q) m k e =
     rw (all, n, at) (one_repeat d p b (suc q + m) (suc q * repeat_length d + k) e ∙ skips d (hole_at d (suc b)) (suc b) q m k refl)
 
 -- skipping repeats, with equal numbers
-pub skip_repeats : (d : Drill) (at : MotionState) (b n q left m b' k : ℕ) → at.point.z ≡ d.clear → at.outputs ≡ d.outputs → 1 ≤ q → n ≡ q * repeat_length d + k → left ≡ q + m → b' ≡ b + q →
-    later k (ahead d (stand d (hole_at d b')) (flat_map (repeat d) (numbers_from (suc b') m))) ≡ later n (ahead d at (flat_map (repeat d) (numbers_from (suc b) left)))
+pub skip_repeats : (d : Drill) (at : MotionState) (b n q left m b' k : ℕ) → at.point.z ≡ d.clear
+    → at.outputs ≡ d.outputs → 1 ≤ q → n ≡ q * repeat_length d + k → left ≡ q + m → b' ≡ b + q →
+    later k (ahead d (stand d (hole_at d b')) (flat_map (repeat d) (numbers_from (suc b') m))) ≡ later n
+    (ahead d at (flat_map (repeat d) (numbers_from (suc b) left)))
 skip_repeats d at b n zero left m b' k z o some e f g = absurd (omega arith)
 skip_repeats d at b n (suc q) left m b' k z o some e f g = rw (e, f, g) (sym (
-    ap (λ (outputs : Outputs). later (suc q * repeat_length d + k) (ahead d (record { point = at.point; outputs = outputs }) (flat_map (repeat d) (numbers_from (suc b) (suc q + m))))) o
+    ap (λ (outputs : Outputs). later (suc q * repeat_length d + k)
+    (ahead d (record { point = at.point; outputs = outputs })
+    (flat_map (repeat d) (numbers_from (suc b) (suc q + m))))) o
     ∙ skips d at.point b q m k z))
 
 -- skipping repeats, in the code's terms
-pub pass_repeats_later : (d : Drill) (at : MotionState) (b n q left m b' k : ℕ) (end : Point) (z : ℤ) → at.point.z ≡ d.clear → at.outputs ≡ d.outputs → 1 ≤ q → n ≡ q * repeat_length d + k → left ≡ q + m → b' ≡ b + q →
+pub pass_repeats_later : (d : Drill) (at : MotionState) (b n q left m b' k : ℕ) (end : Point) (z : ℤ)
+    → at.point.z ≡ d.clear → at.outputs ≡ d.outputs → 1 ≤ q → n ≡ q * repeat_length d + k → left ≡ q + m
+    → b' ≡ b + q →
     end ≡ record { x = coordinate d.x b'; y = coordinate d.y b'; z = z } → z ≡ d.clear →
-    later k (ahead d (record { point = end; outputs = at.outputs }) (flat_map (repeat d) (numbers_from (suc b') m))) ≡ later n (ahead d at (flat_map (repeat d) (numbers_from (suc b) left)))
+    later k (ahead d (record { point = end; outputs = at.outputs }) (flat_map (repeat d) (numbers_from (suc b') m)))
+    ≡ later n (ahead d at (flat_map (repeat d) (numbers_from (suc b) left)))
 pass_repeats_later d at b n q left m b' k end z e o some f g h is_end is_z =
     let rest = flat_map (repeat d) (numbers_from (suc b') m) in
-    rw (is_end, is_z) (ap (λ (outputs : Outputs). later k (ahead d (record { point = hole_at d b'; outputs = outputs }) rest)) o ∙ skip_repeats d at b n q left m b' k e o some f g h)
+    rw (is_end, is_z) (ap
+    (λ (outputs : Outputs). later k (ahead d (record { point = hole_at d b'; outputs = outputs }) rest)) o
+    ∙ skip_repeats d at b n q left m b' k e o some f g h)
 
 -- ---- pecks
 
-one_peck : (d : Drill) (at : MotionState) (q a k : ℕ) (rest : List Stroke) → later (3 + k) (ahead d at (again d q a ++ rest)) ≡ later k (ahead d (record at { point = record at.point { z = bottom d q (suc a) } }) rest)
+one_peck : (d : Drill) (at : MotionState) (q a k : ℕ) (rest : List Stroke)
+    → later (3 + k) (ahead d at (again d q a ++ rest)) ≡ later k
+    (ahead d (record at { point = record at.point { z = bottom d q (suc a) } }) rest)
 one_peck d at q a k rest = let e : 3 + k ≡ suc (suc (suc k)) = omega arith in rw e refl
 
 peck_skips : (d : Drill) (at : MotionState) (q a j m k : ℕ) (rest : List Stroke) →
-    later (3 * suc j + k) (ahead d at (flat_map (again d q) (numbers_from a (suc j + m)) ++ rest)) ≡ later k (ahead d (record at { point = record at.point { z = bottom d q (a + suc j) } }) (flat_map (again d q) (numbers_from (a + suc j) m) ++ rest))
+    later (3 * suc j + k) (ahead d at (flat_map (again d q) (numbers_from a (suc j + m)) ++ rest)) ≡ later k
+    (ahead d (record at { point = record at.point { z = bottom d q (a + suc j) } })
+    (flat_map (again d q) (numbers_from (a + suc j) m) ++ rest))
 peck_skips d at q a zero m k rest =
     let all : suc zero + m ≡ suc m = omega arith in
     let n : 3 * suc zero + k ≡ 3 + k = omega arith in
@@ -160,7 +187,8 @@ pecks_at : (d : Drill) (at : MotionState) (q a j left' done k : ℕ) (rest : Lis
 pecks_at d at q a j left' done k rest g = rw g (sym (peck_skips d at q a j (suc left') k rest))
 
 -- skipping pecks, with equal numbers
-pub skip_pecks : (d : Drill) (at : MotionState) (q a n j left done left' k : ℕ) (out rest : List Stroke) → 1 ≤ j → n ≡ j * 3 + k → left ≡ j + left' → done ≡ a + j →
+pub skip_pecks : (d : Drill) (at : MotionState) (q a n j left done left' k : ℕ) (out rest : List Stroke) → 1 ≤ j
+    → n ≡ j * 3 + k → left ≡ j + left' → done ≡ a + j →
     later k (ahead d (record at { point = record at.point { z = bottom d q done } }) ((flat_map (again d q) (numbers_from done (suc left')) ++ out) ++ rest))
     ≡ later n (ahead d at ((flat_map (again d q) (numbers_from a (suc left)) ++ out) ++ rest))
 skip_pecks d at q a n zero left done left' k out rest some e f g = absurd (omega arith)
@@ -177,7 +205,9 @@ skip_pecks d at q a n (suc j) left done left' k out rest some e f g =
 
 -- ---- one segment
 
-pub later-next : (old new : CycleModel) (segment : Segment) (n k : ℕ) → n ≡ suc k → old.segments ≡ segment ∷ new.segments → new.standing ≡ after_segment old.standing segment → later k new ≡ later n old
+pub later-next : (old new : CycleModel) (segment : Segment) (n k : ℕ) → n ≡ suc k
+    → old.segments ≡ segment ∷ new.segments → new.standing ≡ after_segment old.standing segment
+    → later k new ≡ later n old
 later-next old new segment n k e s t = rw (e, s, t) refl
 
 pub take-nothing : (n : ℕ) → take {A = Segment} n [] ≡ []
@@ -201,12 +231,16 @@ parts_fit n l most =
 
 -- ---- after the whole cycle
 
-after_segments-append : (d : Drill) (at : MotionState) (xs ys : List Stroke) → after_segments at (traced d at (xs ++ ys)) ≡ after_segments (after_segments at (traced d at xs)) (traced d (after_segments at (traced d at xs)) ys)
+after_segments-append : (d : Drill) (at : MotionState) (xs ys : List Stroke)
+    → after_segments at (traced d at (xs ++ ys)) ≡ after_segments (after_segments at (traced d at xs))
+    (traced d (after_segments at (traced d at xs)) ys)
 after_segments-append d at xs ys =
     ap (λ (segments : List Segment). after_segments at segments) (traced-append d at xs ys)
     ∙ fold-append after_segment at (traced d at xs) (traced d (after_segments at (traced d at xs)) ys)
 
-repeats-end : (d : Drill) (p : Point) (b m : ℕ) → after_segments (stand d p) (traced d (stand d p) (flat_map (repeat d) (numbers_from (suc b) (suc m)))) ≡ stand d (hole_at d (b + suc m))
+repeats-end : (d : Drill) (p : Point) (b m : ℕ)
+    → after_segments (stand d p) (traced d (stand d p) (flat_map (repeat d) (numbers_from (suc b) (suc m)))) ≡ stand
+    d (hole_at d (b + suc m))
 repeats-end d p b zero =
     let to : suc b ≡ b + suc zero = omega arith in
     after_segments-append d (stand d p) (repeat d (suc b)) [] ∙ (repeat-end d p (suc b) ∙ ap (λ (r : ℕ). stand d (hole_at d r)) to)
@@ -217,9 +251,13 @@ repeats-end d p b (suc m) =
     ∙ (ap (λ (at : MotionState). after_segments at (traced d at rest)) (repeat-end d p (suc b))
     ∙ (repeats-end d (hole_at d (suc b)) (suc b) m ∙ ap (λ (r : ℕ). stand d (hole_at d r)) to))
 
-ends-by : (d : Drill) (rises : Bool) (n : ℕ) → 1 ≤ n → after_segments (begin d) (traced d (begin d) ((if rises then TraverseTo d.r ∷ [] else []) ++ flat_map (repeat d) (numbers_from 1 n))) ≡ stand d (hole_at d n)
+ends-by : (d : Drill) (rises : Bool) (n : ℕ) → 1 ≤ n
+    → after_segments (begin d)
+    (traced d (begin d) ((if rises then TraverseTo d.r ∷ [] else []) ++ flat_map (repeat d) (numbers_from 1 n)))
+    ≡ stand d (hole_at d n)
 ends-by d rises zero some = absurd (omega arith)
-ends-by d true (suc n) some = let to : 0 + suc n ≡ suc n = omega arith in repeats-end d (record d.start { z = d.r }) 0 n ∙ ap (λ (r : ℕ). stand d (hole_at d r)) to
+ends-by d true (suc n) some = let to : 0 + suc n ≡ suc n = omega arith in repeats-end d (record d.start { z = d.r })
+    0 n ∙ ap (λ (r : ℕ). stand d (hole_at d r)) to
 ends-by d false (suc n) some = let to : 0 + suc n ≡ suc n = omega arith in repeats-end d d.start 0 n ∙ ap (λ (r : ℕ). stand d (hole_at d r)) to
 
 pub cycle_end : (d : Drill) → 1 ≤ d.repeats → after_segments (begin d) (cycle_segments d) ≡ stand d (hole_at d d.repeats)

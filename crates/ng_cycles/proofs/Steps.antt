@@ -15,7 +15,8 @@ abbrev pub over : Drill → MotionState → ℕ → MotionState
 over d at r = record at { point = record at.point { x = coordinate d.x r; y = coordinate d.y r } }
 
 by_test : (d : Drill) (at : MotionState) (rest : List Stroke) (there : Bool) →
-    (let segments : List Segment = if there then [] else line_to pace.Traverse at.point (record at.point { z = d.r }) ∷ [] in segments ++ traced d (after_segments at segments) rest)
+    (let segments : List Segment = if there then [] else line_to pace.Traverse at.point
+    (record at.point { z = d.r }) ∷ [] in segments ++ traced d (after_segments at segments) rest)
     ≡ traced d at ((if there then [] else TraverseTo d.r ∷ []) ++ rest)
 by_test d at rest true = refl
 by_test d at rest false = refl
@@ -29,7 +30,8 @@ traced-to_r d at rest = by_test d at rest (int_eq at.point.z d.r)
 pub traced-repeat : (d : Drill) (at : MotionState) (b n b' m : ℕ) → b' ≡ suc b → n ≡ suc m →
     traced d at (flat_map (repeat d) (numbers_from (suc b) n))
     ≡ line_to pace.Traverse at.point (over d at b').point
-    ∷ traced d (over d at b') (((if int_eq at.point.z d.r then [] else TraverseTo d.r ∷ []) ++ strokes_of d d.work) ++ flat_map (repeat d) (numbers_from (suc b') m))
+    ∷ traced d (over d at b') (((if int_eq at.point.z d.r then [] else TraverseTo d.r ∷ []) ++ strokes_of d d.work)
+    ++ flat_map (repeat d) (numbers_from (suc b') m))
 traced-repeat d at b n b' m e f =
     let rest = flat_map (repeat d) (numbers_from (suc (suc b)) m) in
     rw (e, f) (ap (λ (segments : List Segment). line_to pace.Traverse at.point (over d at (suc b)).point ∷ segments)
@@ -37,7 +39,8 @@ traced-repeat d at b n b' m e f =
     ∙ ap (traced d (over d at (suc b))) (sym (append_assoc (if int_eq at.point.z d.r then [] else TraverseTo d.r ∷ []) (strokes_of d d.work) rest))))
 
 -- the next repeat, in the code's terms
-pub across_goes : (d : Drill) (at : MotionState) (b n b' m : ℕ) (end : Point) (segment : Segment) (after : MotionState) (left : List Stroke) → b' ≡ suc b → n ≡ suc m →
+pub across_goes : (d : Drill) (at : MotionState) (b n b' m : ℕ) (end : Point) (segment : Segment)
+    (after : MotionState) (left : List Stroke) → b' ≡ suc b → n ≡ suc m →
     end ≡ (over d at b').point →
     left ≡ (if int_eq end.z d.r then [] else TraverseTo d.r ∷ []) ++ strokes_of d d.work →
     segment ≡ line_to pace.Traverse at.point end →

@@ -1,5 +1,6 @@
 -- The machine's position and outputs after some segments of a cycle, given those before it.
-use Rattle.std.proofs.Common.{arith, ℕ, zero, suc, ◌+◌, ◌-◌, ◌≡◌, ◌≤◌, ◌<◌, Bool, true, false, ℤ, List, [], ◌∷◌, ◌++◌, take, flat_map, refl, sym, ◌∙◌, ap, subst, if◌then◌else◌, int_lt, nat_lt}
+use Rattle.std.proofs.Common.{arith, ℕ, zero, suc, ◌+◌, ◌-◌, ◌≡◌, ◌≤◌, ◌<◌, Bool, true, false, ℤ, List, [], ◌∷◌}
+use Rattle.std.proofs.Common.{◌++◌, take, flat_map, refl, sym, ◌∙◌, ap, subst, if◌then◌else◌, int_lt, nat_lt}
 use Rattle.std.proofs.lemmas.Bool.{ltb-true, ltb-false}
 use Rattle.std.specs.Ordering.{int_eq}
 use Rattle.ng_num.specs.declared.point.Point.{Point}
@@ -20,14 +21,18 @@ use Rattle.ng_cycles.proofs.Skips.{take-nothing}
 
 -- ---- points and outputs separately
 
-point-alone : (p : Point) (o o' : Outputs) (xs : List Segment) → (after_segments (record { point = p; outputs = o }) xs).point ≡ (after_segments (record { point = p; outputs = o' }) xs).point
+point-alone : (p : Point) (o o' : Outputs) (xs : List Segment)
+    → (after_segments (record { point = p; outputs = o }) xs).point
+    ≡ (after_segments (record { point = p; outputs = o' }) xs).point
 point-alone p o o' [] = refl
 point-alone p o o' (segment.Line line ∷ xs) = point-alone line.end o o' xs
 point-alone p o o' (segment.Arc arc ∷ xs) = point-alone arc.end o o' xs
 point-alone p o o' (segment.Dwell seconds ∷ xs) = point-alone p o o' xs
 point-alone p o o' (segment.Switch q ∷ xs) = refl
 
-outputs-alone : (p p' : Point) (o : Outputs) (xs : List Segment) → (after_segments (record { point = p; outputs = o }) xs).outputs ≡ (after_segments (record { point = p'; outputs = o }) xs).outputs
+outputs-alone : (p p' : Point) (o : Outputs) (xs : List Segment)
+    → (after_segments (record { point = p; outputs = o }) xs).outputs
+    ≡ (after_segments (record { point = p'; outputs = o }) xs).outputs
 outputs-alone p p' o [] = refl
 outputs-alone p p' o (segment.Line line ∷ xs) = refl
 outputs-alone p p' o (segment.Arc arc ∷ xs) = refl
@@ -75,14 +80,16 @@ turn-pecks d q a (suc n) = turn-pecks d q (suc a) n
 turn-work : (d : Drill) (w : Work) → stops w ≡ false → has_turn (strokes_of d w) ≡ false
 turn-work d Drilling h = refl
 turn-work d (DrillingWithDwell seconds) h = refl
-turn-work d (PeckDrilling q) h = turn-append (flat_map (again d q) (numbers_from 1 (pecks d q - 1))) (TraverseTo d.clear ∷ []) (turn-pecks d q 1 (pecks d q - 1)) refl
+turn-work d (PeckDrilling q) h = turn-append (flat_map (again d q) (numbers_from 1 (pecks d q - 1)))
+    (TraverseTo d.clear ∷ []) (turn-pecks d q 1 (pecks d q - 1)) refl
 turn-work d Boring h = refl
 turn-work d (BoringWithStop seconds) h = absurd (cc h)
 turn-work d (BoringWithDwell seconds) h = refl
 
 turn-repeats : (d : Drill) (b n : ℕ) → stops d.work ≡ false → has_turn (flat_map (repeat d) (numbers_from b n)) ≡ false
 turn-repeats d b zero h = refl
-turn-repeats d b (suc n) h = turn-append (strokes_of d d.work) (flat_map (repeat d) (numbers_from (suc b) n)) (turn-work d d.work h) (turn-repeats d (suc b) n h)
+turn-repeats d b (suc n) h = turn-append (strokes_of d d.work) (flat_map (repeat d) (numbers_from (suc b) n))
+    (turn-work d d.work h) (turn-repeats d (suc b) n h)
 
 turn-rise : (d : Drill) (rises : Bool) (ss : List Stroke) → has_turn ss ≡ false → has_turn ((if rises then TraverseTo d.r ∷ [] else []) ++ ss) ≡ false
 turn-rise d true ss h = h
@@ -95,7 +102,8 @@ turn-strokes d h = turn-rise d (int_lt d.start.z d.r) (flat_map (repeat d) (numb
 
 to_r-none : (d : Drill) (at : MotionState) (ss : List Stroke) (there : Bool) (n : ℕ) →
     ((at : MotionState) (n : ℕ) → has_switch (take n (traced d at ss)) ≡ false) →
-    has_switch (take n ((if there then [] else segments_of d at (TraverseTo d.r)) ++ traced d (after_segments at (if there then [] else segments_of d at (TraverseTo d.r))) ss)) ≡ false
+    has_switch (take n ((if there then [] else segments_of d at (TraverseTo d.r)) ++ traced d
+    (after_segments at (if there then [] else segments_of d at (TraverseTo d.r))) ss)) ≡ false
 to_r-none d at ss true n none = none at n
 to_r-none d at ss false zero none = refl
 to_r-none d at ss false (suc n) none = none (record at { point = record at.point { z = d.r } }) n
@@ -118,7 +126,8 @@ none-switched d n h = switch-none d (begin d) (strokes d) n (turn-strokes d h)
 
 -- ---- G86 switches first when it stops the spindle
 
-stop-work : (d : Drill) (w : Work) → stops w ≡ true → strokes_of d w ≡ FeedTo d.z ∷ Wait (seconds_of w) ∷ Turn Stopped ∷ TraverseTo d.clear ∷ Turn d.outputs.spindle ∷ []
+stop-work : (d : Drill) (w : Work) → stops w ≡ true → strokes_of d w ≡ FeedTo d.z ∷ Wait (seconds_of w) ∷ Turn
+    Stopped ∷ TraverseTo d.clear ∷ Turn d.outputs.spindle ∷ []
 stop-work d (BoringWithStop seconds) h = refl
 stop-work d Drilling h = absurd (cc h)
 stop-work d (DrillingWithDwell seconds) h = absurd (cc h)
@@ -132,7 +141,8 @@ to_hole d at there seconds ss =
     let to_r = if there then [] else segments_of d at (TraverseTo d.r) in
     to_r ++ traced d (after_segments at to_r) (FeedTo d.z ∷ Wait seconds ∷ Turn Stopped ∷ ss)
 
-hole-before : (d : Drill) (at : MotionState) (there : Bool) (seconds : ℤ) (ss : List Stroke) (n : ℕ) → n ≤ (if there then 0 else 1) + 2 → has_switch (take n (to_hole d at there seconds ss)) ≡ false
+hole-before : (d : Drill) (at : MotionState) (there : Bool) (seconds : ℤ) (ss : List Stroke) (n : ℕ)
+    → n ≤ (if there then 0 else 1) + 2 → has_switch (take n (to_hole d at there seconds ss)) ≡ false
 unfolding to_hole
 hole-before d at true seconds ss zero h = refl
 hole-before d at true seconds ss (suc zero) h = refl
@@ -144,7 +154,8 @@ hole-before d at false seconds ss (suc (suc zero)) h = refl
 hole-before d at false seconds ss (suc (suc (suc zero))) h = refl
 hole-before d at false seconds ss (suc (suc (suc (suc n)))) h = absurd (omega (arith, h))
 
-hole-after : (d : Drill) (at : MotionState) (there : Bool) (seconds : ℤ) (ss : List Stroke) (n : ℕ) → (if there then 0 else 1) + 2 < n → has_switch (take n (to_hole d at there seconds ss)) ≡ true
+hole-after : (d : Drill) (at : MotionState) (there : Bool) (seconds : ℤ) (ss : List Stroke) (n : ℕ)
+    → (if there then 0 else 1) + 2 < n → has_switch (take n (to_hole d at there seconds ss)) ≡ true
 unfolding to_hole
 hole-after d at true seconds ss zero h = absurd (omega (arith, h))
 hole-after d at true seconds ss (suc zero) h = absurd (omega (arith, h))
@@ -158,12 +169,15 @@ hole-after d at false seconds ss (suc (suc (suc (suc n)))) h = refl
 
 -- a hole of G86, from the cycle's start
 first_hole : Drill → Bool → ℤ → List Stroke → List Segment
-first_hole d rises seconds ss = traced d (begin d) ((if rises then TraverseTo d.r ∷ [] else []) ++ (Across 1 ∷ ToR ∷ FeedTo d.z ∷ Wait seconds ∷ Turn Stopped ∷ ss))
+first_hole d rises seconds ss =
+    traced d (begin d) ((if rises then TraverseTo d.r ∷ [] else [])
+    ++ (Across 1 ∷ ToR ∷ FeedTo d.z ∷ Wait seconds ∷ Turn Stopped ∷ ss))
 
 lead : Drill → Bool → ℕ
 lead d rises = (if rises then 1 else 0) + (1 + (if int_eq (if rises then d.r else d.start.z) d.r then 0 else 1))
 
-first-before : (d : Drill) (rises : Bool) (seconds : ℤ) (ss : List Stroke) (n : ℕ) → n ≤ lead d rises + 2 → has_switch (take n (first_hole d rises seconds ss)) ≡ false
+first-before : (d : Drill) (rises : Bool) (seconds : ℤ) (ss : List Stroke) (n : ℕ) → n ≤ lead d rises + 2
+    → has_switch (take n (first_hole d rises seconds ss)) ≡ false
 unfolding first_hole lead to_hole
 first-before d true seconds ss zero h = refl
 first-before d true seconds ss (suc zero) h = refl
@@ -171,7 +185,8 @@ first-before d true seconds ss (suc (suc n)) h = hole-before d _ (int_eq d.r d.r
 first-before d false seconds ss zero h = refl
 first-before d false seconds ss (suc n) h = hole-before d _ (int_eq d.start.z d.r) seconds ss n (omega (arith, h))
 
-first-after : (d : Drill) (rises : Bool) (seconds : ℤ) (ss : List Stroke) (n : ℕ) → lead d rises + 2 < n → has_switch (take n (first_hole d rises seconds ss)) ≡ true
+first-after : (d : Drill) (rises : Bool) (seconds : ℤ) (ss : List Stroke) (n : ℕ) → lead d rises + 2 < n
+    → has_switch (take n (first_hole d rises seconds ss)) ≡ true
 unfolding first_hole lead to_hole
 first-after d true seconds ss zero h = absurd (omega (arith, h))
 first-after d true seconds ss (suc zero) h = absurd (omega (arith, h))
@@ -180,7 +195,8 @@ first-after d false seconds ss zero h = absurd (omega (arith, h))
 first-after d false seconds ss (suc n) h = hole-after d _ (int_eq d.start.z d.r) seconds ss n (omega (arith, h))
 
 segments-stop : (d : Drill) (n : ℕ) → 1 ≤ n → stops d.work ≡ true →
-    (ss : List Stroke) × (traced d (begin d) ((if int_lt d.start.z d.r then TraverseTo d.r ∷ [] else []) ++ flat_map (repeat d) (numbers_from 1 n)) ≡ first_hole d (int_lt d.start.z d.r) (seconds_of d.work) ss)
+    (ss : List Stroke) × (traced d (begin d) ((if int_lt d.start.z d.r then TraverseTo d.r ∷ [] else []) ++ flat_map
+    (repeat d) (numbers_from 1 n)) ≡ first_hole d (int_lt d.start.z d.r) (seconds_of d.work) ss)
 unfolding first_hole
 segments-stop d zero some h = absurd (omega arith)
 segments-stop d (suc m) some h =
@@ -204,18 +220,23 @@ after-stop d n some h more =
 
 -- ---- a cycle begins with a move, so its point doesn't matter
 
-begins : (d : Drill) (rises : Bool) (n : ℕ) → 1 ≤ n → (line : StraightMove) × (rest : List Segment) × (traced d (begin d) ((if rises then TraverseTo d.r ∷ [] else []) ++ flat_map (repeat d) (numbers_from 1 n)) ≡ segment.Line line ∷ rest)
+begins : (d : Drill) (rises : Bool) (n : ℕ) → 1 ≤ n → (line : StraightMove) × (rest : List Segment)
+    × (traced d (begin d) ((if rises then TraverseTo d.r ∷ [] else []) ++ flat_map (repeat d) (numbers_from 1 n))
+    ≡ segment.Line line ∷ rest)
 begins d rises zero some = absurd (omega arith)
 begins d true (suc m) some = (_, _, refl)
 begins d false (suc m) some = (_, _, refl)
 
-point-taken : (at at' : MotionState) (segments : List Segment) (line : StraightMove) (rest : List Segment) (n : ℕ) → 1 ≤ n → segments ≡ segment.Line line ∷ rest → (after_segments at (take n segments)).point ≡ (after_segments at' (take n segments)).point
+point-taken : (at at' : MotionState) (segments : List Segment) (line : StraightMove) (rest : List Segment) (n : ℕ)
+    → 1 ≤ n → segments ≡ segment.Line line ∷ rest
+    → (after_segments at (take n segments)).point ≡ (after_segments at' (take n segments)).point
 point-taken at at' segments line rest zero some e = absurd (omega arith)
 point-taken at at' segments line rest (suc n) some e =
     let P : List Segment → Type 0 = λ s. (after_segments at (take (suc n) s)).point ≡ (after_segments at' (take (suc n) s)).point in
     subst P (sym e) (point-alone line.end at.outputs at'.outputs (take n rest))
 
-pub point-cycle : (d : Drill) (at at' : MotionState) (n : ℕ) → 1 ≤ d.repeats → 1 ≤ n → (after_segments at (take n (cycle_segments d))).point ≡ (after_segments at' (take n (cycle_segments d))).point
+pub point-cycle : (d : Drill) (at at' : MotionState) (n : ℕ) → 1 ≤ d.repeats → 1 ≤ n
+    → (after_segments at (take n (cycle_segments d))).point ≡ (after_segments at' (take n (cycle_segments d))).point
 point-cycle d at at' n some more =
     let b = begins d (int_lt d.start.z d.r) d.repeats some in
     point-taken at at' (cycle_segments d) b.0 b.1 n more b.2
@@ -228,13 +249,18 @@ stand-same a b p o =
     let first : a ≡ P = ap (λ (q : Point). record { point = q; outputs = a.outputs }) p in
     first ∙ ap (λ (q : Outputs). record { point = b.point; outputs = q }) o
 
-pub stood-switched : (d : Drill) (before own : MotionState) (n : ℕ) → 1 ≤ d.repeats → 1 ≤ n → own ≡ after_segments (begin d) (take n (cycle_segments d)) → has_switch (take n (cycle_segments d)) ≡ true → own ≡ after_segments before (take n (cycle_segments d))
+pub stood-switched : (d : Drill) (before own : MotionState) (n : ℕ) → 1 ≤ d.repeats → 1 ≤ n
+    → own ≡ after_segments (begin d) (take n (cycle_segments d)) → has_switch (take n (cycle_segments d)) ≡ true
+    → own ≡ after_segments before (take n (cycle_segments d))
 stood-switched d before own n some more e h =
     e ∙ stand-same _ _ (point-cycle d (begin d) before n some more) (outputs-set (begin d) before (take n (cycle_segments d)) h)
 
-pub stood-kept : (d : Drill) (before own : MotionState) (n : ℕ) → 1 ≤ d.repeats → 1 ≤ n → own ≡ after_segments (begin d) (take n (cycle_segments d)) → has_switch (take n (cycle_segments d)) ≡ false → record { point = own.point; outputs = before.outputs } ≡ after_segments before (take n (cycle_segments d))
+pub stood-kept : (d : Drill) (before own : MotionState) (n : ℕ) → 1 ≤ d.repeats → 1 ≤ n
+    → own ≡ after_segments (begin d) (take n (cycle_segments d)) → has_switch (take n (cycle_segments d)) ≡ false
+    → record { point = own.point; outputs = before.outputs } ≡ after_segments before (take n (cycle_segments d))
 stood-kept d before own n some more e h =
-    stand-same _ _ (ap (λ (at : MotionState). at.point) e ∙ point-cycle d (begin d) before n some more) (sym (outputs-kept before (take n (cycle_segments d)) h))
+    stand-same _ _ (ap (λ (at : MotionState). at.point) e ∙ point-cycle d (begin d) before n some more)
+    (sym (outputs-kept before (take n (cycle_segments d)) h))
 
 by-case : (t b : Bool) (a n : ℕ) → nat_lt a n ≡ t → (n ≤ a → b ≡ false) → (a < n → b ≡ true) → t ≡ b
 by-case true b a n e few more = sym (more (ltb-true a n e))

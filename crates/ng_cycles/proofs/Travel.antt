@@ -1,5 +1,7 @@
 -- A cycle stays within the travel exactly if its extreme coordinates do.
-use Rattle.std.proofs.Common.{arith, ℕ, zero, suc, ◌+◌, ◌-◌, ◌*◌, ◌/◌, ◌%◌, max, ◌≡◌, ◌≤◌, ◌<◌, ℤ, pos, negsuc, ◌+ℤ◌, ◌-ℤ◌, ◌*ℤ◌, ◌≤ℤ◌, ◌<ℤ◌, unsigned_abs, Bool, true, false, not, ◌||◌, ◌&&◌, int_lt, int_le, List, [], ◌∷◌, ◌++◌, flat_map, refl, sym, ap, subst, if◌then◌else◌}
+use Rattle.std.proofs.Common.{arith, ℕ, zero, suc, ◌+◌, ◌-◌, ◌*◌, ◌/◌, ◌%◌, max, ◌≡◌, ◌≤◌, ◌<◌, ℤ, pos, negsuc}
+use Rattle.std.proofs.Common.{◌+ℤ◌, ◌-ℤ◌, ◌*ℤ◌, ◌≤ℤ◌, ◌<ℤ◌, unsigned_abs, Bool, true, false, not, ◌||◌, ◌&&◌}
+use Rattle.std.proofs.Common.{int_lt, int_le, List, [], ◌∷◌, ◌++◌, flat_map, refl, sym, ap, subst, if◌then◌else◌}
 use Rattle.std.specs.Int.{int_min, int_max}
 use Rattle.std.specs.List.{list_any}
 use Rattle.std.specs.Ordering.{int_eq}
@@ -19,7 +21,8 @@ use Rattle.ng_cycles.specs.declared.drill.Work.TheVariants.{Drilling, DrillingWi
 use Rattle.ng_cycles.specs.declared.motion_state.MotionState.{MotionState}
 use Rattle.ng_cycles.specs.Private.Inside.{top_of, rises_inside, extremes_inside}
 use Rattle.ng_cycles.specs.Faults.{ends_outside, leaves_travel}
-use Rattle.ng_cycles.specs.Strokes.{Stroke, Across, ToR, TraverseTo, FeedTo, Wait, Turn, numbers_from, coordinate, bottom, pecks, clearance, again, strokes_of, repeat}
+use Rattle.ng_cycles.specs.Strokes.{Stroke, Across, ToR, TraverseTo, FeedTo, Wait, Turn, numbers_from, coordinate}
+use Rattle.ng_cycles.specs.Strokes.{bottom, pecks, clearance, again, strokes_of, repeat}
 use Rattle.ng_cycles.specs.Segments.{traced, segments_of, after_segments, begin}
 
 abbrev On : Axis → ℤ → Type 0
@@ -69,7 +72,8 @@ on_between axis low high n l h above below =
     let b : high ≤ℤ axis.high = to_le high axis.high (and_right (int_le axis.low high) (int_le high axis.high) h) in
     and_true (int_le axis.low n) (int_le n axis.high) (from_le axis.low n (omega (arith, ints, a, above))) (from_le n axis.high (omega (arith, ints, b, below)))
 
-by_step : (axis : Axis) (from step : ℤ) (k n : ℕ) → 1 ≤ k → k ≤ n → On axis (from +ℤ pos 1 *ℤ step) → On axis (from +ℤ pos n *ℤ step) → On axis (from +ℤ pos k *ℤ step)
+by_step : (axis : Axis) (from step : ℤ) (k n : ℕ) → 1 ≤ k → k ≤ n → On axis (from +ℤ pos 1 *ℤ step)
+    → On axis (from +ℤ pos n *ℤ step) → On axis (from +ℤ pos k *ℤ step)
 by_step axis from (pos s) k n some below first last =
     let a : 1 * s ≤ k * s = mul-le 1 s k s some (omega arith) in
     let b : k * s ≤ n * s = mul-le k s n s below (omega arith) in
@@ -77,7 +81,8 @@ by_step axis from (pos s) k n some below first last =
 by_step axis from (negsuc s) k n some below first last =
     let a : 1 * suc s ≤ k * suc s = mul-le 1 (suc s) k (suc s) some (omega arith) in
     let b : k * suc s ≤ n * suc s = mul-le k (suc s) n (suc s) below (omega arith) in
-    on_between axis (from +ℤ pos n *ℤ negsuc s) (from +ℤ pos 1 *ℤ negsuc s) (from +ℤ pos k *ℤ negsuc s) last first (omega (arith, ints, b)) (omega (arith, ints, a))
+    on_between axis (from +ℤ pos n *ℤ negsuc s) (from +ℤ pos 1 *ℤ negsuc s) (from +ℤ pos k *ℤ negsuc s) last first
+    (omega (arith, ints, b)) (omega (arith, ints, a))
 
 on_course : (axis : Axis) (c : HoleAxis) (k n : ℕ) → 1 ≤ k → k ≤ n → On axis (coordinate c 1) → On axis (coordinate c n) → On axis (coordinate c k)
 on_course axis c k n some below first last = by_step axis c.from c.step k n some below first last
@@ -116,8 +121,11 @@ stands_inside g p h = and_true (is_on g.x p.x && is_on g.y p.y) (is_on g.z p.z) 
 
 inside_stands : (g : Geometry) (p : Point) → is_inside g p ≡ true → Stands g p
 inside_stands g p h =
-    let across = and_left (is_on g.x p.x && is_on g.y p.y) (is_on g.z p.z) h in
-    (and_left (is_on g.x p.x) (is_on g.y p.y) across, and_right (is_on g.x p.x) (is_on g.y p.y) across, and_right (is_on g.x p.x && is_on g.y p.y) (is_on g.z p.z) h)
+    let across = and_left (is_on g.x p.x && is_on g.y p.y) (is_on g.z p.z) h in (
+      and_left (is_on g.x p.x) (is_on g.y p.y) across,
+      and_right (is_on g.x p.x) (is_on g.y p.y) across,
+      and_right (is_on g.x p.x && is_on g.y p.y) (is_on g.z p.z) h,
+    )
 
 abbrev outside : Geometry → List Segment → Bool
 outside g segments = list_any (ends_outside g) segments
@@ -133,7 +141,9 @@ height_at at z = record at { point = record at.point { z = z } }
 
 -- ---- strokes that end inside, from a point inside
 
-by_test : (g : Geometry) (d : Drill) (at : MotionState) (ss : List Stroke) (there : Bool) → outside g (traced d at ss) ≡ false → outside g (segments_of d at (TraverseTo d.r) ++ traced d (height_at at d.r) ss) ≡ false →
+by_test : (g : Geometry) (d : Drill) (at : MotionState) (ss : List Stroke) (there : Bool)
+    → outside g (traced d at ss) ≡ false
+    → outside g (segments_of d at (TraverseTo d.r) ++ traced d (height_at at d.r) ss) ≡ false →
     outside g (to_r_segments d at there ++ traced d (after_segments at (to_r_segments d at there)) ss) ≡ false
 by_test g d at ss true one other = one
 by_test g d at ss false one other = other
@@ -158,7 +168,8 @@ stays g d at (Turn spindle ∷ rest) r h all = stays g d (record at { outputs = 
 
 -- ---- and the other direction: if no segment ends outside, the strokes end inside
 
-by_test_back : (g : Geometry) (d : Drill) (at : MotionState) (ss : List Stroke) (there : Bool) (P : Type 0) → (outside g (traced d at ss) ≡ false → P) → (outside g (traced d (height_at at d.r) ss) ≡ false → P) →
+by_test_back : (g : Geometry) (d : Drill) (at : MotionState) (ss : List Stroke) (there : Bool) (P : Type 0)
+    → (outside g (traced d at ss) ≡ false → P) → (outside g (traced d (height_at at d.r) ss) ≡ false → P) →
     outside g (to_r_segments d at there ++ traced d (after_segments at (to_r_segments d at there)) ss) ≡ false → P
 by_test_back g d at ss true P one other none = one none
 by_test_back g d at ss false P one other none = other (rest_none (is_inside g (height_at at d.r).point) _ none)
@@ -210,7 +221,8 @@ depth_pecked : (depth q : ℕ) → 0 < q → depth ≤ max 1 ((depth + (q - 1)) 
 depth_pecked depth q some =
     let e = div-add-mod (depth + (q - 1)) q in
     let r : (depth + (q - 1)) % q < q = mod-lt (depth + (q - 1)) some in
-    let m : (depth + (q - 1)) / q * q ≤ max 1 ((depth + (q - 1)) / q) * q = mul-le ((depth + (q - 1)) / q) q (max 1 ((depth + (q - 1)) / q)) q (omega arith) (omega arith) in
+    let m : (depth + (q - 1)) / q * q ≤ max 1 ((depth + (q - 1)) / q) * q =
+    mul-le ((depth + (q - 1)) / q) q (max 1 ((depth + (q - 1)) / q)) q (omega arith) (omega arith) in
     let c = mul_comm q ((depth + (q - 1)) / q) in
     omega (arith, e, r, m, c)
 
@@ -219,7 +231,8 @@ last_bottom d q some le =
     let h : unsigned_abs (d.r -ℤ d.z) ≤ pecks d q * q = depth_pecked (unsigned_abs (d.r -ℤ d.z)) q some in
     below_z d.z d.r (pecks d q * q) le h
 
-last_peck : (g : Geometry) (d : Drill) (q k n : ℕ) (rest : List Stroke) → On g.z (bottom d q k) → AllEnd g d (flat_map (again d q) (numbers_from k n) ++ rest) → On g.z (bottom d q (k + n))
+last_peck : (g : Geometry) (d : Drill) (q k n : ℕ) (rest : List Stroke) → On g.z (bottom d q k)
+    → AllEnd g d (flat_map (again d q) (numbers_from k n) ++ rest) → On g.z (bottom d q (k + n))
 last_peck g d q k zero rest here all = let e : k + 0 ≡ k = omega arith in rw e here
 last_peck g d q k (suc n) rest here all = let e : k + suc n ≡ suc k + n = omega arith in rw e (last_peck g d q (suc k) n rest all.1.1.0 all.1.1.1)
 
@@ -236,7 +249,9 @@ z_shown g d (BoringWithDwell seconds) le deep all = all.0
 
 -- ---- all repeats
 
-repeats_end : (g : Geometry) (d : Drill) (a j : ℕ) → AllEnd g d (strokes_of d d.work) → ((k : ℕ) → 1 ≤ k → k ≤ d.repeats → Ends g d (Across k)) → 1 ≤ a → a + j ≤ suc d.repeats → AllEnd g d (flat_map (repeat d) (numbers_from a j))
+repeats_end : (g : Geometry) (d : Drill) (a j : ℕ) → AllEnd g d (strokes_of d d.work)
+    → ((k : ℕ) → 1 ≤ k → k ≤ d.repeats → Ends g d (Across k)) → 1 ≤ a → a + j ≤ suc d.repeats
+    → AllEnd g d (flat_map (repeat d) (numbers_from a j))
 repeats_end g d a zero hole places some few = tt
 repeats_end g d a (suc j) hole places some few =
     (places a some (omega arith), (tt, end-append g d (strokes_of d d.work) _ hole (repeats_end g d (suc a) j hole places (omega arith) (omega arith))))
@@ -270,7 +285,17 @@ extremes_are g d e =
     let y = and_left (y1 && yn) (low && (top && rise)) rest in
     let heights = and_right (y1 && yn) (low && (top && rise)) rest in
     let above = and_right low (top && rise) heights in
-    record { first_x = and_left x1 xn x; last_x = and_right x1 xn x; first_y = and_left y1 yn y; last_y = and_right y1 yn y; z = and_left low (top && rise) heights; top = and_left top rise above; rises = and_right top rise above }
+    record {
+      first_x = and_left x1 xn x;
+      last_x = and_right x1 xn x;
+      first_y = and_left y1 yn y;
+      last_y =
+          and_right y1 yn y;
+      z = and_left low (top && rise) heights;
+      top = and_left top rise above;
+      rises =
+          and_right top rise above;
+    }
 
 are_extremes : (g : Geometry) (d : Drill) → Extremes g d → extremes_inside g d ≡ true
 are_extremes g d e =
@@ -291,15 +316,24 @@ or_true false b e = e
 abbrev strokes_by : Drill → Bool → List Stroke
 strokes_by d rises = (if rises then TraverseTo d.r ∷ [] else []) ++ flat_map (repeat d) (numbers_from 1 d.repeats)
 
-from_first : (g : Geometry) (d : Drill) (n : ℕ) → n ≡ d.repeats → IsMade d → Extremes g d → On g.z d.r → On g.z d.start.z → AllEnd g d (strokes_of d d.work) → outside g (traced d (begin d) (flat_map (repeat d) (numbers_from 1 n))) ≡ false
+from_first : (g : Geometry) (d : Drill) (n : ℕ) → n ≡ d.repeats → IsMade d → Extremes g d → On g.z d.r
+    → On g.z d.start.z → AllEnd g d (strokes_of d d.work)
+    → outside g (traced d (begin d) (flat_map (repeat d) (numbers_from 1 n))) ≡ false
 from_first g d zero e made x r z hole = absurd (let some = made.some in omega (arith, some))
 from_first g d (suc n) e made x r z hole =
     let now : Stands g (across_at d (begin d) 1).point = (x.first_x, x.first_y, z) in
     let some = made.some in
-    let all : AllEnd g d (ToR ∷ (strokes_of d d.work ++ flat_map (repeat d) (numbers_from 2 n))) = (tt, end-append g d (strokes_of d d.work) _ hole (repeats_end g d 2 n hole (places_on g d x) (omega arith) (omega (arith, e)))) in
-    both_none (is_inside g (across_at d (begin d) 1).point) _ (stands_inside g (across_at d (begin d) 1).point now) (stays g d (across_at d (begin d) 1) (ToR ∷ (strokes_of d d.work ++ flat_map (repeat d) (numbers_from 2 n))) r now all)
+    let all : AllEnd g d (ToR ∷ (strokes_of d d.work ++ flat_map (repeat d) (numbers_from 2 n))) = (
+      tt,
+      end-append g d (strokes_of d d.work) _ hole
+          (repeats_end g d 2 n hole (places_on g d x) (omega arith) (omega (arith, e))),
+    ) in
+    both_none (is_inside g (across_at d (begin d) 1).point) _ (stands_inside g (across_at d (begin d) 1).point now)
+    (stays g d (across_at d (begin d) 1) (ToR ∷ (strokes_of d d.work ++ flat_map (repeat d) (numbers_from 2 n)))
+    r now all)
 
-inside_by : (g : Geometry) (d : Drill) (rises : Bool) → int_lt d.start.z d.r ≡ rises → IsMade d → Extremes g d → outside g (traced d (begin d) (strokes_by d rises)) ≡ false
+inside_by : (g : Geometry) (d : Drill) (rises : Bool) → int_lt d.start.z d.r ≡ rises → IsMade d → Extremes g d
+    → outside g (traced d (begin d) (strokes_by d rises)) ≡ false
 inside_by g d true e made x =
     let below : d.start.z <ℤ d.r = lt_of d.start.z d.r e in
     let above = made.above in
@@ -310,7 +344,11 @@ inside_by g d true e made x =
     let clear : On g.z d.clear = on_between g.z d.z (top_of d) d.clear x.z x.top (omega (arith, ints, above, above_r)) below_top in
     let hole = hole_ends g d d.work above x.z r clear in
     let rise : (is_on g.x d.start.x && is_on g.y d.start.y) ≡ true = or_here (not (int_lt d.start.z d.r)) _ (ap not e) x.rises in
-    let now : Stands g (height_at (begin d) d.r).point = (and_left (is_on g.x d.start.x) (is_on g.y d.start.y) rise, and_right (is_on g.x d.start.x) (is_on g.y d.start.y) rise, r) in
+    let now : Stands g (height_at (begin d) d.r).point = (
+      and_left (is_on g.x d.start.x) (is_on g.y d.start.y) rise,
+      and_right (is_on g.x d.start.x) (is_on g.y d.start.y) rise,
+      r,
+    ) in
     both_none (is_inside g (height_at (begin d) d.r).point) _ (stands_inside g (height_at (begin d) d.r).point now)
     (stays g d (height_at (begin d) d.r) _ r now (repeats_end g d 1 d.repeats hole (places_on g d x) (omega arith) (omega arith)))
 inside_by g d false e made x =
@@ -375,8 +413,12 @@ by_both false false a b = absurd (cc (b refl))
 extremes_shown : (g : Geometry) (d : Drill) → IsMade d → leaves_travel g d ≡ false → extremes_inside g d ≡ true
 extremes_shown g d made none =
     let m = some_repeats d.repeats made.some in
-    let none' : outside g (traced d (begin d) ((if int_lt d.start.z d.r then TraverseTo d.r ∷ [] else []) ++ flat_map (repeat d) (numbers_from 1 (suc m.0)))) ≡ false =
-    subst (λ (n : ℕ). outside g (traced d (begin d) ((if int_lt d.start.z d.r then TraverseTo d.r ∷ [] else []) ++ flat_map (repeat d) (numbers_from 1 n))) ≡ false) (sym m.1) none in
+    let none' : outside g
+    (traced d (begin d) ((if int_lt d.start.z d.r then TraverseTo d.r ∷ [] else []) ++ flat_map (repeat d)
+    (numbers_from 1 (suc m.0)))) ≡ false =
+    subst (λ (n : ℕ). outside g
+    (traced d (begin d) ((if int_lt d.start.z d.r then TraverseTo d.r ∷ [] else []) ++ flat_map (repeat d)
+    (numbers_from 1 n))) ≡ false) (sym m.1) none in
     are_extremes g d (extremes_by g d (int_lt d.start.z d.r) m.0 m.1 refl made none')
 
 -- a cycle leaves the travel exactly if an extreme coordinate is outside
@@ -386,7 +428,8 @@ leaves-extremes g d made = by_both (leaves_travel g d) (extremes_inside g d)
     (extremes_shown g d made)
 
 -- and R is no farther above Z than the length of the travel
-pub near_by : (g : Geometry) (d : Drill) → negsuc 9_999_999_999 ≤ℤ g.z.low → g.z.high ≤ℤ pos 10_000_000_000 → extremes_inside g d ≡ true → d.r ≤ℤ (d.z +ℤ pos 20_000_000_000)
+pub near_by : (g : Geometry) (d : Drill) → negsuc 9_999_999_999 ≤ℤ g.z.low → g.z.high ≤ℤ pos 10_000_000_000
+    → extremes_inside g d ≡ true → d.r ≤ℤ (d.z +ℤ pos 20_000_000_000)
 near_by g d low high inside =
     let x = extremes_are g d inside in
     let z : g.z.low ≤ℤ d.z = to_le g.z.low d.z (and_left (int_le g.z.low d.z) (int_le d.z g.z.high) x.z) in

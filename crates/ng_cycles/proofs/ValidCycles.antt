@@ -42,27 +42,40 @@ near w s f h = (far_ok (lengths w (known w s) s) (optional_lengths_of w (known w
 is_found : (w : CycleWords) (s : CycleContext) (f : OptionalLengths) → IsFound w s f → f ≡ optional_lengths_of w (known w s) s
 is_found w s f h = (far_ok (lengths w (known w s) s) (optional_lengths_of w (known w s) s) f h).1
 
-has : (w : CycleWords) (s : CycleContext) (f : OptionalLengths) (l : Lengths) → IsFound w s f → Some l ≡ lengths_in f → HasBoth (known w s).r (known w s).z l (lengths_of w s (known w s))
+has : (w : CycleWords) (s : CycleContext) (f : OptionalLengths) (l : Lengths) → IsFound w s f
+    → Some l ≡ lengths_in f → HasBoth (known w s).r (known w s).z l (lengths_of w s (known w s))
 has w s f l h e =
     let e' : Some l ≡ lengths_in (optional_lengths_of w (known w s) s) = e ∙ ap lengths_in (is_found w s f h) in
-    has_both (hole_axis_of s.is_incremental w.x (shift_x s.offsets) s.point.x) (hole_axis_of s.is_incremental w.y (shift_y s.offsets) s.point.y) s.is_incremental (known w s).r (known w s).z (shift_z s.offsets) s.point.z l e'
+    has_both (hole_axis_of s.is_incremental w.x (shift_x s.offsets) s.point.x)
+    (hole_axis_of s.is_incremental w.y (shift_y s.offsets) s.point.y) s.is_incremental (known w s).r
+    (known w s).z (shift_z s.offsets) s.point.z l e'
 
-pub valid_far : (w : CycleWords) (s : CycleContext) (g : Geometry) (fault : Fault) → Err fault ≡ far_unless (lengths w (known w s) s) (optional_lengths_of w (known w s) s) → Err fault ≡ canned_of w s g
+pub valid_far : (w : CycleWords) (s : CycleContext) (g : Geometry) (fault : Fault)
+    → Err fault ≡ far_unless (lengths w (known w s) s) (optional_lengths_of w (known w s) s)
+    → Err fault ≡ canned_of w s g
 valid_far w s g fault h =
     let e = far_err (lengths w (known w s) s) (optional_lengths_of w (known w s) s) fault h in
-    of_far (far w s) ((names_no_axis w, CycleNoAxis) ∷ ((is_none (known w s).z, NoZ) ∷ ((is_none (known w s).r, NoR) ∷ causes_after_r w s g))) fault (drill_of w s) e.0 e.1
+    of_far (far w s) ((names_no_axis w, CycleNoAxis) ∷
+    ((is_none (known w s).z, NoZ) ∷ ((is_none (known w s).r, NoR) ∷ causes_after_r w s g))) fault (drill_of w s)
+    e.0 e.1
 
-pub valid_axis : (w : CycleWords) (s : CycleContext) (g : Geometry) (f : OptionalLengths) → IsFound w s f → names_no_axis w ≡ true → Err CycleNoAxis ≡ canned_of w s g
+pub valid_axis : (w : CycleWords) (s : CycleContext) (g : Geometry) (f : OptionalLengths) → IsFound w s f
+    → names_no_axis w ≡ true → Err CycleNoAxis ≡ canned_of w s g
 valid_axis w s g f h a =
     of_axis (far w s) (names_no_axis w) ((is_none (known w s).z, NoZ) ∷ ((is_none (known w s).r, NoR) ∷ causes_after_r w s g)) (drill_of w s) (near w s f h) a
 
-pub valid_r : (w : CycleWords) (s : CycleContext) (g : Geometry) (f : OptionalLengths) → IsFound w s f → names_no_axis w ≡ false → is_none (known w s).z ≡ false → None ≡ lengths_in f → Err NoR ≡ canned_of w s g
+pub valid_r : (w : CycleWords) (s : CycleContext) (g : Geometry) (f : OptionalLengths) → IsFound w s f
+    → names_no_axis w ≡ false → is_none (known w s).z ≡ false → None ≡ lengths_in f → Err NoR ≡ canned_of w s g
 valid_r w s g f h a z e =
     let e' : None ≡ lengths_in (optional_lengths_of w (known w s) s) = e ∙ ap lengths_in (is_found w s f h) in
-    let r = lacks_r (hole_axis_of s.is_incremental w.x (shift_x s.offsets) s.point.x) (hole_axis_of s.is_incremental w.y (shift_y s.offsets) s.point.y) s.is_incremental (known w s).r (known w s).z (shift_z s.offsets) s.point.z e' z in
+    let r = lacks_r (hole_axis_of s.is_incremental w.x (shift_x s.offsets) s.point.x)
+    (hole_axis_of s.is_incremental w.y (shift_y s.offsets) s.point.y) s.is_incremental (known w s).r
+    (known w s).z (shift_z s.offsets) s.point.z e' z in
     of_r (far w s) (names_no_axis w) (is_none (known w s).z) (is_none (known w s).r) (causes_after_r w s g) (drill_of w s) (near w s f h) a z r
 
-after_words : (w : CycleWords) (s : CycleContext) (g : Geometry) (f : OptionalLengths) (l : Lengths) → IsFound w s f → names_no_axis w ≡ false → Some l ≡ lengths_in f → unless (first_fault (causes_after_r w s g)) (drill_of w s) ≡ canned_of w s g
+after_words : (w : CycleWords) (s : CycleContext) (g : Geometry) (f : OptionalLengths) (l : Lengths) → IsFound w s f
+    → names_no_axis w ≡ false → Some l ≡ lengths_in f → unless (first_fault (causes_after_r w s g)) (drill_of w s)
+    ≡ canned_of w s g
 after_words w s g f l h a e =
     let b = has w s f l h e in
     of_rest (far w s) (names_no_axis w) (is_none (known w s).z) (is_none (known w s).r) (causes_after_r w s g) (drill_of w s) (near w s f h) a b.has_z b.has_r
@@ -70,20 +83,27 @@ after_words w s g f l h a e =
 abbrev drilled : CycleWords → CycleContext → Lengths → Result Drill Fault
 drilled w s l = unless (first_fault (hole_causes w s (known w s) (int_lt l.r l.z))) (drill_by w s (known w s) l)
 
-pub valid_hole : (w : CycleWords) (s : CycleContext) (g : Geometry) (f : OptionalLengths) (l : Lengths) (fault : Fault) → IsFound w s f → names_no_axis w ≡ false → Some l ≡ lengths_in f → Err fault ≡ drilled w s l → Err fault ≡ canned_of w s g
+pub valid_hole : (w : CycleWords) (s : CycleContext) (g : Geometry) (f : OptionalLengths) (l : Lengths)
+    (fault : Fault) → IsFound w s f → names_no_axis w ≡ false → Some l ≡ lengths_in f → Err fault ≡ drilled w s l
+    → Err fault ≡ canned_of w s g
 valid_hole w s g f l fault h a e d =
     let b = has w s f l h e in
     let d' : Err fault ≡ unless (first_fault (hole w s)) (drill_of w s) = d ∙ ap (drilled w s) b.lengths in
-    of_hole (hole w s) ((leaves_travel g (drill_of w s), OutsideTravel) ∷ []) fault (drill_of w s) (unless_err (first_fault (hole w s)) (drill_of w s) fault (sym d')) ∙ after_words w s g f l h a e
+    of_hole (hole w s) ((leaves_travel g (drill_of w s), OutsideTravel) ∷ []) fault (drill_of w s)
+    (unless_err (first_fault (hole w s)) (drill_of w s) fault (sym d')) ∙ after_words w s g f l h a e
 
-pub valid_travel : (w : CycleWords) (s : CycleContext) (g : Geometry) (f : OptionalLengths) (l : Lengths) (d : Drill) → IsFound w s f → names_no_axis w ≡ false → Some l ≡ lengths_in f → Ok d ≡ drilled w s l → leaves_travel g d ≡ true → Err OutsideTravel ≡ canned_of w s g
+pub valid_travel : (w : CycleWords) (s : CycleContext) (g : Geometry) (f : OptionalLengths) (l : Lengths)
+    (d : Drill) → IsFound w s f → names_no_axis w ≡ false → Some l ≡ lengths_in f → Ok d ≡ drilled w s l
+    → leaves_travel g d ≡ true → Err OutsideTravel ≡ canned_of w s g
 valid_travel w s g f l d h a e m leaves =
     let b = has w s f l h e in
     let m' : Ok d ≡ unless (first_fault (hole w s)) (drill_of w s) = m ∙ ap (drilled w s) b.lengths in
     let o = unless_ok (first_fault (hole w s)) (drill_of w s) d (sym m') in
     of_travel (hole w s) (leaves_travel g (drill_of w s)) (drill_of w s) o.0 (ap (leaves_travel g) o.1 ∙ leaves) ∙ after_words w s g f l h a e
 
-pub valid_ok : (w : CycleWords) (s : CycleContext) (g : Geometry) (f : OptionalLengths) (l : Lengths) (d : Drill) → IsFound w s f → names_no_axis w ≡ false → Some l ≡ lengths_in f → Ok d ≡ drilled w s l → leaves_travel g d ≡ false → Ok d ≡ canned_of w s g
+pub valid_ok : (w : CycleWords) (s : CycleContext) (g : Geometry) (f : OptionalLengths) (l : Lengths) (d : Drill)
+    → IsFound w s f → names_no_axis w ≡ false → Some l ≡ lengths_in f → Ok d ≡ drilled w s l
+    → leaves_travel g d ≡ false → Ok d ≡ canned_of w s g
 valid_ok w s g f l d h a e m stays =
     let b = has w s f l h e in
     let m' : Ok d ≡ unless (first_fault (hole w s)) (drill_of w s) = m ∙ ap (drilled w s) b.lengths in

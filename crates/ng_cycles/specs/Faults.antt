@@ -5,7 +5,8 @@ use Rattle.std.specs.List.{list_any}
 use Rattle.std.specs.Option.{is_some, is_none, option_and_then}
 use Rattle.ng_num.specs.Causes.{first_fault, unless}
 use Rattle.ng_num.specs.declared.fault.Fault.{Fault}
-use Rattle.ng_num.specs.declared.fault.Fault.TheVariants.{OutOfRange, CycleNoAxis, NoZ, NoR, RBelowZ, InverseTime, NegativeP, BadQ, SpindleStopped, NoFeed, OutsideTravel}
+use Rattle.ng_num.specs.declared.fault.Fault.TheVariants.{OutOfRange, CycleNoAxis, NoZ, NoR, RBelowZ, InverseTime}
+use Rattle.ng_num.specs.declared.fault.Fault.TheVariants.{NegativeP, BadQ, SpindleStopped, NoFeed, OutsideTravel}
 use Rattle.ng_canon.specs.Inside.{is_inside}
 use Rattle.ng_canon.specs.Rates.{above_zero}
 use Rattle.ng_canon.specs.declared.geometry.Geometry.{Geometry}

@@ -58,8 +58,10 @@ strokes_in d phase.OutStopped = TraverseTo d.clear ∷ Turn d.outputs.spindle �
 strokes_in d phase.Start = Turn d.outputs.spindle ∷ []
 strokes_in d phase.Out = TraverseTo d.clear ∷ []
 strokes_in d phase.FeedOut = FeedTo d.clear ∷ []
-strokes_in d (phase.PeckOut p) = TraverseTo d.r ∷ TraverseTo (int_min d.r (bottom d p.peck p.done +ℤ clearance)) ∷ FeedTo (bottom d p.peck (suc p.done)) ∷ pecks_after d p.peck (suc p.done) p.left
-strokes_in d (phase.PeckBack p) = TraverseTo (int_min d.r (bottom d p.peck p.done +ℤ clearance)) ∷ FeedTo (bottom d p.peck (suc p.done)) ∷ pecks_after d p.peck (suc p.done) p.left
+strokes_in d (phase.PeckOut p) = TraverseTo d.r ∷ TraverseTo (int_min d.r (bottom d p.peck p.done +ℤ clearance)) ∷
+    FeedTo (bottom d p.peck (suc p.done)) ∷ pecks_after d p.peck (suc p.done) p.left
+strokes_in d (phase.PeckBack p) = TraverseTo (int_min d.r (bottom d p.peck p.done +ℤ clearance)) ∷ FeedTo
+    (bottom d p.peck (suc p.done)) ∷ pecks_after d p.peck (suc p.done) p.left
 strokes_in d (phase.PeckDown p) = FeedTo (bottom d p.peck (suc p.done)) ∷ pecks_after d p.peck (suc p.done) p.left
 
 -- the remaining part of a cycle
@@ -71,7 +73,8 @@ ahead_of c = record { standing = c.standing; segments = traced c.canned c.standi
 
 -- the next of the remaining segments, if there is one
 abbrev pub IsNextSegment : CycleModel → CycleModel → Option Segment → Type 0
-IsNextSegment old new result = MatchOption result ((old.segments ≡ []) × (new ≡ old)) (λ segment. (old.segments ≡ segment ∷ new.segments) × (new.standing ≡ after_segment old.standing segment))
+IsNextSegment old new result = MatchOption result ((old.segments ≡ []) × (new ≡ old))
+    (λ segment. (old.segments ≡ segment ∷ new.segments) × (new.standing ≡ after_segment old.standing segment))
 
 -- a segment is the next one, and the repeat stays
 pub record NextSegmentSpec (old new : CycleLeft) (segment : Segment) : Type 0 where

@@ -15,14 +15,14 @@ use ng_state::KeptWords;
 
 /// R and Z in machine coordinates, if their words are there. Under G91 Z is `None` if R is missing.
 #[derive(Clone, Copy)]
-pub struct Heights {
+pub(crate) struct Heights {
     pub r: Option<Len>,
     pub z: Option<Len>,
 }
 
 /// A cycle's lengths in machine coordinates; R and Z may be missing.
 #[derive(Clone, Copy)]
-pub struct OptionalLengths {
+pub(crate) struct OptionalLengths {
     pub x: HoleAxis,
     pub y: HoleAxis,
     pub heights: Heights,
@@ -30,7 +30,7 @@ pub struct OptionalLengths {
 
 /// A cycle's lengths in machine coordinates.
 #[derive(Clone, Copy)]
-pub struct Lengths {
+pub(crate) struct Lengths {
     pub x: HoleAxis,
     pub y: HoleAxis,
     pub r: Len,
@@ -79,7 +79,7 @@ fn stepping(word: Len, shift: Shift, at: Len, repeats: u32) -> Result<HoleAxis, 
 }
 
 /// The holes' coordinates along an axis.
-pub fn hole_axis_of(
+pub(crate) fn hole_axis_of(
     is_incremental: bool,
     word: Option<Len>,
     shift: Shift,
@@ -176,7 +176,7 @@ fn heights_at(words: &KeptWords, shift: Shift, at: Len) -> Result<Heights, Fault
 }
 
 /// R and Z in machine coordinates.
-pub fn heights_of(words: &KeptWords, context: &CycleContext) -> Result<Heights, Fault>
+pub(crate) fn heights_of(words: &KeptWords, context: &CycleContext) -> Result<Heights, Fault>
     ensures { result ≡ far_unless (height_lengths words.now context.now)
         (heights_of context.now.is_incremental words.now (shift_z context.now.offsets) context.now.point.z) }
 {
@@ -209,7 +209,7 @@ impl OptionalLengths {
 }
 
 /// All lengths of a cycle's words.
-pub fn optional_lengths_of(
+pub(crate) fn optional_lengths_of(
     words: &CycleWords,
     in_force: &KeptWords,
     context: &CycleContext,

@@ -17,7 +17,7 @@ use ng_num::{Len, Num};
 
 /// The remaining part of a cycle.
 #[derive(Clone, Copy)]
-pub struct CycleLeft {
+pub(crate) struct CycleLeft {
     pub canned: Canned,
     pub standing: MotionState,
     /// How many repeats have begun.
@@ -86,7 +86,7 @@ impl Canned {
 }
 
 /// A whole cycle, before its first segment.
-pub fn cycle_left(canned: &Canned) -> CycleLeft
+pub(crate) fn cycle_left(canned: &Canned) -> CycleLeft
     ensures ahead { ahead_of result ≡ whole canned.now }
     ensures count { result.begun + result.repeats_left ≡ result.canned.repeats }
 {

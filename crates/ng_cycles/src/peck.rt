@@ -1,3 +1,4 @@
+//! The depth of a peck.
 use ng_num::Len;
 use std::marker::Model;
 

@@ -1,10 +1,11 @@
+//! Where a canned cycle has got to.
 ghost use Rattle.std.specs.Prelude.{◌+◌, ◌<◌};
 
 use crate::peck::Peck;
 
 /// How far a repeat of G83 has got.
 #[derive(Clone, Copy)]
-pub struct Pecking {
+pub(crate) struct Pecking {
     pub peck: Peck,
     /// The pecks that are done.
     pub done: u64,
@@ -15,7 +16,7 @@ pub struct Pecking {
 
 /// What comes next.
 #[derive(Clone, Copy)]
-pub enum Phase {
+pub(crate) enum Phase {
     /// Up to R, before all repeats.
     Rise,
     /// To the hole of the next repeat, if there is one.

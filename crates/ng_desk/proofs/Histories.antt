@@ -21,7 +21,9 @@ events_more {A} history call = map-append (λ (c : Call A). c.event) history (ca
 pub replies_more : {A : Type 0} (history : List (Call A)) (call : Call A) → replies_of (history ++ call ∷ []) ≡ replies_of history ++ call.reply ∷ []
 replies_more {A} history call = map-append (λ (c : Call A). c.reply) history (call ∷ [])
 
-pub numbered_more : {A : Type 0} (number : ℕ) (history : List (Call A)) (call : Call A) → NumberedFrom number history → call.number ≡ number + length history → NumberedFrom number (history ++ call ∷ [])
+pub numbered_more : {A : Type 0} (number : ℕ) (history : List (Call A)) (call : Call A)
+    → NumberedFrom number history → call.number ≡ number + length history
+    → NumberedFrom number (history ++ call ∷ [])
 numbered_more number [] call numbered is = (omega arith, tt)
 numbered_more number (first ∷ history) call numbered is = (numbered.0, numbered_more (number + 1) history call numbered.1 (omega arith))
 
@@ -40,7 +42,8 @@ module _ {A R : Type 0} (seen : R → Device) where
         size = size;
       }
 
-  run_more : (events : List (Event A)) (replies : List Reply) (moments : List ℕ) (event : Event A) (reply : Reply) (old mid new : ControllerModel R) → IsPromisedRun seen events replies moments old mid
+  run_more : (events : List (Event A)) (replies : List Reply) (moments : List ℕ) (event : Event A) (reply : Reply)
+      (old mid new : ControllerModel R) → IsPromisedRun seen events replies moments old mid
       → IsAnsweredEvent seen event reply mid new → (seen new.journal.rig).sectors ≡ (seen mid.journal.rig).sectors
       → IsPromisedRun seen (events ++ event ∷ []) (replies ++ reply ∷ []) (moments ++ moment (seen new.journal.rig).trace ∷ []) old new
   run_more events replies moments event reply old mid new run turn size =
@@ -54,13 +57,15 @@ module _ {A R : Type 0} (seen : R → Device) where
   -- a history begins
   pub runs_none : (start : Option (ControllerModel R)) (c : ControllerModel R) → start ≡ Some c → RunsFrom {A = A} seen start [] [] c
   runs_none start c is first from =
-      subst (λ (old : ControllerModel R). IsPromisedRun {A = A} seen [] [] [] old c) (some_same c first (sym is ∙ from)) (run_of [] [] [] c c refl refl refl refl)
+      subst (λ (old : ControllerModel R). IsPromisedRun {A = A} seen [] [] [] old c)
+      (some_same c first (sym is ∙ from)) (run_of [] [] [] c c refl refl refl refl)
     where
       some_same : (a b : ControllerModel R) → (let s : Option (ControllerModel R) = Some a in s) ≡ Some b → a ≡ b
       some_same a b e = cc
 
   -- and continues
-  pub runs_more : (start : Option (ControllerModel R)) (history : List (Call A)) (moments : List ℕ) (call : Call A) (mid new : ControllerModel R) → RunsFrom seen start history moments mid
+  pub runs_more : (start : Option (ControllerModel R)) (history : List (Call A)) (moments : List ℕ) (call : Call A)
+      (mid new : ControllerModel R) → RunsFrom seen start history moments mid
       → IsAnsweredEvent seen call.event call.reply mid new → (seen new.journal.rig).sectors ≡ (seen mid.journal.rig).sectors
       → RunsFrom seen start (history ++ call ∷ []) (moments ++ moment (seen new.journal.rig).trace ∷ []) new
   runs_more start history moments call mid new runs turn size first from =

@@ -32,33 +32,41 @@ rise_above : {A : Type 0} (m n : ℕ) (calls : List (Call A)) → m < n → Rise
 rise_above {A} m n [] below rise = All-nil (λ (call : Call A). m ≢ call.number)
 rise_above {A} m n (call ∷ calls) below rise =
     let least : n ≤ call.number = rise.0 in
-    All-cons (λ (call : Call A). m ≢ call.number) call calls (omega (arith, below, least)) (rise_above m (call.number + 1) calls (omega (arith, below, least)) rise.1)
+    All-cons (λ (call : Call A). m ≢ call.number) call calls (omega (arith, below, least))
+    (rise_above m (call.number + 1) calls (omega (arith, below, least)) rise.1)
 
 -- ---- no number in common
 
-apart_more : {A : Type 0} (one : List (Call A)) (found : Call A) (other : List (Call A)) → Lacks found.number one → AreApart one other → AreApart one (found ∷ other)
+apart_more : {A : Type 0} (one : List (Call A)) (found : Call A) (other : List (Call A)) → Lacks found.number one
+    → AreApart one other → AreApart one (found ∷ other)
 apart_more {A} [] found other lacks apart = All-nil (λ (call : Call A). Lacks call.number (found ∷ other))
 apart_more {A} (call ∷ one) found other lacks apart =
     let first = All-head (λ (call : Call A). found.number ≢ call.number) call one lacks in
     All-cons (λ (call : Call A). Lacks call.number (found ∷ other)) call one
-    (All-cons (λ (found : Call A). call.number ≢ found.number) found other (λ same. first (sym same)) (All-head (λ (call : Call A). Lacks call.number other) call one apart))
-    (apart_more one found other (All-tail (λ (call : Call A). found.number ≢ call.number) call one lacks) (All-tail (λ (call : Call A). Lacks call.number other) call one apart))
+    (All-cons (λ (found : Call A). call.number ≢ found.number) found other (λ same. first (sym same))
+    (All-head (λ (call : Call A). Lacks call.number other) call one apart))
+    (apart_more one found other (All-tail (λ (call : Call A). found.number ≢ call.number) call one lacks)
+    (All-tail (λ (call : Call A). Lacks call.number other) call one apart))
 
 pub none_apart : {A : Type 0} (one : List (Call A)) → AreApart one []
 none_apart {A} [] = All-nil (λ (call : Call A). Lacks call.number [])
-none_apart {A} (call ∷ one) = All-cons (λ (call : Call A). Lacks call.number []) call one (All-nil (λ (found : Call A). call.number ≢ found.number)) (none_apart one)
+none_apart {A} (call ∷ one) = All-cons (λ (call : Call A). Lacks call.number []) call one
+    (All-nil (λ (found : Call A). call.number ≢ found.number)) (none_apart one)
 
 -- the call with the least number of both lists can be left out
 abbrev pub Same : {A : Type 0} → List (Call A) → List (Call A) → List (Call A) → List (Call A) → Type 0
 Same left right one other = (AreApart left right → AreApart one other) × (AreApart one other → AreApart left right)
 
-left_out : {A : Type 0} (call found : Call A) (one other : List (Call A)) → call.number < found.number → RiseFrom 0 (found ∷ other) → Same one (found ∷ other) (call ∷ one) (found ∷ other)
+left_out : {A : Type 0} (call found : Call A) (one other : List (Call A)) → call.number < found.number
+    → RiseFrom 0 (found ∷ other) → Same one (found ∷ other) (call ∷ one) (found ∷ other)
 left_out {A} call found one other below rise = (
-  λ apart. All-cons (λ (call : Call A). Lacks call.number (found ∷ other)) call one (rise_above call.number found.number (found ∷ other) below (omega arith, rise.1)) apart,
+  λ apart. All-cons (λ (call : Call A). Lacks call.number (found ∷ other)) call one
+      (rise_above call.number found.number (found ∷ other) below (omega arith, rise.1)) apart,
   λ apart. All-tail (λ (call : Call A). Lacks call.number (found ∷ other)) call one apart,
 )
 
-right_out : {A : Type 0} (call found : Call A) (one other : List (Call A)) → found.number < call.number → RiseFrom 0 (call ∷ one) → Same (call ∷ one) other (call ∷ one) (found ∷ other)
+right_out : {A : Type 0} (call found : Call A) (one other : List (Call A)) → found.number < call.number
+    → RiseFrom 0 (call ∷ one) → Same (call ∷ one) other (call ∷ one) (found ∷ other)
 right_out {A} call found one other below rise = (
   λ apart. apart_more (call ∷ one) found other (rise_above found.number call.number (call ∷ one) below (omega arith, rise.1)) apart,
   λ apart. All-weaker (λ (call : Call A). Lacks call.number (found ∷ other)) (λ (call : Call A). Lacks call.number other)
@@ -74,15 +82,19 @@ module _ {A : Type 0} (left right : List (Call A)) (call found : Call A) (one ot
   pub left_after : call.number < found.number → RiseFrom 0 right → Same one right left right
   left_after below rise =
       subst (λ (x : List (Call A)). Same one right x right) (sym l)
-      (subst (λ (y : List (Call A)). Same one y (call ∷ one) y) (sym r) (left_out call found one other below (subst (λ (y : List (Call A)). RiseFrom 0 y) r rise)))
+      (subst (λ (y : List (Call A)). Same one y (call ∷ one) y) (sym r)
+      (left_out call found one other below (subst (λ (y : List (Call A)). RiseFrom 0 y) r rise)))
 
   pub right_after : found.number < call.number → RiseFrom 0 left → Same left other left right
   right_after below rise =
       subst (λ (y : List (Call A)). Same left other left y) (sym r)
-      (subst (λ (x : List (Call A)). Same x other x (found ∷ other)) (sym l) (right_out call found one other below (subst (λ (x : List (Call A)). RiseFrom 0 x) l rise)))
+      (subst (λ (x : List (Call A)). Same x other x (found ∷ other)) (sym l)
+      (right_out call found one other below (subst (λ (x : List (Call A)). RiseFrom 0 x) l rise)))
 
   pub shared : call.number ≡ found.number → AreApart left right → ⊥
-  shared same apart = in_common call found one other same (subst (λ (x : List (Call A)). AreApart x (found ∷ other)) l (subst (λ (y : List (Call A)). AreApart left y) r apart))
+  shared same apart = in_common call found one other same
+      (subst (λ (x : List (Call A)). AreApart x (found ∷ other)) l
+      (subst (λ (y : List (Call A)). AreApart left y) r apart))
 
 -- after the first
 pub rise_after : {A : Type 0} (calls : List (Call A)) (call : Call A) (others : List (Call A)) → calls ≡ call ∷ others → RiseFrom 0 calls → RiseFrom 0 others
@@ -96,7 +108,8 @@ IsApartFrom {A} calls seats = All (λ (s : Seated A). AreApart calls s.calls) se
 module _ {A : Type 0} (seats : List (Seated A)) (first : Seated A) (others : List (Seated A)) (is : seats ≡ first ∷ others) where
   pub first_rises : All (λ (s : Seated A). RiseFrom 0 s.calls) seats → RiseFrom 0 first.calls × All (λ (s : Seated A). RiseFrom 0 s.calls) others
   first_rises rise =
-      let all : All (λ (s : Seated A). RiseFrom 0 s.calls) (first ∷ others) = subst (λ (l : List (Seated A)). All (λ (s : Seated A). RiseFrom 0 s.calls) l) is rise in
+      let all : All (λ (s : Seated A). RiseFrom 0 s.calls) (first ∷ others) =
+      subst (λ (l : List (Seated A)). All (λ (s : Seated A). RiseFrom 0 s.calls) l) is rise in
       (All-head (λ (s : Seated A). RiseFrom 0 s.calls) first others all, All-tail (λ (s : Seated A). RiseFrom 0 s.calls) first others all)
 
   -- if the first has no number in common with the others, it can be left out
@@ -115,11 +128,14 @@ module _ {A : Type 0} (history : List (Call A)) (seats : List (Seated A)) where
   AllIn = All (λ (s : Seated A). All (StandsIn history) s.calls × RiseFrom 0 s.calls) seats
 
   pub all_rise : AllIn → All (λ (s : Seated A). RiseFrom 0 s.calls) seats
-  all_rise all = All-weaker (λ (s : Seated A). All (StandsIn history) s.calls × RiseFrom 0 s.calls) (λ (s : Seated A). RiseFrom 0 s.calls) (λ s p. p.1) seats all
+  all_rise all = All-weaker (λ (s : Seated A). All (StandsIn history) s.calls × RiseFrom 0 s.calls)
+      (λ (s : Seated A). RiseFrom 0 s.calls) (λ s p. p.1) seats all
 
   pub agreed : AllIn → AllApart (lists_of seats) → Agree history (lists_of seats)
   agreed all apart = record {
-    stand = All-map (All (StandsIn history)) calls_of seats (All-weaker (λ (s : Seated A). All (StandsIn history) s.calls × RiseFrom 0 s.calls) (λ (s : Seated A). All (StandsIn history) s.calls) (λ s p. p.0) seats all);
+    stand = All-map (All (StandsIn history)) calls_of seats
+        (All-weaker (λ (s : Seated A). All (StandsIn history) s.calls × RiseFrom 0 s.calls)
+        (λ (s : Seated A). All (StandsIn history) s.calls) (λ s p. p.0) seats all);
     rise = All-map (RiseFrom 0) calls_of seats (all_rise all);
     apart = apart;
   }
@@ -131,10 +147,12 @@ module _ {A : Type 0} (history : List (Call A)) (seats : List (Seated A)) where
       λ k d within. (stand k d within, rise k d within)
 
 -- what a vector of seats holds after a slice of all of them was changed
-pub same_lists : {A : Type 0} (n : ℕ) (old new : List (Seated A)) → length old ≡ n → lists_of new ≡ lists_of old → lists_of (take n (new ++ drop (length new) old)) ≡ lists_of old
+pub same_lists : {A : Type 0} (n : ℕ) (old new : List (Seated A)) → length old ≡ n → lists_of new ≡ lists_of old
+    → lists_of (take n (new ++ drop (length new) old)) ≡ lists_of old
 same_lists {A} n old new size same =
     let long : length new ≡ length old = sym (length-map new calls_of) ∙ ap (λ (l : List (List (Call A))). length l) same ∙ length-map old calls_of in
     let none : drop (length new) old ≡ [] = drop_all (length new) old (omega arith) in
     let whole : take n (new ++ drop (length new) old) ≡ new =
-    ap (λ (l : List (Seated A)). take n (new ++ l)) none ∙ ap (λ (l : List (Seated A)). take n l) (append-nil new) ∙ take_all n new (omega (arith, long, size)) in
+    ap (λ (l : List (Seated A)). take n (new ++ l)) none ∙ ap (λ (l : List (Seated A)). take n l) (append-nil new)
+    ∙ take_all n new (omega (arith, long, size)) in
     ap (λ (l : List (Seated A)). lists_of l) whole ∙ same

@@ -18,7 +18,8 @@ pub record Booked (R A : Type 0) : Type 0 where
   pub moments : List ℕ
 
 -- What `run` guarantees for these events with these replies, answered at these moments, from one controller to another.
-pub record IsPromisedRun {A R : Type 0} (seen : R → Device) (events : List (Event A)) (replies : List Reply) (moments : List ℕ) (old new : ControllerModel R) : Type 0 where
+pub record IsPromisedRun {A R : Type 0} (seen : R → Device) (events : List (Event A)) (replies : List Reply)
+    (moments : List ℕ) (old new : ControllerModel R) : Type 0 where
   pub runs : AreRun seen events replies moments old new
   pub each : length replies ≡ length events
   pub failures : CountsOneFailure old.journal.broken new.journal.broken (seen old.journal.rig).failed (seen new.journal.rig).failed
@@ -32,7 +33,9 @@ RunsFrom {A} {R} seen start history moments now =
 
 -- A desk with these seats was closed. The history's numbers count up from 0, and its moments are those that the book
 -- kept. The lists of the seats are as they were, and the history is as long as all of them together.
-pub record IsClosed {A R : Type 0} (seen : R → Device) (start : Option (ControllerModel R)) (seats : List (Seated A)) (controller : ControllerModel R) (history : List (Call A)) (left : List (Seated A)) : Type 0 where
+pub record IsClosed {A R : Type 0} (seen : R → Device) (start : Option (ControllerModel R))
+    (seats : List (Seated A)) (controller : ControllerModel R) (history : List (Call A)) (left : List (Seated A)) :
+    Type 0 where
   pub moments : List ℕ
   pub runs : RunsFrom seen start history moments controller
   pub numbered : NumberedFrom 0 history

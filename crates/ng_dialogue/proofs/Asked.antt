@@ -1,5 +1,6 @@
 -- What is asked, in terms of the parts of a text.
-use Rattle.std.proofs.Common.{◌≡◌, ◌≤◌, ◌<◌, ◌⊎◌, ℕ, List, Option, None, Some, Result, Ok, Err, IfOk, length, take, refl, sym, ap, ◌∙◌, subst, inl, inr, arith, length-append, length-take}
+use Rattle.std.proofs.Common.{◌≡◌, ◌≤◌, ◌<◌, ◌⊎◌, ℕ, List, Option, None, Some, Result, Ok, Err, IfOk, length, take}
+use Rattle.std.proofs.Common.{refl, sym, ap, ◌∙◌, subst, inl, inr, arith, length-append, length-take}
 use Rattle.std.proofs.lemmas.List.{take_all}
 use Rattle.std.specs.Io.KnownBytes.{Consumes, IsAtEnd}
 use Rattle.ng_num.specs.declared.fault.Fault.TheVariants.{BadCommand, OutOfMemory}
@@ -30,7 +31,8 @@ taken_short (Some more) (Some rest) n bytes order p size end is =
     inr (omega (arith, whole, none, size), end, is)
 
 -- nothing but the line was taken
-pub taken_alone : {A : Type 0} (old : Option (List ℕ)) (command : ConsoleCommand) (order : Order A) → ((more : List ℕ) → Means command more order more) → AfterCommand command old old order
+pub taken_alone : {A : Type 0} (old : Option (List ℕ)) (command : ConsoleCommand) (order : Order A)
+    → ((more : List ℕ) → Means command more order more) → AfterCommand command old old order
 taken_alone None command order h = tt
 taken_alone (Some more) command order h = h more
 
@@ -52,13 +54,16 @@ none_whole line kept is none command asked =
     none command (subst P same asked)
 
 -- a line that isn't a command
-pub heard_none : {A : Type 0} (old new : Option (List ℕ)) (kept : List ℕ) (order : Order A) → TakesLine 301 old new kept → IsNoCommand kept → order ≡ Refuse BadCommand → TakesOrder old new (Some order)
+pub heard_none : {A : Type 0} (old new : Option (List ℕ)) (kept : List ℕ) (order : Order A)
+    → TakesLine 301 old new kept → IsNoCommand kept → order ≡ Refuse BadCommand → TakesOrder old new (Some order)
 heard_none None new kept order took none is = tt
 heard_none (Some text) None kept order took none is = absurd took
 heard_none (Some text) (Some rest) kept order took none is = (took.0, rest, took.1, inl (none_whole took.0 kept took.2 none, is, refl))
 
 -- a command
-pub heard : {A : Type 0} (old mid new : Option (List ℕ)) (kept : List ℕ) (command : ConsoleCommand) (order : Option (Order A)) → TakesLine 301 old mid kept → IsCommand kept command → TakesCommand command mid new order → TakesOrder old new order
+pub heard : {A : Type 0} (old mid new : Option (List ℕ)) (kept : List ℕ) (command : ConsoleCommand)
+    (order : Option (Order A)) → TakesLine 301 old mid kept → IsCommand kept command
+    → TakesCommand command mid new order → TakesOrder old new order
 heard None mid new kept command None took asked follows = tt
 heard None mid new kept command (Some order) took asked follows = tt
 heard (Some text) None new kept command None took asked follows = absurd took
@@ -71,7 +76,8 @@ heard (Some text) (Some more) (Some rest) kept command (Some order) took asked f
     (took.0, more, took.1, inr (command, command_whole took.0 kept command took.2 asked, follows))
 
 -- the same, if the reader or the allocation may have failed
-pub heard_ok : {A E : Type 0} (old mid new : Option (List ℕ)) (kept : List ℕ) (command : ConsoleCommand) (r : Result (Option (Order A)) E) → TakesLine 301 old mid kept → IsCommand kept command
+pub heard_ok : {A E : Type 0} (old mid new : Option (List ℕ)) (kept : List ℕ) (command : ConsoleCommand)
+    (r : Result (Option (Order A)) E) → TakesLine 301 old mid kept → IsCommand kept command
     → IfOk r (TakesCommand command mid new) → IfOk r (TakesOrder old new)
 heard_ok old mid new kept command (Ok order) took asked follows = heard old mid new kept command order took asked follows
 heard_ok old mid new kept command (Err fault) took asked follows = tt

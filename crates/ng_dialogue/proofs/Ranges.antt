@@ -1,5 +1,7 @@
 -- Parts of a buffer, and the start of a line.
-use Rattle.std.proofs.Common.{◌≡◌, ◌≢◌, ◌≤◌, ◌+◌, ◌-◌, min, ℕ, suc, zero, Bool, true, false, not, ◌==◌, List, [], ◌∷◌, ◌++◌, length, take, drop, slice_range, refl, sym, ap, ◌∙◌, arith, length-take, length-drop, append-nil, take-append-drop}
+use Rattle.std.proofs.Common.{◌≡◌, ◌≢◌, ◌≤◌, ◌+◌, ◌-◌, min, ℕ, suc, zero, Bool, true, false, not, ◌==◌, List, []}
+use Rattle.std.proofs.Common.{◌∷◌, ◌++◌, length, take, drop, slice_range, refl, sym, ap, ◌∙◌, arith, length-take}
+use Rattle.std.proofs.Common.{length-drop, append-nil, take-append-drop}
 use Rattle.std.proofs.lemmas.List.{drop-take, drop-drop, take_all, drop_all}
 
 -- a part without its first n bytes
@@ -20,7 +22,8 @@ take_min (b ∷ bs) (suc m) zero e = absurd (omega (arith, e))
 take_min (b ∷ bs) (suc m) (suc n) e = let less : n ≡ min (length bs) m = omega (arith, e) in ap (λ l. b ∷ l) (take_min bs m n less)
 
 -- as much as there is room for
-pub kept_front : (most n : ℕ) (old bytes : List ℕ) → length old ≤ most → n ≡ min (length bytes) (most - length old) → old ++ take n bytes ≡ take most (old ++ bytes)
+pub kept_front : (most n : ℕ) (old bytes : List ℕ) → length old ≤ most → n ≡ min (length bytes) (most - length old)
+    → old ++ take n bytes ≡ take most (old ++ bytes)
 kept_front most n [] bytes h e = take_min bytes most n (omega (arith, e))
 kept_front zero n (x ∷ old) bytes h e = absurd (omega (arith, h))
 kept_front (suc most) n (x ∷ old) bytes h e =

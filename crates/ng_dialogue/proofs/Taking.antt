@@ -1,5 +1,7 @@
 -- Taking the bytes of a reader piece by piece.
-use Rattle.std.proofs.Common.{◌≡◌, ◌≢◌, ℕ, Bool, true, false, List, [], ◌∷◌, ◌++◌, Option, None, Some, option_map, if◌then◌else◌, take, drop, refl, sym, ap, ◌∙◌, subst, append_assoc, append-nil, inl, inr}
+use Rattle.std.proofs.Common.{◌≡◌, ◌≢◌, ℕ, Bool, true, false, List, [], ◌∷◌, ◌++◌, Option, None, Some, option_map}
+use Rattle.std.proofs.Common.{if◌then◌else◌, take, drop, refl, sym, ap, ◌∙◌, subst, append_assoc, append-nil, inl}
+use Rattle.std.proofs.Common.{inr}
 use Rattle.std.specs.Io.KnownBytes.{Consumes, IsAtEnd, Keeps, prepend_known}
 use Rattle.ng_text.specs.Newlines.{HasNoNewline}
 use Rattle.ng_text.proofs.Streams.{Consumes-trans}
@@ -54,16 +56,20 @@ Consumes-front here front left None e = tt
 Consumes-front here front left (Some x) e = ap (λ l. l ++ x) e ∙ append_assoc front left x
 
 -- the next bytes that wait are taken
-pub step_on : (old now r : Option (List ℕ)) (passed front : List ℕ) (w left : Waiting) → Consumes old now passed → Keeps now (text_left w r) → w.ended ≡ false → left.ended ≡ false
+pub step_on : (old now r : Option (List ℕ)) (passed front : List ℕ) (w left : Waiting) → Consumes old now passed
+    → Keeps now (text_left w r) → w.ended ≡ false → left.ended ≡ false
     → w.bytes ≡ front ++ left.bytes → Consumes old (text_left left r) (passed ++ front)
 step_on old now r passed front w left p k e f parts =
     let kept = subst (λ (t : Option (List ℕ)). Keeps now t) (text_on w r e) k in
     let next = prepend_known left.bytes r in
     subst (λ (t : Option (List ℕ)). Consumes old t (passed ++ front)) (sym (text_on left r f))
-    (Consumes-trans old now next passed front p (Keeps-consumes now (prepend_known w.bytes r) next front kept (Consumes-front w.bytes front left.bytes r parts)))
+    (Consumes-trans old now next passed front p
+    (Keeps-consumes now (prepend_known w.bytes r) next front kept
+    (Consumes-front w.bytes front left.bytes r parts)))
 
 -- what was passed and a newline after it are taken
-line_taken : (old new : Option (List ℕ)) (most : ℕ) (passed front kept : List ℕ) → Consumes old new (passed ++ front ++ 10 ∷ []) → HasNoNewline passed → HasNoNewline front
+line_taken : (old new : Option (List ℕ)) (most : ℕ) (passed front kept : List ℕ)
+    → Consumes old new (passed ++ front ++ 10 ∷ []) → HasNoNewline passed → HasNoNewline front
     → kept ≡ take most (passed ++ front) → TakesLine most old new kept
 line_taken None new most passed front kept p bare none is = tt
 line_taken (Some t) None most passed front kept p bare none is = absurd p
@@ -71,7 +77,8 @@ line_taken (Some t) (Some x) most passed front kept p bare none is =
     (passed ++ front, (HasNoNewline-append passed front bare none, inl (p ∙ append_assoc (passed ++ front) (10 ∷ []) x)), is)
 
 -- a newline is found after what was passed
-pub line_ends : (old now r : Option (List ℕ)) (most : ℕ) (passed front rest kept : List ℕ) (w left : Waiting) → Consumes old now passed → Keeps now (text_left w r) → w.ended ≡ false
+pub line_ends : (old now r : Option (List ℕ)) (most : ℕ) (passed front rest kept : List ℕ) (w left : Waiting)
+    → Consumes old now passed → Keeps now (text_left w r) → w.ended ≡ false
     → left.ended ≡ false → HasNoNewline passed → HasNoNewline front → w.bytes ≡ front ++ 10 ∷ rest → left.bytes ≡ rest → kept ≡ take most (passed ++ front)
     → TakesLine most old (text_left left r) kept
 line_ends old now r most passed front rest kept w left p k e f bare none parts is_rest is =
@@ -81,7 +88,8 @@ line_ends old now r most passed front rest kept w left p k e f bare none parts i
     (subst (λ (l : List ℕ). Consumes old (text_left left r) l) (sym (append_assoc passed front (10 ∷ []))) taken) bare none is
 
 -- the text ends after what was passed: that is the last line
-pub last_line : (old now new : Option (List ℕ)) (most : ℕ) (passed kept : List ℕ) → Consumes old now passed → Keeps now new → IsAtEnd new → HasNoNewline passed → passed ≢ []
+pub last_line : (old now new : Option (List ℕ)) (most : ℕ) (passed kept : List ℕ) → Consumes old now passed
+    → Keeps now new → IsAtEnd new → HasNoNewline passed → passed ≢ []
     → kept ≡ take most passed → TakesLine most old new kept
 last_line None now new most passed kept p k e bare some is = tt
 last_line (Some t) None new most passed kept p k e bare some is = absurd p

@@ -3,7 +3,9 @@ use Rattle.std.specs.Prelude.{◌≡◌, ◌<◌, ◌⊎◌, ℕ, List, [], ◌+
 use Rattle.ng_num.specs.declared.fault.Fault.TheVariants.{BadCommand, OutOfMemory}
 use Rattle.ng_commands.specs.Commands.{IsCommand, IsNoCommand}
 use Rattle.ng_commands.specs.declared.asked.ConsoleCommand.{ConsoleCommand}
-use Rattle.ng_commands.specs.declared.asked.ConsoleCommand.TheVariants.{Load, Start, Hold, Continue, Mdi, Reference, Resume, Abandon, Tool, OptionalStop, BlockDelete, Tick, Status, Quit}
+use Rattle.ng_commands.specs.declared.asked.ConsoleCommand.TheVariants.{Load, Start, Hold, Continue, Mdi, Reference}
+use Rattle.ng_commands.specs.declared.asked.ConsoleCommand.TheVariants.{Resume, Abandon, Tool, OptionalStop}
+use Rattle.ng_commands.specs.declared.asked.ConsoleCommand.TheVariants.{BlockDelete, Tick, Status, Quit}
 use Rattle.ng_session.specs.declared.event.Event.TheVariants as event
 use Rattle.ng_dialogue.specs.Reading.{BeginsWithLine}
 use Rattle.ng_dialogue.specs.declared.order.Order.{Order}

@@ -9,7 +9,7 @@ use std::io::Read;
 
 /// What happened to the bytes that were asked for.
 #[derive(Clone, Copy)]
-pub enum TakenBytes {
+pub(crate) enum TakenBytes {
     /// All of them are kept.
     Whole,
     /// All of them were skipped: there was no memory for them.
@@ -29,7 +29,7 @@ fn keep_on<A: Allocator + Copy + Drop>(text: &mut Vec<u8, A>, has_room: bool, by
 /// read. If the text has ended, the reader isn't called.
 ///
 /// `ReadError` if the reader failed; some of the bytes have been taken then. Source: own.
-pub fn take_bytes<R: Read, A: Allocator + Copy + Drop>(
+pub(crate) fn take_bytes<R: Read, A: Allocator + Copy + Drop>(
     input: &mut Input,
     reader: &mut R,
     length: u32,

@@ -11,7 +11,7 @@ use ng_text::split_line;
 use std::io::Read;
 
 /// The most bytes that are kept of a line: one more than a command can have.
-pub const KEPT_COMMAND: usize = 301;
+pub(crate) const KEPT_COMMAND: usize = 301;
 
 /// Keeps as many bytes as there is room for.
 fn keep(line: &mut ArrayVec<u8, KEPT_COMMAND>, bytes: &[u8])
@@ -26,7 +26,7 @@ fn keep(line: &mut ArrayVec<u8, KEPT_COMMAND>, bytes: &[u8])
 
 /// Takes the next line, and keeps its first 301 bytes. Returns false at the end of the text, if no line follows. The
 /// last line may have no newline. If the text has ended, the reader isn't called.
-pub fn next_line<R: Read>(
+pub(crate) fn next_line<R: Read>(
     input: &mut Input,
     reader: &mut R,
     line: &mut ArrayVec<u8, KEPT_COMMAND>,

@@ -5,7 +5,8 @@ use Rattle.ng_file.specs.Bytes.{sector_of, with_bytes}
 use Rattle.ng_file.specs.Promise.{Promise, IfPromised, MayHoldBesides}
 use Rattle.ng_file.proofs.SectorLemmas.{put-itself, put-other}
 
-besides-at : (m : ℕ) (bytes held : List ℕ) → length bytes ≡ 512 → 512 * m + 512 ≤ length held → (n : ℕ) (c : List ℕ) → c ≡ sector_of n (with_bytes (512 * m) bytes held)
+besides-at : (m : ℕ) (bytes held : List ℕ) → length bytes ≡ 512 → 512 * m + 512 ≤ length held → (n : ℕ) (c : List ℕ)
+    → c ≡ sector_of n (with_bytes (512 * m) bytes held)
     → ((n ≡ m) × (c ≡ bytes)) ⊎ (c ≡ sector_of n held)
 besides-at m bytes held whole room n c is = elim (cases_eq n m) [
   | inl same ↦ inl (same, is ∙ ap (λ (k : ℕ). sector_of k (with_bytes (512 * m) bytes held)) same ∙ put-itself m bytes held whole room)

@@ -1,3 +1,4 @@
+//! How a dry run ends.
 use ng_num::Fault;
 use thiserror::Error;
 

@@ -20,7 +20,7 @@ use std::alloc::{AllocError, Allocator};
 use std::io::Write;
 
 /// Writes all bytes. After a fault a beginning of them has been written.
-pub fn write_out<W: Write>(writer: &mut W, bytes: &[u8]) -> Result<(), DryFault>
+pub(crate) fn write_out<W: Write>(writer: &mut W, bytes: &[u8]) -> Result<(), DryFault>
     ensures { WritesOrBeginning (W.contents writer.old) (W.contents writer.new) bytes.now result }
 {
     let mut written: usize = 0;
@@ -40,11 +40,11 @@ const FULL: usize = 8192;
 /// Room for all text that ever waits: text that isn't long yet, followed by the text of one command or refusal. The
 /// longest of these is that of a comment, with fewer than 300 bytes. So a run with this room doesn't allocate for its
 /// text.
-pub const ROOM: usize = FULL + 512;
+pub(crate) const ROOM: usize = FULL + 512;
 
 /// Writes the text that waits. It isn't inlined, since few lines come here.
 #[inline(never)]
-pub fn flush<W: Write, A: Allocator + Copy + Drop>(
+pub(crate) fn flush<W: Write, A: Allocator + Copy + Drop>(
     text: &mut Vec<u8, A>,
     writer: &mut W,
 ) -> Result<(), DryFault>
@@ -75,7 +75,7 @@ fn relieve<W: Write, A: Allocator + Copy + Drop>(
 }
 
 /// Writes the text that waits before a run is aborted. If the writer fails, that fault is returned instead.
-pub fn break_off<W: Write, A: Allocator + Copy + Drop>(
+pub(crate) fn break_off<W: Write, A: Allocator + Copy + Drop>(
     text: &mut Vec<u8, A>,
     writer: &mut W,
     fault: DryFault,
@@ -239,7 +239,7 @@ fn put_all<W: Write, A: Allocator + Copy + Drop>(
 
 /// Prints what a line does, as `put_canon` does. For nearly every line this is one move.
 #[inline(always)]
-pub fn put_effect<W: Write, A: Allocator + Copy + Drop>(
+pub(crate) fn put_effect<W: Write, A: Allocator + Copy + Drop>(
     text: &mut Vec<u8, A>,
     writer: &mut W,
     effect: &Effect,
@@ -254,7 +254,7 @@ pub fn put_effect<W: Write, A: Allocator + Copy + Drop>(
 }
 
 /// Prints the line that says which line is refused, and why, and writes all text that waits.
-pub fn put_refusal<W: Write, A: Allocator + Copy + Drop>(
+pub(crate) fn put_refusal<W: Write, A: Allocator + Copy + Drop>(
     text: &mut Vec<u8, A>,
     writer: &mut W,
     number: u64,

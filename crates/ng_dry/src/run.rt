@@ -18,7 +18,7 @@ use std::marker::Model;
 
 /// A run between two lines: the state, the number of the next line, and the text that isn't written yet.
 #[derive(Drop)]
-pub struct DryRun<'a, A: Allocator> {
+pub(crate) struct DryRun<'a, A: Allocator> {
     terms: Terms<'a>,
     /// The kind of the first line so far that isn't blank.
     first: LineKind,

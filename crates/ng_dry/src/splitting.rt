@@ -15,11 +15,11 @@ use std::alloc::Allocator;
 use std::io::Write;
 
 /// The most bytes that are kept of a line without its end: the longest line and a carriage return.
-pub const KEPT: usize = 257;
+pub(crate) const KEPT: usize = 257;
 
 /// Splits bytes into the lines of a run, and keeps the beginning of a line until its end comes.
 #[derive(Drop)]
-pub struct LineSplitter<'a, A: Allocator> {
+pub(crate) struct LineSplitter<'a, A: Allocator> {
     pub run: DryRun<'a, A>,
     pub kept: ArrayVec<u8, KEPT>,
 }

@@ -9,14 +9,19 @@ use Rattle.ng_expr.specs.Settle.{Settled, followed, followed_if_ok, given, settl
 
 followed_assoc : (a b c : Settled) → followed a (followed b c) ≡ followed (followed a b) c
 followed_assoc a b c =
-    ap (λ (l : List Word). let s : Settled = record { words = l; assignments = a.assignments ++ (b.assignments ++ c.assignments) } in s) (sym (append_assoc a.words b.words c.words))
-    ∙ ap (λ (l : List Change). let s : Settled = record { words = (a.words ++ b.words) ++ c.words; assignments = l } in s) (sym (append_assoc a.assignments b.assignments c.assignments))
+    ap (λ (l : List Word). let s : Settled =
+    record { words = l; assignments = a.assignments ++ (b.assignments ++ c.assignments) } in s)
+    (sym (append_assoc a.words b.words c.words))
+    ∙ ap (λ (l : List Change). let s : Settled =
+    record { words = (a.words ++ b.words) ++ c.words; assignments = l } in s)
+    (sym (append_assoc a.assignments b.assignments c.assignments))
 
 followed_if_ok_twice : (a b : Settled) (r : Result Settled Fault) → followed_if_ok a (followed_if_ok b r) ≡ followed_if_ok (followed a b) r
 followed_if_ok_twice a b (Ok c) = ap (λ (s : Settled). Ok s) (followed_assoc a b c)
 followed_if_ok_twice a b (Err e) = refl
 
-step_at : (a b : Settled) (first others : Result Settled Fault) → followed_if_ok a first ≡ Ok b → followed_if_ok a (and_then first (λ f. followed_if_ok f others)) ≡ followed_if_ok b others
+step_at : (a b : Settled) (first others : Result Settled Fault) → followed_if_ok a first ≡ Ok b
+    → followed_if_ok a (and_then first (λ f. followed_if_ok f others)) ≡ followed_if_ok b others
 step_at a b (Ok f) others e = followed_if_ok_twice a f others ∙ ap (λ (s : Settled). followed_if_ok s others) (cc)
 step_at a b (Err f) others e = absurd (cc)
 

@@ -46,7 +46,8 @@ walk_postfix table (applied f t) found more =
 walk_postfix table (joined op l r) found more =
     let right : List Node = postfix r ++ (node.Joined op ∷ more) in
     ap (λ (x : List Node). after_nodes table x found)
-    (append_assoc (postfix l) (postfix r ++ node.Joined op ∷ []) more ∙ ap (λ (x : List Node). postfix l ++ x) (append_assoc (postfix r) (node.Joined op ∷ []) more))
+    (append_assoc (postfix l) (postfix r ++ node.Joined op ∷ []) more
+    ∙ ap (λ (x : List Node). postfix l ++ x) (append_assoc (postfix r) (node.Joined op ∷ []) more))
     ∙ walk_postfix table l found right
     ∙ go_on_two found (value l table) (value r table) (join op) (λ x. after_nodes table more x) (λ a. after_nodes table right (a ∷ found))
     (λ a. walk_postfix table r (a ∷ found) (node.Joined op ∷ more))
@@ -71,10 +72,12 @@ walked_nowhere (Ok x) e = cc
 walked_nowhere (Err f) e = cc
 
 -- the result of the walk
-pub walk_ok : (table : List ℤ) (nodes : List Node) (z : ℤ) (rest : List ℤ) → IsTree nodes → after_nodes table nodes [] ≡ Ok (z ∷ rest) → Ok z ≡ value (tree_by nodes) table
+pub walk_ok : (table : List ℤ) (nodes : List Node) (z : ℤ) (rest : List ℤ) → IsTree nodes
+    → after_nodes table nodes [] ≡ Ok (z ∷ rest) → Ok z ≡ value (tree_by nodes) table
 walk_ok table nodes z rest h e = walked_to (value (tree_by nodes) table) z rest (sym (walk_tree table nodes h) ∙ e)
 
-pub walk_err : (table : List ℤ) (nodes : List Node) (fault : Fault) → IsTree nodes → after_nodes table nodes [] ≡ Err fault → Err fault ≡ value (tree_by nodes) table
+pub walk_err : (table : List ℤ) (nodes : List Node) (fault : Fault) → IsTree nodes
+    → after_nodes table nodes [] ≡ Err fault → Err fault ≡ value (tree_by nodes) table
 walk_err table nodes fault h e = walked_out (value (tree_by nodes) table) fault (sym (walk_tree table nodes h) ∙ e)
 
 -- the walk never ends with nothing found

@@ -1,3 +1,4 @@
+//! The values that wait while an expression is evaluated.
 ghost use Rattle.std.specs.Prelude.{◌≡◌, ◌<◌, [], ◌∷◌, length, MatchOption};
 
 use arrayvec::ArrayVec;

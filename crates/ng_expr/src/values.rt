@@ -1,3 +1,4 @@
+//! The values of a line: each expression evaluated, in order.
 ghost use Rattle.std.specs.Prelude.{◌≡◌, ◌<◌, ◌≤◌, ◌+◌, length, Ok, Err, MatchResult, OnErr};
 ghost use Rattle.ng_words.specs.Grammar.{assignment, word};
 ghost use Rattle.ng_words.specs.Kept.{pieces_by, tree_by};

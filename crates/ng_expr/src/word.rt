@@ -1,3 +1,4 @@
+//! A word with its value.
 use ng_num::Num;
 use ng_words::Letter;
 

@@ -1,5 +1,7 @@
 -- Writing bytes again as they are.
-use Rattle.std.proofs.Common.{◌≡◌, ◌∙◌, ℕ, ◌+◌, ◌-◌, ◌≤◌, inl, inr, List, ◌++◌, Option, None, Some, IfSome, Result, Ok, Err, OnOk, OnErr, ap, sym, subst, append_assoc, length, length-append, length-drop, take, drop, arith}
+use Rattle.std.proofs.Common.{◌≡◌, ◌∙◌, ℕ, ◌+◌, ◌-◌, ◌≤◌, inl, inr, List, ◌++◌, Option, None, Some, IfSome, Result}
+use Rattle.std.proofs.Common.{Ok, Err, OnOk, OnErr, ap, sym, subst, append_assoc, length, length-append}
+use Rattle.std.proofs.Common.{length-drop, take, drop, arith}
 use Rattle.std.specs.Prelude.{slice_range}
 use Rattle.std.proofs.lemmas.List.{take-append-drop}
 use Rattle.std.proofs.lemmas.List.Folds.{drop_split}

@@ -16,7 +16,8 @@ then_besides {old} {between} {new} place from bytes here first second =
     }
 
 -- a call after which nothing new may stand says as much
-pub nothing_besides : {old new : Promise} (place : ℕ) (bytes : List ℕ) → IfPromised old new (HoldsNothingNew old new) → IfPromised old new (MayHoldBesides place bytes old new)
+pub nothing_besides : {old new : Promise} (place : ℕ) (bytes : List ℕ)
+    → IfPromised old new (HoldsNothingNew old new) → IfPromised old new (MayHoldBesides place bytes old new)
 nothing_besides place bytes same =
     record { keeps = same.keeps; back = same.back; holds = λ honest m at n c may. inr (same.holds honest n c may) }
 

@@ -1,5 +1,8 @@
 -- The trace of a file's sectors, one call more, and what a read and a loss of power leave then.
-use Rattle.std.proofs.Common.{◌≡◌, ◌≢◌, ◌⊎◌, inl, inr, ℕ, ◌+◌, ◌-◌, ◌*◌, ◌<◌, ◌≤◌, ◌==◌, nat_lt, Bool, true, false, if◌then◌else◌, List, [], ◌∷◌, ◌++◌, Option, Some, IfSome, Result, Ok, Err, OnOk, OnErr, refl, sym, ◌∙◌, ap, subst, append_assoc, length, length-append, length-drop, take, drop, get_or, arith}
+use Rattle.std.proofs.Common.{◌≡◌, ◌≢◌, ◌⊎◌, inl, inr, ℕ, ◌+◌, ◌-◌, ◌*◌, ◌<◌, ◌≤◌, ◌==◌, nat_lt, Bool, true, false}
+use Rattle.std.proofs.Common.{if◌then◌else◌, List, [], ◌∷◌, ◌++◌, Option, Some, IfSome, Result, Ok, Err, OnOk}
+use Rattle.std.proofs.Common.{OnErr, refl, sym, ◌∙◌, ap, subst, append_assoc, length, length-append, length-drop}
+use Rattle.std.proofs.Common.{take, drop, get_or, arith}
 use Rattle.std.specs.Cmp.Lexicographic.{same_text, other_text}
 use Rattle.std.proofs.lemmas.Bool.{cases_eq}
 use Rattle.std.proofs.lemmas.Bool.Decides.{nat_tests}
@@ -32,7 +35,8 @@ module _ {S : Type 0} (content : S → Option (List ℕ)) where
 
 -- ---- one sector of bytes with another one put in
 
-other-before : (n m : ℕ) (bytes held : List ℕ) → length bytes ≡ 512 → 512 * n + 512 ≤ length held → m < n → sector_of m (with_bytes (512 * n) bytes held) ≡ sector_of m held
+other-before : (n m : ℕ) (bytes held : List ℕ) → length bytes ≡ 512 → 512 * n + 512 ≤ length held → m < n
+    → sector_of m (with_bytes (512 * n) bytes held) ≡ sector_of m held
 other-before n m bytes held whole room before =
     let a = 512 * m in
     let b = 512 * n in
@@ -41,7 +45,10 @@ other-before n m bytes held whole room before =
     ap (λ (xs : List ℕ). take (a + 512 - a) (drop a xs)) (append_assoc (take b held) bytes (drop (b + length bytes) held))
     ∙ ap (λ (w : ℕ). take w (drop a (take b held ++ rest))) few
     ∙ ap (take 512) (drop-append-le a (take b held) rest (subst (λ (w : ℕ). a ≤ w) (sym (length-take-le b held (omega (arith, room)))) (omega (arith, before))))
-    ∙ take-append-le 512 (drop a (take b held)) rest (subst (λ (w : ℕ). 512 ≤ w) (sym (length-drop a (take b held) ∙ ap (λ (w : ℕ). w - a) (length-take-le b held (omega (arith, room))))) (omega (arith, before)))
+    ∙ take-append-le 512 (drop a (take b held)) rest
+    (subst (λ (w : ℕ). 512 ≤ w)
+    (sym (length-drop a (take b held) ∙ ap (λ (w : ℕ). w - a) (length-take-le b held (omega (arith, room)))))
+    (omega (arith, before)))
     ∙ ap (λ (w : ℕ). take 512 (drop a (take w held))) (sum b a (omega (arith, before)))
     ∙ ap (take 512) (drop-take a (b - a) held)
     ∙ take-take 512 (b - a) (drop a held) (omega (arith, before))
@@ -50,7 +57,8 @@ other-before n m bytes held whole room before =
     sum : (b a : ℕ) → a ≤ b → b ≡ a + (b - a)
     sum b a le = omega (arith, le)
 
-other-after : (n m : ℕ) (bytes held : List ℕ) → length bytes ≡ 512 → 512 * n + 512 ≤ length held → n < m → sector_of m (with_bytes (512 * n) bytes held) ≡ sector_of m held
+other-after : (n m : ℕ) (bytes held : List ℕ) → length bytes ≡ 512 → 512 * n + 512 ≤ length held → n < m
+    → sector_of m (with_bytes (512 * n) bytes held) ≡ sector_of m held
 other-after n m bytes held whole room after =
     let a = 512 * m in
     let b = 512 * n in
@@ -63,7 +71,8 @@ other-after n m bytes held whole room after =
     ∙ ap (take (a + 512 - a)) (drop-drop (a - (b + 512)) (b + length bytes) held)
     ∙ ap (λ (w : ℕ). take (a + 512 - a) (drop w held)) (omega (arith, whole, after))
 
-pub put-other : (n m : ℕ) (bytes held : List ℕ) → length bytes ≡ 512 → 512 * n + 512 ≤ length held → m ≢ n → sector_of m (with_bytes (512 * n) bytes held) ≡ sector_of m held
+pub put-other : (n m : ℕ) (bytes held : List ℕ) → length bytes ≡ 512 → 512 * n + 512 ≤ length held → m ≢ n
+    → sector_of m (with_bytes (512 * n) bytes held) ≡ sector_of m held
 put-other n m bytes held whole room other = elim (either m n other) [
   | inl before ↦ other-before n m bytes held whole room before
   | inr after ↦ other-after n m bytes held whole room after
@@ -96,7 +105,8 @@ reads-sector {count} {bytes} {promise} {trace} f n within =
     inside : (count n : ℕ) (c : List ℕ) → n < count → (if nat_lt n count then c else []) ≡ c
     inside count n c within = grind (arith, nat_tests)
 
-pub faithful-same : {count : ℕ} {old new : Option (List ℕ)} {before after : Promise} {trace : Trace} → IsFaithful count old before trace → new ≡ old → HoldsNothingNew before after
+pub faithful-same : {count : ℕ} {old new : Option (List ℕ)} {before after : Promise} {trace : Trace}
+    → IsFaithful count old before trace → new ≡ old → HoldsNothingNew before after
     → IsFaithful count new after trace
 faithful-same {count} {old} {new} f same nothing =
     record {
@@ -107,10 +117,12 @@ faithful-same {count} {old} {new} f same nothing =
       stops = λ n c within may. f.stops n c within (nothing n c may);
     }
 
-pub faithful-hand : {count : ℕ} {bytes : Option (List ℕ)} {promise : Promise} {trace : Trace} (item : Item) → IsFaithful count bytes promise trace → IsFaithful count bytes promise (Handed item trace)
+pub faithful-hand : {count : ℕ} {bytes : Option (List ℕ)} {promise : Promise} {trace : Trace} (item : Item)
+    → IsFaithful count bytes promise trace → IsFaithful count bytes promise (Handed item trace)
 faithful-hand item f = record { held = f.held; known = f.known; room = f.room; reads_are = λ i n. f.reads_are i n; stops = f.stops }
 
-pub faithful-sync : {count : ℕ} {old new : Option (List ℕ)} {before after : Promise} {trace : Trace} → IsFaithful count old before trace → new ≡ old → IsDurable new after
+pub faithful-sync : {count : ℕ} {old new : Option (List ℕ)} {before after : Promise} {trace : Trace}
+    → IsFaithful count old before trace → new ≡ old → IsDurable new after
     → IsFaithful count new after (Synced trace)
 faithful-sync {count} {old} {new} {before} {after} {trace} f same durable =
     let is : new ≡ Some f.held = same ∙ f.known in
@@ -124,7 +136,8 @@ faithful-sync {count} {old} {new} {before} {after} {trace} f same durable =
     }
 
 -- whether a read returns what was put is known
-holds-told : (n : ℕ) (bytes held : List ℕ) (r : Bool) → r ≡ holds n bytes (Some held) → ((r ≡ true) × (bytes ≡ sector_of n held)) ⊎ ((r ≡ false) × (bytes ≢ sector_of n held))
+holds-told : (n : ℕ) (bytes held : List ℕ) (r : Bool) → r ≡ holds n bytes (Some held)
+    → ((r ≡ true) × (bytes ≡ sector_of n held)) ⊎ ((r ≡ false) × (bytes ≢ sector_of n held))
 holds-told n bytes held true is = inl (refl, same_text bytes (sector_of n held) is)
 holds-told n bytes held false is = inr (refl, other_text bytes (sector_of n held) is)
 
@@ -162,7 +175,8 @@ module _ {count : ℕ} {old : Option (List ℕ)} {before : Promise} {trace : Tra
       here : (count m n : ℕ) (bytes new old : List ℕ) → n < count → m ≡ n → bytes ≡ new → (if m == n then bytes else old) ≡ (if nat_lt m count then new else [])
       here count m n bytes new old within same is = grind (arith, nat_tests, same, is, within)
 
-      away : (count m n : ℕ) (bytes old new : List ℕ) → (m ≡ n → ⊥) → new ≡ old → (if m == n then bytes else (if nat_lt m count then old else [])) ≡ (if nat_lt m count then new else [])
+      away : (count m n : ℕ) (bytes old new : List ℕ) → (m ≡ n → ⊥) → new ≡ old
+          → (if m == n then bytes else (if nat_lt m count then old else [])) ≡ (if nat_lt m count then new else [])
       away count m n bytes old new other is = grind (arith, nat_tests, other, is)
 
       each : (m : ℕ) → (if m == n then bytes else reads trace m) ≡ image_of count (Some now) m
@@ -222,7 +236,9 @@ module _ {count : ℕ} {old : Option (List ℕ)} {before : Promise} {trace : Tra
     faithful-put (inl known) = stayed known
     faithful-put (inr known) = put known
 
-    either_trace : (b : Bool) → (trace ≡ trace → (if b then Wrote n bytes trace else Perhaps n bytes trace) ≡ Wrote n bytes trace) ⊎ ((if b then Wrote n bytes trace else Perhaps n bytes trace) ≡ Perhaps n bytes trace)
+    either_trace : (b : Bool)
+        → (trace ≡ trace → (if b then Wrote n bytes trace else Perhaps n bytes trace) ≡ Wrote n bytes trace)
+        ⊎ ((if b then Wrote n bytes trace else Perhaps n bytes trace) ≡ Perhaps n bytes trace)
     either_trace true = inl (λ _. refl)
     either_trace false = inr refl
 
@@ -259,7 +275,8 @@ module _ {S : Type 0} (content : S → Option (List ℕ)) (promise : S → Promi
   pub begun-grown : (s : SectorsModel S) (one : Done) (file : S) → length s.files ≡ length s.done + 1 → begun (grown s one file) ≡ begun s
   begun-grown s one file long = begun-more s.files (length s.done) file s.file long
 
-  long-grown : (s : SectorsModel S) (one : Done) (file : S) → length s.files ≡ length s.done + 1 → length (s.files ++ file ∷ []) ≡ length (s.done ++ one ∷ []) + 1
+  long-grown : (s : SectorsModel S) (one : Done) (file : S) → length s.files ≡ length s.done + 1
+      → length (s.files ++ file ∷ []) ≡ length (s.done ++ one ∷ []) + 1
   long-grown s one file long =
       let a : length (s.files ++ file ∷ []) ≡ length s.files + 1 = length-append s.files (file ∷ []) in
       let b : length (s.done ++ one ∷ []) ≡ length s.done + 1 = length-append s.done (one ∷ []) in
@@ -273,7 +290,8 @@ module _ {S : Type 0} (content : S → Option (List ℕ)) (promise : S → Promi
   now-grown s one file done files done_is files_are = ap (λ (d : List Done). now_of s file d files) done_is ∙ ap (now_of s file (s.done ++ one ∷ [])) files_are
 
   pub trace-now : (s : SectorsModel S) (one : Done) (file : S) (done : List Done) (files : List S) → length s.files ≡ length s.done + 1
-      → done ≡ s.done ++ one ∷ [] → files ≡ s.files ++ file ∷ [] → trace_of content (now_of s file done files) ≡ trace_with content one file (trace_of content s)
+      → done ≡ s.done ++ one ∷ [] → files ≡ s.files ++ file ∷ []
+      → trace_of content (now_of s file done files) ≡ trace_with content one file (trace_of content s)
   trace-now s one file done files long done_is files_are =
       ap (trace_of content) (now-grown s one file done files done_is files_are) ∙ trace-grown s one file long
 
@@ -350,7 +368,8 @@ extent {count} {bytes} {promise} {trace} f =
     outside count n c le = grind (arith, nat_tests)
 
 -- a read of what is known
-pub read-bytes : {T E : Type 0} {count : ℕ} {bytes : Option (List ℕ)} {promise : Promise} {trace : Trace} (r : Result T E) (n : ℕ) (into : List ℕ) → IsFaithful count bytes promise trace
+pub read-bytes : {T E : Type 0} {count : ℕ} {bytes : Option (List ℕ)} {promise : Promise} {trace : Trace}
+    (r : Result T E) (n : ℕ) (into : List ℕ) → IsFaithful count bytes promise trace
     → n < count → OnOk r (IfSome bytes (λ held. into ≡ sector_of n held)) → OnOk r (into ≡ reads trace n)
 read-bytes (Ok _) n into f within told =
     subst (λ (b : Option (List ℕ)). IfSome b (λ held. into ≡ sector_of n held)) f.known told ∙ sym (reads-sector f n within)

@@ -9,7 +9,8 @@ abbrev zeros : ℕ → List ℕ
 zeros n = replicate n 0
 
 -- one more piece
-pub zeros-joined : (old between new : Option (List ℕ)) (n m : ℕ) → Appends old between (zeros n) → Appends between new (zeros m) → Appends old new (zeros (n + m))
+pub zeros-joined : (old between new : Option (List ℕ)) (n m : ℕ) → Appends old between (zeros n)
+    → Appends between new (zeros m) → Appends old new (zeros (n + m))
 zeros-joined old between new n m first more =
     subst (λ (l : List ℕ). Appends old new l) (replicate-append-replicate n m 0) (Appends-trans old between new (zeros n) (zeros m) first more)
 
@@ -23,7 +24,8 @@ zeros-taken n count =
     sym (take_min n (zeros count)) ∙ ap (λ m. take (min n m) (zeros count)) (length-replicate count 0) ∙ take-replicate (min n count) count 0 (omega arith)
 
 -- if a beginning of them is appended, these are zeros
-pub zeros-begun : (old new : Option (List ℕ)) (count : ℕ) → count ≤ 512 → AppendsBeginning old new (take count (zeros 512)) → (n : ℕ) × (n ≤ count) × Appends old new (zeros n)
+pub zeros-begun : (old new : Option (List ℕ)) (count : ℕ) → count ≤ 512
+    → AppendsBeginning old new (take count (zeros 512)) → (n : ℕ) × (n ≤ count) × Appends old new (zeros n)
 zeros-begun old new count few (n, appends) =
     let same : take n (take count (zeros 512)) ≡ zeros (min n count) = ap (take n) (take-replicate count 512 0 few) ∙ zeros-taken n count in
     (min n count, omega arith, subst (λ (l : List ℕ). Appends old new l) same appends)

@@ -23,4 +23,11 @@ outlet rig = rig.out
 
 -- the device as contracts see it: honest where the file does what it promises, and all was durable at first
 abbrev pub device_of : {S W A : Type 0} → (S → Option (List ℕ)) → (S → Promise) → FileRig S W A → Device
-device_of content promise rig = record { trace = trace_of content rig.sectors; honest = AreHonest content promise rig.sectors; sectors = sector_count rig; failed = failure_count rig }
+device_of content promise rig =
+    record {
+      trace = trace_of content rig.sectors;
+      honest = AreHonest content promise rig.sectors;
+      sectors =
+          sector_count rig;
+      failed = failure_count rig;
+    }

@@ -8,10 +8,10 @@
 //!
 //! Where a storage does what it promises (`specs/Promise.antt`), and all of it is durable when the device is made, the
 //! device is honest: what is proved of honest devices holds of it. A file of the system promises nothing to the prover.
-//! So this is trusted of it, the clauses of `Storage`: a read returns the bytes that were put at a place; a write of 512
-//! bytes at a multiple of 512 is kept whole or not at all, also where it fails; after a sync (`fdatasync`; `fsync` where
-//! the length changed) a loss of power leaves what a read returns; and no other program writes to it. Of the file for
-//! hand-outs it is trusted that it keeps the lines in the order in which they were appended.
+//! So this is trusted of it, the clauses of `Storage`: a read returns the bytes that were put at a place; a write of
+//! 512 bytes at a multiple of 512 is kept whole or not at all, also where it fails; after a sync (`fdatasync`; `fsync`
+//! where the length changed) a loss of power leaves what a read returns; and no other program writes to it. Of the file
+//! for hand-outs it is trusted that it keeps the lines in the order in which they were appended.
 #![tactic(auto)]
 
 mod copying;

@@ -11,8 +11,8 @@ use std::io;
 use std::marker::Model;
 
 /// A file as a list of sectors (own). Contracts see a `SectorsModel`: the file, and the trace of what was done. Where
-/// the file does what it promises, and all was durable at first, a read returns what the trace says, and a loss of power
-/// leaves one of the trace's stops. The trace costs nothing when it runs.
+/// the file does what it promises, and all was durable at first, a read returns what the trace says, and a loss of
+/// power leaves one of the trace's stops. The trace costs nothing when it runs.
 #[derive(Drop)]
 pub(crate) struct Sectors<S: Storage> {
     file: S,

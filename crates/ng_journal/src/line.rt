@@ -19,7 +19,7 @@ use ng_text::split_line;
 use std::marker::Model;
 
 /// How many bytes of a line are kept: one more than a line may have.
-pub const KEPT_LINE: usize = 257;
+pub(crate) const KEPT_LINE: usize = 257;
 
 /// A line of a program (own). Contracts see a `ProgramLineModel`.
 #[derive(Debug, Drop)]

@@ -1,5 +1,6 @@
 -- What digits stand for.
-use Rattle.std.proofs.Common.{◌≡◌, ◌∙◌, ◌<◌, ◌≤◌, ◌+◌, ◌-◌, ◌*◌, ◌^◌, ◌&&◌, ℕ, suc, true, List, [], ◌∷◌, length, drop, get_or, ap, arith, subst, sym, zero, add-one, rules, Option, None, Some, IfSome}
+use Rattle.std.proofs.Common.{◌≡◌, ◌∙◌, ◌<◌, ◌≤◌, ◌+◌, ◌-◌, ◌*◌, ◌^◌, ◌&&◌, ℕ, suc, true, List, [], ◌∷◌, length}
+use Rattle.std.proofs.Common.{drop, get_or, ap, arith, subst, sym, zero, add-one, rules, Option, None, Some, IfSome}
 use Rattle.std.proofs.lemmas.List.{drop_all}
 use Rattle.std.specs.Option.{SomeIff}
 use Rattle.std.proofs.Math.Seq.{drop-cons}

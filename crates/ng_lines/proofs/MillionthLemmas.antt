@@ -1,5 +1,7 @@
 -- Six decimals, and the counts of millionths that end in them.
-use Rattle.std.proofs.Common.{◌≡◌, ◌∙◌, ◌<◌, ◌≤◌, ◌+◌, ◌-◌, ◌*◌, ◌/◌, ◌%◌, ◌^◌, ℕ, List, [], ◌∷◌, ◌++◌, length, take, drop, ap, ap₂, arith, subst, sym, true, Option, None, Some, IfSome, unwrap_or, length-append}
+use Rattle.std.proofs.Common.{◌≡◌, ◌∙◌, ◌<◌, ◌≤◌, ◌+◌, ◌-◌, ◌*◌, ◌/◌, ◌%◌, ◌^◌, ℕ, List, [], ◌∷◌, ◌++◌, length}
+use Rattle.std.proofs.Common.{take, drop, ap, ap₂, arith, subst, sym, true, Option, None, Some, IfSome, unwrap_or}
+use Rattle.std.proofs.Common.{length-append}
 use Rattle.std.proofs.Math.Seq.{drop-append_seam, take-append_seam}
 use Rattle.std.proofs.lemmas.List.{take-append-drop}
 use Rattle.std.specs.Option.{SomeIff}
@@ -40,7 +42,8 @@ six_are (a ∷ b ∷ c ∷ d ∷ e ∷ f ∷ []) n len digits is =
     let pd = tells_all_ascii_digits.parts d (e ∷ f ∷ []) pc.1 in
     let pe = tells_all_ascii_digits.parts e (f ∷ []) pd.1 in
     let pf = tells_all_ascii_digits.parts f ([]) pe.1 in
-    six_of (a - 48) (b - 48) (c - 48) (d - 48) (e - 48) (f - 48) n (omega (arith, pa.0)) (omega (arith, pb.0)) (omega (arith, pc.0)) (omega (arith, pd.0)) (omega (arith, pe.0)) (omega (arith, pf.0)) (omega (arith, is))
+    six_of (a - 48) (b - 48) (c - 48) (d - 48) (e - 48) (f - 48) n (omega (arith, pa.0)) (omega (arith, pb.0))
+    (omega (arith, pc.0)) (omega (arith, pd.0)) (omega (arith, pe.0)) (omega (arith, pf.0)) (omega (arith, is))
     ∙ same_six (omega (arith, pa.0)) (omega (arith, pb.0)) (omega (arith, pc.0)) (omega (arith, pd.0)) (omega (arith, pe.0)) (omega (arith, pf.0))
 
 pub six_found : (ds : List ℕ) (r : Option ℕ) → length ds ≡ 6 → Reads ds r → IfSome r (λ n. (n < 1_000_000) × (six_digits n ≡ ds))
@@ -54,7 +57,14 @@ digit_range m = (omega arith, omega arith)
 pub six_digits_digits : (n : ℕ) → all_ascii_digits (six_digits n) ≡ true
 six_digits_digits n =
     let t = tells_all_ascii_digits in
-    t.more (48 + n / 100000 % 10) ((48 + n / 10000 % 10) ∷ (48 + n / 1000 % 10) ∷ (48 + n / 100 % 10) ∷ (48 + n / 10 % 10) ∷ (48 + n / 1 % 10) ∷ []) (digit_range (n / 100000)) (t.more (48 + n / 10000 % 10) ((48 + n / 1000 % 10) ∷ (48 + n / 100 % 10) ∷ (48 + n / 10 % 10) ∷ (48 + n / 1 % 10) ∷ []) (digit_range (n / 10000)) (t.more (48 + n / 1000 % 10) ((48 + n / 100 % 10) ∷ (48 + n / 10 % 10) ∷ (48 + n / 1 % 10) ∷ []) (digit_range (n / 1000)) (t.more (48 + n / 100 % 10) ((48 + n / 10 % 10) ∷ (48 + n / 1 % 10) ∷ []) (digit_range (n / 100)) (t.more (48 + n / 10 % 10) ((48 + n / 1 % 10) ∷ []) (digit_range (n / 10)) (t.more (48 + n / 1 % 10) [] (digit_range (n / 1)) t.empty)))))
+    t.more (48 + n / 100000 % 10) ((48 + n / 10000 % 10) ∷ (48 + n / 1000 % 10) ∷ (48 + n / 100 % 10) ∷
+    (48 + n / 10 % 10) ∷ (48 + n / 1 % 10) ∷ []) (digit_range (n / 100000))
+    (t.more (48 + n / 10000 % 10) ((48 + n / 1000 % 10) ∷ (48 + n / 100 % 10) ∷ (48 + n / 10 % 10) ∷
+    (48 + n / 1 % 10) ∷ []) (digit_range (n / 10000))
+    (t.more (48 + n / 1000 % 10) ((48 + n / 100 % 10) ∷ (48 + n / 10 % 10) ∷ (48 + n / 1 % 10) ∷ [])
+    (digit_range (n / 1000)) (t.more (48 + n / 100 % 10) ((48 + n / 10 % 10) ∷ (48 + n / 1 % 10) ∷ [])
+    (digit_range (n / 100)) (t.more (48 + n / 10 % 10) ((48 + n / 1 % 10) ∷ []) (digit_range (n / 10))
+    (t.more (48 + n / 1 % 10) [] (digit_range (n / 1)) t.empty)))))
 
 -- and they stand for its last six
 six_digits_value : (n : ℕ) → read_on 0 (six_digits n) ≡ n % 1_000_000
@@ -65,9 +75,11 @@ six_digits_value n =
     let four : n % 10_000 ≡ n / 1_000 % 10 * 1_000 + n % 1_000 = omega arith in
     let five : n % 100_000 ≡ n / 10_000 % 10 * 10_000 + n % 10_000 = omega arith in
     let six : n % 1_000_000 ≡ n / 100_000 % 10 * 100_000 + n % 100_000 = omega arith in
-    sums (n / 100_000 % 10) (n / 10_000 % 10) (n / 1_000 % 10) (n / 100 % 10) (n / 10 % 10) (n / 1 % 10) (n % 10) (n % 100) (n % 1_000) (n % 10_000) (n % 100_000) (n % 1_000_000) one two three four five six
+    sums (n / 100_000 % 10) (n / 10_000 % 10) (n / 1_000 % 10) (n / 100 % 10) (n / 10 % 10) (n / 1 % 10) (n % 10)
+    (n % 100) (n % 1_000) (n % 10_000) (n % 100_000) (n % 1_000_000) one two three four five six
   where
-    sums : (a b c d e f m1 m2 m3 m4 m5 m6 : ℕ) → f ≡ m1 → m2 ≡ e * 10 + m1 → m3 ≡ d * 100 + m2 → m4 ≡ c * 1_000 + m3 → m5 ≡ b * 10_000 + m4 → m6 ≡ a * 100_000 + m5
+    sums : (a b c d e f m1 m2 m3 m4 m5 m6 : ℕ) → f ≡ m1 → m2 ≡ e * 10 + m1 → m3 ≡ d * 100 + m2 → m4 ≡ c * 1_000 + m3
+        → m5 ≡ b * 10_000 + m4 → m6 ≡ a * 100_000 + m5
         → read_on 0 ((48 + a) ∷ (48 + b) ∷ (48 + c) ∷ (48 + d) ∷ (48 + e) ∷ (48 + f) ∷ []) ≡ m6
     sums a b c d e f m1 m2 m3 m4 m5 m6 p q r s t u = omega arith
 
@@ -111,7 +123,8 @@ size_found w m at front back text (Some n) (fine, same) small whole six before a
     ap size_text same ∙ size_text_of w m small ∙ ap₂ (λ (f : List ℕ) (b : List ℕ). f ++ b) (whole ∙ before) (six ∙ after) ∙ take-append-drop at text
 
 -- what is written so is read so
-pub size_read : (n w m : ℕ) (r : Option ℕ) → SomeIff r (w * 1_000_000 + m < 2 ^ 64) (w * 1_000_000 + m) → n < 2 ^ 64 → Some w ≡ Some (n / 1_000_000) → Some m ≡ Some (n % 1_000_000) → r ≡ Some n
+pub size_read : (n w m : ℕ) (r : Option ℕ) → SomeIff r (w * 1_000_000 + m < 2 ^ 64) (w * 1_000_000 + m) → n < 2 ^ 64
+    → Some w ≡ Some (n / 1_000_000) → Some m ≡ Some (n % 1_000_000) → r ≡ Some n
 size_read n w m r is fits whole six = go r is
   where
     w_is : w ≡ n / 1_000_000

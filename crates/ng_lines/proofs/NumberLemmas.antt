@@ -1,5 +1,7 @@
 -- The text of a number, with its sign.
-use Rattle.std.proofs.Common.{◌≡◌, ◌∙◌, ◌<◌, ◌≤◌, ◌/◌, ◌^◌, ℕ, zero, suc, ℤ, pos, negsuc, neg_ℤ, unwrap_or, unsigned_abs, Bool, true, false, List, [], ◌∷◌, length, drop, get_or, ap, arith, refl, subst, sym, Option, Some, IfSome, nat_le, le-leb, if◌then◌else◌, Ok, Err}
+use Rattle.std.proofs.Common.{◌≡◌, ◌∙◌, ◌<◌, ◌≤◌, ◌/◌, ◌^◌, ℕ, zero, suc, ℤ, pos, negsuc, neg_ℤ, unwrap_or}
+use Rattle.std.proofs.Common.{unsigned_abs, Bool, true, false, List, [], ◌∷◌, length, drop, get_or, ap, arith, refl}
+use Rattle.std.proofs.Common.{subst, sym, Option, Some, IfSome, nat_le, le-leb, if◌then◌else◌, Ok, Err}
 use Rattle.std.proofs.lemmas.List.{get_or_append_left}
 use Rattle.std.proofs.lemmas.Fmt.{decimal_nonempty, digits_decimal}
 use Rattle.std.proofs.lemmas.Str.Parse.{tells_all_ascii_digits}

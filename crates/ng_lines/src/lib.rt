@@ -5,7 +5,8 @@
 //! specs/Lines.antt says which line is that of an item. A text is read exactly if it is such a line. So what is read
 //! would be written the same, and `read_back` says that what is written is read as it was.
 //!
-//! The crate depends on `ng_canon` for the items, on `ng_num` for their numbers and on `itoa`. Reading doesn't allocate.
+//! The crate depends on `ng_canon` for the items, on `ng_num` for their numbers and on `itoa`. Reading doesn't
+//! allocate.
 #![tactic(auto)]
 
 mod laws;

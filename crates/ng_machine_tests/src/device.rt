@@ -1,3 +1,4 @@
+//! Devices in memory: what a loss of power leaves of their writes.
 use crate::images::{sector_of, store};
 use crate::journal::formatting::fill;
 use linked_list_allocator::LocalHeap;

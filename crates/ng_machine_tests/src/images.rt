@@ -1,3 +1,4 @@
+//! Images of devices in which one number is changed, and what power on finds there.
 use crate::journal::header_of;
 use ng_journal::recover;
 use ng_num::Fault;

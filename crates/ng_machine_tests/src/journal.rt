@@ -1,3 +1,4 @@
+//! The journal over devices in memory: what it finds, writes and refuses.
 ghost use Rattle.std.specs.Prelude.{◌≡◌, ◌≤◌, ◌+◌, false, length, IsSome, IfSome};
 ghost use Rattle.ng_layout.specs.Storable.{IsStorableHalf, IsStorable};
 ghost use Rattle.ng_offsets.specs.Tools.{AreTools, IsOneSlotFrom, IsToolLength};

@@ -1,3 +1,4 @@
+//! The pulses of segments, row by row.
 use ng_canon::{
     Arc, ArcDirection, Axis, AxisStep, Feed, Geometry, InverseTime, Item, Outputs, Pace, Plane,
     Pulse, Rate, Segment, StraightMove,

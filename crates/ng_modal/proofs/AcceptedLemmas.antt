@@ -27,7 +27,8 @@ use Rattle.ng_modal.proofs.LeastLemmas.{least}
 use Rattle.ng_modal.proofs.TestLemmas.{and_left, and_right, or_left, or_right, not_true, not_false}
 
 -- a number within limits
-slot_within : (slots : ℕ) → slots ≤ 255 → (n : Option ℤ) → is_between (pos 0) (pos slots) n ≡ true → (k : ℕ) × (option_and_then slot_of n ≡ Some k) × (k ≤ slots)
+slot_within : (slots : ℕ) → slots ≤ 255 → (n : Option ℤ) → is_between (pos 0) (pos slots) n ≡ true → (k : ℕ)
+    × (option_and_then slot_of n ≡ Some k) × (k ≤ slots)
 slot_within slots few None e = absurd (cc e)
 slot_within slots few (Some (negsuc n)) e = absurd (cc e)
 slot_within slots few (Some (pos n)) e =
@@ -72,7 +73,8 @@ is_given : (word : Option ℤ) → is_none word ≡ false → IsSome word
 is_given None e = absurd (cc e)
 is_given (Some v) e = search rules
 
-a_count : (word : Option ℤ) → is_unused_word word (is_positive (option_and_then whole_of word)) ≡ false → IfSome word (λ v. whole_of v ≡ Some (pos (repeats_on word)))
+a_count : (word : Option ℤ) → is_unused_word word (is_positive (option_and_then whole_of word)) ≡ false
+    → IfSome word (λ v. whole_of v ≡ Some (pos (repeats_on word)))
 a_count None e = tt
 a_count (Some v) e = positive_by (whole_of v) (not_false (is_positive (whole_of v)) e)
 
@@ -101,7 +103,8 @@ accepted ws m slots few h =
     let is_still : Bool = is_dwell b.g.non_modal && is_negative v.p in
     let later : (is_negative v.s || is_still) ≡ false = or_right (is_negative v.f) (is_negative v.s || is_still) from13.0 in
     let counts : (is_cycle b.motion && is_unused_word v.l (is_positive (option_and_then whole_of v.l))) ≡ false =
-    or_right (is_set_origin b.g.non_modal && not (is_whole_within (pos 2) (pos 2) v.l)) (is_cycle b.motion && is_unused_word v.l (is_positive (option_and_then whole_of v.l))) from15.0 in
+    or_right (is_set_origin b.g.non_modal && not (is_whole_within (pos 2) (pos 2) v.l))
+    (is_cycle b.motion && is_unused_word v.l (is_positive (option_and_then whole_of v.l))) from15.0 in
     record {
       selected = a_slot slots few v.t (or_left slot_t slot_h from13.1.0);
       of_length = a_slot slots few v.h (or_right slot_t slot_h from13.1.0);
@@ -116,7 +119,9 @@ accepted ws m slots few h =
           system_within (option_and_then whole_of v.p)
           (not_false (is_whole_within (pos 1) (pos 9) v.p)
           (let P : Option NonModal → Type 0 = λ x. (is_set_origin x && not (is_whole_within (pos 1) (pos 9) v.p)) ≡ false in subst P is from15.1.0));
-      repeats = λ is. a_count v.l (let P : Bool → Type 0 = λ x. (x && is_unused_word v.l (is_positive (option_and_then whole_of v.l))) ≡ false in subst P is counts);
+      repeats = λ is. a_count v.l
+          (let P : Bool → Type 0 = λ x. (x && is_unused_word v.l (is_positive (option_and_then whole_of v.l)))
+          ≡ false in subst P is counts);
       plane = λ is. is_xy (plane_after b m) (let P : Bool → Type 0 = λ x. (x && is_along_z (plane_after b m)) ≡ false in subst P is from15.1.1.1.1.0);
       moves = moves_on b.g.motion (has_axis v && not (takes_axes b.g.non_modal)) m.motion;
     }

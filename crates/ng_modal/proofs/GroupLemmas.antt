@@ -4,7 +4,9 @@ use Rattle.std.specs.Prelude.{◌==◌, if◌then◌else◌, Option}
 use Rattle.std.specs.Option.{is_some, option_and_then}
 use Rattle.ng_modal.specs.Groups.{group_of, m_group_of}
 use Rattle.ng_modal.specs.Words.{first, with_group, of_group, of_m_group}
-use Rattle.ng_modal.specs.ByGroup.{non_modal_of, plane_of, distance_of, feed_mode_of, unit_of, tool_length_of, retract_of, system_of_word, path_of, stop_of, spindle_of, coolant_of, overrides_of, g_words, m_words, has_word, has_m_word}
+use Rattle.ng_modal.specs.ByGroup.{non_modal_of, plane_of, distance_of, feed_mode_of, unit_of, tool_length_of}
+use Rattle.ng_modal.specs.ByGroup.{retract_of, system_of_word, path_of, stop_of, spindle_of, coolant_of}
+use Rattle.ng_modal.specs.ByGroup.{overrides_of, g_words, m_words, has_word, has_m_word}
 use Rattle.ng_modal.specs.declared.codes.GWord.{GWord}
 use Rattle.ng_modal.specs.declared.codes.GWord.TheVariants as word
 use Rattle.ng_modal.specs.declared.codes.MWord.{MWord}
@@ -17,7 +19,8 @@ first_asks : {W X : Type 0} (group : W → ℕ) (asks : W → Option X) (n : ℕ
 first_asks group asks n same [] = refl
 first_asks {W} {X} group asks n same (w ∷ ws) =
     let Goal : Bool → Type 0 = λ t. is_some (asks w) ≡ t →
-    is_some (option_and_then asks (first (if t then w ∷ with_group group n ws else with_group group n ws))) ≡ is_some (first (if t then w ∷ with_group group n ws else with_group group n ws)) in
+    is_some (option_and_then asks (first (if t then w ∷ with_group group n ws else with_group group n ws)))
+    ≡ is_some (first (if t then w ∷ with_group group n ws else with_group group n ws)) in
     elim (n == group w) as Goal [
       | true ↦ λ e. e
       | false ↦ λ _. first_asks group asks n same ws

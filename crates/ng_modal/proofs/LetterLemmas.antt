@@ -1,5 +1,6 @@
 -- The values by letter as they are kept, and one more word in front of those added before.
-use Rattle.std.proofs.Common.{◌≡◌, ◌<◌, ◌-◌, ◌*◌, ◌%◌, ◌^◌, ℕ, ℤ, pos, Bool, true, false, List, [], ◌∷◌, length, Some, None, refl, sym, ap, ◌∙◌, subst, arith, slice_index_or, slice_set, bit_or, w32}
+use Rattle.std.proofs.Common.{◌≡◌, ◌<◌, ◌-◌, ◌*◌, ◌%◌, ◌^◌, ℕ, ℤ, pos, Bool, true, false, List, [], ◌∷◌, length}
+use Rattle.std.proofs.Common.{Some, None, refl, sym, ap, ◌∙◌, subst, arith, slice_index_or, slice_set, bit_or, w32}
 use Rattle.std.specs.Prelude.{◌==◌, if◌then◌else◌}
 use Rattle.std.specs.Int.{bit_at}
 use Rattle.std.specs.Option.{is_some}
@@ -34,7 +35,8 @@ below_20 _ = omega arith
 
 -- a letter's byte determines its index, and its index determines its byte
 abbrev index_at : ℕ → ℕ
-index_at byte = slice_index_or (0 ∷ 1 ∷ 2 ∷ 3 ∷ 0 ∷ 4 ∷ 5 ∷ 6 ∷ 7 ∷ 8 ∷ 9 ∷ 10 ∷ 11 ∷ 0 ∷ 0 ∷ 12 ∷ 13 ∷ 14 ∷ 15 ∷ 16 ∷ 0 ∷ 0 ∷ 0 ∷ 17 ∷ 18 ∷ 19 ∷ []) (byte - 65) 0
+index_at byte = slice_index_or (0 ∷ 1 ∷ 2 ∷ 3 ∷ 0 ∷ 4 ∷ 5 ∷ 6 ∷ 7 ∷ 8 ∷ 9 ∷ 10 ∷ 11 ∷ 0 ∷ 0 ∷ 12 ∷ 13 ∷ 14 ∷ 15 ∷ 16
+    ∷ 0 ∷ 0 ∷ 0 ∷ 17 ∷ 18 ∷ 19 ∷ []) (byte - 65) 0
 
 abbrev byte_at : ℕ → ℕ
 byte_at index = slice_index_or (65 ∷ 66 ∷ 67 ∷ 68 ∷ 70 ∷ 71 ∷ 72 ∷ 73 ∷ 74 ∷ 75 ∷ 76 ∷ 77 ∷ 80 ∷ 81 ∷ 82 ∷ 83 ∷ 84 ∷ 88 ∷ 89 ∷ 90 ∷ []) index 0
@@ -81,7 +83,8 @@ pub was_kept : (l : Letter) (ws : List Word) (present : ℕ) (numbers : List ℤ
     takes_value l ≡ true → index ≡ index_of l → kept present numbers ≡ by_letter ws →
     (bit_at present index == 1) ≡ is_some (first (of_letter l ws))
 was_kept l ws present numbers index takes is before =
-    rw (← value_by_letter l ws takes, ← before, value_kept l present numbers takes, is) (sym (is_kept (bit_at present (index_of l) == 1) (slice_index_or numbers (index_of l) (pos 0))))
+    rw (← value_by_letter l ws takes, ← before, value_kept l present numbers takes, is)
+    (sym (is_kept (bit_at present (index_of l) == 1) (slice_index_or numbers (index_of l) (pos 0))))
 
 -- one more word: its letter has its value, and the others have what they had
 first_in_front : (t : Bool) (x : ℤ) (xs : List ℤ) → first (if t then x ∷ xs else xs) ≡ (if t then Some x else first xs)
@@ -102,7 +105,10 @@ kept_with l k x present numbers long =
           rw (same, bit_at_set_same w32 present (index_of k) (below_32 k), get_or-set_same numbers (index_of k) x (pos 0) inside) refl
       | false ↦ λ e.
           let other : index_of l ≡ index_of k → ⊥ = other_index l k e in
-          rw (bit_at_set_other w32 present (index_of k) (below_32 k) (index_of l) other, get_or-set_other numbers (index_of k) (index_of l) x (pos 0) other) refl
+          rw (
+            bit_at_set_other w32 present (index_of k) (below_32 k) (index_of l) other,
+            get_or-set_other numbers (index_of k) (index_of l) x (pos 0) other,
+          ) refl
     ] refl
 
 value_with : (l k : Letter) (x : ℤ) (ws : List Word) (present : ℕ) (numbers : List ℤ) →
@@ -112,7 +118,8 @@ value_with : (l k : Letter) (x : ℤ) (ws : List Word) (present : ℕ) (numbers 
 value_with l k x ws present numbers long before takes =
     let after : ℕ = bit_or present (1 * 2 ^ index_of k % 4294967296) in
     let values : List ℤ = slice_set numbers (index_of k) x in
-    let was : kept_at present numbers l ≡ first (of_letter l ws) = sym (value_kept l present numbers takes) ∙ (ap (λ v. value_of v l) before ∙ value_by_letter l ws takes) in
+    let was : kept_at present numbers l ≡ first (of_letter l ws) = sym (value_kept l present numbers takes)
+    ∙ (ap (λ v. value_of v l) before ∙ value_by_letter l ws takes) in
     let now : kept_at after values l ≡ first (of_letter l (record { letter = k; value = x } ∷ ws)) =
     rw (kept_with l k x present numbers long, was) (sym (first_in_front (has_byte (byte_of l) k) x (of_letter l ws))) in
     value_kept l after values takes ∙ (now ∙ sym (value_by_letter l (record { letter = k; value = x } ∷ ws) takes))
@@ -138,7 +145,27 @@ same_values u v same =
     let same_x : u.x ≡ v.x = same X refl in
     let same_y : u.y ≡ v.y = same Y refl in
     let same_z : u.z ≡ v.z = same Z refl in
-    let all : record { a = u.a; b = u.b; c = u.c; d = u.d; f = u.f; h = u.h; i = u.i; j = u.j; k = u.k; l = u.l; p = u.p; q = u.q; r = u.r; s = u.s; t = u.t; x = u.x; y = u.y; z = u.z } ≡ v =
+    let all : record {
+      a = u.a;
+      b = u.b;
+      c = u.c;
+      d = u.d;
+      f = u.f;
+      h = u.h;
+      i = u.i;
+      j = u.j;
+      k = u.k;
+      l = u.l;
+      p =
+          u.p;
+      q = u.q;
+      r = u.r;
+      s = u.s;
+      t = u.t;
+      x = u.x;
+      y = u.y;
+      z = u.z;
+    } ≡ v =
     rw (same_a, same_b, same_c, same_d, same_f, same_h, same_i, same_j, same_k, same_l, same_p, same_q, same_r, same_s, same_t, same_x, same_y, same_z) refl in
     all
 

@@ -17,7 +17,9 @@ use Rattle.ng_modal.specs.declared.codes.MWord.{MWord}
 use Rattle.ng_modal.specs.declared.codes.MWord.TheVariants.{Stop}
 
 -- the key in question is that of the word
-same_key : {X : Type 0} (x : X) (xs : List X) (others here : Bool) → (is_twice (x ∷ xs) || (others || (here && is_some (first xs)))) ≡ ((is_twice xs || others) || ((true || here) && is_some (first xs)))
+same_key : {X : Type 0} (x : X) (xs : List X) (others here : Bool)
+    → (is_twice (x ∷ xs) || (others || (here && is_some (first xs))))
+    ≡ ((is_twice xs || others) || ((true || here) && is_some (first xs)))
 same_key x [] true here = refl
 same_key x [] false true = refl
 same_key x [] false false = refl
@@ -40,14 +42,17 @@ one_more key under n x [] = refl
 one_more {K} {X} key under n x (k ∷ ks) =
     let before : Bool = list_any (λ q. is_twice (under (key q))) ks in
     let here : Bool = list_any (λ q. key q == n) ks in
-    let rest : list_any (λ q. is_twice (if key q == n then x ∷ under (key q) else under (key q))) ks ≡ (before || (here && is_some (first (under n)))) = one_more key under n x ks in
+    let rest : list_any (λ q. is_twice (if key q == n then x ∷ under (key q) else under (key q)))
+    ks ≡ (before || (here && is_some (first (under n)))) = one_more key under n x ks in
     let Goal : Bool → Type 0 = λ t. (key k == n) ≡ t →
     (is_twice (if t then x ∷ under (key k) else under (key k)) || (before || (here && is_some (first (under n)))))
     ≡ ((is_twice (under (key k)) || before) || ((t || here) && is_some (first (under n)))) in
     ap (λ b. is_twice (if key k == n then x ∷ under (key k) else under (key k)) || b) rest ∙
     (elim (key k == n) as Goal [
       | true ↦ λ e.
-          let At : ℕ → Type 0 = λ m. (is_twice (x ∷ under (key k)) || (before || (here && is_some (first (under m))))) ≡ ((is_twice (under (key k)) || before) || ((true || here) && is_some (first (under m)))) in
+          let At : ℕ → Type 0 = λ m.
+          (is_twice (x ∷ under (key k)) || (before || (here && is_some (first (under m)))))
+          ≡ ((is_twice (under (key k)) || before) || ((true || here) && is_some (first (under m)))) in
           subst At ((Decides-eqb (key k) n).0 e) (same_key x (under (key k)) before here)
       | false ↦ λ _. other_key (is_twice (under (key k))) before here (is_some (first (under n)))
     ] refl)
@@ -57,7 +62,9 @@ is_value_letter : (l : Letter) → list_any (λ k. byte_of k == byte_of l) value
 is_value_letter G = refl
 is_value_letter _ = refl
 
-pub repeated_with : (l : Letter) (v : ℤ) (ws : List Word) → is_repeated (record { letter = l; value = v } ∷ ws) ≡ (is_repeated ws || (takes_value l && is_some (first (of_letter l ws))))
+pub repeated_with : (l : Letter) (v : ℤ) (ws : List Word)
+    → is_repeated (record { letter = l; value = v } ∷ ws)
+    ≡ (is_repeated ws || (takes_value l && is_some (first (of_letter l ws))))
 repeated_with l v ws =
     one_more byte_of (λ n. of_byte n ws) (byte_of l) v value_letters ∙
     ap (λ b. is_repeated ws || (b && is_some (first (of_letter l ws)))) (is_value_letter l)

@@ -2,11 +2,16 @@
 use Rattle.std.specs.Prelude.{ℕ, Bool, List, [], ◌∷◌, Result}
 use Rattle.ng_num.specs.Causes.{first_fault, unless}
 use Rattle.ng_num.specs.declared.fault.Fault.{Fault}
-use Rattle.ng_num.specs.declared.fault.Fault.TheVariants.{RepeatedLetter, UnknownCode, LeftOutCode, GroupTwice, TooManyM, AxisTakenTwice, AxisUnused, NoAxis, NothingToSet, BadG53, RadiusArc, UnusedWord, Negative, BadSlot, BadL, BadSystem, NoDwell, NoH, CyclePlane}
+use Rattle.ng_num.specs.declared.fault.Fault.TheVariants.{RepeatedLetter, UnknownCode, LeftOutCode, GroupTwice}
+use Rattle.ng_num.specs.declared.fault.Fault.TheVariants.{TooManyM, AxisTakenTwice, AxisUnused, NoAxis}
+use Rattle.ng_num.specs.declared.fault.Fault.TheVariants.{NothingToSet, BadG53, RadiusArc, UnusedWord, Negative}
+use Rattle.ng_num.specs.declared.fault.Fault.TheVariants.{BadSlot, BadL, BadSystem, NoDwell, NoH, CyclePlane}
 use Rattle.ng_expr.specs.declared.word.Word.{Word}
 use Rattle.ng_modal.specs.WordCauses.{is_repeated, has_unknown, has_left_out, has_group_twice, has_many_m}
 use Rattle.ng_modal.specs.Blocks.{block_of}
-use Rattle.ng_modal.specs.Causes.{takes_axes_twice, leaves_axis_unused, moves_no_axis, sets_nothing, has_bad_g53, has_radius_arc, leaves_word_unused, has_negative, has_bad_slot, has_bad_l, has_bad_system, has_no_dwell, has_no_h, has_cycle_plane}
+use Rattle.ng_modal.specs.Causes.{takes_axes_twice, leaves_axis_unused, moves_no_axis, sets_nothing, has_bad_g53}
+use Rattle.ng_modal.specs.Causes.{has_radius_arc, leaves_word_unused, has_negative, has_bad_slot, has_bad_l}
+use Rattle.ng_modal.specs.Causes.{has_bad_system, has_no_dwell, has_no_h, has_cycle_plane}
 use Rattle.ng_modal.specs.declared.block.Block.{Block}
 use Rattle.ng_state.specs.declared.modes.Modes.{Modes}
 

@@ -7,17 +7,23 @@ use Rattle.ng_num.specs.Whole.{whole_of}
 use Rattle.ng_num.specs.declared.unit.Unit.TheVariants.{Inches, Millimetres}
 use Rattle.ng_canon.specs.declared.plane.Plane.TheVariants.{Xy, Xz, Yz}
 use Rattle.ng_canon.specs.declared.outputs.Spindle.TheVariants.{Clockwise, Counterclockwise, Stopped}
-use Rattle.ng_state.specs.declared.modes.Motion.TheVariants.{Off as NoMotion, Traverse, Feed, ClockwiseArc, CounterclockwiseArc, Drilling, DrillingWithDwell, PeckDrilling, Boring, BoringWithStop, BoringWithDwell}
+use Rattle.ng_state.specs.declared.modes.Motion.TheVariants.{Off as NoMotion, Traverse, Feed, ClockwiseArc}
+use Rattle.ng_state.specs.declared.modes.Motion.TheVariants.{CounterclockwiseArc, Drilling, DrillingWithDwell}
+use Rattle.ng_state.specs.declared.modes.Motion.TheVariants.{PeckDrilling, Boring, BoringWithStop, BoringWithDwell}
 use Rattle.ng_state.specs.declared.modes.Distance.TheVariants.{Absolute, Incremental}
 use Rattle.ng_state.specs.declared.modes.FeedMode.TheVariants.{PerMinute, InverseTime}
 use Rattle.ng_state.specs.declared.modes.Retract.TheVariants.{OldZ, ToR}
 use Rattle.ng_state.specs.declared.modes.PathMode.TheVariants.{Exact, ExactStop, Continuous}
-use Rattle.ng_modal.specs.declared.asks.NonModal.TheVariants.{Dwell, SetOrigin, Home, SecondHome, MachineCoordinates, SetOffset, ClearOffset, DropOffset, RestoreOffset}
+use Rattle.ng_modal.specs.declared.asks.NonModal.TheVariants.{Dwell, SetOrigin, Home, SecondHome}
+use Rattle.ng_modal.specs.declared.asks.NonModal.TheVariants.{MachineCoordinates, SetOffset, ClearOffset}
+use Rattle.ng_modal.specs.declared.asks.NonModal.TheVariants.{DropOffset, RestoreOffset}
 use Rattle.ng_modal.specs.declared.asks.ToolLength.TheVariants.{OfSlot, Zero}
 use Rattle.ng_modal.specs.declared.asks.StopWord.TheVariants.{Program, Optional, End, EndWithShuttle, Shuttle}
 use Rattle.ng_modal.specs.declared.asks.Coolant.TheVariants.{Mist, Flood, Off}
 use Rattle.ng_modal.specs.declared.codes.GWord.{GWord}
-use Rattle.ng_modal.specs.declared.codes.GWord.TheVariants.{NonModal, Motion, LeftOutMotion, Plane, Distance, FeedMode, Unit, NoCompensation, LeftOutCompensation, ToolLength, Retract, System, Path}
+use Rattle.ng_modal.specs.declared.codes.GWord.TheVariants.{NonModal, Motion, LeftOutMotion, Plane, Distance}
+use Rattle.ng_modal.specs.declared.codes.GWord.TheVariants.{FeedMode, Unit, NoCompensation, LeftOutCompensation}
+use Rattle.ng_modal.specs.declared.codes.GWord.TheVariants.{ToolLength, Retract, System, Path}
 use Rattle.ng_modal.specs.declared.codes.MWord.{MWord}
 use Rattle.ng_modal.specs.declared.codes.MWord.TheVariants.{Stop, ToolChange, Spindle, Coolant, Overrides}
 

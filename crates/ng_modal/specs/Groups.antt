@@ -1,7 +1,9 @@
 -- The numbers of the modal groups (NISTIR 6556, table 4), including those of words that are left out.
 use Rattle.std.specs.Prelude.{ℕ, List, [], ◌∷◌}
 use Rattle.ng_modal.specs.declared.codes.GWord.{GWord}
-use Rattle.ng_modal.specs.declared.codes.GWord.TheVariants.{NonModal, Motion, LeftOutMotion, Plane, Distance, FeedMode, Unit, NoCompensation, LeftOutCompensation, ToolLength, Retract, System, Path}
+use Rattle.ng_modal.specs.declared.codes.GWord.TheVariants.{NonModal, Motion, LeftOutMotion, Plane, Distance}
+use Rattle.ng_modal.specs.declared.codes.GWord.TheVariants.{FeedMode, Unit, NoCompensation, LeftOutCompensation}
+use Rattle.ng_modal.specs.declared.codes.GWord.TheVariants.{ToolLength, Retract, System, Path}
 use Rattle.ng_modal.specs.declared.codes.MWord.{MWord}
 use Rattle.ng_modal.specs.declared.codes.MWord.TheVariants.{Stop, ToolChange, Spindle, Coolant, Overrides}
 

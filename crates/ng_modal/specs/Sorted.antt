@@ -39,7 +39,8 @@ is_marked s = s.repeated || s.unknown || s.left_out || s.group_twice || s.m_grou
 
 -- a word that a straight move doesn't use
 abbrev pub has_others : ByLetter → Bool
-has_others v = is_some v.h || is_some v.i || is_some v.j || is_some v.k || is_some v.l || is_some v.p || is_some v.q || is_some v.r || is_some v.s || is_some v.t
+has_others v = is_some v.h || is_some v.i || is_some v.j || is_some v.k || is_some v.l || is_some v.p || is_some
+    v.q || is_some v.r || is_some v.s || is_some v.t
 
 -- a straight move, and nothing that may be refused
 abbrev pub is_plain : Sorted → Bool

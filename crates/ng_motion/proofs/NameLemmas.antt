@@ -11,7 +11,8 @@ use Rattle.ng_settings.specs.Causes.{names}
 abbrev pub is_unknown : String Global → Bool
 is_unknown name = not (is_key (string_bytes name))
 
-by_test : (name : List ℕ) (key : String Global) (b : Bool) (keys : Option (String Global)) (others : Option (List ℕ)) → string_bytes key ≡ name → option_map string_bytes keys ≡ others
+by_test : (name : List ℕ) (key : String Global) (b : Bool) (keys : Option (String Global))
+    (others : Option (List ℕ)) → string_bytes key ≡ name → option_map string_bytes keys ≡ others
     → option_map string_bytes (cond b (Some key) keys) ≡ cond b (Some name) others
 by_test name key true keys others same is = ap Some same
 by_test name key false keys others same is = is

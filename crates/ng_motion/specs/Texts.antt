@@ -3,7 +3,9 @@ use Rattle.std.specs.Prelude.{ℕ, List, [], ◌++◌, codes}
 use Rattle.ng_motion.specs.declared.key.Key.TheVariants.{Accel, Rate, Start, Slack, Most}
 use Rattle.ng_motion.specs.Names.{told}
 use Rattle.ng_motion.specs.declared.fault.MotionFault.{MotionFault}
-use Rattle.ng_motion.specs.declared.fault.MotionFault.TheVariants.{NotToml, OutOfMemory, NoTable, UnknownKey, NoAcceleration, OutOfRange, TooSlowToStart, TooSlow}
+use Rattle.ng_motion.specs.declared.fault.MotionFault.TheVariants.{NotToml, OutOfMemory, NoTable, UnknownKey}
+use Rattle.ng_motion.specs.declared.fault.MotionFault.TheVariants.{NoAcceleration, OutOfRange, TooSlowToStart}
+use Rattle.ng_motion.specs.declared.fault.MotionFault.TheVariants.{TooSlow}
 
 abbrev pub cause_text : MotionFault → List ℕ
 cause_text NotToml = codes ": not TOML"

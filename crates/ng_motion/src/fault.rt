@@ -1,3 +1,4 @@
+//! Why a text gives no limits of motors.
 ghost use Rattle.std.specs.Prelude.{◌≡◌};
 ghost use Rattle.ng_motion.specs.Texts.{cause_text, name_told};
 

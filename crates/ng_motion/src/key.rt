@@ -1,3 +1,4 @@
+//! The keys of the table `[motion]`.
 ghost use Rattle.std.specs.Prelude.{◌≡◌, ◌≤◌};
 ghost use Rattle.ng_motion.specs.Keys.{key_name, least, greatest};
 

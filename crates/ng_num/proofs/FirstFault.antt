@@ -20,9 +20,15 @@ pub holds_first : (holds : Bool) (fault : Fault) (others : List (Bool × Fault))
 holds_first true fault others h = ([], others, refl, tt)
 holds_first false fault others h = absurd (cc h)
 
-pub holds_later : (holds : Bool) (other fault : Fault) (others : List (Bool × Fault)) → holds ≡ false → IsFirstFault others fault → IsFirstFault ((holds, other) ∷ others) fault
+pub holds_later : (holds : Bool) (other fault : Fault) (others : List (Bool × Fault)) → holds ≡ false
+    → IsFirstFault others fault → IsFirstFault ((holds, other) ∷ others) fault
 holds_later true other fault others h first = absurd (cc h)
-holds_later false other fault others h first = ((false, other) ∷ first.0, first.1, ap (λ (fs : List (Bool × Fault)). (false, other) ∷ fs) first.2, (refl, first.3))
+holds_later false other fault others h first = (
+  (false, other) ∷ first.0,
+  first.1,
+  ap (λ (fs : List (Bool × Fault)). (false, other) ∷ fs) first.2,
+  (refl, first.3),
+)
 
 pub is_first : (fs : List (Bool × Fault)) (fault : Fault) → first_fault fs ≡ Some fault → IsFirstFault fs fault
 is_first [] fault e = absurd (cc e)

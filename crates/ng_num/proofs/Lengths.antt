@@ -7,7 +7,8 @@ use Rattle.ng_num.specs.declared.unit.Unit.{Unit as LengthUnit}
 use Rattle.ng_num.specs.declared.unit.Unit.TheVariants.{Inches, Millimetres}
 use Rattle.ng_num.proofs.Nearest.{near_by-IsNearest, near_by_from_IsNearest}
 
-pub length_answers : (count : ℤ) (unit : LengthUnit) (answer : Result ℤ Fault) → answer ≡ in_range (nm_of count unit) → IsOnlyAnswer (IsLength count unit) answer
+pub length_answers : (count : ℤ) (unit : LengthUnit) (answer : Result ℤ Fault)
+    → answer ≡ in_range (nm_of count unit) → IsOnlyAnswer (IsLength count unit) answer
 length_answers count Inches answer e = record {
   value = nm_of count Inches;
   said = near_by-IsNearest (count *ℤ pos 254) (pos 10) (omega arith);

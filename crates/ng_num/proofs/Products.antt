@@ -12,7 +12,8 @@ use Rattle.ng_num.proofs.Nearest.{near-product, near_by-product, Answers_nearest
 pub product_answers : (a b : ℤ) (answer : Result ℤ Fault) → answer ≡ in_range (product a b) → IsOnlyAnswer (IsNearest (a *ℤ b) million) answer
 product_answers a b answer e = Answers_nearest (a *ℤ b) million answer (omega arith) e
 
-pub product_by_size : (a b : ℤ) (m n k : ℕ) → m ≡ unsigned_abs a → n ≡ unsigned_abs b → k ≡ nearest (m * n) 1_000_000 → in_range (signed (is_unlike a b) k) ≡ in_range (product a b)
+pub product_by_size : (a b : ℤ) (m n k : ℕ) → m ≡ unsigned_abs a → n ≡ unsigned_abs b
+    → k ≡ nearest (m * n) 1_000_000 → in_range (signed (is_unlike a b) k) ≡ in_range (product a b)
 product_by_size a b m n k em en ek =
     let sizes : nearest (unsigned_abs a * unsigned_abs b) 1_000_000 ≡ k = rw (ek, em, en) refl in
     ap in_range (sym (near-product a b 1_000_000 (omega arith) ∙ ap (signed (is_unlike a b)) sizes))
@@ -26,7 +27,8 @@ beyond : (z : ℤ) → greatest < unsigned_abs z → in_range z ≡ Err OutOfRan
 beyond z h = grind (arith, nat_tests)
 
 unsigned_abs-product : (a b : ℤ) → unsigned_abs (product a b) ≡ nearest (unsigned_abs a * unsigned_abs b) 1_000_000
-unsigned_abs-product a b = ap unsigned_abs (near-product a b 1_000_000 (omega arith)) ∙ unsigned_abs-signed (is_unlike a b) (nearest (unsigned_abs a * unsigned_abs b) 1_000_000)
+unsigned_abs-product a b = ap unsigned_abs (near-product a b 1_000_000 (omega arith))
+    ∙ unsigned_abs-signed (is_unlike a b) (nearest (unsigned_abs a * unsigned_abs b) 1_000_000)
 
 pub product_beyond : (a b : ℤ) → 2 ^ 64 ≤ unsigned_abs a * unsigned_abs b → Err OutOfRange ≡ in_range (product a b)
 product_beyond a b h = sym (beyond (product a b) (omega (arith, unsigned_abs-product a b)))

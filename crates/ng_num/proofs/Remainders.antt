@@ -1,5 +1,6 @@
 -- The remainder is what `rem_euclid` computes, and nothing else.
-use Rattle.std.proofs.Common.{◌≡◌, ℕ, zero, suc, ◌+◌, ◌*◌, ◌/◌, ◌%◌, ◌<◌, ℤ, pos, negsuc, neg_ℤ, ◌+ℤ◌, ◌*ℤ◌, ◌≤ℤ◌, unsigned_abs, Result, Ok, Err, refl, sym, ap, ◌∙◌, arith}
+use Rattle.std.proofs.Common.{◌≡◌, ℕ, zero, suc, ◌+◌, ◌*◌, ◌/◌, ◌%◌, ◌<◌, ℤ, pos, negsuc, neg_ℤ, ◌+ℤ◌, ◌*ℤ◌, ◌≤ℤ◌}
+use Rattle.std.proofs.Common.{unsigned_abs, Result, Ok, Err, refl, sym, ap, ◌∙◌, arith}
 use Rattle.std.proofs.Math.Nat.{div-add-mod}
 use Rattle.std.proofs.lemmas.Int.{ints, int_rem_euclid_is}
 use Rattle.std.proofs.lemmas.Nat.{mod_below, mod-mul-add}
@@ -79,7 +80,8 @@ remainder_by_other a b some = grind (arith, nat_tests)
 pub remainder_in_range : (a b : ℤ) → 0 < unsigned_abs b → IsCount b → in_range (int_rem_euclid a b) ≡ Ok (int_rem_euclid a b)
 remainder_in_range a b some range = let below = (int_rem_euclid-IsRemainder a b some).below in grind (arith, nat_tests)
 
-pub remainder_answers : (a b : ℤ) (answer : Result ℤ Fault) → 0 < unsigned_abs b → answer ≡ in_range (int_rem_euclid a b) → IsOnlyAnswer (IsRemainder a b) answer
+pub remainder_answers : (a b : ℤ) (answer : Result ℤ Fault) → 0 < unsigned_abs b
+    → answer ≡ in_range (int_rem_euclid a b) → IsOnlyAnswer (IsRemainder a b) answer
 remainder_answers a b answer some e = record {
   value = int_rem_euclid a b;
   said = int_rem_euclid-IsRemainder a b some;

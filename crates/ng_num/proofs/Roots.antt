@@ -1,5 +1,6 @@
 -- The root of a count is the greatest number whose square isn't above it.
-use Rattle.std.proofs.Common.{◌≡◌, ℕ, zero, suc, ◌+◌, ◌*◌, ◌<◌, ◌≤◌, ℤ, pos, negsuc, ◌*ℤ◌, ◌≤ℤ◌, ◌<ℤ◌, unsigned_abs, Result, Ok, Err, refl, ap, ◌∙◌, arith, inl, inr}
+use Rattle.std.proofs.Common.{◌≡◌, ℕ, zero, suc, ◌+◌, ◌*◌, ◌<◌, ◌≤◌, ℤ, pos, negsuc, ◌*ℤ◌, ◌≤ℤ◌, ◌<ℤ◌, unsigned_abs}
+use Rattle.std.proofs.Common.{Result, Ok, Err, refl, ap, ◌∙◌, arith, inl, inr}
 use Rattle.std.proofs.lemmas.Int.{ints}
 use Rattle.std.proofs.lemmas.Nat.{mul-le}
 use Rattle.std.proofs.lemmas.Bool.{cases_lt}
@@ -34,7 +35,10 @@ root_up_to-IsRootSize zero n s h is = omega arith
 root_up_to-IsRootSize (suc k) n s h is =
     elim (cases_lt n (suc k * suc k)) [
       | inl passed ↦
-          let less : s ≤ k = elim (cases_lt k s) [ inl above ↦ absurd (let e : s ≡ suc k = omega arith in let low = rw e at is.low in omega arith) | inr below ↦ below ] in
+          let less : s ≤ k = elim (cases_lt k s) [
+            | inl above ↦ absurd (let e : s ≡ suc k = omega arith in let low = rw e at is.low in omega arith)
+            | inr below ↦ below
+          ] in
           step_passed k n passed ∙ root_up_to-IsRootSize k n s less is
       | inr taken ↦ step_taken k n taken ∙ (let up = no_greater n s (suc k) is taken in omega arith)
     ]
@@ -79,6 +83,8 @@ root_of_above (negsuc n) s h is = absurd (omega (arith, ints))
 root_in_range : (s : ℕ) → s ≤ greatest → Ok (pos s) ≡ in_range (pos s)
 root_in_range s h = grind (arith, nat_tests)
 
-pub root_answers_above : (z : ℤ) (s : ℕ) (answer : Result ℤ Fault) → pos 0 ≤ℤ z → IsRootSize (unsigned_abs z * 1_000_000) s → s ≤ greatest → answer ≡ Ok (pos s) → IsOnlyAnswer (IsRoot z) answer
+pub root_answers_above : (z : ℤ) (s : ℕ) (answer : Result ℤ Fault) → pos 0 ≤ℤ z
+    → IsRootSize (unsigned_abs z * 1_000_000) s → s ≤ greatest → answer ≡ Ok (pos s)
+    → IsOnlyAnswer (IsRoot z) answer
 root_answers_above (pos n) s answer h is small e = root_answers n s answer is (e ∙ root_in_range s small)
 root_answers_above (negsuc n) s answer h is small e = absurd (omega (arith, ints))

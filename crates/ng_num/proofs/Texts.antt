@@ -40,5 +40,7 @@ point_then p x y z at_x at_y at_z after empty last two all xs ys zs lz ly lx =
     ∙ ap (λ n. number_text p.x ++ (codes ", " ++ (number_text p.y ++ (codes ", " ++ (number_text n ++ (after ++ drop 51 empty)))))) zs
     ∙ joined
   where
-    joined : number_text p.x ++ (codes ", " ++ (number_text p.y ++ (codes ", " ++ (number_text p.z ++ (after ++ drop 51 empty))))) ≡ (point_text p ++ after) ++ drop 51 empty
+    joined : number_text p.x
+        ++ (codes ", " ++ (number_text p.y ++ (codes ", " ++ (number_text p.z ++ (after ++ drop 51 empty)))))
+        ≡ (point_text p ++ after) ++ drop 51 empty
     joined = simp append_assoc

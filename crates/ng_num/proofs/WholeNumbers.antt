@@ -72,7 +72,14 @@ round_only : (z v : ℤ) → IsRound z v → v ≡ round z
 round_only z v is = is.1 ∙ ap (λ k. k *ℤ million) (near_by_from_IsNearest z million is.0 (omega arith) is.2)
 
 pub round_answers : (z : ℤ) (answer : Result ℤ Fault) → answer ≡ in_range (round z) → IsOnlyAnswer (IsRound z) answer
-round_answers z answer e = record { value = round z; said = (near z 1_000_000, refl, near_by-IsNearest z million (omega arith)); only = round_only z; answered = e }
+round_answers z answer e =
+    record {
+      value = round z;
+      said = (near z 1_000_000, refl, near_by-IsNearest z million (omega arith));
+      only =
+          round_only z;
+      answered = e;
+    }
 
 -- ---- closeness
 close-IsNearest : (z n : ℤ) → IsClose z n → IsNearest z million n

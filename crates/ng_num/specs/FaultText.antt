@@ -1,7 +1,19 @@
 -- The text of a fault: its number, a blank and its name (own).
 use Rattle.std.specs.Prelude.{ℕ, List, codes}
 use Rattle.ng_num.specs.declared.fault.Fault.{Fault}
-use Rattle.ng_num.specs.declared.fault.Fault.TheVariants.{Unreadable, LineTooLong, OutOfRange, BadIndex, BadArithmetic, RepeatedLetter, UnknownCode, LeftOutCode, GroupTwice, TooManyM, AxisTakenTwice, AxisUnused, NoAxis, NothingToSet, BadG53, RadiusArc, UnusedWord, Negative, BadSlot, BadL, BadSystem, NoDwell, NoH, CyclePlane, NoEnd, NoCentre, RadiiDiffer, ZeroRadius, CycleNoAxis, NoZ, NoR, RBelowZ, InverseTime, NegativeP, BadQ, SpindleStopped, NoFeed, OutsideTravel, NoProgramEnd, MissingPercent, DeviceFailed, NotFormatted, Damaged, CountersUsed, ProgramTooLong, Busy, NoProgram, PlaceUnknown, NothingHalfDone, Broken, SeatsDisagree, NotToml, MissingKey, UnknownKey, WrongType, OutOfLimits, TooManyTools, BadCommand, OutOfMemory}
+use Rattle.ng_num.specs.declared.fault.Fault.TheVariants.{Unreadable, LineTooLong, OutOfRange, BadIndex}
+use Rattle.ng_num.specs.declared.fault.Fault.TheVariants.{BadArithmetic, RepeatedLetter, UnknownCode, LeftOutCode}
+use Rattle.ng_num.specs.declared.fault.Fault.TheVariants.{GroupTwice, TooManyM, AxisTakenTwice, AxisUnused, NoAxis}
+use Rattle.ng_num.specs.declared.fault.Fault.TheVariants.{NothingToSet, BadG53, RadiusArc, UnusedWord, Negative}
+use Rattle.ng_num.specs.declared.fault.Fault.TheVariants.{BadSlot, BadL, BadSystem, NoDwell, NoH, CyclePlane, NoEnd}
+use Rattle.ng_num.specs.declared.fault.Fault.TheVariants.{NoCentre, RadiiDiffer, ZeroRadius, CycleNoAxis, NoZ, NoR}
+use Rattle.ng_num.specs.declared.fault.Fault.TheVariants.{RBelowZ, InverseTime, NegativeP, BadQ, SpindleStopped}
+use Rattle.ng_num.specs.declared.fault.Fault.TheVariants.{NoFeed, OutsideTravel, NoProgramEnd, MissingPercent}
+use Rattle.ng_num.specs.declared.fault.Fault.TheVariants.{DeviceFailed, NotFormatted, Damaged, CountersUsed}
+use Rattle.ng_num.specs.declared.fault.Fault.TheVariants.{ProgramTooLong, Busy, NoProgram, PlaceUnknown}
+use Rattle.ng_num.specs.declared.fault.Fault.TheVariants.{NothingHalfDone, Broken, SeatsDisagree, NotToml}
+use Rattle.ng_num.specs.declared.fault.Fault.TheVariants.{MissingKey, UnknownKey, WrongType, OutOfLimits}
+use Rattle.ng_num.specs.declared.fault.Fault.TheVariants.{TooManyTools, BadCommand, OutOfMemory}
 
 abbrev pub text : Fault → List ℕ
 text Unreadable = codes "E1 Unreadable"

@@ -1,3 +1,4 @@
+//! All faults, with their texts.
 use std::alloc::{AllocError, AllocFailed};
 
 /// Why a line, a device, an event, a setting or a command is refused.

@@ -1,3 +1,4 @@
+//! The numbers of a program, in whole millionths.
 ghost use Rattle.std.specs.Prelude.{◌≡◌, ◌≤◌, pos, unsigned_abs};
 ghost use Rattle.ng_num.specs.Range.{IsCount, greatest, in_range};
 ghost use Rattle.ng_num.specs.Rounding.{is_unlike, signed};

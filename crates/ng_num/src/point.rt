@@ -1,3 +1,4 @@
+//! Points of the three axes.
 use crate::len::Len;
 
 /// A point of the three linear axes, in machine or program coordinates (NISTIR 6556, 2.1.1).

@@ -1,5 +1,6 @@
 -- G92 gives the named axes the wanted coordinates.
-use Rattle.std.proofs.Common.{◌≡◌, ℤ, ◌+ℤ◌, ◌-ℤ◌, Option, Some, None, Result, Ok, Err, IfSome, unsigned_abs, nat_le, cond, true, false, Bool, refl, sym, subst, arith}
+use Rattle.std.proofs.Common.{◌≡◌, ℤ, ◌+ℤ◌, ◌-ℤ◌, Option, Some, None, Result, Ok, Err, IfSome, unsigned_abs, nat_le}
+use Rattle.std.proofs.Common.{cond, true, false, Bool, refl, sym, subst, arith}
 use Rattle.std.proofs.lemmas.Int.{ints}
 use Rattle.ng_num.specs.Range.{in_range, greatest}
 use Rattle.ng_num.specs.declared.fault.Fault.{Fault}
@@ -27,7 +28,8 @@ by_current wanted old shift machine offset (Ok current) e h =
 by_current wanted old shift machine offset (Err fault) e h =
     absurd (cc (rw e at h))
 
-stands : (wanted : Option ℤ) (old shift machine offset : ℤ) → offset_for wanted old shift machine ≡ Ok offset → IfSome wanted (λ program. machine ≡ program +ℤ ((shift -ℤ old) +ℤ offset))
+stands : (wanted : Option ℤ) (old shift machine offset : ℤ) → offset_for wanted old shift machine ≡ Ok offset
+    → IfSome wanted (λ program. machine ≡ program +ℤ ((shift -ℤ old) +ℤ offset))
 stands None old shift machine offset h = tt
 stands (Some wanted) old shift machine offset h = by_current wanted old shift machine offset (in_range (machine -ℤ shift)) refl h
 
@@ -35,11 +37,17 @@ moved : (wanted : Option ℤ) (machine a b : ℤ) → a ≡ b → IfSome wanted 
 moved wanted machine a b e h = subst (λ (n : ℤ). IfSome wanted (λ program. machine ≡ program +ℤ n)) e h
 
 -- an axis whose shift is its origin plus its G92 offset
-pub stands_on : (wanted : Option ℤ) (origin old machine offset : ℤ) → Ok offset ≡ offset_for wanted old (origin +ℤ old) machine → IfSome wanted (λ program. machine ≡ program +ℤ (origin +ℤ offset))
+pub stands_on : (wanted : Option ℤ) (origin old machine offset : ℤ)
+    → Ok offset ≡ offset_for wanted old (origin +ℤ old) machine
+    → IfSome wanted (λ program. machine ≡ program +ℤ (origin +ℤ offset))
 stands_on wanted origin old machine offset h =
-    moved wanted machine (((origin +ℤ old) -ℤ old) +ℤ offset) (origin +ℤ offset) (omega (arith, ints)) (stands wanted old (origin +ℤ old) machine offset (sym h))
+    moved wanted machine (((origin +ℤ old) -ℤ old) +ℤ offset) (origin +ℤ offset) (omega (arith, ints))
+    (stands wanted old (origin +ℤ old) machine offset (sym h))
 
 -- an axis whose shift includes a tool length
-pub stands_on_z : (wanted : Option ℤ) (origin old tool machine offset : ℤ) → Ok offset ≡ offset_for wanted old ((origin +ℤ old) +ℤ tool) machine → IfSome wanted (λ program. machine ≡ program +ℤ ((origin +ℤ offset) +ℤ tool))
+pub stands_on_z : (wanted : Option ℤ) (origin old tool machine offset : ℤ)
+    → Ok offset ≡ offset_for wanted old ((origin +ℤ old) +ℤ tool) machine
+    → IfSome wanted (λ program. machine ≡ program +ℤ ((origin +ℤ offset) +ℤ tool))
 stands_on_z wanted origin old tool machine offset h =
-    moved wanted machine ((((origin +ℤ old) +ℤ tool) -ℤ old) +ℤ offset) ((origin +ℤ offset) +ℤ tool) (omega (arith, ints)) (stands wanted old ((origin +ℤ old) +ℤ tool) machine offset (sym h))
+    moved wanted machine ((((origin +ℤ old) +ℤ tool) -ℤ old) +ℤ offset) ((origin +ℤ offset) +ℤ tool)
+    (omega (arith, ints)) (stands wanted old ((origin +ℤ old) +ℤ tool) machine offset (sym h))

@@ -1,5 +1,6 @@
 -- The tool table: the lengths of slots 1, 2 and so on (NISTIR 6556, 3.2.3, in this project's profile).
-use Rattle.std.specs.Prelude.{◌≡◌, ◌≤◌, ◌≤ℤ◌, ◌&&◌, ℕ, Bool, int_le, ◌+◌, ◌-◌, ◌==◌, if◌then◌else◌, List, [], ◌∷◌, ◌++◌, set, length, ℤ, pos, get_or, Option, Some, None, IfSome}
+use Rattle.std.specs.Prelude.{◌≡◌, ◌≤◌, ◌≤ℤ◌, ◌&&◌, ℕ, Bool, int_le, ◌+◌, ◌-◌, ◌==◌, if◌then◌else◌, List, [], ◌∷◌}
+use Rattle.std.specs.Prelude.{◌++◌, set, length, ℤ, pos, get_or, Option, Some, None, IfSome}
 use Rattle.std.specs.Ordering.{int_eq}
 use Rattle.std.specs.List.{All}
 use Rattle.ng_offsets.specs.declared.tools.SlotChange.{SlotChange}

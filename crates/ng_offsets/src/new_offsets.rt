@@ -1,3 +1,4 @@
+//! What an offset word leaves.
 use crate::offsets::Offsets;
 use ng_num::Point;
 

@@ -1,3 +1,4 @@
+//! From program to machine coordinates of one axis, and back.
 ghost use Rattle.std.specs.Prelude.{◌≡◌, ◌+ℤ◌, ◌-ℤ◌, IfOk, Ok};
 ghost use Rattle.ng_num.specs.Range.{in_range};
 

@@ -1,3 +1,4 @@
+//! The tool table.
 ghost use Rattle.std.specs.Prelude.{◌≡◌, ◌≤◌, ◌<◌, [], ◌∷◌, ◌++◌, length};
 ghost use Rattle.ng_offsets.specs.Tools.{length_of_slot, with_slot, first_change, AreTools, IsSlotChange, IsToolLength};
 

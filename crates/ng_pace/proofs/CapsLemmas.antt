@@ -325,10 +325,16 @@ most-pulses limits turns before after half x y z pulses is half_is far_x far_y f
 
   by_y : pulses < z → (pulses < y) ⊎ (y ≤ pulses) → AreMostPulses limits turns 1048576 before after pulses
   by_y c (inl b) = by_x c b (cases_lt pulses x)
-  by_y c (inr b) = elim far_y
-      [ inl great ↦ inl (omega (arith, b, great)) | inr far ↦ inr (inr (inr (inr (inr (inl (far-more limits 1 _ 1048576 _ (pulses + 1) (omega (arith, b)) far)))))) ]
+  by_y c (inr b) = elim far_y [
+    | inl great ↦ inl (omega (arith, b, great))
+    | inr far ↦ inr
+        (inr (inr (inr (inr (inl (far-more limits 1 _ 1048576 _ (pulses + 1) (omega (arith, b)) far))))))
+  ]
 
   by_z : (pulses < z) ⊎ (z ≤ pulses) → AreMostPulses limits turns 1048576 before after pulses
   by_z (inl c) = by_y c (cases_lt pulses y)
-  by_z (inr c) = elim far_z
-      [ inl great ↦ inl (omega (arith, c, great)) | inr far ↦ inr (inr (inr (inr (inr (inr (far-more limits 2 _ 1048576 _ (pulses + 1) (omega (arith, c)) far)))))) ]
+  by_z (inr c) = elim far_z [
+    | inl great ↦ inl (omega (arith, c, great))
+    | inr far ↦ inr
+        (inr (inr (inr (inr (inr (far-more limits 2 _ 1048576 _ (pulses + 1) (omega (arith, c)) far))))))
+  ]

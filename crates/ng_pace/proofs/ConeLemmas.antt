@@ -231,12 +231,14 @@ rise-inside slack cone rise steps is straight some at slope ok from up_to =
 
     low : cone.low.steps * rise.pulses ≤ rise.steps * cone.low.pulses
     low = rw at.pulses_are (
-        let moved : (rise.steps + backward steps) * cone.low.pulses ≡ (forward steps + length steps) * cone.low.pulses = ap (λ t. t * cone.low.pulses) at.steps_are in
+        let moved : (rise.steps + backward steps) * cone.low.pulses ≡ (forward steps + length steps) *
+        cone.low.pulses = ap (λ t. t * cone.low.pulses) at.steps_are in
         omega (arith, both.0, moved))
 
     high : rise.steps * cone.high.pulses ≤ cone.high.steps * rise.pulses
     high = rw at.pulses_are (
-        let moved : (rise.steps + backward steps) * cone.high.pulses ≡ (forward steps + length steps) * cone.high.pulses = ap (λ t. t * cone.high.pulses) at.steps_are in
+        let moved : (rise.steps + backward steps) * cone.high.pulses ≡ (forward steps + length steps) *
+        cone.high.pulses = ap (λ t. t * cone.high.pulses) at.steps_are in
         omega (arith, both.1, moved))
 
 -- what is reached is reached of what follows

@@ -183,7 +183,8 @@ module _ (limits : Limits) (before known : List Pulse) (slopes next : List Slope
   Spent axis = IsRateSpent limits axis before most ⊎ (IsRateSpent limits axis known most ⊎ IsTurnSpent limits axis before known pulses most)
 
   by_rate : IsFullRate limits all.sizes 1048576 most → (288230376151711744 ≤ most) ⊎ SomeAxis Spent
-  by_rate (inl x) = elim (rate-at limits 0 before known (slice_index_or slopes 0 any) (slice_index_or next 0 any) (slice_index all.sizes 0) (all.sizes_are.x any)
+  by_rate (inl x) = elim (rate-at limits 0 before known (slice_index_or slopes 0 any) (slice_index_or next 0 any)
+      (slice_index all.sizes 0) (all.sizes_are.x any)
       (reached.x any) (reached'.x any) pulses most x) [ inl great ↦ inl great | inr spent ↦ inr (inl spent) ]
   by_rate (inr (inl y)) = elim (rate-at limits 1 before known (slice_index_or slopes 1 any) (slice_index_or next 1 any) (slice_index all.sizes 1)
       (all.sizes_are.y any) (reached.y any) (reached'.y any) pulses most y) [ inl great ↦ inl great | inr spent ↦ inr (inr (inl spent)) ]
@@ -191,11 +192,17 @@ module _ (limits : Limits) (before known : List Pulse) (slopes next : List Slope
       (all.sizes_are.z any) (reached.z any) (reached'.z any) pulses most z) [ inl great ↦ inl great | inr spent ↦ inr (inr (inr spent)) ]
 
   by_turn : SomeAxis (λ axis. 3 * slice_index limits.accel axis * pulses * 1048576 < 4 * slice_index all.turns axis * (most / 65536 + 3)) → SomeAxis Spent
-  by_turn (inl x) = inl (inr (inr (turn-spent limits 0 before known (slice_index_or slopes 0 any) (slice_index_or next 0 any) (slice_index all.turns 0) pulses most
+  by_turn (inl x) = inl
+      (inr (inr (turn-spent limits 0 before known (slice_index_or slopes 0 any) (slice_index_or next 0 any)
+      (slice_index all.turns 0) pulses most
       (all.turns_are.x any) (reached.x any) (reached'.x any) x)))
-  by_turn (inr (inl y)) = inr (inl (inr (inr (turn-spent limits 1 before known (slice_index_or slopes 1 any) (slice_index_or next 1 any) (slice_index all.turns 1)
+  by_turn (inr (inl y)) =
+      inr (inl (inr (inr (turn-spent limits 1 before known (slice_index_or slopes 1 any) (slice_index_or next 1 any)
+      (slice_index all.turns 1)
       pulses most (all.turns_are.y any) (reached.y any) (reached'.y any) y))))
-  by_turn (inr (inr z)) = inr (inr (inr (inr (turn-spent limits 2 before known (slice_index_or slopes 2 any) (slice_index_or next 2 any) (slice_index all.turns 2)
+  by_turn (inr (inr z)) =
+      inr (inr (inr (inr (turn-spent limits 2 before known (slice_index_or slopes 2 any) (slice_index_or next 2 any)
+      (slice_index all.turns 2)
       pulses most (all.turns_are.z any) (reached.z any) (reached'.z any) z))))
 
   squares : (full : ℕ) → full ≤ feed → IsFullCorner limits all.sizes all.turns 1048576 pulses feed most
@@ -229,9 +236,13 @@ module _ (limits : Limits) (before known : List Pulse) (slopes next : List Slope
       → SomeAxis (λ axis. IsTooFar limits axis before known (pulses + 1))
   farthest (inl x) = inl (too-far limits 0 before known (slice_index_or slopes 0 any) (slice_index_or next 0 any) (slice_index all.turns 0) (pulses + 1)
       (all.turns_are.x any) (reached.x any) (reached'.x any) x)
-  farthest (inr (inl y)) = inr (inl (too-far limits 1 before known (slice_index_or slopes 1 any) (slice_index_or next 1 any) (slice_index all.turns 1) (pulses + 1)
+  farthest (inr (inl y)) =
+      inr (inl (too-far limits 1 before known (slice_index_or slopes 1 any) (slice_index_or next 1 any)
+      (slice_index all.turns 1) (pulses + 1)
       (all.turns_are.y any) (reached.y any) (reached'.y any) y))
-  farthest (inr (inr z)) = inr (inr (too-far limits 2 before known (slice_index_or slopes 2 any) (slice_index_or next 2 any) (slice_index all.turns 2) (pulses + 1)
+  farthest (inr (inr z)) =
+      inr (inr (too-far limits 2 before known (slice_index_or slopes 2 any) (slice_index_or next 2 any)
+      (slice_index all.turns 2) (pulses + 1)
       (all.turns_are.z any) (reached.z any) (reached'.z any) z))
 
   longest-of : count ≡ length before → count' ≡ length known → AreMostPulses limits all.turns 1048576 count count' pulses → IsLongest limits before known pulses

@@ -44,7 +44,8 @@ later-feed (x ∷ xs) waits (v ∷ vs) k w e =
     let next : length (x ∷ xs) + k ≡ suc (length xs + k) = omega arith in rw next (later-feed xs waits vs k w (cc))
 
 -- of two groups of lines those of the second are no faster than their items
-pub made-feeds : (old mid new : Motion) (waited left waits : List Waiting) (most ramp stop most' ramp' stop' count pulses to feed : ℕ) → Keeps old mid waited left
+pub made-feeds : (old mid new : Motion) (waited left waits : List Waiting)
+    (most ramp stop most' ramp' stop' count pulses to feed : ℕ) → Keeps old mid waited left
     → (first : Makes old mid waited left most ramp stop count) → Keeps mid new left waits → (then : Makes mid new left waits most' ramp' stop' pulses)
     → to ≡ min (count + pulses) 18446744073709551615 → length waited ≤ 18446744073709551615
     → ((k : ℕ) (w : Waiting) → count ≤ k → k < to → k < length waited → (slice_index_or waited k w).feed ≤ feed)
@@ -56,6 +57,7 @@ made-feeds old mid new waited left waits most ramp stop most' ramp' stop' count 
     let its : (slice_index_or left k w).feed ≡ (slice_index_or waited (length first.made + k) w).feed
     = later-feed first.made left waited k w (made-order keeps first.made first.known) in
     let most : (slice_index_or waited (length first.made + k) w).feed ≤ feed
-    = feeds (length first.made + k) w (omega (arith, first.count_is, first.rest, then.count_is, short)) (omega (arith, first.count_is, first.rest, then.count_is, short, to_is, few))
+    = feeds (length first.made + k) w (omega (arith, first.count_is, first.rest, then.count_is, short))
+    (omega (arith, first.count_is, first.rest, then.count_is, short, to_is, few))
     (omega (arith, first.rest, then.count_is, short)) in
     omega (arith, own, its, most)

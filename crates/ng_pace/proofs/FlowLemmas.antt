@@ -13,7 +13,8 @@ use Rattle.ng_pace.specs.Rest.{CanRest, Stands, StandsBehind, IsMarked}
 use Rattle.ng_pace.specs.declared.settling.Ending.{Ending}
 use Rattle.ng_pace.specs.Making.{IsEnd, Marks}
 use Rattle.ng_pace.specs.declared.stepping.Given.{Given}
-use Rattle.ng_pace.specs.Flow.{Flow, items_of, items_waiting, all_items, full_of, Timed, timed_lines, timed_waiting, AreOwn, Settles, Keeps, Adds, IsHeld, still_line, StandsLast}
+use Rattle.ng_pace.specs.Flow.{Flow, items_of, items_waiting, all_items, full_of, Timed, timed_lines, timed_waiting}
+use Rattle.ng_pace.specs.Flow.{AreOwn, Settles, Keeps, Adds, IsHeld, still_line, StandsLast}
 use Rattle.ng_pace.proofs.RestLemmas.{rest_more}
 
 pub timed_lines-append : (xs ys : List Line) → timed_lines (xs ++ ys) ≡ timed_lines xs ++ timed_lines ys
@@ -82,7 +83,17 @@ length-waiting-push (x ∷ xs) w = omega (arith, length-waiting-push xs w)
 -- a line goes behind those that are known
 pub pushed : (old : Motion) (line : Line) (waits : List Timed) → line.most ≤ line.full
     → Settles old (record old { known = old.known ++ line ∷ [] }) ((record { item = line.item; full = line.full }) ∷ waits) waits
-pushed old line waits own = record { settled = line ∷ []; known = refl; order = refl; own = (own, tt); square = refl; start = refl; percent = refl; room = refl }
+pushed old line waits own = record {
+  settled = line ∷ [];
+  known = refl;
+  order = refl;
+  own = (own, tt);
+  square =
+      refl;
+  start = refl;
+  percent = refl;
+  room = refl;
+}
 
 -- the first item that waits goes behind what is known
 pub moved : (old new : Motion) (w : Waiting) (waited rest : List Waiting) (line : Line) → new ≡ record old { known = old.known ++ line ∷ [] }
@@ -154,7 +165,8 @@ settled_items {old} {new} {waited} {waits} s =
     ∙ append_assoc (items_of old.known) (items_of s.settled) (items_waiting waits) ∙ ap (λ t. items_of old.known ++ t) settled
 
 pub put_items : (old mid : Flow) (item : Item) → Settles old.motion mid.motion
-    (old.waiting ++ (record { item = item; full = full_of old.limits.most_percent old.before item }) ∷ []) mid.waiting → all_items mid ≡ all_items old ++ item ∷ []
+    (old.waiting ++ (record { item = item; full = full_of old.limits.most_percent old.before item }) ∷ [])
+    mid.waiting → all_items mid ≡ all_items old ++ item ∷ []
 put_items old mid item p =
     settled_items p ∙ ap (λ t. items_of old.motion.known ++ t) (items_waiting-append old.waiting
     ((record { item = item; full = full_of old.limits.most_percent old.before item }) ∷ []))
@@ -177,7 +189,8 @@ last-same xs ys x y e =
 
 -- everything stands still behind a line that is marked, and behind one at which everything stands still
 pub stands-marked : {lines : List Line} → IsMarked lines → StandsBehind lines
-stands-marked {lines} is = λ before line e. let same : is.line ≡ line = last-same is.before before is.line line (sym is.lines_are ∙ e) in inl (rw (← same) is.marked)
+stands-marked {lines} is = λ before line e. let same : is.line ≡ line = last-same is.before before is.line line
+    (sym is.lines_are ∙ e) in inl (rw (← same) is.marked)
 
 pub stands-last : (lines known : List Line) (line : Line) → known ≡ lines ++ line ∷ [] → Stands line → StandsBehind known
 stands-last lines known line is stands = λ before last e. let same : line ≡ last = last-same lines before line last (sym is ∙ e) in inr (rw (← same) stands)
@@ -202,7 +215,8 @@ keeps_none {old} {new} {waited} {waits} keeps none =
     no-lines (x ∷ xs) ys e = absurd (cc)
 
 -- a line of what waits at the end is marked
-pub marks_on : {ending : Ending} {b c : Motion} {u v w : List Waiting} → Marks ending b.known u v → Keeps b c v w → Marks ending c.known v w → Marks ending c.known u w
+pub marks_on : {ending : Ending} {b c : Motion} {u v w : List Waiting} → Marks ending b.known u v → Keeps b c v w
+    → Marks ending c.known v w → Marks ending c.known u w
 marks_on {ending} {b} {c} {u} {v} {w} first keeps later = record { marked = λ end some none. by_case v refl end some none } where
   by_case : (xs : List Waiting) → v ≡ xs → IsEnd ending → 0 < length u → w ≡ [] → IsMarked c.known
   by_case [] is end some none = rw (keeps_none keeps is) (first.marked end some is)

@@ -1,5 +1,6 @@
 -- What lines that are made do to the chords of a path.
-use Rattle.std.proofs.Common.{arith, ℕ, ◌+◌, ◌-◌, ◌*◌, ◌/◌, ◌<◌, ◌≤◌, ◌≡◌, ◌⊎◌, inl, inr, ap, subst, List, [], ◌∷◌, ◌++◌, length, slice_index_or, take, drop, All}
+use Rattle.std.proofs.Common.{arith, ℕ, ◌+◌, ◌-◌, ◌*◌, ◌/◌, ◌<◌, ◌≤◌, ◌≡◌, ◌⊎◌, inl, inr, ap, subst, List, [], ◌∷◌}
+use Rattle.std.proofs.Common.{◌++◌, length, slice_index_or, take, drop, All}
 use Rattle.std.proofs.Math.ListN.{get_or-append}
 use Rattle.std.proofs.Math.Seq.{get_or-append_right}
 use Rattle.std.proofs.lemmas.Bool.{cases_lt}
@@ -13,7 +14,9 @@ use Rattle.ng_pace.specs.declared.line.Line.{Line}
 use Rattle.ng_pace.specs.declared.slopes.Slopes.{Slopes}
 use Rattle.ng_pace.specs.Axes.{IsCorner}
 use Rattle.ng_pace.specs.Chords.{Slope, IsSlope, IsNear}
-use Rattle.ng_pace.specs.Legs.{Leg, IsLeg, IsChord, IsFarthest, IsFullAt, IsFullAtCorner, IsLongest, IsPaced, IsBehind, IsCornered, IsOnChord, IsOnCorner, IsTurning, step_of, steps_along, slope_along}
+use Rattle.ng_pace.specs.Legs.{Leg, IsLeg, IsChord, IsFarthest, IsFullAt, IsFullAtCorner, IsLongest, IsPaced}
+use Rattle.ng_pace.specs.Legs.{IsBehind, IsCornered, IsOnChord, IsOnCorner, IsTurning, step_of, steps_along}
+use Rattle.ng_pace.specs.Legs.{slope_along}
 use Rattle.ng_pace.specs.Making.{IsWithin}
 use Rattle.ng_pace.specs.Passing.{AllowAlong, TakesCorner}
 use Rattle.ng_pace.specs.Underway.{AreSlopes}
@@ -184,12 +187,14 @@ pub corner-paced : (limits : Limits) (stop : ℕ) (slopes next : List Slopes) (c
     → IsFullAt limits before.pulses (length before.lines + k) (slice_index_or first k d))
     → (known others : List Pulse) → chord ≡ known ++ others → (others ≡ []) ⊎ (4 * limits.half ≤ length known) → 0 < length known
     → IsLongest limits before.pulses known pulses
-    → ((k : ℕ) (d : Line) → k < length second → k + 1 < pulses / 2 + length known → IsFullAtCorner limits before.pulses known pulses (slice_index_or second k d))
+    → ((k : ℕ) (d : Line) → k < length second → k + 1 < pulses / 2 + length known
+    → IsFullAtCorner limits before.pulses known pulses (slice_index_or second k d))
     → IsPaced limits stop (record {
       pulses = chord;
       lines = drop (pulses / 2) second;
     } ∷ (record { pulses = before.pulses; lines = (before.lines ++ first) ++ take (pulses / 2) second } ∷ rest))
-corner-paced limits stop slopes next chord before rest first second pulses most ramp most' ramp' paced straight some some' are are' farthest long_enough takes allowed
+corner-paced limits stop slopes next chord before rest first second pulses most ramp most' ramp' paced straight some
+    some' are are' farthest long_enough takes allowed
     each each' len len' few half full known_pulses others all enough some_known longest full' =
     (leg, (cornered, before_paced))
   where
@@ -262,5 +267,6 @@ corner-paced limits stop slopes next chord before rest first second pulses most 
           let cut : drop (length before.pulses - pulses / 2) ((before.lines ++ first) ++ take (pulses / 2) second) ≡ take (pulses / 2) second
           = drop_at (before.lines ++ first) (take (pulses / 2) second) (length before.pulses - pulses / 2) known in
           rw cut leaving;
-      enters_full = λ k d short more. rw (get_or-drop (pulses / 2) second k d) (full' (pulses / 2 + k) d (omega (arith, len', short)) (omega (arith, within k short more enough)));
+      enters_full = λ k d short more. rw (get_or-drop (pulses / 2) second k d)
+          (full' (pulses / 2 + k) d (omega (arith, len', short)) (omega (arith, within k short more enough)));
     }

@@ -1,5 +1,6 @@
 -- One write of the plan, and the plan that is made.
-use Rattle.std.proofs.Common.{arith, ℕ, zero, suc, ◌+◌, ◌-◌, ◌^◌, ◌<◌, ◌≤◌, ◌≡◌, ◌∙◌, min, refl, ap, sym, Bool, true, false, List, [], ◌∷◌, length, drop, slice_index_or, slice_set}
+use Rattle.std.proofs.Common.{arith, ℕ, zero, suc, ◌+◌, ◌-◌, ◌^◌, ◌<◌, ◌≤◌, ◌≡◌, ◌∙◌, min, refl, ap, sym, Bool}
+use Rattle.std.proofs.Common.{true, false, List, [], ◌∷◌, length, drop, slice_index_or, slice_set}
 use Rattle.std.specs.Prelude.{if◌then◌else◌}
 use Rattle.ng_pace.specs.declared.line.Line.{Line}
 use Rattle.ng_pace.specs.declared.planning.Slot.{Slot}

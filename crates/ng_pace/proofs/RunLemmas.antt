@@ -1,5 +1,6 @@
 -- What the calls of a stream, one after another, say together.
-use Rattle.std.proofs.Common.{arith, ℕ, ◌-◌, max, ◌<◌, ◌≤◌, ◌≡◌, ◌∙◌, ◌⊎◌, inl, inr, refl, sym, ap, Bool, true, false, List, [], ◌∷◌, ◌++◌, length, append-nil, append_assoc}
+use Rattle.std.proofs.Common.{arith, ℕ, ◌-◌, max, ◌<◌, ◌≤◌, ◌≡◌, ◌∙◌, ◌⊎◌, inl, inr, refl, sym, ap, Bool, true}
+use Rattle.std.proofs.Common.{false, List, [], ◌∷◌, ◌++◌, length, append-nil, append_assoc}
 use Rattle.std.specs.Prelude.{Some, None, nat_le, ◌==◌, ◌&&◌, if◌then◌else◌}
 use Rattle.std.proofs.lemmas.Bool.Decides.{nat_tests}
 use Rattle.ng_pace.specs.declared.line.Line.{Line}
@@ -9,7 +10,8 @@ use Rattle.ng_pace.specs.Rest.{CanRest}
 use Rattle.ng_pace.specs.Squares.{start_square}
 use Rattle.ng_pace.specs.Paced.{IsGiven, Waits, rest_of}
 use Rattle.ng_pace.specs.Flow.{Flow, items_of, items_waiting, all_items}
-use Rattle.ng_pace.specs.Run.{Event, put, end, ask, IsRun, items_put, IsPassed, IsPacedBeginning, AsksOnly, IsGivenOut, lines_given, HoldsOnly, AreFalling, IsStopped}
+use Rattle.ng_pace.specs.Run.{Event, put, end, ask, IsRun, items_put, IsPassed, IsPacedBeginning, AsksOnly}
+use Rattle.ng_pace.specs.Run.{IsGivenOut, lines_given, HoldsOnly, AreFalling, IsStopped}
 
 -- what is left of a square after a line
 left_of : (line : Line) (to start wanted : ℕ) → (rest_of line to start wanted ≡ to) ⊎ ((rest_of line to start wanted ≡ 0) × (to ≤ start_square line start))
@@ -46,7 +48,13 @@ paced old (end ∷ rest) new run =
 paced old (ask wanted (Some given) ∷ rest) new run =
     let later : IsPacedBeginning run.0 rest new = paced run.0 rest new run.1.1 in record {
       order = ap (λ t. t ++ items_put rest) run.1.0.items ∙ ap (λ t. given.line.item ∷ t) later.order;
-      passed = (run.0.motion.square, (passed_of old.motion run.0.motion wanted given run.1.0.given_out, rw (run.1.0.given_out.start, run.1.0.given_out.percent) at later.passed));
+      passed = (
+        run.0.motion.square,
+        (
+          passed_of old.motion run.0.motion wanted given run.1.0.given_out,
+          rw (run.1.0.given_out.start, run.1.0.given_out.percent) at later.passed,
+        ),
+      );
     }
 paced old (ask wanted None ∷ rest) new run =
     let later : IsPacedBeginning old rest new = paced old rest new run.1 in record { order = later.order; passed = later.passed }

@@ -1,5 +1,6 @@
 -- The squares that the pacer takes are the greatest that may be.
-use Rattle.std.proofs.Common.{arith, ℕ, zero, suc, ap, ◌^◌, ◌≤◌, ◌<◌, ◌≡◌, ◌⊎◌, inl, inr, min, refl, sym, List, [], ◌∷◌, length, take, drop, length-drop, length-take, take-append-drop, append-nil}
+use Rattle.std.proofs.Common.{arith, ℕ, zero, suc, ap, ◌^◌, ◌≤◌, ◌<◌, ◌≡◌, ◌⊎◌, inl, inr, min, refl, sym, List, []}
+use Rattle.std.proofs.Common.{◌∷◌, length, take, drop, length-drop, length-take, take-append-drop, append-nil}
 use Rattle.ng_pace.specs.declared.line.Line.{Line}
 use Rattle.ng_pace.specs.declared.planning.Slot.{Slot}
 use Rattle.ng_pace.specs.Plan.{IsPlan, LooksAhead, FollowsWithin, ahead, lines_of, most_now}

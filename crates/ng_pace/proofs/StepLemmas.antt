@@ -1,5 +1,7 @@
 -- How far a path comes with each step of the code.
-use Rattle.std.proofs.Common.{arith, ℕ, ◌+◌, ◌-◌, ◌*◌, ◌/◌, ◌<◌, ◌≤◌, ◌≡◌, ◌∙◌, ◌⊎◌, inl, inr, min, max, refl, ap, sym, subst, List, [], ◌∷◌, ◌++◌, length, slice_index_or, take, drop, All, append-nil, append_assoc, true, false, IsTrue, IsFalse}
+use Rattle.std.proofs.Common.{arith, ℕ, ◌+◌, ◌-◌, ◌*◌, ◌/◌, ◌<◌, ◌≤◌, ◌≡◌, ◌∙◌, ◌⊎◌, inl, inr, min, max, refl, ap}
+use Rattle.std.proofs.Common.{sym, subst, List, [], ◌∷◌, ◌++◌, length, slice_index_or, take, drop, All, append-nil}
+use Rattle.std.proofs.Common.{append_assoc, true, false, IsTrue, IsFalse}
 use Rattle.std.proofs.lemmas.List.{length-append, take-append-drop, length-take-le}
 use Rattle.std.proofs.lemmas.List.Elements.{All-weaker, All-nil}
 use Rattle.ng_canon.specs.declared.item.AxisStep.{AxisStep}
@@ -13,11 +15,14 @@ use Rattle.ng_pace.specs.Motion.{Motion}
 use Rattle.ng_pace.specs.Axes.{EachAxis}
 use Rattle.ng_pace.specs.Chords.{Slope, IsSlope, IsNear, IsStraight, slope_of}
 use Rattle.ng_pace.specs.Cones.{AreBetween}
-use Rattle.ng_pace.specs.Legs.{Leg, IsChord, IsFarthest, IsFullAt, IsFullAtCorner, IsPaced, IsBehind, IsAllowed, IsOnChord, IsOnCorner, steps_along, slope_along, pulses_of, lines_of}
+use Rattle.ng_pace.specs.Legs.{Leg, IsChord, IsFarthest, IsFullAt, IsFullAtCorner, IsPaced, IsBehind, IsAllowed}
+use Rattle.ng_pace.specs.Legs.{IsOnChord, IsOnCorner, steps_along, slope_along, pulses_of, lines_of}
 use Rattle.ng_pace.specs.Making.{IsWithin}
 use Rattle.ng_pace.specs.Putting.{KeepSoFar}
 use Rattle.ng_pace.specs.Passing.{PassesAlong, PassesCorner}
-use Rattle.ng_pace.specs.Underway.{AreCones, AreReached, AreSlopes, IsOpen, IsGoing, IsPending, IsJoined, IsPath, IsClosed, Advances, Reaches, Turns, Finishes, IsBegun, IsBehindFarthest, longer, kept_of}
+use Rattle.ng_pace.specs.Underway.{AreCones, AreReached, AreSlopes, IsOpen, IsGoing, IsPending, IsJoined, IsPath}
+use Rattle.ng_pace.specs.Underway.{IsClosed, Advances, Reaches, Turns, Finishes, IsBegun, IsBehindFarthest, longer}
+use Rattle.ng_pace.specs.Underway.{kept_of}
 use Rattle.ng_pace.proofs.ConeLemmas.{near-push}
 use Rattle.ng_pace.proofs.CornerLemmas.{full-at-corner, longest}
 use Rattle.ng_pace.proofs.ExactLemmas.{full-on}
@@ -135,7 +140,8 @@ corner-lines limits stop chord old new waited waits leg before rest next pulses 
     straight pending.some (omega (arith, some, longer_is))
     pending.before_is are farthest p.some p.takes p.before_allowed p.first.each p.then.each count.meets count.all (omega (arith, count.few, longer_is))
     (omega (arith, p.half, half)) full leg.pulses others all enough some
-    (longest limits before.pulses leg.pulses chord.before next chord.before_pulses chord.pulses p.pulses p.feed p.most p.ramp pending.before_reached reached p.full
+    (longest limits before.pulses leg.pulses chord.before next chord.before_pulses chord.pulses p.pulses p.feed
+    p.most p.ramp pending.before_reached reached p.full
     pending.before_count pending.opened.count) full' where
       longer_is : length leg.pulses ≤ length pulses
       longer_is = omega (arith, ap length all, length-append leg.pulses others)
@@ -211,7 +217,8 @@ corner-path limits stop chord chord' old new waited waits leg before rest next p
         opened = opened-decided limits chord chord' leg.pulses e pending.opened;
         decided = ap (λ t. t.has_corner) e;
         paced = λ more straight. corner-lines limits stop chord old new waited waits leg before rest next (leg.pulses ++ more) pending straight
-            more refl (inr (omega (arith, long, pending.opened.count))) reached some half (farthest-more limits.slack before.pulses leg.pulses more some pending.farthest)
+            more refl (inr (omega (arith, long, pending.opened.count))) reached some half
+            (farthest-more limits.slack before.pulses leg.pulses more some pending.farthest)
             (slopes-ahead limits.slack next leg.pulses more some ahead straight) p count;
         waits_are = omega (arith, back, count.all, count.left);
         kept = omega (arith, back, count.all, count.kept);
@@ -293,7 +300,8 @@ pub decide-path : (limits : Limits) (stop : ℕ) (chord chord' : Chord) (old new
 decide-path limits stop chord chord' old new waited waits leg rest next (inl going) has some half ahead reached long p e = absurd (cc (going.decided, has))
 decide-path limits stop chord chord' old new waited waits leg [] next (inr joined) has some half ahead reached long p e = absurd joined
 decide-path limits stop chord chord' old new waited waits leg (before ∷ rest) next (inr pending) has some half ahead reached long p e =
-    corner-path limits stop chord chord' old new waited waits leg before rest next pending some half (ahead pending.opened) (reached pending.opened) (long pending.opened) p e
+    corner-path limits stop chord chord' old new waited waits leg before rest next pending some half
+    (ahead pending.opened) (reached pending.opened) (long pending.opened) p e
 
 pub reach-path : (limits : Limits) (stop : ℕ) (chord : Chord) (old new : Motion) (waited waits : List Waiting) (leg : Leg) (rest : List Leg)
     (next : List Slopes)
@@ -565,7 +573,16 @@ turns-fresh limits chord chord' m waits pulse same cones none = record {
       straight = chord-none limits.slack;
     };
     decided = ap (λ t. t.has_corner) same;
-    paced = λ more straight. (record { chord = straight; lines = All-nil (IsOnChord limits 0 more); few = omega arith; full = λ k d short. absurd (omega (arith, short)) }, (tt, tt));
+    paced = λ more straight. (
+      record {
+        chord = straight;
+        lines = All-nil (IsOnChord limits 0 more);
+        few = omega arith;
+        full =
+            λ k d short. absurd (omega (arith, short));
+      },
+      (tt, tt),
+    );
     waits_are = omega (arith, none);
     kept = omega arith;
   });

@@ -44,7 +44,9 @@ pub record TakesCorner (limits : Limits) (before after : List Slopes) (pulses mo
 pub record TurnAll (limits : Limits) (before after : List Slopes) (count count' pulses feed most ramp : ℕ) : Type 0 where
   pub sizes : List ℕ
   pub turns : List ℕ
-  pub sizes_are : EachAxis (λ axis. (d : Slopes) → slice_index sizes axis ≡ max (size_of (slice_index_or before axis d)) (size_of (slice_index_or after axis d)))
+  pub sizes_are : EachAxis (λ axis. (d : Slopes)
+      → slice_index sizes axis ≡ max (size_of (slice_index_or before axis d))
+      (size_of (slice_index_or after axis d)))
   pub turns_are : EachAxis (λ axis. (d : Slopes) → slice_index turns axis ≡ turn_of (slice_index_or before axis d) (slice_index_or after axis d))
   pub longest : AreMostPulses limits turns (2 ^ 20) count count' pulses
   pub square : IsFullCorner limits sizes turns (2 ^ 20) pulses feed most

@@ -1,3 +1,5 @@
+//! Why there are no times.
+
 /// Why a pacer or a stream isn't made (own).
 #[derive(Clone, Copy, Debug, PartialEq, Eq)]
 pub enum PaceFault {

@@ -43,5 +43,6 @@ ahead_other old index changes value change rest low some other h = record {
   leads = h.leads;
 }
 
-pub ahead_end : (old : List ℤ) (index : ℕ) (changes : List Change) (value : ℤ) (rest : List Change) → rest ≡ [] → IsAhead old index changes value rest → value ≡ at (with_changes old changes) index
+pub ahead_end : (old : List ℤ) (index : ℕ) (changes : List Change) (value : ℤ) (rest : List Change) → rest ≡ []
+    → IsAhead old index changes value rest → value ≡ at (with_changes old changes) index
 ahead_end old index changes value rest none h = h.value_is ∙ ap (λ t. at t index) (ap (with_changes h.table) (sym none) ∙ h.leads)

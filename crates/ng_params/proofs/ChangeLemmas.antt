@@ -1,10 +1,13 @@
 -- The changes between two tables, found parameter by parameter.
-use Rattle.std.proofs.Common.{◌≡◌, ◌≢◌, ℕ, ◌+◌, ◌-◌, ◌<◌, ◌≤◌, Bool, true, false, not, List, [], ◌∷◌, ◌++◌, length, get_or, set, map, ℤ, pos, ap, sym, subst, refl, inl, inr, ◌∙◌, arith, append_assoc, drop, take, int_eq}
+use Rattle.std.proofs.Common.{◌≡◌, ◌≢◌, ℕ, ◌+◌, ◌-◌, ◌<◌, ◌≤◌, Bool, true, false, not, List, [], ◌∷◌, ◌++◌, length}
+use Rattle.std.proofs.Common.{get_or, set, map, ℤ, pos, ap, sym, subst, refl, inl, inr, ◌∙◌, arith, append_assoc}
+use Rattle.std.proofs.Common.{drop, take, int_eq}
 use Rattle.std.specs.List.{Contains}
 use Rattle.std.specs.List.Sorted.{IsStrictlyIncreasing}
 use Rattle.std.proofs.lemmas.Bool.{cases_lt}
 use Rattle.std.proofs.lemmas.Bool.Decides.{Decides-int_eq}
-use Rattle.std.proofs.lemmas.List.{append-nil, length_push, length-take-le, set_at, drop_more, take_more, take_all, drop_all, get_or_append_left, get_or_push, get_or_past, get_or_read, map_push}
+use Rattle.std.proofs.lemmas.List.{append-nil, length_push, length-take-le, set_at, drop_more, take_more, take_all}
+use Rattle.std.proofs.lemmas.List.{drop_all, get_or_append_left, get_or_push, get_or_past, get_or_read, map_push}
 use Rattle.std.proofs.lemmas.List.Elements.{Contains-push, Contains-push_cases, Contains-append_left}
 use Rattle.ng_params.specs.Table.{with_value}
 use Rattle.ng_params.specs.Changes.{with_changes, IsDifference, AreDifferences}
@@ -52,7 +55,8 @@ rising_push xs y up below j within =
       | inr last ↦ omega (arith, get_or_append_left xs (y ∷ []) 0 j here, get_or_push xs y 0 (j + 1) (omega arith), below j here)
     ]
 
-below_push : (xs : List ℕ) (y k : ℕ) → y ≤ k + 1 → ((j : ℕ) → j < length xs → get_or xs j 0 ≤ k) → (j : ℕ) → j < length (xs ++ y ∷ []) → get_or (xs ++ y ∷ []) j 0 ≤ k + 1
+below_push : (xs : List ℕ) (y k : ℕ) → y ≤ k + 1 → ((j : ℕ) → j < length xs → get_or xs j 0 ≤ k) → (j : ℕ)
+    → j < length (xs ++ y ∷ []) → get_or (xs ++ y ∷ []) j 0 ≤ k + 1
 below_push xs y k small below j within =
     elim (cases_lt j (length xs)) [
       | inl inside ↦ omega (arith, get_or_append_left xs (y ∷ []) 0 j inside, below j inside)
@@ -193,7 +197,8 @@ changes_none old new = record {
   below = λ j within. absurd (omega arith);
 }
 
-pub changes_restore : (k : ℕ) (old new : List ℤ) (changes : List Change) → length old ≤ k → length new ≤ k → AreChangesTo k old new changes → with_changes old changes ≡ new
+pub changes_restore : (k : ℕ) (old new : List ℤ) (changes : List Change) → length old ≤ k → length new ≤ k
+    → AreChangesTo k old new changes → with_changes old changes ≡ new
 changes_restore k old new changes all_old all_new h =
     h.restores
     ∙ ap (λ (l : List ℤ). l ++ drop k old) (take_all k new all_new)
@@ -204,10 +209,12 @@ changes_restore k old new changes all_old all_new h =
 is_within : (k : ℕ) (old new : List ℤ) (change : Change) → length old ≤ k → length new ≤ k → IsDifference old new change → change.index ≤ k
 is_within k old new change all_old all_new d =
     elim (cases_lt k change.index) [
-      | inl past ↦ absurd (d.differs (get_or_past old (change.index - 1) (pos 0) (omega arith) ∙ sym (get_or_past new (change.index - 1) (pos 0) (omega arith))))
+      | inl past ↦ absurd (d.differs (get_or_past old (change.index - 1) (pos 0) (omega arith)
+          ∙ sym (get_or_past new (change.index - 1) (pos 0) (omega arith))))
       | inr within ↦ within
     ]
 
-pub changes_differ : (k : ℕ) (old new : List ℤ) (changes : List Change) → length old ≤ k → length new ≤ k → AreChangesTo k old new changes → AreDifferences old new changes
+pub changes_differ : (k : ℕ) (old new : List ℤ) (changes : List Change) → length old ≤ k → length new ≤ k
+    → AreChangesTo k old new changes → AreDifferences old new changes
 changes_differ k old new changes all_old all_new h change =
     (λ among. (h.found change among).0, λ d. h.all change d (is_within k old new change all_old all_new d))

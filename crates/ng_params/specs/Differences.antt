@@ -12,7 +12,8 @@ change_to new p = record { index = p; value = at new p }
 -- the differences among the first n parameters, with their new values, in rising order
 unfoldable pub differences_to : ℕ → List ℤ → List ℤ → List Change
 differences_to zero old new = []
-differences_to (suc n) old new = if int_eq (at new (suc n)) (at old (suc n)) then differences_to n old new else differences_to n old new ++ change_to new (suc n) ∷ []
+differences_to (suc n) old new = if int_eq (at new (suc n)) (at old (suc n)) then differences_to n old new else
+    differences_to n old new ++ change_to new (suc n) ∷ []
 
 -- all differences
 unfoldable pub differences : List ℤ → List ℤ → List Change

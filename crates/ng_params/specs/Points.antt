@@ -11,7 +11,8 @@ point_at table first = record { x = at table first; y = at table (first + 1); z 
 
 -- the changes that put a point into three parameters
 abbrev pub changes_to : ℕ → Point → List Change
-changes_to first point = record { index = first; value = point.x } ∷ record { index = first + 1; value = point.y } ∷ record { index = first + 2; value = point.z } ∷ []
+changes_to first point = record { index = first; value = point.x } ∷ record { index = first + 1; value = point.y } ∷
+    record { index = first + 2; value = point.z } ∷ []
 
 abbrev pub home : List ℤ → Point
 home table = point_at table first_of_home

@@ -1,3 +1,4 @@
+//! A parameter with its new value.
 use crate::index::Index;
 use ng_num::Num;
 

@@ -1,3 +1,4 @@
+//! The numbers of parameters.
 ghost use Rattle.std.specs.Prelude.{◌≡◌, ◌≤◌};
 ghost use Rattle.ng_params.specs.Numbers.{index_of, parameter_count};
 

@@ -1,3 +1,4 @@
+//! The table of parameters.
 ghost use Rattle.std.specs.Prelude.{◌≡◌, pos, IfOk, map};
 ghost use Rattle.std.specs.List.Sorted.{IsStrictlyIncreasing};
 ghost use Rattle.ng_params.specs.Table.{at, defaults, with_value};

@@ -1,3 +1,4 @@
+//! The numbers of coordinate systems.
 ghost use Rattle.std.specs.Prelude.{◌≡◌, ◌≤◌};
 ghost use Rattle.ng_params.specs.Numbers.{system_of};
 ghost use Rattle.ng_params.specs.Points.{selection};

@@ -1,5 +1,6 @@
 -- A device in memory can be stopped in each way that its trace allows, and in no other.
-use Rattle.std.proofs.Common.{◌≡◌, ◌⊎◌, inl, inr, ℕ, ◌+◌, ◌<◌, ◌≤◌, ◌==◌, nat_lt, if◌then◌else◌, List, [], ◌∷◌, map, length, take, slice_index, refl, sym, ◌∙◌, ap, subst, arith, true}
+use Rattle.std.proofs.Common.{◌≡◌, ◌⊎◌, inl, inr, ℕ, ◌+◌, ◌<◌, ◌≤◌, ◌==◌, nat_lt, if◌then◌else◌, List, [], ◌∷◌, map}
+use Rattle.std.proofs.Common.{length, take, slice_index, refl, sym, ◌∙◌, ap, subst, arith, true}
 use Rattle.std.proofs.lemmas.Bool.Decides.{nat_tests}
 use Rattle.std.specs.List.{range_with_len, AllPass}
 use Rattle.std.proofs.lemmas.List.Sums.{AllPass-from_list_all}
@@ -17,7 +18,9 @@ use Rattle.ng_rig.specs.declared.call.Call.{Call}
 use Rattle.ng_rig.specs.declared.call.Call.TheVariants.{Write, Sync, Hand}
 
 -- what a choice between two contents results in
-choice : (n m u k : ℕ) (bytes old : List ℕ) → ((n ≡ m) × ((if n == m then (if nat_lt u k then bytes else old) else old) ≡ bytes)) ⊎ ((if n == m then (if nat_lt u k then bytes else old) else old) ≡ old)
+choice : (n m u k : ℕ) (bytes old : List ℕ)
+    → ((n ≡ m) × ((if n == m then (if nat_lt u k then bytes else old) else old) ≡ bytes))
+    ⊎ ((if n == m then (if nat_lt u k then bytes else old) else old) ≡ old)
 choice n m u k bytes old = grind (arith, nat_tests)
 
 -- in no other way
@@ -40,7 +43,8 @@ pub record Number (trace : Trace) (n : ℕ) (c : List ℕ) : Type 0 where
   pub below : k ≤ unsynced trace n
   pub is : kept trace n k ≡ c
 
-newest : (n m u : ℕ) (bytes old : List ℕ) → n ≡ m → ((if n == m then u + 1 else u) ≡ u + 1) × ((if n == m then (if nat_lt u (u + 1) then bytes else old) else old) ≡ bytes)
+newest : (n m u : ℕ) (bytes old : List ℕ) → n ≡ m → ((if n == m then u + 1 else u) ≡ u + 1)
+    × ((if n == m then (if nat_lt u (u + 1) then bytes else old) else old) ≡ bytes)
 newest n m u bytes old same = (grind (arith, nat_tests), grind (arith, nat_tests))
 
 older : (n m u k : ℕ) (bytes old : List ℕ) → k ≤ u → (k ≤ (if n == m then u + 1 else u)) × ((if n == m then (if nat_lt u k then bytes else old) else old) ≡ old)
@@ -87,12 +91,17 @@ module _ (size n : ℕ) (past : size ≤ n) where
   unsynced_past trace [] all none = none
   unsynced_past trace (Write m bytes ∷ calls) all none =
       let here = All-head (λ c. is_call_within size c ≡ true) (Write m bytes) calls all in
-      unsynced_past (Wrote m bytes trace) calls (All-tail (λ c. is_call_within size c ≡ true) (Write m bytes) calls all) (other_sector n m (unsynced trace n) size (and_parts (nat_lt m size) (nat_lt 0 (length bytes)) here).0 past ∙ none)
+      unsynced_past (Wrote m bytes trace) calls (All-tail (λ c. is_call_within size c ≡ true) (Write m bytes) calls
+      all) (other_sector n m (unsynced trace n) size
+      (and_parts (nat_lt m size) (nat_lt 0 (length bytes)) here).0 past ∙ none)
   unsynced_past trace (Sync ∷ calls) all none = unsynced_past (Synced trace) calls (All-tail (λ c. is_call_within size c ≡ true) Sync calls all) refl
-  unsynced_past trace (Hand item ∷ calls) all none = unsynced_past (Handed item trace) calls (All-tail (λ c. is_call_within size c ≡ true) (Hand item) calls all) none
+  unsynced_past trace (Hand item ∷ calls) all none = unsynced_past (Handed item trace) calls
+      (All-tail (λ c. is_call_within size c ≡ true) (Hand item) calls all) none
 
 -- in every way
-pub reached : (first : List (List ℕ)) (calls : List Call) (image : ℕ → List ℕ) → AllWithin (length first) calls → ((i : ℕ) → MayHold (trace_of_calls first calls) i (image i)) → IsReached (length first) (trace_of_calls first calls) image
+pub reached : (first : List (List ℕ)) (calls : List Call) (image : ℕ → List ℕ) → AllWithin (length first) calls
+    → ((i : ℕ) → MayHold (trace_of_calls first calls) i (image i))
+    → IsReached (length first) (trace_of_calls first calls) image
 reached first calls image within may =
     let trace = trace_of_calls first calls in
     let f = λ (i : ℕ). (number trace i (image i) (may i)).k in
@@ -114,10 +123,14 @@ reached first calls image within may =
     }
 
 -- in every way, at a moment
-pub reached_at : (t : ℕ) (first : List (List ℕ)) (calls : List Call) → AllWithin (length first) calls → (image : ℕ → List ℕ) (handed : List Item) → IsStop (trace_at t (trace_of_calls first calls)) image handed → IsReached (length first) (trace_at t (trace_of_calls first calls)) image
+pub reached_at : (t : ℕ) (first : List (List ℕ)) (calls : List Call) → AllWithin (length first) calls
+    → (image : ℕ → List ℕ) (handed : List Item) → IsStop (trace_at t (trace_of_calls first calls)) image handed
+    → IsReached (length first) (trace_at t (trace_of_calls first calls)) image
 reached_at t first calls within image handed stop =
     let at = trace_at-trace_of_calls t first calls in
-    subst (λ (l : Trace). IsReached (length first) l image) (sym at) (reached first (take t calls) image (within_take (length first) calls t within) (λ n. subst (λ (l : Trace). MayHold l n (image n)) at (stop.0 n)))
+    subst (λ (l : Trace). IsReached (length first) l image) (sym at)
+    (reached first (take t calls) image (within_take (length first) calls t within)
+    (λ n. subst (λ (l : Trace). MayHold l n (image n)) at (stop.0 n)))
 
 -- in no other, at a moment
 pub stop-kept_image : (trace : Trace) (keep : List ℕ) → IsStop trace (kept_image trace keep) (items trace)

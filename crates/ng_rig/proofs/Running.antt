@@ -1,5 +1,6 @@
 -- How a sequence of calls continues.
-use Rattle.std.proofs.Common.{◌≡◌, ◌⊎◌, inl, inr, ⊎_elim, ℕ, ◌+◌, ◌<◌, ◌≤◌, ◌==◌, nat_lt, if◌then◌else◌, List, Result, Ok, Err, refl, sym, ◌∙◌, ap, subst, arith}
+use Rattle.std.proofs.Common.{◌≡◌, ◌⊎◌, inl, inr, ⊎_elim, ℕ, ◌+◌, ◌<◌, ◌≤◌, ◌==◌, nat_lt, if◌then◌else◌, List}
+use Rattle.std.proofs.Common.{Result, Ok, Err, refl, sym, ◌∙◌, ap, subst, arith}
 use Rattle.std.proofs.lemmas.Bool.{cases_eq}
 use Rattle.std.proofs.lemmas.Bool.Decides.{nat_tests}
 use Rattle.ng_canon.specs.declared.item.Item.{Item}
@@ -12,7 +13,8 @@ pub may_hold-reads : (trace : Trace) (n : ℕ) → MayHold trace n (reads trace 
 may_hold-reads (Began image) n = refl
 may_hold-reads (Wrote m bytes trace) n = elim (cases_eq n m) [
   | inl same ↦ let e : (if n == m then bytes else reads trace n) ≡ bytes = grind (arith, nat_tests) in inl (same, e)
-  | inr other ↦ let e : (if n == m then bytes else reads trace n) ≡ reads trace n = grind (arith, nat_tests) in inr (subst (λ (c : List ℕ). MayHold trace n c) (sym e) (may_hold-reads trace n))
+  | inr other ↦ let e : (if n == m then bytes else reads trace n) ≡ reads trace n =
+      grind (arith, nat_tests) in inr (subst (λ (c : List ℕ). MayHold trace n c) (sym e) (may_hold-reads trace n))
 ]
 may_hold-reads (Perhaps m bytes trace) n = inr (may_hold-reads trace n)
 may_hold-reads (Synced trace) n = refl
@@ -70,7 +72,9 @@ trace_earlier t s (Synced trace) le = through t s (Synced trace) trace le (λ u.
 trace_earlier t s (Handed item trace) le = through t s (Handed item trace) trace le (λ u. refl) (trace_earlier t s trace le)
 
 -- one more call
-after_one : (whole trace : Trace) → trace_at (moment trace) whole ≡ (if nat_lt (moment trace) (moment trace) then whole else trace_at (moment trace) trace) → trace_at (moment trace) whole ≡ trace
+after_one : (whole trace : Trace)
+    → trace_at (moment trace) whole ≡ (if nat_lt (moment trace) (moment trace) then whole else trace_at
+    (moment trace) trace) → trace_at (moment trace) whole ≡ trace
 after_one whole trace at = at ∙ not_later (moment trace) (moment trace) whole (trace_at (moment trace) trace) (omega arith) ∙ trace_now trace
 
 -- ---- sequences of calls
@@ -87,25 +91,59 @@ stays trace P = record { later = omega arith; was = inl refl; each = λ t image 
 pub joined : (old mid new : Trace) (P : Image → List Item → Type 0) → IsContinuation old mid P → IsContinuation mid new P → IsContinuation old new P
 joined old mid new P a b = record {
   later = omega (arith, a.later, b.later);
-  was = inr (sym (trace_earlier (moment old) (moment mid) new a.later) ∙ ap (λ (l : Trace). trace_at (moment old) l) (was_then mid new P b) ∙ was_then old mid P a);
+  was = inr (sym (trace_earlier (moment old) (moment mid) new a.later)
+      ∙ ap (λ (l : Trace). trace_at (moment old) l) (was_then mid new P b) ∙ was_then old mid P a);
   each = λ t image handed le s. ⊎_elim (λ m. a.each t image handed le m) (λ p. inr p) (b.each t image handed (omega (arith, le, a.later)) s);
 }
 
-pub weaker : (old new : Trace) (P Q : Image → List Item → Type 0) → IsContinuation old new P → ((image : Image) (handed : List Item) → P image handed → Q image handed) → IsContinuation old new Q
-weaker old new P Q a imply = record { later = a.later; was = a.was; each = λ t image handed le s. ⊎_elim (λ m. inl m) (λ p. inr (imply image handed p)) (a.each t image handed le s) }
+pub weaker : (old new : Trace) (P Q : Image → List Item → Type 0) → IsContinuation old new P
+    → ((image : Image) (handed : List Item) → P image handed → Q image handed) → IsContinuation old new Q
+weaker old new P Q a imply = record {
+  later = a.later;
+  was = a.was;
+  each = λ t image handed le s.
+      ⊎_elim (λ m. inl m) (λ p. inr (imply image handed p)) (a.each t image handed le s);
+}
 
 -- one call
-pub on_write : (trace : Trace) (n : ℕ) (bytes : List ℕ) (P : Image → List Item → Type 0) → ((image : Image) (handed : List Item) → IsStop (Wrote n bytes trace) image handed → P image handed) → IsContinuation trace (Wrote n bytes trace) P
-on_write trace n bytes P now = record { later = omega arith; was = inr (after_one (Wrote n bytes trace) trace refl); each = λ t image handed le s. ⊎_elim (λ here. inr (now image handed here)) (λ before. inl before.1) s }
+pub on_write : (trace : Trace) (n : ℕ) (bytes : List ℕ) (P : Image → List Item → Type 0)
+    → ((image : Image) (handed : List Item) → IsStop (Wrote n bytes trace) image handed → P image handed)
+    → IsContinuation trace (Wrote n bytes trace) P
+on_write trace n bytes P now = record {
+  later = omega arith;
+  was = inr (after_one (Wrote n bytes trace) trace refl);
+  each = λ t image handed le s. ⊎_elim (λ here. inr (now image handed here)) (λ before. inl before.1) s;
+}
 
-pub on_perhaps : (trace : Trace) (n : ℕ) (bytes : List ℕ) (P : Image → List Item → Type 0) → ((image : Image) (handed : List Item) → IsStop (Perhaps n bytes trace) image handed → P image handed) → IsContinuation trace (Perhaps n bytes trace) P
-on_perhaps trace n bytes P now = record { later = omega arith; was = inr (after_one (Perhaps n bytes trace) trace refl); each = λ t image handed le s. ⊎_elim (λ here. inr (now image handed here)) (λ before. inl before.1) s }
+pub on_perhaps : (trace : Trace) (n : ℕ) (bytes : List ℕ) (P : Image → List Item → Type 0)
+    → ((image : Image) (handed : List Item) → IsStop (Perhaps n bytes trace) image handed → P image handed)
+    → IsContinuation trace (Perhaps n bytes trace) P
+on_perhaps trace n bytes P now =
+    record {
+      later = omega arith;
+      was = inr (after_one (Perhaps n bytes trace) trace refl);
+      each =
+          λ t image handed le s. ⊎_elim (λ here. inr (now image handed here)) (λ before. inl before.1) s;
+    }
 
-pub on_sync : (trace : Trace) (P : Image → List Item → Type 0) → ((image : Image) (handed : List Item) → IsStop (Synced trace) image handed → P image handed) → IsContinuation trace (Synced trace) P
-on_sync trace P now = record { later = omega arith; was = inr (after_one (Synced trace) trace refl); each = λ t image handed le s. ⊎_elim (λ here. inr (now image handed here)) (λ before. inl before.1) s }
+pub on_sync : (trace : Trace) (P : Image → List Item → Type 0)
+    → ((image : Image) (handed : List Item) → IsStop (Synced trace) image handed → P image handed)
+    → IsContinuation trace (Synced trace) P
+on_sync trace P now = record {
+  later = omega arith;
+  was = inr (after_one (Synced trace) trace refl);
+  each =
+      λ t image handed le s. ⊎_elim (λ here. inr (now image handed here)) (λ before. inl before.1) s;
+}
 
-pub on_hand : (trace : Trace) (item : Item) (P : Image → List Item → Type 0) → ((image : Image) (handed : List Item) → IsStop (Handed item trace) image handed → P image handed) → IsContinuation trace (Handed item trace) P
-on_hand trace item P now = record { later = omega arith; was = inr (after_one (Handed item trace) trace refl); each = λ t image handed le s. ⊎_elim (λ here. inr (now image handed here)) (λ before. inl before.1) s }
+pub on_hand : (trace : Trace) (item : Item) (P : Image → List Item → Type 0)
+    → ((image : Image) (handed : List Item) → IsStop (Handed item trace) image handed → P image handed)
+    → IsContinuation trace (Handed item trace) P
+on_hand trace item P now = record {
+  later = omega arith;
+  was = inr (after_one (Handed item trace) trace refl);
+  each = λ t image handed le s. ⊎_elim (λ here. inr (now image handed here)) (λ before. inl before.1) s;
+}
 
 -- after a good sync each sector has one content, also after hand-outs
 pub is_synced : (trace : Trace) → IsSynced (Synced trace)
@@ -123,7 +161,12 @@ hands_none item trace synced = record { stops = stays trace (HasBesides trace it
 
 hands_one : (item : Item) (trace : Trace) → IsSynced trace → HandsOne item trace (Handed item trace)
 hands_one item trace synced = record {
-  stops = on_hand trace item (HasBesides trace item) (λ image handed s. record { image_is = one_image (Handed item trace) image handed (handed_synced item trace synced) s; handed_is = s.1 });
+  stops = on_hand trace item (HasBesides trace item)
+      (λ image handed s. record {
+        image_is = one_image (Handed item trace) image handed (handed_synced item trace synced) s;
+        handed_is =
+            s.1;
+      });
   synced = handed_synced item trace synced;
   reads_are = refl;
   items_are = inr refl;

@@ -30,7 +30,8 @@ module _ (image : ℕ → List ℕ) (handed : List Item) where
       let e = one.at b.at ∙ first_of_two b.at (moment trace) whole (trace_at b.at trace) b.until in
       record { at = b.at; from = b.from; until = omega (arith, b.until, one.later); stop = subst (λ (l : Trace). IsStop l image handed) (sym e) b.stop }
 
-  split : (whole trace : Trace) (t : ℕ) → IsOneMore whole trace → StopsBetween whole t image handed → IsStop whole image handed ⊎ ((t ≤ moment trace) × StopsBetween trace t image handed)
+  split : (whole trace : Trace) (t : ℕ) → IsOneMore whole trace → StopsBetween whole t image handed
+      → IsStop whole image handed ⊎ ((t ≤ moment trace) × StopsBetween trace t image handed)
   split whole trace t one b = elim (side b.at (moment trace)) [
     | inl early ↦
         let e = one.at b.at ∙ first_of_two b.at (moment trace) whole (trace_at b.at trace) early in
@@ -55,17 +56,28 @@ module _ (image : ℕ → List ℕ) (handed : List Item) where
   pub since-between : (trace : Trace) (t : ℕ) → t ≤ moment trace → StopSince trace t image handed → StopsBetween trace t image handed
   since-between (Began first) t le s = record { at = 0; from = le; until = omega arith; stop = s }
   since-between (Wrote n bytes trace) t le (inl now) = now_between (Wrote n bytes trace) trace t (one_wrote n bytes trace) le now
-  since-between (Wrote n bytes trace) t le (inr before) = before_between (Wrote n bytes trace) trace t (one_wrote n bytes trace) (since-between trace t before.0 before.1)
+  since-between (Wrote n bytes trace) t le (inr before) = before_between (Wrote n bytes trace) trace t
+      (one_wrote n bytes trace) (since-between trace t before.0 before.1)
   since-between (Perhaps n bytes trace) t le (inl now) = now_between (Perhaps n bytes trace) trace t (one_perhaps n bytes trace) le now
-  since-between (Perhaps n bytes trace) t le (inr before) = before_between (Perhaps n bytes trace) trace t (one_perhaps n bytes trace) (since-between trace t before.0 before.1)
+  since-between (Perhaps n bytes trace) t le (inr before) = before_between (Perhaps n bytes trace) trace t
+      (one_perhaps n bytes trace) (since-between trace t before.0 before.1)
   since-between (Synced trace) t le (inl now) = now_between (Synced trace) trace t (one_synced trace) le now
   since-between (Synced trace) t le (inr before) = before_between (Synced trace) trace t (one_synced trace) (since-between trace t before.0 before.1)
   since-between (Handed item trace) t le (inl now) = now_between (Handed item trace) trace t (one_handed item trace) le now
-  since-between (Handed item trace) t le (inr before) = before_between (Handed item trace) trace t (one_handed item trace) (since-between trace t before.0 before.1)
+  since-between (Handed item trace) t le (inr before) = before_between (Handed item trace) trace t
+      (one_handed item trace) (since-between trace t before.0 before.1)
 
   pub between-since : (trace : Trace) (t : ℕ) → StopsBetween trace t image handed → StopSince trace t image handed
   between-since (Began first) t b = b.stop
-  between-since (Wrote n bytes trace) t b = ⊎_elim (λ now. inl now) (λ before. inr (before.0, between-since trace t before.1)) (split (Wrote n bytes trace) trace t (one_wrote n bytes trace) b)
-  between-since (Perhaps n bytes trace) t b = ⊎_elim (λ now. inl now) (λ before. inr (before.0, between-since trace t before.1)) (split (Perhaps n bytes trace) trace t (one_perhaps n bytes trace) b)
-  between-since (Synced trace) t b = ⊎_elim (λ now. inl now) (λ before. inr (before.0, between-since trace t before.1)) (split (Synced trace) trace t (one_synced trace) b)
-  between-since (Handed item trace) t b = ⊎_elim (λ now. inl now) (λ before. inr (before.0, between-since trace t before.1)) (split (Handed item trace) trace t (one_handed item trace) b)
+  between-since (Wrote n bytes trace) t b =
+      ⊎_elim (λ now. inl now) (λ before. inr (before.0, between-since trace t before.1))
+      (split (Wrote n bytes trace) trace t (one_wrote n bytes trace) b)
+  between-since (Perhaps n bytes trace) t b =
+      ⊎_elim (λ now. inl now) (λ before. inr (before.0, between-since trace t before.1))
+      (split (Perhaps n bytes trace) trace t (one_perhaps n bytes trace) b)
+  between-since (Synced trace) t b =
+      ⊎_elim (λ now. inl now) (λ before. inr (before.0, between-since trace t before.1))
+      (split (Synced trace) trace t (one_synced trace) b)
+  between-since (Handed item trace) t b =
+      ⊎_elim (λ now. inl now) (λ before. inr (before.0, between-since trace t before.1))
+      (split (Handed item trace) trace t (one_handed item trace) b)

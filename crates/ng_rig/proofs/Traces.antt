@@ -1,5 +1,6 @@
 -- A trace in terms of its calls: one more call, some of them, and the trace at a moment.
-use Rattle.std.proofs.Common.{◌≡◌, ◌⊎◌, inl, inr, ℕ, zero, suc, ◌+◌, ◌-◌, ◌<◌, ◌≤◌, List, [], ◌∷◌, ◌++◌, length, take, drop, get_or, nat_lt, if◌then◌else◌, refl, sym, ◌∙◌, ap, arith}
+use Rattle.std.proofs.Common.{◌≡◌, ◌⊎◌, inl, inr, ℕ, zero, suc, ◌+◌, ◌-◌, ◌<◌, ◌≤◌, List, [], ◌∷◌, ◌++◌, length}
+use Rattle.std.proofs.Common.{take, drop, get_or, nat_lt, if◌then◌else◌, refl, sym, ◌∙◌, ap, arith}
 use Rattle.std.proofs.lemmas.Bool.Decides.{nat_tests}
 use Rattle.std.proofs.lemmas.List.{take_more, take-append-drop}
 use Rattle.ng_rig.specs.Trace.{Trace, Began, Wrote, Synced, Handed, moment, trace_at}
@@ -11,17 +12,24 @@ pub trace_after-append : (trace : Trace) (xs ys : List Call) → trace_after tra
 trace_after-append trace [] ys = refl
 trace_after-append trace (x ∷ xs) ys = trace_after-append (after_call x trace) xs ys
 
-pub trace_of_calls-push : (sectors : List (List ℕ)) (calls : List Call) (call : Call) → trace_of_calls sectors (calls ++ call ∷ []) ≡ after_call call (trace_of_calls sectors calls)
+pub trace_of_calls-push : (sectors : List (List ℕ)) (calls : List Call) (call : Call)
+    → trace_of_calls sectors (calls ++ call ∷ []) ≡ after_call call (trace_of_calls sectors calls)
 trace_of_calls-push sectors calls call = trace_after-append (Began (contents sectors)) calls (call ∷ [])
 
-pub trace_of_calls-next : (sectors : List (List ℕ)) (calls : List Call) (i : ℕ) (d call : Call) → i < length calls → get_or calls i d ≡ call → trace_of_calls sectors (take (i + 1) calls) ≡ after_call call (trace_of_calls sectors (take i calls))
+pub trace_of_calls-next : (sectors : List (List ℕ)) (calls : List Call) (i : ℕ) (d call : Call) → i < length calls
+    → get_or calls i d ≡ call → trace_of_calls sectors (take (i + 1) calls) ≡ after_call call
+    (trace_of_calls sectors (take i calls))
 trace_of_calls-next sectors calls i d call h is =
-    ap (λ (cs : List Call). trace_of_calls sectors cs) (take_more calls i d h) ∙ trace_of_calls-push sectors (take i calls) (get_or calls i d) ∙ ap (λ (k : Call). after_call k (trace_of_calls sectors (take i calls))) is
+    ap (λ (cs : List Call). trace_of_calls sectors cs) (take_more calls i d h)
+    ∙ trace_of_calls-push sectors (take i calls) (get_or calls i d)
+    ∙ ap (λ (k : Call). after_call k (trace_of_calls sectors (take i calls))) is
 
 -- the calls up to one of them, and those after it
-pub trace_of_calls-split : (sectors : List (List ℕ)) (calls : List Call) (i : ℕ) → trace_of_calls sectors calls ≡ trace_after (trace_of_calls sectors (take i calls)) (drop i calls)
+pub trace_of_calls-split : (sectors : List (List ℕ)) (calls : List Call) (i : ℕ)
+    → trace_of_calls sectors calls ≡ trace_after (trace_of_calls sectors (take i calls)) (drop i calls)
 trace_of_calls-split sectors calls i =
-    ap (λ (cs : List Call). trace_of_calls sectors cs) (sym (take-append-drop i calls)) ∙ trace_after-append (Began (contents sectors)) (take i calls) (drop i calls)
+    ap (λ (cs : List Call). trace_of_calls sectors cs) (sym (take-append-drop i calls))
+    ∙ trace_after-append (Began (contents sectors)) (take i calls) (drop i calls)
 
 pub moment-after_call : (call : Call) (trace : Trace) → moment (after_call call trace) ≡ moment trace + 1
 moment-after_call (Write n bytes) trace = refl
@@ -65,7 +73,8 @@ take-nil : (n : ℕ) → take n [] ≡ (let none : List Call = [] in none)
 take-nil zero = refl
 take-nil (suc n) = refl
 
-trace_at-trace_after : (t : ℕ) (trace : Trace) (calls : List Call) → moment trace ≤ t → trace_at t trace ≡ trace → trace_at t (trace_after trace calls) ≡ trace_after trace (take (t - moment trace) calls)
+trace_at-trace_after : (t : ℕ) (trace : Trace) (calls : List Call) → moment trace ≤ t → trace_at t trace ≡ trace
+    → trace_at t (trace_after trace calls) ≡ trace_after trace (take (t - moment trace) calls)
 trace_at-trace_after t trace [] le here = here ∙ ap (λ (cs : List Call). trace_after trace cs) (sym (take-nil (t - moment trace)))
 trace_at-trace_after t trace (call ∷ calls) le here = elim (≤_cases t (moment trace)) [
   | inl early ↦
@@ -74,11 +83,13 @@ trace_at-trace_after t trace (call ∷ calls) le here = elim (≤_cases t (momen
   | inr late ↦
       let step = moment-after_call call trace in
       let one : suc (t - moment (after_call call trace)) ≡ t - moment trace = omega arith in
-      trace_at-trace_after t (after_call call trace) calls (omega arith) (trace_at-later t call trace late) ∙ ap (λ (k : ℕ). trace_after trace (take k (call ∷ calls))) one
+      trace_at-trace_after t (after_call call trace) calls (omega arith) (trace_at-later t call trace late)
+      ∙ ap (λ (k : ℕ). trace_after trace (take k (call ∷ calls))) one
 ]
 
 -- the trace at a moment is the trace of the calls before it
-pub trace_at-trace_of_calls : (t : ℕ) (sectors : List (List ℕ)) (calls : List Call) → trace_at t (trace_of_calls sectors calls) ≡ trace_of_calls sectors (take t calls)
+pub trace_at-trace_of_calls : (t : ℕ) (sectors : List (List ℕ)) (calls : List Call)
+    → trace_at t (trace_of_calls sectors calls) ≡ trace_of_calls sectors (take t calls)
 trace_at-trace_of_calls t sectors calls =
     let all : t - 0 ≡ t = omega arith in
     trace_at-trace_after t (Began (contents sectors)) calls (omega arith) refl ∙ ap (λ (k : ℕ). trace_of_calls sectors (take k calls)) all

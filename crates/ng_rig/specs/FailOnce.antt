@@ -27,6 +27,7 @@ after_one (Some n) = if n == 0 then None else Some (n - 1)
 
 -- One call fails without effect; every other call is passed on, and fails exactly if the inner device fails.
 pub record FailRigSpec {R T E : Type 0} (result : Result T E) (seen : R → Device) (old new : FailRig R) : Type 0 where
-  pub sooner : (n : ℕ) → calls_before old ≡ Some (n + 1) → (calls_before new ≡ Some n) × FailureCountSpec result (seen (inner old)).failed (seen (inner new)).failed
+  pub sooner : (n : ℕ) → calls_before old ≡ Some (n + 1) → (calls_before new ≡ Some n)
+      × FailureCountSpec result (seen (inner old)).failed (seen (inner new)).failed
   pub failing : calls_before old ≡ Some 0 → (calls_before new ≡ None) × IsErr result × (inner new ≡ inner old)
   pub later : calls_before old ≡ None → (calls_before new ≡ None) × FailureCountSpec result (seen (inner old)).failed (seen (inner new)).failed

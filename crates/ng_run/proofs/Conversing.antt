@@ -45,9 +45,11 @@ given_more : {R : Type 0} (A : Type 0) (seen : R → Device) (talk : List (Excha
 given_more A seen talk x before mid after p q =
     let joined = turns_joined seen (events_in talk) (events_of x.order x.replies) (replies_in talk) x.replies before mid after p q in
     subst (λ (l : List Reply). AreAnsweredEvents seen (events_in (talk ++ x ∷ [])) l before after) (one_more (λ (y : Exchange A). y.replies) talk x)
-    (subst (λ (l : List (Event A)). AreAnsweredEvents seen l (replies_in talk ++ x.replies) before after) (one_more (λ (y : Exchange A). events_of y.order y.replies) talk x) joined)
+    (subst (λ (l : List (Event A)). AreAnsweredEvents seen l (replies_in talk ++ x.replies) before after)
+    (one_more (λ (y : Exchange A). events_of y.order y.replies) talk x) joined)
 
-pub talked_more : {R T : Type 0} (A : Type 0) (seen : R → Device) (order : Order A) (done : T) (text rest next old mid new : Option (List ℕ)) (before now after : ControllerModel R)
+pub talked_more : {R T : Type 0} (A : Type 0) (seen : R → Device) (order : Order A) (done : T)
+    (text rest next old mid new : Option (List ℕ)) (before now after : ControllerModel R)
     → Talked A seen text rest old mid before now → TakesOrder rest next (Some order) → AnswerSpec seen order (Ok done) mid new now after
     → Talked A seen text next old new before after
 talked_more A seen order done text rest next old mid new before now after p asked a =
@@ -62,7 +64,8 @@ talked_more A seen order done text rest next old mid new before now after p aske
     }
 
 -- a conversation, in terms of what was answered in full and what was begun
-conversed : {R : Type 0} (A : Type 0) (seen : R → Device) (ended : Result ConsoleEnd ConsoleAbort) (text rest old new : Option (List ℕ)) (before after : ControllerModel R)
+conversed : {R : Type 0} (A : Type 0) (seen : R → Device) (ended : Result ConsoleEnd ConsoleAbort)
+    (text rest old new : Option (List ℕ)) (before after : ControllerModel R)
     (answered begun talk : List (Exchange A)) (written : List ℕ) → answered ++ begun ≡ talk → All IsAnswered answered → Hears text talk rest
     → AreAnsweredEvents seen (events_in talk) (replies_in talk) before after → Appends old new (words_in answered ++ written)
     → EndsConversation ended after.journal.broken rest begun written → Conversation A seen ended text old new before after
@@ -82,7 +85,8 @@ conversed A seen ended text rest old new before after answered begun talk writte
     }
 
 -- nothing is begun
-conversed_whole : {R : Type 0} (A : Type 0) (seen : R → Device) (ended : Result ConsoleEnd ConsoleAbort) (text rest old new : Option (List ℕ)) (before after : ControllerModel R)
+conversed_whole : {R : Type 0} (A : Type 0) (seen : R → Device) (ended : Result ConsoleEnd ConsoleAbort)
+    (text rest old new : Option (List ℕ)) (before after : ControllerModel R)
     → (p : Talked A seen text rest old new before after) → EndsConversation {A = A} ended after.journal.broken rest [] []
     → Conversation A seen ended text old new before after
 conversed_whole A seen ended text rest old new before after p closes =
@@ -100,7 +104,8 @@ pub ends_deaf : {R : Type 0} (A : Type 0) (seen : R → Device) (text rest old n
 ends_deaf A seen text rest old new before after p =
     conversed_whole A seen (Err Input) text rest old new before after p (refl, refl)
 
-pub ends_mute : {R T : Type 0} (A : Type 0) (seen : R → Device) (order : Order A) (fault : OutputError) (text rest next old mid new : Option (List ℕ)) (before now after : ControllerModel R)
+pub ends_mute : {R T : Type 0} (A : Type 0) (seen : R → Device) (order : Order A) (fault : OutputError)
+    (text rest next old mid new : Option (List ℕ)) (before now after : ControllerModel R)
     → Talked A seen text rest old mid before now → TakesOrder rest next (Some order) → AnswerSpec {T = T} seen order (Err fault) mid new now after
     → Conversation A seen (Err Output) text old new before after
 ends_mute A seen order fault text rest next old mid new before now after p asked a =

@@ -25,7 +25,8 @@ told_after x (Err fault) old mid new answered p q =
     let line = take q.0 (last_line x.order x.replies) in
     (lines ++ line, inl (answered, (q.0, refl)), Appends-trans old mid new lines line p q.1)
 
-pub answers_event : {A R T : Type 0} (seen : R → Device) (event : Event A) (r : Reply) (result : Result T OutputError) (old new : Option (List ℕ)) (before after : ControllerModel R)
+pub answers_event : {A R T : Type 0} (seen : R → Device) (event : Event A) (r : Reply)
+    (result : Result T OutputError) (old new : Option (List ℕ)) (before after : ControllerModel R)
     → IsAnsweredEvent seen event r before after → Sends old new (reply_line r) result → AnswerSpec seen (Give event) result old new before after
 answers_event {A} seen event r result old new before after t p = record {
   replies = r ∷ [];
@@ -43,8 +44,10 @@ answers_refusal {A} seen fault result old new c p = record {
 }
 
 -- after the lines of ticks, how many were made
-pub answers_ticks : {A R T : Type 0} (seen : R → Device) (most made : ℕ) (result : Result T OutputError) (old mid new : Option (List ℕ)) (before after : ControllerModel R)
-    → TickOnSpec A seen most (Ok made) old mid before after → Sends mid new (ticks_line made) result → AnswerSpec {A = A} seen (Ticks most) result old new before after
+pub answers_ticks : {A R T : Type 0} (seen : R → Device) (most made : ℕ) (result : Result T OutputError)
+    (old mid new : Option (List ℕ)) (before after : ControllerModel R)
+    → TickOnSpec A seen most (Ok made) old mid before after → Sends mid new (ticks_line made) result
+    → AnswerSpec {A = A} seen (Ticks most) result old new before after
 answers_ticks {A} seen most made result old mid new before after p q = record {
   replies = p.replies;
   given = p.given;
@@ -52,7 +55,8 @@ answers_ticks {A} seen most made result old mid new before after p q = record {
       (subst (λ (n : ℕ). Sends mid new (ticks_line n) result) p.makes.1 q);
 }
 
-pub answers_ticks_broken : {A R T : Type 0} (seen : R → Device) (most : ℕ) (fault told : OutputError) (old new : Option (List ℕ)) (before after : ControllerModel R)
+pub answers_ticks_broken : {A R T : Type 0} (seen : R → Device) (most : ℕ) (fault told : OutputError)
+    (old new : Option (List ℕ)) (before after : ControllerModel R)
     → TickOnSpec A seen most (Err fault) old new before after → AnswerSpec {A = A} {T = T} seen (Ticks most) (Err told) old new before after
 answers_ticks_broken {A} seen most fault told old new before after p = record {
   replies = p.replies;

@@ -1,5 +1,6 @@
 -- The ticks of one command, one after the other.
-use Rattle.std.proofs.Common.{◌≡◌, ◌<◌, ◌+◌, ℕ, true, false, List, [], ◌∷◌, ◌++◌, length, map, take, Option, Ok, Err, refl, sym, ◌∙◌, subst, inl, inr, arith, length-append}
+use Rattle.std.proofs.Common.{◌≡◌, ◌<◌, ◌+◌, ℕ, true, false, List, [], ◌∷◌, ◌++◌, length, map, take, Option, Ok}
+use Rattle.std.proofs.Common.{Err, refl, sym, ◌∙◌, subst, inl, inr, arith, length-append}
 use Rattle.std.specs.List.{AllPass, flat_map}
 use Rattle.std.proofs.lemmas.List.{map-append}
 use Rattle.std.specs.Io.KnownBytes.{Appends}
@@ -39,7 +40,9 @@ given_more A seen replies r before mid after p t =
     subst (λ (l : List (Event A)). AreAnsweredEvents seen l (replies ++ r ∷ []) before after) (sym (map-append (tick_for A) replies (r ∷ [])))
     (turns_joined seen (ticks_of A replies) (event.Tick ∷ []) replies (r ∷ []) before mid after p (turns_one seen event.Tick r mid after t))
 
-tells_more : (old mid new : Option (List ℕ)) (replies : List Reply) (r : Reply) → Appends old mid (flat_map tick_line replies) → Appends mid new (tick_line r) → Appends old new (flat_map tick_line (replies ++ r ∷ []))
+tells_more : (old mid new : Option (List ℕ)) (replies : List Reply) (r : Reply)
+    → Appends old mid (flat_map tick_line replies) → Appends mid new (tick_line r)
+    → Appends old new (flat_map tick_line (replies ++ r ∷ []))
 tells_more old mid new replies r p q =
     subst (λ (l : List ℕ). Appends old new l) (one_more tick_line replies r) (Appends-trans old mid new (flat_map tick_line replies) (tick_line r) p q)
 
@@ -58,8 +61,10 @@ ticked_more A seen count r old mid new before now after p t on told = record {
 }
 
 -- a reply ends them
-pub ticks_end : {R : Type 0} (A : Type 0) (seen : R → Device) (most count : ℕ) (r : Reply) (old mid new : Option (List ℕ)) (before now after : ControllerModel R)
-    → Ticked A seen count old mid before now → count < most → IsAnsweredEvent {A = A} seen event.Tick r now after → continues_ticks r ≡ false → Appends mid new (tick_line r)
+pub ticks_end : {R : Type 0} (A : Type 0) (seen : R → Device) (most count : ℕ) (r : Reply)
+    (old mid new : Option (List ℕ)) (before now after : ControllerModel R)
+    → Ticked A seen count old mid before now → count < most → IsAnsweredEvent {A = A} seen event.Tick r now after
+    → continues_ticks r ≡ false → Appends mid new (tick_line r)
     → TickOnSpec A seen most (Ok (count + 1)) old new before after
 ticks_end A seen most count r old mid new before now after p below t off told =
     let longer = one_longer p.replies r count p.count_is in
@@ -83,8 +88,10 @@ ticks_all A seen most count old new before after p all = record {
 }
 
 -- a line can't be written
-pub ticks_break : {R : Type 0} (A : Type 0) (seen : R → Device) (most count : ℕ) (r : Reply) (fault : OutputError) (old mid new : Option (List ℕ)) (before now after : ControllerModel R)
-    → Ticked A seen count old mid before now → count < most → IsAnsweredEvent {A = A} seen event.Tick r now after → (n : ℕ) × Appends mid new (take n (tick_line r))
+pub ticks_break : {R : Type 0} (A : Type 0) (seen : R → Device) (most count : ℕ) (r : Reply) (fault : OutputError)
+    (old mid new : Option (List ℕ)) (before now after : ControllerModel R)
+    → Ticked A seen count old mid before now → count < most → IsAnsweredEvent {A = A} seen event.Tick r now after
+    → (n : ℕ) × Appends mid new (take n (tick_line r))
     → TickOnSpec A seen most (Err fault) old new before after
 ticks_break A seen most count r fault old mid new before now after p below t told =
     let begun = flat_map tick_line p.replies ++ take told.0 (tick_line r) in

@@ -1,5 +1,6 @@
 -- What a console does: what it is asked and answers, and what happens to its controller and device (own).
-use Rattle.std.specs.Prelude.{◌≡◌, ◌≤◌, ◌<◌, ℕ, Bool, false, List, [], ◌∷◌, ◌++◌, Option, Result, Ok, Err, All, IfOk, IfErr, IfSome, IsErrAnd, length, take, flat_map}
+use Rattle.std.specs.Prelude.{◌≡◌, ◌≤◌, ◌<◌, ℕ, Bool, false, List, [], ◌∷◌, ◌++◌, Option, Result, Ok, Err, All}
+use Rattle.std.specs.Prelude.{IfOk, IfErr, IfSome, IsErrAnd, length, take, flat_map}
 use Rattle.std.specs.Io.KnownBytes.{Appends}
 use Rattle.ng_num.specs.declared.fault.Fault.{Fault}
 use Rattle.ng_num.specs.declared.fault.Fault.TheVariants.{NotFormatted, OutOfMemory}
@@ -36,7 +37,8 @@ MakesTicks most (Err fault) replies old new = (written : List ℕ) × AreBrokenO
 
 -- The controller is given ticks, and the lines of their replies are written; or the ticks are broken off in the last
 -- line.
-pub record TickOnSpec {R : Type 0} (A : Type 0) (seen : R → Device) (most : ℕ) (made : Result ℕ OutputError) (old new : Option (List ℕ)) (before after : ControllerModel R) : Type 0 where
+pub record TickOnSpec {R : Type 0} (A : Type 0) (seen : R → Device) (most : ℕ) (made : Result ℕ OutputError)
+    (old new : Option (List ℕ)) (before after : ControllerModel R) : Type 0 where
   pub replies : List Reply
   pub given : AreAnsweredEvents seen (events_of {A = A} (Ticks most) replies) replies before after
   pub makes : MakesTicks most made replies old new
@@ -47,7 +49,8 @@ Told x (Ok done) old new = IsAnswered x × Appends old new (words_of x.order x.r
 Told x (Err fault) old new = (written : List ℕ) × IsBegun x written × Appends old new written
 
 -- The controller is given what an order asks, and the answer is written.
-pub record AnswerSpec {A R T : Type 0} (seen : R → Device) (order : Order A) (result : Result T OutputError) (old new : Option (List ℕ)) (before after : ControllerModel R) : Type 0 where
+pub record AnswerSpec {A R T : Type 0} (seen : R → Device) (order : Order A) (result : Result T OutputError)
+    (old new : Option (List ℕ)) (before after : ControllerModel R) : Type 0 where
   pub replies : List Reply
   pub given : AreAnsweredEvents seen (events_of order replies) replies before after
   pub tells : Told (record { order = order; replies = replies }) result old new
@@ -64,7 +67,8 @@ EndsConversation {A} (Err Output) broken rest begun written = (last : Exchange A
 -- A text is read and answered step by step: the events that it asks for are given, and the lines of the answers are
 -- written. Over an honest device each stop leaves the state after the events answered by then, perhaps with the effect
 -- of the event under way, and the items handed out are those of the session.
-pub record Conversation {R : Type 0} (A : Type 0) (seen : R → Device) (ended : Result ConsoleEnd ConsoleAbort) (text old new : Option (List ℕ)) (before after : ControllerModel R) : Type 0 where
+pub record Conversation {R : Type 0} (A : Type 0) (seen : R → Device) (ended : Result ConsoleEnd ConsoleAbort)
+    (text old new : Option (List ℕ)) (before after : ControllerModel R) : Type 0 where
   pub answered : List (Exchange A)
   pub begun : List (Exchange A)
   pub rest : Option (List ℕ)
@@ -74,9 +78,11 @@ pub record Conversation {R : Type 0} (A : Type 0) (seen : R → Device) (ended :
   pub given : AreAnsweredEvents seen (events_in (answered ++ begun)) (replies_in (answered ++ begun)) before after
   pub tells : Appends old new (words_in answered ++ written)
   pub closes : EndsConversation ended after.journal.broken rest begun written
-  pub passes : before.journal.broken ≡ false → IfHonest (seen before.journal.rig) (seen after.journal.rig) ((program : List ℕ) → IsAtRestWith (seen before.journal.rig).trace before program
+  pub passes : before.journal.broken ≡ false → IfHonest (seen before.journal.rig) (seen after.journal.rig)
+      ((program : List ℕ) → IsAtRestWith (seen before.journal.rig).trace before program
       → PassesAsSession seen (events_in (answered ++ begun)) (replies_in (answered ++ begun))
-      (answered_at seen (events_in (answered ++ begun)) (replies_in (answered ++ begun)) before after given) before.geometry (program_session_of program before) (seen before.journal.rig).trace after)
+      (answered_at seen (events_in (answered ++ begun)) (replies_in (answered ++ begun)) before after given)
+      before.geometry (program_session_of program before) (seen before.journal.rig).trace after)
 
 -- ---- the console
 
@@ -86,12 +92,15 @@ RefuseSpec fault (Ok ended) old new = (ended ≡ NotPowered) × Appends old new 
 RefuseSpec fault (Err stop) old new = (stop ≡ Output) × ((n : ℕ) × Appends old new (take n (refused_line fault)))
 
 -- what happens after power on, and the device that is left
-abbrev pub ConsoleAfterPowerOn : {R : Type 0} → Type 0 → (R → Device) → PowerOnResult R → Result ConsoleEnd ConsoleAbort → R → Option (List ℕ) → Option (List ℕ) → Option (List ℕ) → Type 0
-ConsoleAfterPowerOn {R} A seen (Ok c) ended left text old new = (after : ControllerModel R) × Conversation A seen ended text old new c after × (left ≡ after.journal.rig)
+abbrev pub ConsoleAfterPowerOn : {R : Type 0} → Type 0 → (R → Device) → PowerOnResult R
+    → Result ConsoleEnd ConsoleAbort → R → Option (List ℕ) → Option (List ℕ) → Option (List ℕ) → Type 0
+ConsoleAfterPowerOn {R} A seen (Ok c) ended left text old new = (after : ControllerModel R)
+    × Conversation A seen ended text old new c after × (left ≡ after.journal.rig)
 ConsoleAfterPowerOn {R} A seen (Err e) ended left text old new = (left ≡ e.1) × RefuseSpec e.0 ended old new
 
 -- A console over a device: power on, and what happens after it.
-pub record ConsoleRunSpec {R : Type 0} (A : Type 0) (seen : R → Device) (settings : Settings) (rig : R) (text old new : Option (List ℕ)) (result : Result ConsoleEnd ConsoleAbort × R) : Type 0 where
+pub record ConsoleRunSpec {R : Type 0} (A : Type 0) (seen : R → Device) (settings : Settings) (rig : R)
+    (text old new : Option (List ℕ)) (result : Result ConsoleEnd ConsoleAbort × R) : Type 0 where
   pub powered : PowerOnResult R
   pub starts : PowerOnSpec seen settings rig powered
   pub continues_ticks : ConsoleAfterPowerOn A seen powered result.0 result.1 text old new

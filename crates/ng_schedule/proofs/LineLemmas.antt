@@ -1,5 +1,7 @@
 -- Lines and their ends.
-use Rattle.std.proofs.Common.{◌≡◌, ◌≢◌, ◌∙◌, ◌+◌, ◌/◌, ◌%◌, ◌^◌, ◌≤◌, ◌<◌, ℕ, ℤ, pos, negsuc, unsigned_abs, Bool, true, false, List, [], ◌∷◌, ◌++◌, length, length-append, drop, get_or, ap, append_assoc, arith, codes, refl, subst, sym}
+use Rattle.std.proofs.Common.{◌≡◌, ◌≢◌, ◌∙◌, ◌+◌, ◌/◌, ◌%◌, ◌^◌, ◌≤◌, ◌<◌, ℕ, ℤ, pos, negsuc, unsigned_abs, Bool}
+use Rattle.std.proofs.Common.{true, false, List, [], ◌∷◌, ◌++◌, length, length-append, drop, get_or, ap}
+use Rattle.std.proofs.Common.{append_assoc, arith, codes, refl, subst, sym}
 use Rattle.std.specs.Fmt.{decimal}
 use Rattle.std.specs.Str.{all_ascii_digits}
 use Rattle.std.proofs.lemmas.Str.Parse.{tells_all_ascii_digits}
@@ -63,7 +65,16 @@ digit_large : (m : ℕ) → 48 + m % 10 ≢ 10
 digit_large m is = omega (arith, is)
 
 short_six : (n : ℕ) → IsShort 6 (six_digits n)
-short_six n = ((digit_large (n / 100_000), (digit_large (n / 10_000), (digit_large (n / 1_000), (digit_large (n / 100), (digit_large (n / 10), (digit_large (n / 1), tt)))))), omega arith)
+short_six n = (
+  (
+    digit_large (n / 100_000),
+    (
+      digit_large (n / 10_000),
+      (digit_large (n / 1_000), (digit_large (n / 100), (digit_large (n / 10), (digit_large (n / 1), tt)))),
+    ),
+  ),
+  omega arith,
+)
 
 short_minus : (z : ℤ) → IsShort 1 (minus z)
 short_minus (pos n) = (tt, omega arith)
@@ -88,22 +99,64 @@ IsInner item front = (item_line item ≡ front ++ codes "\n") × IsShort 78 fron
 
 short_turning : (o : Outputs) → IsCount o.speed → IsShort 35 (turning_text o)
 short_turning o small =
-    joined 32 3 (spindle_text o.spindle ++ codes " " ++ number_text o.speed ++ (32 ∷ truth_digit o.mist ∷ [])) ((32 ∷ truth_digit o.flood ∷ 32 ∷ [])) (joined 30 2 (spindle_text o.spindle ++ codes " " ++ number_text o.speed) ((32 ∷ truth_digit o.mist ∷ [])) (joined 2 28 (spindle_text o.spindle ++ codes " ") (number_text o.speed) (joined 1 1 (spindle_text o.spindle) (codes " ") (short_spindle o.spindle) blank) (short_number o.speed small)) ((other 32 (omega arith), (other (truth_digit o.mist) (truth_large o.mist), tt)), omega arith)) ((other 32 (omega arith), (other (truth_digit o.flood) (truth_large o.flood), (other 32 (omega arith), tt))), omega arith)
+    joined 32 3 (spindle_text o.spindle ++ codes " " ++ number_text o.speed ++ (32 ∷ truth_digit o.mist ∷ []))
+    ((32 ∷ truth_digit o.flood ∷ 32 ∷ []))
+    (joined 30 2 (spindle_text o.spindle ++ codes " " ++ number_text o.speed) ((32 ∷ truth_digit o.mist ∷ []))
+    (joined 2 28 (spindle_text o.spindle ++ codes " ") (number_text o.speed)
+    (joined 1 1 (spindle_text o.spindle) (codes " ") (short_spindle o.spindle) blank)
+    (short_number o.speed small))
+    ((other 32 (omega arith), (other (truth_digit o.mist) (truth_large o.mist), tt)), omega arith)) (
+      (
+        other 32 (omega arith),
+        (other (truth_digit o.flood) (truth_large o.flood), (other 32 (omega arith), tt)),
+      ),
+      omega arith,
+    )
 
 short_slots : (o : Outputs) → o.selected_slot < 2 ^ 8 → o.spindle_slot < 2 ^ 8 → IsShort 41 (slots_text o)
 short_slots o selected spindle =
-    joined 21 20 (decimal o.selected_slot ++ codes " ") (decimal o.spindle_slot) (joined 20 1 (decimal o.selected_slot) (codes " ") (short_decimal o.selected_slot (omega (arith, selected))) blank) (short_decimal o.spindle_slot (omega (arith, spindle)))
+    joined 21 20 (decimal o.selected_slot ++ codes " ") (decimal o.spindle_slot)
+    (joined 20 1 (decimal o.selected_slot) (codes " ") (short_decimal o.selected_slot (omega (arith, selected)))
+    blank) (short_decimal o.spindle_slot (omega (arith, spindle)))
 
 longer : (n m : ℕ) (bs : List ℕ) → n ≤ m → IsShort n bs → IsShort m bs
 longer n m bs le p = (p.0, omega (arith, le, p.1))
 
 inner : (item : Item) → IsItem item → (front : List ℕ) × IsInner item front
-inner (Pulse p) fits = (codes "P " ++ step_text p.x ++ codes " " ++ step_text p.y ++ codes " " ++ step_text p.z ++ codes " " ++ decimal p.period_us, (refl, longer 31 78 (codes "P " ++ step_text p.x ++ codes " " ++ step_text p.y ++ codes " " ++ step_text p.z ++ codes " " ++ decimal p.period_us) (omega arith) (joined 11 20 (codes "P " ++ step_text p.x ++ codes " " ++ step_text p.y ++ codes " " ++ step_text p.z ++ codes " ") (decimal p.period_us) (joined 10 1 (codes "P " ++ step_text p.x ++ codes " " ++ step_text p.y ++ codes " " ++ step_text p.z) (codes " ") (joined 8 2 (codes "P " ++ step_text p.x ++ codes " " ++ step_text p.y ++ codes " ") (step_text p.z) (joined 7 1 (codes "P " ++ step_text p.x ++ codes " " ++ step_text p.y) (codes " ") (joined 5 2 (codes "P " ++ step_text p.x ++ codes " ") (step_text p.y) (joined 4 1 (codes "P " ++ step_text p.x) (codes " ") (joined 2 2 (codes "P ") (step_text p.x) (short_letter 80 (omega arith)) (short_step p.x)) blank) (short_step p.y)) blank) (short_step p.z)) blank) (short_decimal p.period_us fits))))
-inner (Dwell us) fits =
-    (codes "D " ++ decimal us, (refl, longer 22 78 (codes "D " ++ decimal us) (omega arith) (joined 2 20 (codes "D ") (decimal us) (short_letter 68 (omega arith)) (short_decimal us fits))))
+inner (Pulse p) fits = (
+  codes "P " ++ step_text p.x ++ codes " " ++ step_text p.y ++ codes " " ++ step_text p.z ++ codes " " ++ decimal
+      p.period_us,
+  (
+    refl,
+    longer 31 78 (codes "P " ++ step_text p.x ++ codes " " ++ step_text p.y ++ codes
+        " " ++ step_text p.z ++ codes " " ++ decimal p.period_us) (omega arith)
+        (joined 11 20 (codes "P " ++ step_text p.x ++ codes " " ++ step_text p.y ++ codes " " ++ step_text p.z ++ codes
+        " ") (decimal p.period_us)
+        (joined 10 1 (codes "P " ++ step_text p.x ++ codes " " ++ step_text p.y ++ codes " " ++ step_text p.z)
+        (codes " ") (joined 8 2 (codes "P " ++ step_text p.x ++ codes " " ++ step_text p.y ++ codes " ") (step_text p.z)
+        (joined 7 1 (codes "P " ++ step_text p.x ++ codes " " ++ step_text p.y) (codes " ")
+        (joined 5 2 (codes "P " ++ step_text p.x ++ codes " ") (step_text p.y)
+        (joined 4 1 (codes "P " ++ step_text p.x) (codes " ")
+        (joined 2 2 (codes "P ") (step_text p.x) (short_letter 80 (omega arith)) (short_step p.x)) blank)
+        (short_step p.y)) blank) (short_step p.z)) blank) (short_decimal p.period_us fits)),
+  ),
+)
+inner (Dwell us) fits = (
+  codes "D " ++ decimal us,
+  (
+    refl,
+    longer 22 78 (codes "D " ++ decimal us) (omega arith)
+        (joined 2 20 (codes "D ") (decimal us) (short_letter 68 (omega arith)) (short_decimal us fits)),
+  ),
+)
 inner (Switch o) fits = (
   codes "S " ++ turning_text o ++ slots_text o,
-  (refl, joined 37 41 (codes "S " ++ turning_text o) (slots_text o) (joined 2 35 (codes "S ") (turning_text o) (short_letter 83 (omega arith)) (short_turning o fits.0)) (short_slots o fits.1 fits.2)),
+  (
+    refl,
+    joined 37 41 (codes "S " ++ turning_text o) (slots_text o)
+        (joined 2 35 (codes "S ") (turning_text o) (short_letter 83 (omega arith)) (short_turning o fits.0))
+        (short_slots o fits.1 fits.2),
+  ),
 )
 
 -- ---- what begins no line
@@ -142,7 +195,8 @@ line_front : (item : Item) (front after : List ℕ) → item_line item ≡ front
 line_front item front after is = ap (λ l. l ++ after) is ∙ append_assoc front (codes "\n") after
 
 -- a line that is none of an item, whatever follows
-pub other_line : (line more : List ℕ) → HasNoNewline line → ((item : Item) → IsItem item → item_line item ≡ line ++ codes "\n" → ⊥) → BeginsNoLine (line ++ 10 ∷ more)
+pub other_line : (line more : List ℕ) → HasNoNewline line
+    → ((item : Item) → IsItem item → item_line item ≡ line ++ codes "\n" → ⊥) → BeginsNoLine (line ++ 10 ∷ more)
 other_line line more none differs item after fits is =
     let parts = inner item fits in
     let front_is : parts.0 ≡ line = one_first_newline parts.0 after line more parts.1.1.0 none (sym (line_front item parts.0 after parts.1.0) ∙ sym is) in

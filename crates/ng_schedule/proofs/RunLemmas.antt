@@ -1,5 +1,6 @@
 -- Runs, line by line.
-use Rattle.std.proofs.Common.{◌≡◌, ◌∙◌, ◌+◌, ◌-◌, ◌^◌, ◌≤◌, ◌<◌, ℕ, List, [], ◌∷◌, ◌++◌, Option, Ok, Bool, true, IsFalse, length-append, ap, ap₂, append_assoc, append-nil, arith, refl, subst, sym}
+use Rattle.std.proofs.Common.{◌≡◌, ◌∙◌, ◌+◌, ◌-◌, ◌^◌, ◌≤◌, ◌<◌, ℕ, List, [], ◌∷◌, ◌++◌, Option, Ok, Bool, true}
+use Rattle.std.proofs.Common.{IsFalse, length-append, ap, ap₂, append_assoc, append-nil, arith, refl, subst, sym}
 use Rattle.ng_canon.specs.declared.item.Item.{Item}
 use Rattle.ng_lines.specs.Lines.{item_line}
 use Rattle.ng_pace.specs.declared.limits.Limits.{Limits}
@@ -37,32 +38,41 @@ timed_text-append : (shown : Shown) (due : ℕ) (a b : List Timed) → timed_tex
 timed_text-append shown due [] b = ap (λ k. timed_text shown k b) (omega arith)
 timed_text-append shown due (t ∷ ts) b =
     let sum : due + t.ns + span ts ≡ due + (t.ns + span ts) = omega arith in
-    ap (λ l. due_text shown due t.item ++ l) (timed_text-append shown (due + t.ns) ts b ∙ ap (λ k. timed_text shown (due + t.ns) ts ++ timed_text shown k b) sum)
+    ap (λ l. due_text shown due t.item ++ l) (timed_text-append shown (due + t.ns) ts b
+    ∙ ap (λ k. timed_text shown (due + t.ns) ts ++ timed_text shown k b) sum)
     ∙ sym (append_assoc (due_text shown due t.item) (timed_text shown (due + t.ns) ts) _)
 
 -- one more line
 abbrev with_line : List Timed → Item → ℕ → List Timed
 with_line timed item ns = timed ++ record { item = item; ns = ns } ∷ []
 
-lines_with : (timed : List Timed) (item : Item) (ns : ℕ) (more : List ℕ) → lines_of (with_line timed item ns) ++ more ≡ lines_of timed ++ (item_line item ++ more)
+lines_with : (timed : List Timed) (item : Item) (ns : ℕ) (more : List ℕ)
+    → lines_of (with_line timed item ns) ++ more ≡ lines_of timed ++ (item_line item ++ more)
 lines_with timed item ns more =
     ap (λ l. l ++ more) (lines_of-append timed (record { item = item; ns = ns } ∷ []) ∙ ap (λ l. lines_of timed ++ l) (append-nil (item_line item)))
     ∙ append_assoc (lines_of timed) (item_line item) more
 
-text_with : (shown : Shown) (timed : List Timed) (item : Item) (ns : ℕ) → timed_text shown 0 (with_line timed item ns) ≡ timed_text shown 0 timed ++ due_text shown (span timed) item
+text_with : (shown : Shown) (timed : List Timed) (item : Item) (ns : ℕ)
+    → timed_text shown 0 (with_line timed item ns) ≡ timed_text shown 0 timed ++ due_text shown (span timed) item
 text_with shown timed item ns =
     let zero_sum : 0 + span timed ≡ span timed = omega arith in
     timed_text-append shown 0 timed (record { item = item; ns = ns } ∷ [])
     ∙ ap (λ l. timed_text shown 0 timed ++ l) (append-nil (due_text shown (0 + span timed) item) ∙ ap (λ k. due_text shown k item) zero_sum)
 
 -- the lines that are known, of which the first is taken
-known_with : (timed : List Timed) (item : Item) (items : List Item) (kept : List ℕ) → (lines_of timed ++ item_lines (item ∷ items)) ++ kept ≡ lines_of timed ++ (item_line item ++ (item_lines items ++ kept))
+known_with : (timed : List Timed) (item : Item) (items : List Item) (kept : List ℕ)
+    → (lines_of timed ++ item_lines (item ∷ items)) ++ kept ≡ lines_of
+    timed ++ (item_line item ++ (item_lines items ++ kept))
 known_with timed item items kept =
-    append_assoc (lines_of timed) (item_line item ++ item_lines items) kept ∙ ap (λ l. lines_of timed ++ l) (append_assoc (item_line item) (item_lines items) kept)
+    append_assoc (lines_of timed) (item_line item ++ item_lines items) kept
+    ∙ ap (λ l. lines_of timed ++ l) (append_assoc (item_line item) (item_lines items) kept)
 
 -- a line was given
-pub gives : {Z : Type 0} {ended : Bool} (limits : Limits) (start w v : Option (List ℕ)) (bytes kept : List ℕ) (s t : Schedule Z) (g : Given) → IsAt ended limits start w bytes kept s
-    → (IsFalse ended → IsFull s) → IsFlowGiven s.stream t.stream (2 ^ 64 - 1) g → due_ns s.stream.motion.percent g.line.item ≤ g.ns → t.shown ≡ s.shown → t.due_ns ≡ s.due_ns + g.ns → t.number ≡ s.number + 1
+pub gives : {Z : Type 0} {ended : Bool} (limits : Limits) (start w v : Option (List ℕ)) (bytes kept : List ℕ)
+    (s t : Schedule Z) (g : Given) → IsAt ended limits start w bytes kept s
+    → (IsFalse ended → IsFull s) → IsFlowGiven s.stream t.stream (2 ^ 64 - 1) g
+    → due_ns s.stream.motion.percent g.line.item ≤ g.ns → t.shown ≡ s.shown → t.due_ns ≡ s.due_ns + g.ns
+    → t.number ≡ s.number + 1
     → FlushSpec {T = Unit {0}} w v (s.text.items ++ due_text s.shown s.due_ns g.line.item) t.text.items (Ok tt) → IsAt ended limits start v bytes kept t
 gives {Z} {ended} limits start w v bytes kept s t g here full h least shown_is due_is number_is flushed =
     let item = g.line.item in
@@ -76,18 +86,24 @@ gives {Z} {ended} limits start w v bytes kept s t g here full h least shown_is d
         out = here.given.out ++ flushed.0;
         written = Appends-trans start w v here.given.out flushed.0 here.given.written flushed.1;
         waits = text_with s.shown here.timed item ns ∙ ap₂ (λ (a : List ℕ) (k : ℕ). a ++ due_text s.shown k item) here.given.waits (sym here.due)
-            ∙ append_assoc here.given.out s.text.items (due_text s.shown s.due_ns item) ∙ ap (λ l. here.given.out ++ l) flushed.2 ∙ sym (append_assoc here.given.out flushed.0 t.text.items);
+            ∙ append_assoc here.given.out s.text.items (due_text s.shown s.due_ns item)
+            ∙ ap (λ l. here.given.out ++ l) flushed.2
+            ∙ sym (append_assoc here.given.out flushed.0 t.text.items);
       });
       streamed = gives_out limits ended here.timed s.stream t.stream g here.streamed full h;
       lines = here.lines ∙ ap (λ (l : List Item). (lines_of here.timed ++ item_lines l) ++ kept) order ∙ known_with here.timed item (all_items t.stream) kept
-          ∙ sym (lines_with here.timed item ns (item_lines (all_items t.stream) ++ kept)) ∙ sym (append_assoc (lines_of timed) (item_lines (all_items t.stream)) kept);
+          ∙ sym (lines_with here.timed item ns (item_lines (all_items t.stream) ++ kept))
+          ∙ sym (append_assoc (lines_of timed) (item_lines (all_items t.stream)) kept);
       due = omega (arith, due_is, here.due, span-append here.timed (record { item = item; ns = ns } ∷ []));
       number = omega (arith, number_is, here.number, length-append here.timed (record { item = item; ns = ns } ∷ []));
     }
 
 -- the next line would be over too late
-pub too_late : {Z : Type 0} {ended : Bool} (limits : Limits) (start w : Option (List ℕ)) (bytes kept : List ℕ) (s t : Schedule Z) (g : Given) → IsAt ended limits start w bytes kept s
-    → (IsFalse ended → IsFull s) → IsFlowGiven s.stream t.stream (2 ^ 64 - 1) g → least_ns s.stream.motion.percent g.line.item ≤ g.ns → 2 ^ 64 - 1 ≤ s.due_ns + g.ns → t.shown ≡ s.shown → t.number ≡ s.number → t.text.items ≡ s.text.items
+pub too_late : {Z : Type 0} {ended : Bool} (limits : Limits) (start w : Option (List ℕ)) (bytes kept : List ℕ)
+    (s t : Schedule Z) (g : Given) → IsAt ended limits start w bytes kept s
+    → (IsFalse ended → IsFull s) → IsFlowGiven s.stream t.stream (2 ^ 64 - 1) g
+    → least_ns s.stream.motion.percent g.line.item ≤ g.ns → 2 ^ 64 - 1 ≤ s.due_ns + g.ns → t.shown ≡ s.shown
+    → t.number ≡ s.number → t.text.items ≡ s.text.items
     → IsTooLate limits start w bytes t
 too_late {Z} {ended} limits start w bytes kept s t g here full h least beyond shown_is number_is text_is =
     let item = g.line.item in
@@ -95,7 +111,9 @@ too_late {Z} {ended} limits start w bytes kept s t g here full h least beyond sh
     let order = h.items in
     record {
       timed = here.timed;
-      given = subst (λ (sh : Shown). HasGiven limits.most_percent sh start w here.timed t.text.items) (sym shown_is) (subst (λ (l : List ℕ). HasGiven limits.most_percent s.shown start w here.timed l) (sym text_is) here.given);
+      given = subst (λ (sh : Shown). HasGiven limits.most_percent sh start w here.timed t.text.items) (sym shown_is)
+          (subst (λ (l : List ℕ). HasGiven limits.most_percent s.shown start w here.timed l) (sym text_is)
+          here.given);
       late = record { item = item; ns = ns };
       least = rw here.streamed.percent at least;
       before = s.stream.motion.square;
@@ -109,7 +127,9 @@ too_late {Z} {ended} limits start w bytes kept s t g here full h least beyond sh
     }
 
 -- nothing more is written
-pub cut : {Z : Type 0} {ended : Bool} (limits : Limits) (start w : Option (List ℕ)) (bytes kept : List ℕ) (s : Schedule Z) (shown : Shown) → shown ≡ s.shown → IsAt ended limits start w bytes kept s → IsCut limits shown start w bytes
+pub cut : {Z : Type 0} {ended : Bool} (limits : Limits) (start w : Option (List ℕ)) (bytes kept : List ℕ)
+    (s : Schedule Z) (shown : Shown) → shown ≡ s.shown → IsAt ended limits start w bytes kept s
+    → IsCut limits shown start w bytes
 cut {Z} {ended} limits start w bytes kept s shown shown_is here =
     subst (λ (sh : Shown). IsCut limits sh start w bytes) (sym shown_is) (record {
       timed = here.timed;
@@ -125,7 +145,8 @@ cut {Z} {ended} limits start w bytes kept s shown shown_is here =
     })
 
 -- a line was given in part
-pub cut_in_line : {Z : Type 0} {ended : Bool} (limits : Limits) (start w v : Option (List ℕ)) (bytes kept : List ℕ) (s t : Schedule Z) (g : Given) → IsAt ended limits start w bytes kept s
+pub cut_in_line : {Z : Type 0} {ended : Bool} (limits : Limits) (start w v : Option (List ℕ)) (bytes kept : List ℕ)
+    (s t : Schedule Z) (g : Given) → IsAt ended limits start w bytes kept s
     → (IsFalse ended → IsFull s) → IsFlowGiven s.stream t.stream (2 ^ 64 - 1) g → due_ns s.stream.motion.percent g.line.item ≤ g.ns → t.shown ≡ s.shown
     → Wrote w v (s.text.items ++ due_text s.shown s.due_ns g.line.item) → IsCut limits t.shown start v bytes
 cut_in_line {Z} {ended} limits start w v bytes kept s t g here full h least shown_is wrote =
@@ -144,7 +165,8 @@ cut_in_line {Z} {ended} limits start w v bytes kept s t g here full h least show
       written = Appends-trans start w v here.given.out wrote.0 here.given.written wrote.2;
       after = wrote.1;
       begins = text_with s.shown here.timed item ns ∙ ap₂ (λ (a : List ℕ) (k : ℕ). a ++ due_text s.shown k item) here.given.waits (sym here.due)
-          ∙ append_assoc here.given.out s.text.items (due_text s.shown s.due_ns item) ∙ ap (λ l. here.given.out ++ l) wrote.3 ∙ sym (append_assoc here.given.out wrote.0 wrote.1);
+          ∙ append_assoc here.given.out s.text.items (due_text s.shown s.due_ns item)
+          ∙ ap (λ l. here.given.out ++ l) wrote.3 ∙ sym (append_assoc here.given.out wrote.0 wrote.1);
     })
 
 -- a line that is over in time takes no less than it says
@@ -152,13 +174,17 @@ pub long_enough : (percent : ℕ) (item : Item) (due ns : ℕ) → least_ns perc
 long_enough percent item due ns least fits = omega (arith, least, fits)
 
 -- nothing of what is known changed
-unchanged : {Z : Type 0} {ended next : Bool} (limits : Limits) (start w : Option (List ℕ)) (bytes kept : List ℕ) (s t : Schedule Z) → (here : IsAt ended limits start w bytes kept s)
-    → IsStreamed next limits here.timed t.stream → IsEnded s.stream t.stream → t.shown ≡ s.shown → t.due_ns ≡ s.due_ns → t.number ≡ s.number → t.text.items ≡ s.text.items
+unchanged : {Z : Type 0} {ended next : Bool} (limits : Limits) (start w : Option (List ℕ)) (bytes kept : List ℕ)
+    (s t : Schedule Z) → (here : IsAt ended limits start w bytes kept s)
+    → IsStreamed next limits here.timed t.stream → IsEnded s.stream t.stream → t.shown ≡ s.shown
+    → t.due_ns ≡ s.due_ns → t.number ≡ s.number → t.text.items ≡ s.text.items
     → IsAt next limits start w bytes kept t
 unchanged {Z} limits start w bytes kept s t here streamed ended shown_is due_is number_is text_is =
     record {
       timed = here.timed;
-      given = subst (λ (sh : Shown). HasGiven limits.most_percent sh start w here.timed t.text.items) (sym shown_is) (subst (λ (l : List ℕ). HasGiven limits.most_percent s.shown start w here.timed l) (sym text_is) here.given);
+      given = subst (λ (sh : Shown). HasGiven limits.most_percent sh start w here.timed t.text.items) (sym shown_is)
+          (subst (λ (l : List ℕ). HasGiven limits.most_percent s.shown start w here.timed l) (sym text_is)
+          here.given);
       streamed = streamed;
       lines = here.lines ∙ ap (λ (l : List Item). (lines_of here.timed ++ item_lines l) ++ kept) (sym ended.items);
       due = due_is ∙ here.due;
@@ -166,14 +192,18 @@ unchanged {Z} limits start w bytes kept s t here streamed ended shown_is due_is 
     }
 
 -- no line has its limits, and there is no room for more: the end is told, and nothing else changed
-pub told : {Z : Type 0} (limits : Limits) (start w : Option (List ℕ)) (bytes kept : List ℕ) (s t : Schedule Z) → IsUnderWay limits start w bytes kept s → s.stream.motion.known ≡ []
-    → IsFull s → IsEnded s.stream t.stream → t.shown ≡ s.shown → t.due_ns ≡ s.due_ns → t.number ≡ s.number → t.text.items ≡ s.text.items → IsUnderWay limits start w bytes kept t
+pub told : {Z : Type 0} (limits : Limits) (start w : Option (List ℕ)) (bytes kept : List ℕ) (s t : Schedule Z)
+    → IsUnderWay limits start w bytes kept s → s.stream.motion.known ≡ []
+    → IsFull s → IsEnded s.stream t.stream → t.shown ≡ s.shown → t.due_ns ≡ s.due_ns → t.number ≡ s.number
+    → t.text.items ≡ s.text.items → IsUnderWay limits start w bytes kept t
 told {Z} limits start w bytes kept s t here none full ended shown_is due_is number_is text_is =
-    unchanged limits start w bytes kept s t here (tells limits here.timed s.stream t.stream here.streamed none full ended) ended shown_is due_is number_is text_is
+    unchanged limits start w bytes kept s t here (tells limits here.timed s.stream t.stream here.streamed none full
+    ended) ended shown_is due_is number_is text_is
 
 -- no more lines come, and nothing else changed
 pub same_items : {Z : Type 0} (limits : Limits) (start w : Option (List ℕ)) (bytes kept : List ℕ) (s t : Schedule Z) → IsUnderWay limits start w bytes kept s
-    → IsEnded s.stream t.stream → t.shown ≡ s.shown → t.due_ns ≡ s.due_ns → t.number ≡ s.number → t.text.items ≡ s.text.items → IsAt true limits start w bytes kept t
+    → IsEnded s.stream t.stream → t.shown ≡ s.shown → t.due_ns ≡ s.due_ns → t.number ≡ s.number
+    → t.text.items ≡ s.text.items → IsAt true limits start w bytes kept t
 same_items {Z} limits start w bytes kept s t here ended shown_is due_is number_is text_is =
     unchanged limits start w bytes kept s t here (ends limits here.timed s.stream t.stream here.streamed ended) ended shown_is due_is number_is text_is
 
@@ -187,7 +217,9 @@ takes {Z} limits start w bytes s t item here put shown_is due_is number_is text_
     ap item_lines put.items ∙ item_lines-append (all_items s.stream) (item ∷ []) ∙ ap (λ l. known ++ l) (append-nil (item_line item)) in
     record {
       timed = here.timed;
-      given = subst (λ (sh : Shown). HasGiven limits.most_percent sh start w here.timed t.text.items) (sym shown_is) (subst (λ (l : List ℕ). HasGiven limits.most_percent s.shown start w here.timed l) (sym text_is) here.given);
+      given = subst (λ (sh : Shown). HasGiven limits.most_percent sh start w here.timed t.text.items) (sym shown_is)
+          (subst (λ (l : List ℕ). HasGiven limits.most_percent s.shown start w here.timed l) (sym text_is)
+          here.given);
       streamed = puts limits here.timed s.stream t.stream item here.streamed put;
       lines = ap (λ l. l ++ item_line item) (here.lines ∙ append-nil (lines_of here.timed ++ known)) ∙ append_assoc (lines_of here.timed) known (item_line item)
           ∙ ap (λ l. lines_of here.timed ++ l) (sym more) ∙ sym (append-nil (lines_of here.timed ++ item_lines (all_items t.stream)));
@@ -196,7 +228,9 @@ takes {Z} limits start w bytes s t item here put shown_is due_is number_is text_
     }
 
 -- what comes later changes nothing of it
-pub HaltSpec-more : {Z : Type 0} (limits : Limits) (start w : Option (List ℕ)) (bytes more : List ℕ) (s : Schedule Z) (why : Halt) → HaltSpec limits start w bytes s why → HaltSpec limits start w (bytes ++ more) s why
+pub HaltSpec-more : {Z : Type 0} (limits : Limits) (start w : Option (List ℕ)) (bytes more : List ℕ)
+    (s : Schedule Z) (why : Halt) → HaltSpec limits start w bytes s why
+    → HaltSpec limits start w (bytes ++ more) s why
 HaltSpec-more {Z} limits start w bytes more s halt.TooLate h =
     record {
       timed = h.timed;
@@ -208,7 +242,8 @@ HaltSpec-more {Z} limits start w bytes more s halt.TooLate h =
       left = h.left;
       paced_late = h.paced_late;
       rest = h.rest ++ more;
-      lines = ap (λ l. l ++ more) h.lines ∙ append_assoc (lines_of h.timed) (item_line h.late.item ++ h.rest) more ∙ ap (λ l. lines_of h.timed ++ l) (append_assoc (item_line h.late.item) h.rest more);
+      lines = ap (λ l. l ++ more) h.lines ∙ append_assoc (lines_of h.timed) (item_line h.late.item ++ h.rest) more
+          ∙ ap (λ l. lines_of h.timed ++ l) (append_assoc (item_line h.late.item) h.rest more);
       beyond = h.beyond;
       number = h.number;
     }

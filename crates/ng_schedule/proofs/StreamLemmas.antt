@@ -1,5 +1,6 @@
 -- What a stream has given out so far, call by call.
-use Rattle.std.proofs.Common.{◌≡◌, ◌∙◌, ◌+◌, ◌-◌, ◌^◌, ◌≤◌, ℕ, List, [], ◌∷◌, ◌++◌, Bool, false, true, IsFalse, Some, inl, inr, length, length-append, ap, append_assoc, arith, refl, subst, sym}
+use Rattle.std.proofs.Common.{◌≡◌, ◌∙◌, ◌+◌, ◌-◌, ◌^◌, ◌≤◌, ℕ, List, [], ◌∷◌, ◌++◌, Bool, false, true, IsFalse}
+use Rattle.std.proofs.Common.{Some, inl, inr, length, length-append, ap, append_assoc, arith, refl, subst, sym}
 use Rattle.std.specs.Prelude.{None}
 use Rattle.ng_canon.specs.declared.item.Item.{Item}
 use Rattle.ng_pace.specs.declared.limits.Limits.{Limits}
@@ -65,7 +66,12 @@ late_of false events late = inl late
 late_of true events late = inr late
 
 items_count : (flow : Flow) → length (all_items flow) ≡ length flow.motion.known + length flow.waiting
-items_count flow = omega (arith, length-append (items_of flow.motion.known) (items_waiting flow.waiting), lines_count flow.motion.known, waiting_count flow.waiting) where
+items_count flow = omega (
+  arith,
+  length-append (items_of flow.motion.known) (items_waiting flow.waiting),
+  lines_count flow.motion.known,
+  waiting_count flow.waiting,
+) where
   lines_count : (lines : List Line) → length (items_of lines) ≡ length lines
   lines_count [] = refl
   lines_count (line ∷ lines) = omega (arith, lines_count lines)
@@ -75,12 +81,14 @@ items_count flow = omega (arith, length-append (items_of flow.motion.known) (ite
   waiting_count (one ∷ timed) = omega (arith, waiting_count timed)
 
 -- where the end is told, there is no more room than before
-pub still_full : (old new : Flow) → IsEnded old new → old.motion.room ≤ length old.motion.known + length old.waiting → new.motion.room ≤ length new.motion.known + length new.waiting
+pub still_full : (old new : Flow) → IsEnded old new → old.motion.room ≤ length old.motion.known + length old.waiting
+    → new.motion.room ≤ length new.motion.known + length new.waiting
 still_full old new h full = omega (arith, h.settles.room, ap length h.items, items_count old, items_count new, full)
 
 module _ (limits : Limits) where
   -- more events
-  goes_on : {ended next : Bool} (timed times : List Timed) (flow new : Flow) (events : List Event) → (here : IsStreamed ended limits timed flow) → IsRun flow events new → AskForMost events
+  goes_on : {ended next : Bool} (timed times : List Timed) (flow new : Flow) (events : List Event)
+      → (here : IsStreamed ended limits timed flow) → IsRun flow events new → AskForMost events
       → times ≡ times_of (lines_given events) → AskLateSoFar next (here.events ++ events) → new.motion.percent ≡ flow.motion.percent
       → new.motion.room ≡ flow.motion.room → CanRest new.motion.square new.motion.known → IsStreamed next limits (timed ++ times) new
   goes_on timed times flow new events here run most times_are late same same_room rests =
@@ -99,7 +107,8 @@ module _ (limits : Limits) where
       }
 
   -- nothing is given out
-  goes_quietly : {ended next : Bool} (timed : List Timed) (flow new : Flow) (events : List Event) → (here : IsStreamed ended limits timed flow) → IsRun flow events new → AskForMost events
+  goes_quietly : {ended next : Bool} (timed : List Timed) (flow new : Flow) (events : List Event)
+      → (here : IsStreamed ended limits timed flow) → IsRun flow events new → AskForMost events
       → [] ≡ times_of (lines_given events) → AskLateSoFar next (here.events ++ events) → new.motion.percent ≡ flow.motion.percent
       → new.motion.room ≡ flow.motion.room → CanRest new.motion.square new.motion.known → IsStreamed next limits timed new
   goes_quietly {ended} {next} timed flow new events here run most none late same same_room rests =
@@ -110,7 +119,8 @@ module _ (limits : Limits) where
       none_more (t ∷ ts) = ap (λ (l : List Timed). t ∷ l) (none_more ts)
 
   -- so many are known as there is room for
-  is_full : {ended : Bool} (timed : List Timed) (flow : Flow) → (here : IsStreamed ended limits timed flow) → flow.motion.room ≤ length flow.motion.known + length flow.waiting
+  is_full : {ended : Bool} (timed : List Timed) (flow : Flow) → (here : IsStreamed ended limits timed flow)
+      → flow.motion.room ≤ length flow.motion.known + length flow.waiting
       → room ≤ length (all_items flow)
   is_full timed flow here full = omega (arith, here.room_is, items_count flow, full)
 
@@ -135,7 +145,8 @@ module _ (limits : Limits) where
   -- no more lines come: the end is told
   pub ends : (timed : List Timed) (flow new : Flow) → IsStreamed false limits timed flow → IsEnded flow new → IsStreamed true limits timed new
   ends timed flow new here h =
-      goes_quietly timed flow new (end ∷ []) here (new, (h, refl)) tt refl (record { before = here.events; rest = []; parts = refl; full = here.late; asks = tt })
+      goes_quietly timed flow new (end ∷ []) here (new, (h, refl)) tt refl
+      (record { before = here.events; rest = []; parts = refl; full = here.late; asks = tt })
       h.settles.percent h.settles.room h.rests
 
   asked : (ended : Bool) (timed : List Timed) (flow : Flow) (given : Given) → (here : IsStreamed ended limits timed flow)
@@ -190,8 +201,10 @@ module _ (limits : Limits) where
         late = late_of ended here.events here.late;
         times = here.times;
         squares = subst (λ (square : ℕ). ArePassed (start_of limits) limits.most_percent square (lines_given here.events) flow.motion.square) here.empty.rest
-            (subst (λ (percent : ℕ). ArePassed (start_of limits) percent here.first.motion.square (lines_given here.events) flow.motion.square) here.empty.percent
-            (subst (λ (start : ℕ). ArePassed start here.first.motion.percent here.first.motion.square (lines_given here.events) flow.motion.square) here.empty.start passed));
+            (subst (λ (percent : ℕ). ArePassed (start_of limits) percent here.first.motion.square
+            (lines_given here.events) flow.motion.square) here.empty.percent
+            (subst (λ (start : ℕ). ArePassed start here.first.motion.percent here.first.motion.square
+            (lines_given here.events) flow.motion.square) here.empty.start passed));
         axes = keeps-to-paths here.first limits room here.events flow here.empty here.run;
       }
 

@@ -1,3 +1,4 @@
+//! What is shown of a schedule, and how it ends.
 use thiserror::Error;
 
 /// What is written of a run.

@@ -109,8 +109,8 @@ impl<A: Allocator + Copy + Drop> LineSplitter<A> {
         }
     }
 
-    /// Takes the next bytes, and writes the lines that are given. Nearly all are lines of pulses: where none is kept, no
-    /// end of a line is looked for before it is read.
+    /// Takes the next bytes, and writes the lines that are given. Nearly all are lines of pulses: where none is kept,
+    /// no end of a line is looked for before it is read.
     pub(crate) fn take<W: Write>(&mut self, writer: &mut W, bytes: &[u8]) -> Result<(), Stop>
         requires { HasNoNewline self.old.kept.items }
         ensures step { (limits : Limits) (start : Option (List ℕ)) (before : List ℕ)

@@ -25,7 +25,7 @@ use std::mem;
 /// The current block, as it was begun, and what is left of it (own). Contracts see a `Prepared`, whose block is a
 /// `CurrentBlockModel`.
 #[derive(Drop)]
-pub struct CurrentBlock<A: Allocator> {
+pub(crate) struct CurrentBlock<A: Allocator> {
     pub source: Source,
     /// Its line, without the line's end.
     pub text: ArrayVec<u8, LONGEST_TEXT>,

@@ -10,7 +10,7 @@ use std::marker::Model;
 
 /// A line that was read ahead, and its block as it will be begun (own). Contracts see a `PlannedModel`.
 #[derive(Drop)]
-pub struct Planned<A: Allocator> {
+pub(crate) struct Planned<A: Allocator> {
     /// The byte of the program at which it begins.
     pub(crate) place: u64,
     /// The kind of the first line before it that isn't blank.

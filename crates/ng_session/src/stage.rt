@@ -16,7 +16,7 @@ pub struct Approach {
 /// How far a block has got (own). While its approach isn't committed, `after` is what is to be stored after the
 /// approach. Contracts see a `Stage` of `specs/Stages.antt`, and that state separately.
 #[derive(Drop)]
-pub enum Stage<A: Allocator> {
+pub(crate) enum Stage<A: Allocator> {
     /// Its approach opens next.
     ToApproach {
         approach: Approach,

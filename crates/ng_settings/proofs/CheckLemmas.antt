@@ -35,8 +35,13 @@ is_wrong a b c d e p q r = holds_later a MissingKey WrongType _ p (holds_later b
 
 pub is_beyond : (a b c d e : Bool) → a ≡ false → b ≡ false → c ≡ false → d ≡ true → IsFirstFault (five a b c d e) OutOfLimits
 is_beyond a b c d e p q r s =
-    holds_later a MissingKey OutOfLimits _ p (holds_later b UnknownKey OutOfLimits _ q (holds_later c WrongType OutOfLimits _ r (holds_first d OutOfLimits _ s)))
+    holds_later a MissingKey OutOfLimits _ p
+    (holds_later b UnknownKey OutOfLimits _ q
+    (holds_later c WrongType OutOfLimits _ r (holds_first d OutOfLimits _ s)))
 
 pub are_many : (a b c d e : Bool) → a ≡ false → b ≡ false → c ≡ false → d ≡ false → e ≡ true → IsFirstFault (five a b c d e) TooManyTools
 are_many a b c d e p q r s t =
-    holds_later a MissingKey TooManyTools _ p (holds_later b UnknownKey TooManyTools _ q (holds_later c WrongType TooManyTools _ r (holds_later d OutOfLimits TooManyTools _ s (holds_first e TooManyTools _ t))))
+    holds_later a MissingKey TooManyTools _ p
+    (holds_later b UnknownKey TooManyTools _ q
+    (holds_later c WrongType TooManyTools _ r
+    (holds_later d OutOfLimits TooManyTools _ s (holds_first e TooManyTools _ t))))

@@ -1,5 +1,6 @@
 -- The whole numbers of an array, as those of its list.
-use Rattle.std.proofs.Common.{◌≡◌, ◌≢◌, ℕ, ◌<◌, ◌&&◌, ◌==◌, Bool, true, false, List, [], ◌∷◌, length, get_or, ℤ, Option, Some, None, zero, suc, is_some, refl, ap, sym, ◌∙◌, arith}
+use Rattle.std.proofs.Common.{◌≡◌, ◌≢◌, ℕ, ◌<◌, ◌&&◌, ◌==◌, Bool, true, false, List, [], ◌∷◌, length, get_or, ℤ}
+use Rattle.std.proofs.Common.{Option, Some, None, zero, suc, is_some, refl, ap, sym, ◌∙◌, arith}
 use Rattle.std.proofs.Math.Bool.{and-false}
 use Rattle.std.proofs.lemmas.Bool.Decides.{nat_tests}
 use Rattle.std.specs.List.{list_all, filter_map}
@@ -60,14 +61,16 @@ no_array (datetime t) e = refl
 no_array (array ds) e = absurd (cc e)
 no_array (table ms) e = refl
 
-not_all : (vs : List Value) (k : ℕ) (v : Value) → k < length vs → v ≡ get_or vs k v → None ≡ as_integer (view v) → list_all is_whole (listed (items_view vs)) ≡ false
+not_all : (vs : List Value) (k : ℕ) (v : Value) → k < length vs → v ≡ get_or vs k v → None ≡ as_integer (view v)
+    → list_all is_whole (listed (items_view vs)) ≡ false
 unfolding is_whole
 not_all [] k v lt at e = absurd (omega (arith, lt))
 not_all (u ∷ vs) zero v lt at e = let none : as_integer (view u) ≡ None = rw at at (sym e) in rw none
 not_all (u ∷ vs) (suc k) v lt at e = rw (not_all vs k v (omega (arith, lt)) at e) (and-false (is_some (as_integer (view u))))
 
 -- nor is an array with an item of another type
-pub not_whole : (vs : List Value) (k : ℕ) (v : Value) → k < length vs → v ≡ get_or vs k v → None ≡ as_integer (view v) → is_triple (array (items_view vs)) ≡ false
+pub not_whole : (vs : List Value) (k : ℕ) (v : Value) → k < length vs → v ≡ get_or vs k v
+    → None ≡ as_integer (view v) → is_triple (array (items_view vs)) ≡ false
 unfolding is_triple is_list numbers_of
 not_whole vs k v lt at e = rw (not_all vs k v lt at e)
 

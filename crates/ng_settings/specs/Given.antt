@@ -33,13 +33,29 @@ has_other_type found =
 
 -- the whole numbers of the values that were found
 abbrev pub numbers_found : KeyValues → Numbers
-numbers_found found = record { steps = numbers_of (view found.steps.now); lows = numbers_of (view found.lows.now); highs = numbers_of (view found.highs.now); traverse = numbers_of (view found.traverse.now); period = numbers_of (view found.period.now); tools = numbers_of (view found.tools.now) }
+numbers_found found = record {
+  steps = numbers_of (view found.steps.now);
+  lows = numbers_of (view found.lows.now);
+  highs = numbers_of (view found.highs.now);
+  traverse = numbers_of (view found.traverse.now);
+  period =
+      numbers_of (view found.period.now);
+  tools = numbers_of (view found.tools.now);
+}
 
 abbrev pub three : PerAxis → List ℤ
 three triple = triple.x ∷ triple.y ∷ triple.z ∷ []
 
 abbrev pub numbers_given : SettingNumbers → Numbers
-numbers_given given = record { steps = three given.steps; lows = three given.lows; highs = three given.highs; traverse = given.traverse ∷ []; period = given.period ∷ []; tools = filter_map as_integer (listed (array_view given.tools.now)) }
+numbers_given given = record {
+  steps = three given.steps;
+  lows = three given.lows;
+  highs = three given.highs;
+  traverse = given.traverse ∷ [];
+  period = given.period ∷ [];
+  tools =
+      filter_map as_integer (listed (array_view given.tools.now));
+}
 
 -- the numbers of settings
 abbrev pub numbers_set : Settings → Numbers

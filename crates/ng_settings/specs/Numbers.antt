@@ -42,4 +42,12 @@ pub record Numbers : Type 0 where
   pub tools : List ℤ
 
 abbrev pub numbers_in : Members → Numbers
-numbers_in table = record { steps = numbers_at step_nm table; lows = numbers_at low_nm table; highs = numbers_at high_nm table; traverse = numbers_at traverse_nm_per_min table; period = numbers_at period_us table; tools = numbers_at tools_nm table }
+numbers_in table = record {
+  steps = numbers_at step_nm table;
+  lows = numbers_at low_nm table;
+  highs =
+      numbers_at high_nm table;
+  traverse = numbers_at traverse_nm_per_min table;
+  period = numbers_at period_us table;
+  tools = numbers_at tools_nm table;
+}

@@ -1,3 +1,4 @@
+//! A machine's settings, and the standard ones.
 use ng_canon::Geometry;
 use ng_num::Len;
 use ng_offsets::Tools;

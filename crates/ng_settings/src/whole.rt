@@ -1,3 +1,4 @@
+//! Whole numbers as TOML holds them.
 ghost use Rattle.std.specs.Prelude.{◌≡◌};
 ghost use Rattle.ng_settings.specs.Causes.{is_beyond};
 

@@ -15,7 +15,26 @@ use Rattle.ng_state.specs.declared.modes.Retract.TheVariants.{OldZ}
 use Rattle.ng_state.specs.declared.modes.PathMode.TheVariants.{Continuous}
 
 abbrev pub fresh_modes : Modes
-fresh_modes = record { motion = Off; plane = Xy; distance = Absolute; feed_mode = PerMinute; unit = Millimetres; retract = OldZ; system = 1; path = Continuous; overrides = true }
+fresh_modes = record {
+  motion = Off;
+  plane = Xy;
+  distance = Absolute;
+  feed_mode = PerMinute;
+  unit = Millimetres;
+  retract = OldZ;
+  system = 1;
+  path = Continuous;
+  overrides = true;
+}
 
 abbrev pub fresh_modal_state : ModalState
-fresh_modal_state = record { modes = fresh_modes; feed_per_min = pos 0; outputs = fresh_outputs; offsets = no_offsets; kept = no_words; point = zero_point; point_known = true }
+fresh_modal_state = record {
+  modes = fresh_modes;
+  feed_per_min = pos 0;
+  outputs = fresh_outputs;
+  offsets =
+      no_offsets;
+  kept = no_words;
+  point = zero_point;
+  point_known = true;
+}

@@ -1,5 +1,6 @@
 -- An arc's steps come to an end, are the only ones, and stay near the circle.
-use Rattle.std.proofs.Common.{arith, ℕ, zero, suc, ◌+◌, ◌-◌, ◌*◌, ◌<◌, ◌≤◌, ◌≡◌, ◌⊎◌, inl, inr, refl, sym, ◌∙◌, subst, pos, neg_ℤ, ◌-ℤ◌, Bool, true, false, List, [], ◌∷◌, length}
+use Rattle.std.proofs.Common.{arith, ℕ, zero, suc, ◌+◌, ◌-◌, ◌*◌, ◌<◌, ◌≤◌, ◌≡◌, ◌⊎◌, inl, inr, refl, sym, ◌∙◌}
+use Rattle.std.proofs.Common.{subst, pos, neg_ℤ, ◌-ℤ◌, Bool, true, false, List, [], ◌∷◌, length}
 use Rattle.std.proofs.lemmas.Int.{ints}
 use Rattle.std.proofs.lemmas.Bool.{cases_lt}
 use Rattle.std.proofs.lemmas.List.Elements.{All-nil, All-cons, All-head, All-tail}
@@ -8,12 +9,16 @@ use Rattle.ng_canon.specs.declared.quadrant.Quadrant.{Quadrant}
 use Rattle.ng_canon.specs.declared.quadrant.Quadrant.TheVariants.{First, Second, Third, Fourth}
 use Rattle.ng_step.specs.declared.quadrant.PlaneStep.{PlaneStep}
 use Rattle.ng_canon.specs.Quadrants.{quadrant_after, same_quadrant}
-use Rattle.ng_step.specs.Arcs.{excess, step_at, moved, next_spot, left_after, larger, stops, IsArc, plane_steps_within, spots, IsAtMostInSize, IsNearCircle, reach, most_steps, HasSteps, IsLargeArc}
+use Rattle.ng_step.specs.Arcs.{excess, step_at, moved, next_spot, left_after, larger, stops, IsArc}
+use Rattle.ng_step.specs.Arcs.{plane_steps_within, spots, IsAtMostInSize, IsNearCircle, reach, most_steps, HasSteps}
+use Rattle.ng_step.specs.Arcs.{IsLargeArc}
 use Rattle.ng_step.specs.declared.circle.Circle.{Circle}
 use Rattle.ng_canon.specs.declared.plane_point.PlanePoint.{PlanePoint}
 use Rattle.ng_step.specs.Turned.{point_of_quadrant, in_step, out_step, norm, Sound, Roomy, room, budget}
 use Rattle.ng_step.proofs.TurnLemmas.{Below, below_outward, below_inward, below_crossing, sound_outward, sound_inward, sound_crossing}
-use Rattle.ng_step.proofs.PlaceLemmas.{quadrant-place, excess-place, moved_inward, moved_crossing, moved_outward, next_outside, next_inside, in_step_le, same_quadrant-self, same_quadrant-quadrant_after, placed}
+use Rattle.ng_step.proofs.PlaceLemmas.{quadrant-place, excess-place, moved_inward, moved_crossing, moved_outward}
+use Rattle.ng_step.proofs.PlaceLemmas.{next_outside, next_inside, in_step_le, same_quadrant-self}
+use Rattle.ng_step.proofs.PlaceLemmas.{same_quadrant-quadrant_after, placed}
 
 -- where a step leads
 pub record Onward (c : Circle) (radius k : ℕ) (q : Quadrant) (i o : ℕ) : Type 0 where
@@ -37,7 +42,8 @@ onward_outward : (c : Circle) (radius k : ℕ) (q : Quadrant) (i o : ℕ) → Ha
 onward_outward c radius k q i o has roomy sound inside =
     let some = in_step_some c (quadrant_after q) has in
     let small : out_step c q ≤ larger c = in_step_le c (quadrant_after q) in
-    let after : Sound c.square radius (larger c) k i (o + out_step c q) = sound_outward c.square radius (larger c) k i o (out_step c q) roomy inside small sound in
+    let after : Sound c.square radius (larger c) k i (o + out_step c q) = sound_outward c.square radius (larger c) k
+    i o (out_step c q) roomy inside small sound in
     let less : room k i (o + out_step c q) < room k i o = omega (arith, after.outer) in
     record {
       q' = q;
@@ -123,7 +129,8 @@ IsArc_step c e left p true ms is h = rw is refl
 IsArc_step c e left p false ms is h = (is, refl, h refl)
 
 pub arc_complete : (c : Circle) (e : PlanePoint) (radius k : ℕ) → HasSteps c → Roomy c.square radius (larger c) k → (fuel left : ℕ) (q : Quadrant) (i o : ℕ)
-    → Sound c.square radius (larger c) k i o → budget k left i o ≤ fuel → IsArc c e left (point_of_quadrant q i o) (plane_steps_within fuel c e left (point_of_quadrant q i o))
+    → Sound c.square radius (larger c) k i o → budget k left i o ≤ fuel
+    → IsArc c e left (point_of_quadrant q i o) (plane_steps_within fuel c e left (point_of_quadrant q i o))
 arc_complete c e radius k has roomy zero left q i o sound enough = absurd (omega (arith, sound.some))
 arc_complete c e radius k has roomy (suc fuel) left q i o sound enough =
     let n = onward c radius k q i o has roomy sound in
@@ -190,19 +197,24 @@ next_is : (c : Circle) (p : PlanePoint) (m : PlaneStep) (x : PlanePoint) → m �
 unfolding next_spot
 next_is c p m x e h = rw e h
 
-pub near_circle : (c : Circle) (e : PlanePoint) (radius k : ℕ) → HasSteps c → Roomy c.square radius (larger c) k → (w f0 left : ℕ) (q : Quadrant) (i o : ℕ) (ms : List PlaneStep)
+pub near_circle : (c : Circle) (e : PlanePoint) (radius k : ℕ) → HasSteps c → Roomy c.square radius (larger c) k
+    → (w f0 left : ℕ) (q : Quadrant) (i o : ℕ) (ms : List PlaneStep)
     → Sound c.square radius (larger c) k i o → Below c.square (2 * (larger c * w) + f0) (larger c) i o
-    → IsArc c e left (point_of_quadrant q i o) ms → All (IsAtMostInSize w) (spots c (point_of_quadrant q i o) ms) → All (NearBy c w f0) (spots c (point_of_quadrant q i o) ms)
+    → IsArc c e left (point_of_quadrant q i o) ms → All (IsAtMostInSize w) (spots c (point_of_quadrant q i o) ms)
+    → All (NearBy c w f0) (spots c (point_of_quadrant q i o) ms)
 near_circle c e radius k has roomy w f0 left q i o [] sound below walk within =
     All-cons (NearBy c w f0) (point_of_quadrant q i o) [] (near_place c q i o w f0 below) (All-nil (NearBy c w f0))
 near_circle c e radius k has roomy w f0 left q i o (m ∷ ms) sound below walk within =
     let n = onward c radius k q i o has roomy sound in
     let to : moved c m (point_of_quadrant q i o) ≡ point_of_quadrant n.q' n.i' n.o' = next_is c (point_of_quadrant q i o) m _ walk.1 n.is in
     let here = sizes_place w q i o (All-head (IsAtMostInSize w) (point_of_quadrant q i o) _ within) in
-    let rest : All (IsAtMostInSize w) (spots c (point_of_quadrant n.q' n.i' n.o') ms) = subst (λ (x : PlanePoint). All (IsAtMostInSize w) (spots c x ms)) to (All-tail (IsAtMostInSize w) (point_of_quadrant q i o) _ within) in
+    let rest : All (IsAtMostInSize w) (spots c (point_of_quadrant n.q' n.i' n.o') ms) =
+    subst (λ (x : PlanePoint). All (IsAtMostInSize w) (spots c x ms)) to
+    (All-tail (IsAtMostInSize w) (point_of_quadrant q i o) _ within) in
     let there = sizes_place w n.q' n.i' n.o' (first_within w c (point_of_quadrant n.q' n.i' n.o') ms rest) in
     let walk' : IsArc c e (left_after c left (point_of_quadrant q i o)) (point_of_quadrant n.q' n.i' n.o') ms = rw n.is at walk.2 in
-    let others = near_circle c e radius k has roomy w f0 (left_after c left (point_of_quadrant q i o)) n.q' n.i' n.o' ms n.sound (n.below w f0 here.0 here.1 there.0 there.1 below) walk' rest in
+    let others = near_circle c e radius k has roomy w f0 (left_after c left (point_of_quadrant q i o)) n.q' n.i'
+    n.o' ms n.sound (n.below w f0 here.0 here.1 there.0 there.1 below) walk' rest in
     All-cons (NearBy c w f0) (point_of_quadrant q i o) _ (near_place c q i o w f0 below)
     (subst (λ (x : PlanePoint). All (NearBy c w f0) (spots c x ms)) (sym to) others)
 
@@ -226,7 +238,8 @@ is_arc_of c e radius left q i o arc some =
     let k = reach radius c (point_of_quadrant q i o) in
     let sizes = sizes_le q i o in
     let sound = sound_of c radius q i o some in
-    arc_complete c e radius k arc.has (roomy_of c radius k arc (omega arith)) (most_steps radius c left (point_of_quadrant q i o)) left q i o sound (omega (arith, sound.inner))
+    arc_complete c e radius k arc.has (roomy_of c radius k arc (omega arith))
+    (most_steps radius c left (point_of_quadrant q i o)) left q i o sound (omega (arith, sound.inner))
 
 -- the steps are an arc's
 pub is_arc : (c : Circle) (e : PlanePoint) (radius left : ℕ) (p : PlanePoint) → IsLargeArc c radius → 0 < unsigned_abs p.a + unsigned_abs p.b
@@ -234,9 +247,11 @@ pub is_arc : (c : Circle) (e : PlanePoint) (radius left : ℕ) (p : PlanePoint) 
 is_arc c e radius left p arc some =
     let at = placed p.a p.b some in
     let is : p ≡ point_of_quadrant at.q at.i at.o = at.is in
-    subst (λ (x : PlanePoint). IsArc c e left x (plane_steps_within (most_steps radius c left x) c e left x)) (sym is) (is_arc_of c e radius left at.q at.i at.o arc at.some)
+    subst (λ (x : PlanePoint). IsArc c e left x (plane_steps_within (most_steps radius c left x) c e left x))
+    (sym is) (is_arc_of c e radius left at.q at.i at.o arc at.some)
 
-below_first : (c : Circle) (w : ℕ) (q : Quadrant) (i o : ℕ) → Below c.square (2 * (larger c * w) + unsigned_abs (excess c (point_of_quadrant q i o))) (larger c) i o
+below_first : (c : Circle) (w : ℕ) (q : Quadrant) (i o : ℕ)
+    → Below c.square (2 * (larger c * w) + unsigned_abs (excess c (point_of_quadrant q i o))) (larger c) i o
 below_first c w q i o = rw excess-place (between (norm i o) c.square (2 * (larger c * w)) (larger c) i o refl)
   where
     between : (m n b s i o : ℕ) → m ≡ norm i o → Below n (b + unsigned_abs (pos m -ℤ pos n)) s i o
@@ -246,14 +261,16 @@ below_first c w q i o = rw excess-place (between (norm i o) c.square (2 * (large
         record { upper = inl (omega arith); lower = omega arith }
 
 -- and they stay near the circle
-pub is_near_circle : (c : Circle) (e : PlanePoint) (radius left : ℕ) (p : PlanePoint) (ms : List PlaneStep) → IsLargeArc c radius → 0 < unsigned_abs p.a + unsigned_abs p.b
+pub is_near_circle : (c : Circle) (e : PlanePoint) (radius left : ℕ) (p : PlanePoint) (ms : List PlaneStep)
+    → IsLargeArc c radius → 0 < unsigned_abs p.a + unsigned_abs p.b
     → IsArc c e left p ms → IsNearCircle c p ms
 is_near_circle c e radius left p ms arc some walk =
     let at = placed p.a p.b some in
     let is : p ≡ point_of_quadrant at.q at.i at.o = at.is in
     let k = reach radius c (point_of_quadrant at.q at.i at.o) in
     subst (λ (x : PlanePoint). IsNearCircle c x ms) (sym is) (λ w within.
-    near_circle c e radius k arc.has (roomy_of c radius k arc (omega arith)) w (unsigned_abs (excess c (point_of_quadrant at.q at.i at.o))) left at.q at.i at.o ms
+    near_circle c e radius k arc.has (roomy_of c radius k arc (omega arith)) w
+    (unsigned_abs (excess c (point_of_quadrant at.q at.i at.o))) left at.q at.i at.o ms
     (sound_of c radius at.q at.i at.o at.some) (below_first c w at.q at.i at.o) (rw is at walk) within)
 
 pub larger_some : (c : Circle) → HasSteps c → 0 < larger c

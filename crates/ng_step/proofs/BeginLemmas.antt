@@ -22,7 +22,8 @@ pub record Starts (q : Quadrant) (i o : ℕ) (p : PlanePoint) : Type 0 where
   pub some : 0 < i
   pub is : point_of_quadrant q i o ≡ p
 
-upright : (q : Quadrant) (i o n m : ℕ) → (q ≡ First) ⊎ (q ≡ Third) → n ≡ unsigned_abs (point_of_quadrant q i o).a → m ≡ unsigned_abs (point_of_quadrant q i o).b → (n ≡ i) × (m ≡ o)
+upright : (q : Quadrant) (i o n m : ℕ) → (q ≡ First) ⊎ (q ≡ Third) → n ≡ unsigned_abs (point_of_quadrant q i o).a
+    → m ≡ unsigned_abs (point_of_quadrant q i o).b → (n ≡ i) × (m ≡ o)
 upright First i o n m h e f = (e, f)
 upright Second i o n m (inl h) e f = absurd (cc)
 upright Second i o n m (inr h) e f = absurd (cc)
@@ -30,7 +31,8 @@ upright Third i o n m h e f = (e ∙ abs_neg i, f ∙ abs_neg o)
 upright Fourth i o n m (inl h) e f = absurd (cc)
 upright Fourth i o n m (inr h) e f = absurd (cc)
 
-lying : (q : Quadrant) (i o n m : ℕ) → (q ≡ Second) ⊎ (q ≡ Fourth) → n ≡ unsigned_abs (point_of_quadrant q i o).a → m ≡ unsigned_abs (point_of_quadrant q i o).b → (m ≡ i) × (n ≡ o)
+lying : (q : Quadrant) (i o n m : ℕ) → (q ≡ Second) ⊎ (q ≡ Fourth) → n ≡ unsigned_abs (point_of_quadrant q i o).a
+    → m ≡ unsigned_abs (point_of_quadrant q i o).b → (m ≡ i) × (n ≡ o)
 lying First i o n m (inl h) e f = absurd (cc)
 lying First i o n m (inr h) e f = absurd (cc)
 lying Second i o n m h e f = (f, e ∙ abs_neg o)
@@ -44,7 +46,8 @@ starts_upright p q n m some is h e f =
     let at = placed p.a p.b some in
     let here : p ≡ point_of_quadrant at.q at.i at.o = at.is in
     let same : q ≡ at.q = is ∙ ap quadrant here ∙ quadrant-place at.q at.i at.o at.some in
-    let sizes = upright at.q at.i at.o n m (rw same at h) (e ∙ ap (λ (x : PlanePoint). unsigned_abs x.a) here) (f ∙ ap (λ (x : PlanePoint). unsigned_abs x.b) here) in
+    let sizes = upright at.q at.i at.o n m (rw same at h) (e ∙ ap (λ (x : PlanePoint). unsigned_abs x.a) here)
+    (f ∙ ap (λ (x : PlanePoint). unsigned_abs x.b) here) in
     record { some = rw sizes.0 at.some; is = rw (same, sizes.0, sizes.1) (sym here) }
 
 pub starts_lying : (p : PlanePoint) (q : Quadrant) (n m : ℕ) → 0 < unsigned_abs p.a + unsigned_abs p.b → q ≡ quadrant p → (q ≡ Second) ⊎ (q ≡ Fourth)
@@ -53,7 +56,8 @@ starts_lying p q n m some is h e f =
     let at = placed p.a p.b some in
     let here : p ≡ point_of_quadrant at.q at.i at.o = at.is in
     let same : q ≡ at.q = is ∙ ap quadrant here ∙ quadrant-place at.q at.i at.o at.some in
-    let sizes = lying at.q at.i at.o n m (rw same at h) (e ∙ ap (λ (x : PlanePoint). unsigned_abs x.a) here) (f ∙ ap (λ (x : PlanePoint). unsigned_abs x.b) here) in
+    let sizes = lying at.q at.i at.o n m (rw same at h) (e ∙ ap (λ (x : PlanePoint). unsigned_abs x.a) here)
+    (f ∙ ap (λ (x : PlanePoint). unsigned_abs x.b) here) in
     record { some = rw sizes.0 at.some; is = rw (same, sizes.0, sizes.1) (sym here) }
 
 pub size_kept : (z : ℤ) (n : ℕ) → unsigned_abs z ≤ 2 ^ 48 → n ≡ unsigned_abs (to_z w64 (of_z w64 z)) → n ≡ unsigned_abs z

@@ -21,8 +21,10 @@ pub from_centre_is : (arc : Arc) (a b x y z m : ℤ) → x ≡ a -ℤ arc.centre
     → let p : PlanePoint = record { a = x; b = y } in p ≡ from_centre arc a b
 from_centre_is arc a b x y z m ea ey ez em = rw (ea, ey, ez, em) refl
 
-pub centred_is : (g : Geometry) (arc : Arc) (start end from : PlanePoint) (sa sb square : ℕ) → start ≡ programmed arc arc.start → sa ≡ step_a g arc.plane → sb ≡ step_b g arc.plane
-    → square ≡ unsigned_abs start.a * unsigned_abs start.a + unsigned_abs start.b * unsigned_abs start.b → end ≡ programmed arc arc.end → from ≡ rounded_start arc sa sb
+pub centred_is : (g : Geometry) (arc : Arc) (start end from : PlanePoint) (sa sb square : ℕ)
+    → start ≡ programmed arc arc.start → sa ≡ step_a g arc.plane → sb ≡ step_b g arc.plane
+    → square ≡ unsigned_abs start.a * unsigned_abs start.a + unsigned_abs start.b * unsigned_abs start.b
+    → end ≡ programmed arc arc.end → from ≡ rounded_start arc sa sb
     → let c : CentredArc = record {
       frame = record { plane = arc.plane; turn = arc.turn };
       circle = record { step_a = sa; step_b = sb; square = square };
@@ -51,17 +53,23 @@ of_third_small Xz d m h = h.y
 of_third_small Yz d m h = h.x
 
 -- the closing line from the distances of the code
-pub of_a_kept : (plane : Plane) (d : Distances) (r : ℤ) → AreSized d (2 ^ 50) → r ≡ pick_a plane (to_z w64 (of_z w64 d.x)) (to_z w64 (of_z w64 d.y)) (to_z w64 (of_z w64 d.z)) → r ≡ pick_a plane d.x d.y d.z
+pub of_a_kept : (plane : Plane) (d : Distances) (r : ℤ) → AreSized d (2 ^ 50)
+    → r ≡ pick_a plane (to_z w64 (of_z w64 d.x)) (to_z w64 (of_z w64 d.y)) (to_z w64 (of_z w64 d.z))
+    → r ≡ pick_a plane d.x d.y d.z
 of_a_kept Xy d r h e = e ∙ stored d.x (omega (arith, h.x))
 of_a_kept Xz d r h e = e ∙ stored d.z (omega (arith, h.z))
 of_a_kept Yz d r h e = e ∙ stored d.y (omega (arith, h.y))
 
-pub of_b_kept : (plane : Plane) (d : Distances) (r : ℤ) → AreSized d (2 ^ 50) → r ≡ pick_b plane (to_z w64 (of_z w64 d.x)) (to_z w64 (of_z w64 d.y)) (to_z w64 (of_z w64 d.z)) → r ≡ pick_b plane d.x d.y d.z
+pub of_b_kept : (plane : Plane) (d : Distances) (r : ℤ) → AreSized d (2 ^ 50)
+    → r ≡ pick_b plane (to_z w64 (of_z w64 d.x)) (to_z w64 (of_z w64 d.y)) (to_z w64 (of_z w64 d.z))
+    → r ≡ pick_b plane d.x d.y d.z
 of_b_kept Xy d r h e = e ∙ stored d.y (omega (arith, h.y))
 of_b_kept Xz d r h e = e ∙ stored d.x (omega (arith, h.x))
 of_b_kept Yz d r h e = e ∙ stored d.z (omega (arith, h.z))
 
-pub of_third_kept : (plane : Plane) (d : Distances) (r : ℤ) → AreSized d (2 ^ 50) → r ≡ of_third plane (to_z w64 (of_z w64 d.x)) (to_z w64 (of_z w64 d.y)) (to_z w64 (of_z w64 d.z)) → r ≡ of_third plane d.x d.y d.z
+pub of_third_kept : (plane : Plane) (d : Distances) (r : ℤ) → AreSized d (2 ^ 50)
+    → r ≡ of_third plane (to_z w64 (of_z w64 d.x)) (to_z w64 (of_z w64 d.y)) (to_z w64 (of_z w64 d.z))
+    → r ≡ of_third plane d.x d.y d.z
 of_third_kept Xy d r h e = e ∙ stored d.z (omega (arith, h.z))
 of_third_kept Xz d r h e = e ∙ stored d.y (omega (arith, h.y))
 of_third_kept Yz d r h e = e ∙ stored d.x (omega (arith, h.x))
@@ -69,6 +77,7 @@ of_third_kept Yz d r h e = e ∙ stored d.x (omega (arith, h.x))
 abbrev pub placed : Plane → ℤ → ℤ → Distances
 placed q a b = record { x = at_x q a b (pos 0); y = at_y q a b (pos 0); z = at_z q a b (pos 0) }
 
-pub closing_at : (q : Plane) (frame : Frame) (d : Distances) (net_a net_b a b ra rb rm : ℤ) → frame.plane ≡ q → ra ≡ pick_a frame.plane d.x d.y d.z → rb ≡ pick_b frame.plane d.x d.y d.z
+pub closing_at : (q : Plane) (frame : Frame) (d : Distances) (net_a net_b a b ra rb rm : ℤ) → frame.plane ≡ q
+    → ra ≡ pick_a frame.plane d.x d.y d.z → rb ≡ pick_b frame.plane d.x d.y d.z
     → rm ≡ mirrored frame.turn net_b → a ≡ ra -ℤ net_a → b ≡ rb -ℤ rm → placed q a b ≡ closing_after frame d net_a net_b
 closing_at q frame d net_a net_b a b ra rb rm is fa fb fm ea eb = ap (λ p. placed p a b) (sym is) ∙ rw (ea, eb, fa, fb, fm) refl

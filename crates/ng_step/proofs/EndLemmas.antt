@@ -1,5 +1,6 @@
 -- A segment's items lead from its rounded start to its rounded end.
-use Rattle.std.proofs.Common.{arith, ℕ, zero, suc, ◌+◌, ◌-◌, ◌<◌, ◌≤◌, ◌≡◌, inl, inr, refl, sym, ap, ◌∙◌, ℤ, pos, negsuc, neg_ℤ, ◌+ℤ◌, ◌-ℤ◌, Bool, true, false, max, List, [], ◌∷◌, ◌++◌, map, length}
+use Rattle.std.proofs.Common.{arith, ℕ, zero, suc, ◌+◌, ◌-◌, ◌<◌, ◌≤◌, ◌≡◌, inl, inr, refl, sym, ap, ◌∙◌, ℤ, pos}
+use Rattle.std.proofs.Common.{negsuc, neg_ℤ, ◌+ℤ◌, ◌-ℤ◌, Bool, true, false, max, List, [], ◌∷◌, ◌++◌, map, length}
 use Rattle.std.proofs.lemmas.Int.{ints}
 use Rattle.std.proofs.lemmas.Bool.{cases_lt}
 use Rattle.std.proofs.lemmas.List.{map-append}
@@ -51,7 +52,8 @@ at_most_largest d = record { x = omega arith; y = omega arith; z = omega arith }
 pub difference_is : (a d : ℤ) → (a +ℤ d) -ℤ a ≡ d
 difference_is a d = omega (arith, ints)
 
-pub axis_moves : (n k : ℕ) (a d : ℤ) → 0 < n → unsigned_abs d ≤ n → point_on_line n a (a +ℤ d) k +ℤ step_value (line_step n d k) ≡ point_on_line n a (a +ℤ d) (k + 1)
+pub axis_moves : (n k : ℕ) (a d : ℤ) → 0 < n → unsigned_abs d ≤ n
+    → point_on_line n a (a +ℤ d) k +ℤ step_value (line_step n d k) ≡ point_on_line n a (a +ℤ d) (k + 1)
 axis_moves n k a d some le =
     let e : (a +ℤ d) -ℤ a ≡ d = difference_is a d in
     let le' : unsigned_abs ((a +ℤ d) -ℤ a) ≤ n = rw e le in
@@ -59,11 +61,13 @@ axis_moves n k a d some le =
     point_on_line-step n k a (a +ℤ d) some le' ∙ ap (λ x. point_on_line n a (a +ℤ d) k +ℤ step_value (line_step n x k)) e in
     sym step
 
-pub line_moves : (us n k : ℕ) (p d : Distances) → 0 < n → AreAtMost d n → moved_by (pulse_item us (line_pulse n d k)) (line_point n p d k) ≡ line_point n p d (k + 1)
+pub line_moves : (us n k : ℕ) (p d : Distances) → 0 < n → AreAtMost d n
+    → moved_by (pulse_item us (line_pulse n d k)) (line_point n p d k) ≡ line_point n p d (k + 1)
 line_moves us n k p d some le =
     distances_same _ _ _ _ _ _ (axis_moves n k p.x d.x some le.x) (axis_moves n k p.y d.y some le.y) (axis_moves n k p.z d.z some le.z)
 
-line_stands : (us n : ℕ) (p d : Distances) (left : ℕ) → 0 < n → AreAtMost d n → left ≤ n → stands_after (map (pulse_item us) (line_from n d left)) (line_point n p d (n - left)) ≡ line_point n p d n
+line_stands : (us n : ℕ) (p d : Distances) (left : ℕ) → 0 < n → AreAtMost d n → left ≤ n
+    → stands_after (map (pulse_item us) (line_from n d left)) (line_point n p d (n - left)) ≡ line_point n p d n
 line_stands us n p d zero some le small = let e : n - 0 ≡ n = omega arith in ap (line_point n p d) e
 line_stands us n p d (suc left) some le small =
     let e : n - suc left + 1 ≡ n - left = omega arith in
@@ -73,7 +77,8 @@ line_stands us n p d (suc left) some le small =
 pub line_point_none : (n : ℕ) (p d : Distances) → 0 < n → line_point n p d (n - n) ≡ p
 line_point_none n p d some =
     let e : n - n ≡ 0 = omega arith in
-    ap (line_point n p d) e ∙ distances_same _ _ _ p.x p.y p.z (line_at_none n p.x (p.x +ℤ d.x) some) (line_at_none n p.y (p.y +ℤ d.y) some) (line_at_none n p.z (p.z +ℤ d.z) some)
+    ap (line_point n p d) e ∙ distances_same _ _ _ p.x p.y p.z (line_at_none n p.x (p.x +ℤ d.x) some)
+    (line_at_none n p.y (p.y +ℤ d.y) some) (line_at_none n p.z (p.z +ℤ d.z) some)
 
 line_point_all : (n : ℕ) (p d : Distances) → 0 < n → line_point n p d n ≡ moved p d
 line_point_all n p d some =
@@ -102,7 +107,9 @@ line_leads us p d = elim (cases_lt 0 (largest d)) [
 abbrev pub placed : Plane → ℤ → ℤ → ℤ → Distances
 placed plane a b third = record { x = at_x plane a b third; y = at_y plane a b third; z = at_z plane a b third }
 
-move_placed : (us : ℕ) (plane : Plane) (a b third : AxisStep) (p : Distances) → moved_by (pulse_item us (pulse_of plane a b third)) p ≡ moved p (placed plane (step_value a) (step_value b) (step_value third))
+move_placed : (us : ℕ) (plane : Plane) (a b third : AxisStep) (p : Distances)
+    → moved_by (pulse_item us (pulse_of plane a b third)) p ≡ moved p
+    (placed plane (step_value a) (step_value b) (step_value third))
 move_placed us Xy a b third p = refl
 move_placed us Xz a b third p = refl
 move_placed us Yz a b third p = refl
@@ -110,7 +117,9 @@ move_placed us Yz a b third p = refl
 add_once : (x y z : ℤ) → (x +ℤ y) +ℤ z ≡ x +ℤ (y +ℤ z)
 add_once x y z = omega (arith, ints)
 
-pub add_placed : (plane : Plane) (p : Distances) (a b t a' b' t' : ℤ) → moved (moved p (placed plane a b t)) (placed plane a' b' t') ≡ moved p (placed plane (a +ℤ a') (b +ℤ b') (t +ℤ t'))
+pub add_placed : (plane : Plane) (p : Distances) (a b t a' b' t' : ℤ)
+    → moved (moved p (placed plane a b t)) (placed plane a' b' t') ≡ moved p
+    (placed plane (a +ℤ a') (b +ℤ b') (t +ℤ t'))
 add_placed Xy p a b t a' b' t' = distances_same _ _ _ _ _ _ (add_once p.x a a') (add_once p.y b b') (add_once p.z t t')
 add_placed Xz p a b t a' b' t' = distances_same _ _ _ _ _ _ (add_once p.x b b') (add_once p.y t t') (add_once p.z a a')
 add_placed Yz p a b t a' b' t' = distances_same _ _ _ _ _ _ (add_once p.x t t') (add_once p.y a a') (add_once p.z b b')
@@ -145,7 +154,8 @@ pub with_placed : (us : ℕ) (frame : Frame) (m : PlaneStep) (third : AxisStep) 
     → moved_by (pulse_item us (pulse_with frame m third)) p ≡ moved p (placed frame.plane (along_a m) (mirrored frame.turn (along_b m)) (step_value third))
 with_placed us frame m third p =
     move_placed us frame.plane (on_a m) (mirrored_step frame.turn (on_b m)) third p
-    ∙ ap (λ b. moved p (placed frame.plane (step_value (on_a m)) b (step_value third))) (mirrored_value frame.turn (on_b m) ∙ ap (mirrored frame.turn) (value_b m))
+    ∙ ap (λ b. moved p (placed frame.plane (step_value (on_a m)) b (step_value third)))
+    (mirrored_value frame.turn (on_b m) ∙ ap (mirrored frame.turn) (value_b m))
     ∙ ap (λ a. moved p (placed frame.plane a (mirrored frame.turn (along_b m)) (step_value third))) (value_a m)
 
 pub without_placed : (us : ℕ) (frame : Frame) (third : AxisStep) (p : Distances)
@@ -162,7 +172,8 @@ pub record Takes (us : ℕ) (frame : Frame) (ms : List PlaneStep) (third : AxisS
   pub net_b : b +ℤ net_b (taken made_step ms) ≡ net_b ms
   pub rest : length (taken made_step ms) ≡ left
 
-takes : (us : ℕ) (frame : Frame) (ms : List PlaneStep) (third : AxisStep) (p : Distances) (count before after : ℕ) → before ≤ after → after ≤ before + 1 → after ≤ count
+takes : (us : ℕ) (frame : Frame) (ms : List PlaneStep) (third : AxisStep) (p : Distances) (count before after : ℕ)
+    → before ≤ after → after ≤ before + 1 → after ≤ count
     → length ms ≡ count - before → Takes us frame ms third (step_toward true (after - before)) p (count - after)
 takes us frame ms third p count before after le more most len = elim (cases_lt before after) [
   | inl step ↦ (let one : after - before ≡ 1 = omega arith in rw one (stepping us frame ms third p count before after (omega arith) most len))
@@ -176,7 +187,8 @@ takes us frame ms third p count before after le more most len = elim (cases_lt b
   }))
 ]
   where
-    stepping : (us : ℕ) (frame : Frame) (ms : List PlaneStep) (third : AxisStep) (p : Distances) (count before after : ℕ) → after ≡ before + 1 → after ≤ count → length ms ≡ count - before
+    stepping : (us : ℕ) (frame : Frame) (ms : List PlaneStep) (third : AxisStep) (p : Distances)
+        (count before after : ℕ) → after ≡ before + 1 → after ≤ count → length ms ≡ count - before
         → Takes us frame ms third (step_toward true 1) p (count - after)
     stepping us frame [] third p count before after is most len = absurd (omega arith)
     stepping us frame (m ∷ ms) third p count before after is most len = record {
@@ -221,12 +233,15 @@ reaches_none frame [] p third len none = rw (none, mirrored_none frame.turn) (st
     stays Yz p = distances_same p.x p.y p.z _ _ _ (omega (arith, ints)) (omega (arith, ints)) (omega (arith, ints))
 reaches_none frame (m ∷ ms) p third len none = absurd (omega arith)
 
-pub placed_same : (plane : Plane) (p : Distances) (a a' b b' t t' : ℤ) → a ≡ a' → b ≡ b' → t ≡ t' → moved p (placed plane a b t) ≡ moved p (placed plane a' b' t')
+pub placed_same : (plane : Plane) (p : Distances) (a a' b b' t t' : ℤ) → a ≡ a' → b ≡ b' → t ≡ t'
+    → moved p (placed plane a b t) ≡ moved p (placed plane a' b' t')
 placed_same plane p a a' b b' t t' e f g = rw (e, f, g) refl
 
-arc_stands : (us : ℕ) (frame : Frame) (n count : ℕ) (forward : Bool) (d : ℕ) (ms : List PlaneStep) (p : Distances) (left : ℕ) → 0 < n → count ≤ n → d ≤ n → left ≤ n
+arc_stands : (us : ℕ) (frame : Frame) (n count : ℕ) (forward : Bool) (d : ℕ) (ms : List PlaneStep) (p : Distances)
+    (left : ℕ) → 0 < n → count ≤ n → d ≤ n → left ≤ n
     → length ms ≡ count - made n count (n - left)
-    → stands_after (map (pulse_item us) (interleaved frame n count forward d ms left)) p ≡ moved p (arc_reaches frame ms (signed forward (d - made n d (n - left))))
+    → stands_after (map (pulse_item us) (interleaved frame n count forward d ms left)) p ≡ moved p
+    (arc_reaches frame ms (signed forward (d - made n d (n - left))))
 unfolding axis_step
 arc_stands us frame n count forward d ms p zero some le_c le_d small len =
     let e : n - 0 ≡ n = omega arith in
@@ -246,10 +261,12 @@ arc_stands us frame n count forward d ms p (suc left) some le_c le_d small len =
     let here = moved p (placed frame.plane t.a (mirrored frame.turn t.b) (step_value (axis_step n forward d k))) in
     let len' : length rest ≡ count - made n count (n - left) = t.rest ∙ ap (λ x. count - made n count x) e in
     let third : step_value (axis_step n forward d k) +ℤ signed forward (d - made n d (n - left)) ≡ signed forward (d - made n d k) =
-    ap (λ x. step_value (axis_step n forward d k) +ℤ signed forward (d - made n d x)) (sym e) ∙ third_moves forward d (made n d k) (made n d (k + 1)) more_d.0 more_d.1 most_d in
+    ap (λ x. step_value (axis_step n forward d k) +ℤ signed forward (d - made n d x)) (sym e)
+    ∙ third_moves forward d (made n d k) (made n d (k + 1)) more_d.0 more_d.1 most_d in
     ap (stands_after (map (pulse_item us) (interleaved frame n count forward d rest left))) t.moves
     ∙ arc_stands us frame n count forward d rest here left some le_c le_d (omega arith) len'
-    ∙ add_placed frame.plane p t.a (mirrored frame.turn t.b) (step_value (axis_step n forward d k)) (net_a rest) (mirrored frame.turn (net_b rest)) (signed forward (d - made n d (n - left)))
+    ∙ add_placed frame.plane p t.a (mirrored frame.turn t.b) (step_value (axis_step n forward d k)) (net_a rest)
+    (mirrored frame.turn (net_b rest)) (signed forward (d - made n d (n - left)))
     ∙ placed_same frame.plane p _ _ _ _ _ _ t.net_a (mirrored_add frame.turn t.b (net_b rest) ∙ ap (mirrored frame.turn) t.net_b) third
 
 signed_is : (z : ℤ) → signed (int_le (pos 0) z) (unsigned_abs z) ≡ z
@@ -257,18 +274,23 @@ signed_is (pos n) = let e : int_le (pos 0) (pos n) ≡ true = grind (arith, ints
 signed_is (negsuc n) = refl
 
 -- an arc's pulses go as far as its steps and those of the third axis
-pub arc_leads : (us : ℕ) (frame : Frame) (ms : List PlaneStep) (third : ℤ) (p : Distances) → stands_after (map (pulse_item us) (arc_pulses frame ms third)) p ≡ moved p (arc_reaches frame ms third)
+pub arc_leads : (us : ℕ) (frame : Frame) (ms : List PlaneStep) (third : ℤ) (p : Distances)
+    → stands_after (map (pulse_item us) (arc_pulses frame ms third)) p ≡ moved p (arc_reaches frame ms third)
 arc_leads us frame ms third p = of_total (max (length ms) (unsigned_abs third)) us frame ms third p refl
   where
     of_total : (n us : ℕ) (frame : Frame) (ms : List PlaneStep) (third : ℤ) (p : Distances) → n ≡ max (length ms) (unsigned_abs third)
-        → stands_after (map (pulse_item us) (interleaved frame n (length ms) (int_le (pos 0) third) (unsigned_abs third) ms n)) p ≡ moved p (arc_reaches frame ms third)
+        → stands_after (map (pulse_item us)
+        (interleaved frame n (length ms) (int_le (pos 0) third) (unsigned_abs third) ms n)) p ≡ moved p
+        (arc_reaches frame ms third)
     of_total zero us frame ms third p is = reaches_none frame ms p third (omega arith) (omega (arith, ints))
     of_total (suc n) us frame ms third p is =
         let none : suc n - suc n ≡ 0 = omega arith in
         let start_c : made (suc n) (length ms) (suc n - suc n) ≡ 0 = ap (made (suc n) (length ms)) none ∙ made_none (suc n) (length ms) (omega arith) in
-        let start_d : made (suc n) (unsigned_abs third) (suc n - suc n) ≡ 0 = ap (made (suc n) (unsigned_abs third)) none ∙ made_none (suc n) (unsigned_abs third) (omega arith) in
+        let start_d : made (suc n) (unsigned_abs third) (suc n - suc n) ≡ 0 = ap (made (suc n) (unsigned_abs third))
+        none ∙ made_none (suc n) (unsigned_abs third) (omega arith) in
         let whole : unsigned_abs third - made (suc n) (unsigned_abs third) (suc n - suc n) ≡ unsigned_abs third = omega arith in
-        arc_stands us frame (suc n) (length ms) (int_le (pos 0) third) (unsigned_abs third) ms p (suc n) (omega arith) (omega arith) (omega arith) (omega arith) (omega arith)
+        arc_stands us frame (suc n) (length ms) (int_le (pos 0) third) (unsigned_abs third) ms p (suc n)
+        (omega arith) (omega arith) (omega arith) (omega arith) (omega arith)
         ∙ ap (λ x. moved p (arc_reaches frame ms x)) (ap (signed (int_le (pos 0) third)) whole ∙ signed_is third)
 
 pub stands_after-append : (xs ys : List Item) (p : Distances) → stands_after (xs ++ ys) p ≡ stands_after ys (stands_after xs p)
@@ -294,6 +316,8 @@ over_leads us frame d ms p =
     ∙ stands_after-append (map (pulse_item us) (arc_pulses frame ms (across frame d))) (map (pulse_item us) (line_pulses (closing frame d ms))) p
     ∙ line_leads us _ (closing frame d ms)
     ∙ ap (λ q. moved q (closing frame d ms)) (arc_leads us frame ms (across frame d) p)
-    ∙ add_placed frame.plane p (net_a ms) (mirrored frame.turn (net_b ms)) (across frame d) (pick_a frame.plane d.x d.y d.z -ℤ net_a ms) (pick_b frame.plane d.x d.y d.z -ℤ mirrored frame.turn (net_b ms)) (pos 0)
+    ∙ add_placed frame.plane p (net_a ms) (mirrored frame.turn (net_b ms)) (across frame d)
+    (pick_a frame.plane d.x d.y d.z -ℤ net_a ms)
+    (pick_b frame.plane d.x d.y d.z -ℤ mirrored frame.turn (net_b ms)) (pos 0)
     ∙ placed_same frame.plane p _ _ _ _ _ _ (rest_of _ _) (rest_of _ _) (none_more _)
     ∙ ap (moved p) (of_all frame.plane d)

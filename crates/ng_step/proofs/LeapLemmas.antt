@@ -1,5 +1,6 @@
 -- Many steps at once: the arc's relation is carried over a whole part of a quadrant.
-use Rattle.std.proofs.Common.{arith, ℕ, zero, suc, ◌+◌, ◌-◌, ◌*◌, ◌<◌, ◌≤◌, ◌≡◌, ◌⊎◌, inl, inr, refl, sym, ap, ◌∙◌, subst, pos, ◌+ℤ◌, ◌*ℤ◌, List, drop, length-drop, false}
+use Rattle.std.proofs.Common.{arith, ℕ, zero, suc, ◌+◌, ◌-◌, ◌*◌, ◌<◌, ◌≤◌, ◌≡◌, ◌⊎◌, inl, inr, refl, sym, ap, ◌∙◌}
+use Rattle.std.proofs.Common.{subst, pos, ◌+ℤ◌, ◌*ℤ◌, List, drop, length-drop, false}
 use Rattle.std.proofs.lemmas.Nat.{mul-le}
 use Rattle.std.proofs.lemmas.Bool.{cases_lt}
 use Rattle.std.proofs.lemmas.List.{drop-drop}
@@ -16,20 +17,31 @@ use Rattle.ng_step.specs.Turned.{Walks, point_of_quadrant, in_step, out_step, no
 use Rattle.ng_step.specs.Private.Sweeps.{inner_at, outer_at, OnWay, IsLast}
 use Rattle.ng_step.specs.Private.Leaps.{reach_a, reach_b, Leads, WalkLeads, PassesFrom, NeverStopsUntil}
 use Rattle.ng_step.proofs.TurnLemmas.{sound_outward, sound_inward, sound_crossing}
-use Rattle.ng_step.proofs.PlaceLemmas.{quadrant-place, moved_inward, moved_crossing, moved_outward, next_outside, next_inside, in_step_le, same_quadrant-self, same_quadrant-quadrant_after}
+use Rattle.ng_step.proofs.PlaceLemmas.{quadrant-place, moved_inward, moved_crossing, moved_outward, next_outside}
+use Rattle.ng_step.proofs.PlaceLemmas.{next_inside, in_step_le, same_quadrant-self, same_quadrant-quadrant_after}
 use Rattle.ng_step.proofs.ArcLemmas.{in_step_some}
 use Rattle.ng_step.proofs.PassageLemmas.{norm_le}
 use Rattle.ng_step.proofs.CountLemmas.{arc_more, next_reach_a, next_reach_b}
 
 -- ---- the quadrants left
 
-left_same : (c : Circle) (left : ℕ) (q : Quadrant) (i o i' o' : ℕ) → 0 < i → 0 < i' → next_spot c (point_of_quadrant q i o) ≡ point_of_quadrant q i' o' → left_after c left (point_of_quadrant q i o) ≡ left
+left_same : (c : Circle) (left : ℕ) (q : Quadrant) (i o i' o' : ℕ) → 0 < i → 0 < i'
+    → next_spot c (point_of_quadrant q i o) ≡ point_of_quadrant q i' o'
+    → left_after c left (point_of_quadrant q i o) ≡ left
 unfolding left_after
 left_same c left q i o i' o' some some' next = rw (quadrant-place q i o some, next, quadrant-place q i' o' some', same_quadrant-self q) refl
 
-left_next : (c : Circle) (left : ℕ) (q : Quadrant) (i o i' o' : ℕ) → 0 < i → 0 < i' → next_spot c (point_of_quadrant q i o) ≡ point_of_quadrant (quadrant_after q) i' o' → left_after c left (point_of_quadrant q i o) ≡ left - 1
+left_next : (c : Circle) (left : ℕ) (q : Quadrant) (i o i' o' : ℕ) → 0 < i → 0 < i'
+    → next_spot c (point_of_quadrant q i o) ≡ point_of_quadrant (quadrant_after q) i' o'
+    → left_after c left (point_of_quadrant q i o) ≡ left - 1
 unfolding left_after
-left_next c left q i o i' o' some some' next = rw (quadrant-place q i o some, next, quadrant-place (quadrant_after q) i' o' some', same_quadrant-quadrant_after q) refl
+left_next c left q i o i' o' some some' next =
+    rw (
+      quadrant-place q i o some,
+      next,
+      quadrant-place (quadrant_after q) i' o' some',
+      same_quadrant-quadrant_after q,
+    ) refl
 
 pub less_one : (j s : ℕ) → 0 < j → j * s ≡ s + (j - 1) * s
 less_one zero s some = absurd (omega arith)
@@ -55,18 +67,27 @@ module _ (c : Circle) (e : PlanePoint) (has : HasSteps c) (roomy : Roomy c.squar
     sound = k.sound;
     rest = λ ms arc.
         let first = h.rest ms arc in
-        let others = k.rest (drop n ms) first.1 in
-        (omega (arith, length-drop n ms, first.0, others.0), subst (λ (xs : List PlaneStep). IsArc c e left'' (point_of_quadrant q'' i'' o'') xs) (drop-drop m n ms) others.1);
+        let others = k.rest (drop n ms) first.1 in (
+          omega (arith, length-drop n ms, first.0, others.0),
+          subst (λ (xs : List PlaneStep). IsArc c e left'' (point_of_quadrant q'' i'' o'') xs) (drop-drop m n ms)
+              others.1,
+        );
     net = λ ms arc.
         let first = h.rest ms arc in
         let nets = h.net ms arc in
-        let more = k.net (drop n ms) first.1 in
-        (ap (reach_a c (point_of_quadrant q'' i'' o'')) (sym (drop-drop m n ms)) ∙ more.0 ∙ nets.0, ap (reach_b c (point_of_quadrant q'' i'' o'')) (sym (drop-drop m n ms)) ∙ more.1 ∙ nets.1);
+        let more = k.net (drop n ms) first.1 in (
+          ap (reach_a c (point_of_quadrant q'' i'' o'')) (sym (drop-drop m n ms)) ∙ more.0
+              ∙ nets.0,
+          ap (reach_b c (point_of_quadrant q'' i'' o'')) (sym (drop-drop m n ms)) ∙ more.1 ∙ nets.1,
+        );
     bound = omega (arith, h.bound, k.bound);
   }
 
-  leads_one : (q : Quadrant) (i o left : ℕ) (q' : Quadrant) (i' o' left' : ℕ) → stops e left (point_of_quadrant q i o) ≡ false → next_spot c (point_of_quadrant q i o) ≡ point_of_quadrant q' i' o'
-      → left_after c left (point_of_quadrant q i o) ≡ left' → Sound c.square farthest (larger c) beyond i' o' → budget beyond left' i' o' < budget beyond left i o → Leads c e q i o left q' i' o' left' 1
+  leads_one : (q : Quadrant) (i o left : ℕ) (q' : Quadrant) (i' o' left' : ℕ)
+      → stops e left (point_of_quadrant q i o) ≡ false → next_spot c (point_of_quadrant q i o) ≡ point_of_quadrant
+      q' i' o'
+      → left_after c left (point_of_quadrant q i o) ≡ left' → Sound c.square farthest (larger c) beyond i' o'
+      → budget beyond left' i' o' < budget beyond left i o → Leads c e q i o left q' i' o' left' 1
   leads_one q i o left q' i' o' left' go next lefts sound less = record {
     sound = sound;
     rest = λ ms arc.
@@ -74,13 +95,18 @@ module _ (c : Circle) (e : PlanePoint) (has : HasSteps c) (roomy : Roomy c.squar
         (omega (arith, more.0), rw (lefts, next) at more.1);
     net = λ ms arc.
         let more = arc_more c e left (point_of_quadrant q i o) ms 0 go (omega arith) arc in (
-          ap (λ (p : PlanePoint). reach_a c p (drop 1 ms)) (sym next) ∙ next_reach_a c (point_of_quadrant q i o) (drop 1 ms) ∙ ap (λ x. (point_of_quadrant q i o).a +ℤ x *ℤ pos c.step_a) (sym more.2),
-          ap (λ (p : PlanePoint). reach_b c p (drop 1 ms)) (sym next) ∙ next_reach_b c (point_of_quadrant q i o) (drop 1 ms) ∙ ap (λ x. (point_of_quadrant q i o).b +ℤ x *ℤ pos c.step_b) (sym more.3),
+          ap (λ (p : PlanePoint). reach_a c p (drop 1 ms)) (sym next)
+              ∙ next_reach_a c (point_of_quadrant q i o) (drop 1 ms)
+              ∙ ap (λ x. (point_of_quadrant q i o).a +ℤ x *ℤ pos c.step_a) (sym more.2),
+          ap (λ (p : PlanePoint). reach_b c p (drop 1 ms)) (sym next)
+              ∙ next_reach_b c (point_of_quadrant q i o) (drop 1 ms)
+              ∙ ap (λ x. (point_of_quadrant q i o).b +ℤ x *ℤ pos c.step_b) (sym more.3),
         );
     bound = omega arith;
   }
 
-  pub outward_leads : (q : Quadrant) (i o left : ℕ) → stops e left (point_of_quadrant q i o) ≡ false → norm i o ≤ c.square → Sound c.square farthest (larger c) beyond i o
+  pub outward_leads : (q : Quadrant) (i o left : ℕ) → stops e left (point_of_quadrant q i o) ≡ false
+      → norm i o ≤ c.square → Sound c.square farthest (larger c) beyond i o
       → Leads c e q i o left q i (o + out_step c q) left 1
   outward_leads q i o left go inside sound =
       let step = in_step_some c (quadrant_after q) has in
@@ -89,7 +115,9 @@ module _ (c : Circle) (e : PlanePoint) (has : HasSteps c) (roomy : Roomy c.squar
       let outer = sound'.outer in
       leads_one q i o left q i (o + out_step c q) left go next (left_same c left q i o i (o + out_step c q) sound.some sound.some next) sound' (omega arith)
 
-  pub inward_leads : (q : Quadrant) (i o j left : ℕ) → i ≡ in_step c q + j → 0 < j → stops e left (point_of_quadrant q i o) ≡ false → c.square < norm i o → Sound c.square farthest (larger c) beyond i o
+  pub inward_leads : (q : Quadrant) (i o j left : ℕ) → i ≡ in_step c q + j → 0 < j
+      → stops e left (point_of_quadrant q i o) ≡ false → c.square < norm i o
+      → Sound c.square farthest (larger c) beyond i o
       → Leads c e q i o left q j o left 1
   inward_leads q i o j left is some go outside sound =
       let step = in_step_some c q has in
@@ -97,13 +125,17 @@ module _ (c : Circle) (e : PlanePoint) (has : HasSteps c) (roomy : Roomy c.squar
       let sound' = sound_inward c.square farthest (larger c) beyond j o (in_step c q) some (rw is at sound) in
       leads_one q i o left q j o left go next (left_same c left q i o j o sound.some some next) sound' (omega arith)
 
-  pub crossing_leads : (q : Quadrant) (i o j left : ℕ) → i + j ≡ in_step c q → 0 < left → stops e left (point_of_quadrant q i o) ≡ false → c.square < norm i o → Sound c.square farthest (larger c) beyond i o
+  pub crossing_leads : (q : Quadrant) (i o j left : ℕ) → i + j ≡ in_step c q → 0 < left
+      → stops e left (point_of_quadrant q i o) ≡ false → c.square < norm i o
+      → Sound c.square farthest (larger c) beyond i o
       → Leads c e q i o left (quadrant_after q) o j (left - 1) 1
   crossing_leads q i o j left is some go outside sound =
       let small : i + j ≤ larger c = rw is (in_step_le c q) in
       let next = next_outside c q i o sound.some outside ∙ moved_crossing c q i o j is in
       let sound' = sound_crossing c.square farthest (larger c) beyond i o j roomy outside small sound in
-      leads_one q i o left (quadrant_after q) o j (left - 1) go next (left_next c left q i o o j sound.some sound'.some next) sound' (budget_crossing left i o o j some sound.outer)
+      leads_one q i o left (quadrant_after q) o j (left - 1) go next
+      (left_next c left q i o o j sound.some sound'.some next) sound'
+      (budget_crossing left i o o j some sound.outer)
 
   -- from a point to one that is j levels lower and m outward steps further, if the walk reaches it
   pub run : (t j m : ℕ) (q : Quadrant) (left i o x y : ℕ) → t ≡ j + m → i ≡ x + j * in_step c q → y ≡ o + m * out_step c q → 0 < x
@@ -122,7 +154,8 @@ module _ (c : Circle) (e : PlanePoint) (has : HasSteps c) (roomy : Roomy c.squar
     | inl outside ↦ elim (cases_lt 0 j) [
       | inl more ↦ (
           let split = less_one j (in_step c q) more in
-          let first = inward_leads q i o (x + (j - 1) * in_step c q) left (omega arith) (omega arith) (going i o (omega arith) (omega arith) (omega arith) (omega arith)) outside sound in
+          let first = inward_leads q i o (x + (j - 1) * in_step c q) left (omega arith) (omega arith)
+          (going i o (omega arith) (omega arith) (omega arith) (omega arith)) outside sound in
           let entered' : (j - 1 ≡ 0) ⊎ (c.square < norm (x + in_step c q) y) = inr (above entered more) in
           let others = run t (j - 1) m q left (x + (j - 1) * in_step c q) o x y (omega arith) refl ey some entered' kept
           (λ i' o' low high near far. going i' o' low (omega arith) near far) first.sound in
@@ -158,7 +191,8 @@ module _ (c : Circle) (e : PlanePoint) (has : HasSteps c) (roomy : Roomy c.squar
   ]
 
   -- to any point of a sweep
-  pub way_leads : (q : Quadrant) (left i o : ℕ) (p : QuadrantSweep) (j m : ℕ) → p.square ≡ c.square → p.inner ≡ i → p.outer ≡ o → p.inner_step ≡ in_step c q → p.outer_step ≡ out_step c q
+  pub way_leads : (q : Quadrant) (left i o : ℕ) (p : QuadrantSweep) (j m : ℕ) → p.square ≡ c.square → p.inner ≡ i
+      → p.outer ≡ o → p.inner_step ≡ in_step c q → p.outer_step ≡ out_step c q
       → OnWay p j m → ((i' o' : ℕ) → inner_at p j ≤ i' → i' ≤ i → o ≤ o' → o' ≤ outer_at p m → stops e left (point_of_quadrant q i' o') ≡ false)
       → Sound c.square farthest (larger c) beyond i o → Leads c e q i o left q (inner_at p j) (outer_at p m) left (j + m)
   way_leads q left i o p j m es ei eo eis eos on going sound =
@@ -198,7 +232,8 @@ last_some w p last h from is =
 
 pub walk_across : (w w' : ArcWalk) (p : QuadrantSweep) (last : SweepSteps) → Walks w → PassesFrom w p → IsLast p last → w'.quadrant ≡ quadrant_after w.quadrant
     → w'.inner ≡ w.outer + last.outward * w.outer_step → w'.outer ≡ w.inner_step - (w.inner - last.inward * w.inner_step)
-    → (e : PlanePoint) (left : ℕ) → 0 < left → NeverStopsUntil e left w (inner_at p last.inward) (outer_at p last.outward) → WalkLeads e w left w' (left - 1) (last.inward + last.outward + 1)
+    → (e : PlanePoint) (left : ℕ) → 0 < left → NeverStopsUntil e left w (inner_at p last.inward)
+    (outer_at p last.outward) → WalkLeads e w left w' (left - 1) (last.inward + last.outward + 1)
 walk_across w w' p last h from is eq ei eo e left some going =
     let x = inner_at p last.inward in
     let y = outer_at p last.outward in
@@ -206,12 +241,17 @@ walk_across w w' p last h from is eq ei eo e left some going =
     let inside = on.inside in
     let axis = near_axis p last is in
     let step : p.inner_step ≡ in_step w.circle w.quadrant = from.inner_step ∙ h.inner_step in
-    let first = way_leads w.circle e h.has h.roomy w.quadrant left w.inner w.outer p last.inward last.outward from.square from.inner from.outer step (from.outer_step ∙ h.outer_step) on going h.sound in
+    let first = way_leads w.circle e h.has h.roomy w.quadrant left w.inner w.outer p last.inward last.outward
+    from.square from.inner from.outer step (from.outer_step ∙ h.outer_step) on going h.sound in
     let here : stops e left (point_of_quadrant w.quadrant x y) ≡ false =
-    (let low : x ≤ w.inner = (let same = from.inner in omega arith) in let far : w.outer ≤ y = (let same = from.outer in omega arith) in going x y (omega arith) low far (omega arith)) in
+    (let low : x ≤ w.inner = (let same = from.inner in omega arith) in let far : w.outer ≤ y =
+    (let same = from.outer in omega arith) in going x y (omega arith) low far (omega arith)) in
     let outside : w.circle.square < norm x y = rw (← from.square) is.outside in
-    let then = crossing_leads w.circle e h.has h.roomy w.quadrant x y (p.inner_step - x) left (let sum : x + (p.inner_step - x) ≡ p.inner_step = omega arith in sum ∙ step) some here outside first.sound in
-    let all = leads_then w.circle e h.has h.roomy w.quadrant w.inner w.outer left w.quadrant x y left (last.inward + last.outward) (quadrant_after w.quadrant) y (p.inner_step - x) (left - 1) 1 first then in
+    let then = crossing_leads w.circle e h.has h.roomy w.quadrant x y (p.inner_step - x) left
+    (let sum : x + (p.inner_step - x) ≡ p.inner_step = omega arith in sum ∙ step) some here outside
+    first.sound in
+    let all = leads_then w.circle e h.has h.roomy w.quadrant w.inner w.outer left w.quadrant x y left
+    (last.inward + last.outward) (quadrant_after w.quadrant) y (p.inner_step - x) (left - 1) 1 first then in
     let ey : w'.inner ≡ y = rw (from.outer, from.outer_step) ei in
     let ex : w'.outer ≡ p.inner_step - x = rw (from.inner_step, from.inner) eo in
     rw (eq, ey, ex) all

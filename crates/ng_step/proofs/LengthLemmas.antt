@@ -19,8 +19,10 @@ scaled_sizes m n d s e = rw e (omega arith)
 
 apart_sizes : (m n s : ℕ) → unsigned_abs (pos (m * s) -ℤ pos (n * s)) ≤ unsigned_abs (pos m -ℤ pos n) * s
 apart_sizes m n s = elim (cases_lt m n) [
-  | inl h ↦ (let e = scaled_sizes n m (n - m) s (omega arith) in let d : unsigned_abs (pos m -ℤ pos n) ≡ n - m = omega (arith, ints) in rw d (omega (arith, ints)))
-  | inr h ↦ (let e = scaled_sizes m n (m - n) s (omega arith) in let d : unsigned_abs (pos m -ℤ pos n) ≡ m - n = omega (arith, ints) in rw d (omega (arith, ints)))
+  | inl h ↦ (let e = scaled_sizes n m (n - m) s (omega arith) in let d : unsigned_abs (pos m -ℤ pos n) ≡ n - m =
+      omega (arith, ints) in rw d (omega (arith, ints)))
+  | inr h ↦ (let e = scaled_sizes m n (m - n) s (omega arith) in let d : unsigned_abs (pos m -ℤ pos n) ≡ m - n =
+      omega (arith, ints) in rw d (omega (arith, ints)))
 ]
 
 neg_apart : (a b : ℕ) → unsigned_abs (neg_ℤ (pos a) -ℤ neg_ℤ (pos b)) ≡ unsigned_abs (pos b -ℤ pos a)
@@ -59,9 +61,16 @@ pub record HasLimits (g : Geometry) : Type 0 where
 
 -- every geometry has them
 pub limits : (g : Geometry) → HasLimits g
-limits g = record { x = (omega (arith, g.x.step_in_limits.0), g.x.step_in_limits.1); y = (omega (arith, g.y.step_in_limits.0), g.y.step_in_limits.1); z = (omega (arith, g.z.step_in_limits.0), g.z.step_in_limits.1) }
+limits g = record {
+  x = (omega (arith, g.x.step_in_limits.0), g.x.step_in_limits.1);
+  y =
+      (omega (arith, g.y.step_in_limits.0), g.y.step_in_limits.1);
+  z =
+      (omega (arith, g.z.step_in_limits.0), g.z.step_in_limits.1);
+}
 
-pub length_few : (g : Geometry) (p q : Point) (d : Distances) (r n : ℕ) → HasLimits g → d ≡ distances g p q → r ≡ root_up (square_between p q) → n ≡ largest d → 0 < n → r ≤ n * 2 ^ 23
+pub length_few : (g : Geometry) (p q : Point) (d : Distances) (r n : ℕ) → HasLimits g → d ≡ distances g p q
+    → r ≡ root_up (square_between p q) → n ≡ largest d → 0 < n → r ≤ n * 2 ^ 23
 length_few g p q d r n h is root most moves =
     let all : n ≡ largest (distances g p q) = most ∙ ap largest is in
     let few = root_le_sum (unsigned_abs (q.x -ℤ p.x)) (unsigned_abs (q.y -ℤ p.y)) (unsigned_abs (q.z -ℤ p.z)) (n * 2_000_000)

@@ -1,5 +1,6 @@
 -- Error accumulators make the steps of the closed formula.
-use Rattle.std.proofs.Common.{arith, ℕ, zero, suc, ◌+◌, ◌-◌, ◌*◌, ◌/◌, ◌%◌, ◌<◌, ◌≤◌, ◌≡◌, ◌⊎◌, inl, inr, refl, ap, ◌∙◌, ℤ, pos, negsuc, neg_ℤ, ◌-ℤ◌, ◌*ℤ◌, ◌∷◌, Bool}
+use Rattle.std.proofs.Common.{arith, ℕ, zero, suc, ◌+◌, ◌-◌, ◌*◌, ◌/◌, ◌%◌, ◌<◌, ◌≤◌, ◌≡◌, ◌⊎◌, inl, inr, refl, ap}
+use Rattle.std.proofs.Common.{◌∙◌, ℤ, pos, negsuc, neg_ℤ, ◌-ℤ◌, ◌*ℤ◌, ◌∷◌, Bool}
 use Rattle.std.proofs.lemmas.Int.{ints, by_lt_z, to_z-of_z}
 use Rattle.std.proofs.Common.{to_z, of_z, ◌^◌, rules}
 use mir.Syntax.{w64}
@@ -100,7 +101,8 @@ line_at_between n k a z low high some le al zl ah zh =
     let m = made_le n (unsigned_abs (z -ℤ a)) k some le in
     inside a z low high (made n (unsigned_abs (z -ℤ a)) k) m al zl ah zh
   where
-    inside : (a z low high : ℤ) (m : ℕ) → m ≤ unsigned_abs (z -ℤ a) → low ≤ℤ a → low ≤ℤ z → a ≤ℤ high → z ≤ℤ high → (low ≤ℤ toward a z m) × (toward a z m ≤ℤ high)
+    inside : (a z low high : ℤ) (m : ℕ) → m ≤ unsigned_abs (z -ℤ a) → low ≤ℤ a → low ≤ℤ z → a ≤ℤ high → z ≤ℤ high
+        → (low ≤ℤ toward a z m) × (toward a z m ≤ℤ high)
     inside a z low high m h al zl ah zh = grind (arith, ints)
 
 -- ---- half a step
@@ -123,7 +125,8 @@ scaled_le : (x y : ℤ) (s : ℕ) → x ≤ℤ y → (x *ℤ pos s *ℤ pos 2) �
 scaled_le (pos a) (pos b) s h = let product : a * s ≤ b * s = mul-le a s b s (omega (arith, ints)) (omega arith) in omega (arith, ints)
 scaled_le (pos a) (negsuc b) s h = absurd (omega (arith, ints))
 scaled_le (negsuc a) (pos b) s h = simp neg_scaled (omega (arith, ints))
-scaled_le (negsuc a) (negsuc b) s h = let product : suc b * s ≤ suc a * s = mul-le (suc b) s (suc a) s (omega (arith, ints)) (omega arith) in simp neg_scaled (omega (arith, ints))
+scaled_le (negsuc a) (negsuc b) s h = let product : suc b * s ≤ suc a * s =
+    mul-le (suc b) s (suc a) s (omega (arith, ints)) (omega arith) in simp neg_scaled (omega (arith, ints))
 
 between_by_half : (x y z low high : ℤ) (s : ℕ) → x ≤ℤ y → y ≤ℤ z → IsByHalfIn low high s x → IsByHalfIn low high s z → IsByHalfIn low high s y
 between_by_half x y z low high s xy yz hx hz =
@@ -141,9 +144,11 @@ line_inside n k s p q low high steps some le pl ql ph qh =
     let first = in_steps_near p low high s steps pl ph in
     let last = in_steps_near q low high s steps ql qh in
     elim (le_cases (in_steps p s) (in_steps q s)) [
-      | inl up ↦ (let b = line_at_between n k (in_steps p s) (in_steps q s) (in_steps p s) (in_steps q s) some le (omega (arith, ints)) up up (omega (arith, ints)) in
+      | inl up ↦ (let b = line_at_between n k (in_steps p s) (in_steps q s) (in_steps p s) (in_steps q s) some le
+          (omega (arith, ints)) up up (omega (arith, ints)) in
           between_by_half _ _ _ low high s b.0 b.1 first last)
-      | inr down ↦ (let b = line_at_between n k (in_steps p s) (in_steps q s) (in_steps q s) (in_steps p s) some le down (omega (arith, ints)) (omega (arith, ints)) down in
+      | inr down ↦ (let b = line_at_between n k (in_steps p s) (in_steps q s) (in_steps q s) (in_steps p s) some le
+          down (omega (arith, ints)) (omega (arith, ints)) down in
           between_by_half _ _ _ low high s b.0 b.1 last first)
     ]
 
@@ -186,11 +191,17 @@ pub code_more : (whole n k : ℕ) (a : Spread) → whole ≡ 2 * n → whole ≤
 code_more whole n k a is full h = rw is (axis_more n k a (a.error + a.twice) refl (rw (← is) full) h)
 
 pub axes_from_more : (n : ℕ) (x y z : Spread) (left : ℕ) → 0 < left
-    → axes_from n x y z left ≡ record { x = spread_step n x (n - left); y = spread_step n y (n - left); z = spread_step n z (n - left) } ∷ axes_from n x y z (left - 1)
+    → axes_from n x y z left ≡ record {
+      x = spread_step n x (n - left);
+      y = spread_step n y (n - left);
+      z =
+          spread_step n z (n - left);
+    } ∷ axes_from n x y z (left - 1)
 axes_from_more n x y z zero some = absurd (omega arith)
 axes_from_more n x y z (suc left) some = let less : suc left - 1 ≡ left = omega arith in rw less refl
 
-axes_same : (n : ℕ) (x y z x' y' z' : Spread) (left : ℕ) → x'.count ≡ x.count → x'.forward ≡ x.forward → y'.count ≡ y.count → y'.forward ≡ y.forward → z'.count ≡ z.count → z'.forward ≡ z.forward
+axes_same : (n : ℕ) (x y z x' y' z' : Spread) (left : ℕ) → x'.count ≡ x.count → x'.forward ≡ x.forward
+    → y'.count ≡ y.count → y'.forward ≡ y.forward → z'.count ≡ z.count → z'.forward ≡ z.forward
     → axes_from n x' y' z' left ≡ axes_from n x y z left
 axes_same n x y z x' y' z' zero a b c d e f = refl
 axes_same n x y z x' y' z' (suc left) a b c d e f = let others = axes_same n x y z x' y' z' left a b c d e f in rw (a, b, c, d, e, f, others) refl
@@ -198,7 +209,8 @@ axes_same n x y z x' y' z' (suc left) a b c d e f = let others = axes_same n x y
 pub axis_left : (n left : ℕ) (a : Spread) → 0 < left → left ≤ n → IsSpread n (n - left + 1) a → IsSpread n (n - (left - 1)) a
 axis_left n left a some le h = let e : n - (left - 1) ≡ n - left + 1 = omega arith in rw e h
 
-pub line_keeps : (a : Inside) (x y z : Spread) (i j k : AxisStep) → IsLineInvariant a → 0 < a.left → SpreadStepSpec a.whole a.x x i → SpreadStepSpec a.whole a.y y j → SpreadStepSpec a.whole a.z z k
+pub line_keeps : (a : Inside) (x y z : Spread) (i j k : AxisStep) → IsLineInvariant a → 0 < a.left
+    → SpreadStepSpec a.whole a.x x i → SpreadStepSpec a.whole a.y y j → SpreadStepSpec a.whole a.z z k
     → IsLineInvariant (record a { left = a.left - 1; x = x; y = y; z = z })
 line_keeps a x y z i j k h some sx sy sz = record {
   whole = h.whole;
@@ -209,7 +221,8 @@ line_keeps a x y z i j k h some sx sy sz = record {
   z = λ more. axis_left a.total a.left z some h.left (sz.axis a.total (a.total - a.left) h.whole (h.z some));
 }
 
-pub line_next : (a : Inside) (x y z : Spread) (i j k : AxisStep) → IsLineInvariant a → 0 < a.left → SpreadStepSpec a.whole a.x x i → SpreadStepSpec a.whole a.y y j → SpreadStepSpec a.whole a.z z k
+pub line_next : (a : Inside) (x y z : Spread) (i j k : AxisStep) → IsLineInvariant a → 0 < a.left
+    → SpreadStepSpec a.whole a.x x i → SpreadStepSpec a.whole a.y y j → SpreadStepSpec a.whole a.z z k
     → pulses_left a ≡ record { x = i; y = j; z = k } ∷ pulses_left (record a { left = a.left - 1; x = x; y = y; z = z })
 line_next a x y z i j k h some sx sy sz =
     let first = axes_from_more a.total a.x a.y a.z a.left some in
@@ -220,13 +233,15 @@ line_next a x y z i j k h some sx sy sz =
     first ∙ rw (ei, ej, ek, rest) refl
 
 pub line_start : (total : ℕ) (d : Distances) (x y z : Spread) → total ≡ largest d
-    → x.count ≡ unsigned_abs d.x → x.forward ≡ int_le (pos 0) d.x → y.count ≡ unsigned_abs d.y → y.forward ≡ int_le (pos 0) d.y → z.count ≡ unsigned_abs d.z → z.forward ≡ int_le (pos 0) d.z
+    → x.count ≡ unsigned_abs d.x → x.forward ≡ int_le (pos 0) d.x → y.count ≡ unsigned_abs d.y
+    → y.forward ≡ int_le (pos 0) d.y → z.count ≡ unsigned_abs d.z → z.forward ≡ int_le (pos 0) d.z
     → axes_from total x y z total ≡ line_pulses d
 unfolding line_pulses
 line_start total d x y z e a b c d' f g = rw (← e) (starts total d x y z total a b c d' f g)
   where
     starts : (total : ℕ) (d : Distances) (x y z : Spread) (left : ℕ)
-        → x.count ≡ unsigned_abs d.x → x.forward ≡ int_le (pos 0) d.x → y.count ≡ unsigned_abs d.y → y.forward ≡ int_le (pos 0) d.y → z.count ≡ unsigned_abs d.z → z.forward ≡ int_le (pos 0) d.z
+        → x.count ≡ unsigned_abs d.x → x.forward ≡ int_le (pos 0) d.x → y.count ≡ unsigned_abs d.y
+        → y.forward ≡ int_le (pos 0) d.y → z.count ≡ unsigned_abs d.z → z.forward ≡ int_le (pos 0) d.z
         → axes_from total x y z left ≡ line_from total d left
     starts total d x y z zero a b c d' f g = refl
     starts total d x y z (suc left) a b c d' f g =

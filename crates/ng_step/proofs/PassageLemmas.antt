@@ -7,7 +7,8 @@ use Rattle.ng_step.specs.declared.sweep.SweepSteps.{SweepSteps}
 use Rattle.ng_step.specs.declared.sweep.QuadrantEnd.{QuadrantEnd}
 use Rattle.ng_step.specs.Turned.{norm}
 use Rattle.ng_step.specs.Periods.{ceil_div}
-use Rattle.ng_step.specs.Private.Sweeps.{IsLeaving, inner_at, outer_at, OnWay, IsLast, IsPast, IsBefore, LeavesPast, LeavesBefore, ComesInward, ComesOutward, IsFirstPast}
+use Rattle.ng_step.specs.Private.Sweeps.{IsLeaving, inner_at, outer_at, OnWay, IsLast, IsPast, IsBefore, LeavesPast}
+use Rattle.ng_step.specs.Private.Sweeps.{LeavesBefore, ComesInward, ComesOutward, IsFirstPast}
 
 pub norm_le : (i o i' o' : ℕ) → i ≤ i' → o ≤ o' → norm i o ≤ norm i' o'
 norm_le i o i' o' h k =
@@ -38,7 +39,8 @@ root_small r h = elim (cases_lt (2 ^ 47) r) [
 pub leaving_now : (square i o s : ℕ) → square < norm i o → IsLeaving square i o s 0
 leaving_now square i o s h = record { outside = omega arith; least = λ k none. absurd (omega arith) }
 
-pub leaving_root : (square i o s r q : ℕ) → 0 < s → norm i o ≤ square → r * r ≤ square - i * i → square - i * i < (r + 1) * (r + 1) → q ≡ (r - o) / s → IsLeaving square i o s (q + 1)
+pub leaving_root : (square i o s r q : ℕ) → 0 < s → norm i o ≤ square → r * r ≤ square - i * i
+    → square - i * i < (r + 1) * (r + 1) → q ≡ (r - o) / s → IsLeaving square i o s (q + 1)
 leaving_root square i o s r q some inside low high is =
     let above : o ≤ r = root_ge o r (omega arith) in
     let parts = quotient (r - o) s q some is in
@@ -75,11 +77,13 @@ outer_le p m n h = let product = scaled_le m n p.outer_step h in omega arith
 pub on_way-leaving : (p : QuadrantSweep) (j m : ℕ) → j * p.inner_step < p.inner → IsLeaving p.square (inner_at p j) p.outer p.outer_step m → OnWay p j m
 on_way-leaving p j m inside h = record {
   inside = inside;
-  entered = inr (let more = norm_le (inner_at p j) (outer_at p m) (inner_at p (j - 1)) (outer_at p m) (level_above p (j - 1) j (omega arith)) (omega arith) in let outside = h.outside in omega arith);
+  entered = inr (let more = norm_le (inner_at p j) (outer_at p m) (inner_at p (j - 1)) (outer_at p m)
+      (level_above p (j - 1) j (omega arith)) (omega arith) in let outside = h.outside in omega arith);
   kept = h.least;
 }
 
-pub last_is : (p : QuadrantSweep) (way : SweepSteps) → way.inward ≡ (p.inner - 1) / p.inner_step → IsLeaving p.square (inner_at p way.inward) p.outer p.outer_step way.outward → IsLast p way
+pub last_is : (p : QuadrantSweep) (way : SweepSteps) → way.inward ≡ (p.inner - 1) / p.inner_step
+    → IsLeaving p.square (inner_at p way.inward) p.outer p.outer_step way.outward → IsLast p way
 last_is p way is h =
     let some : 0 < p.inner = p.inner_in_range.0 in
     let parts = quotient (p.inner - 1) p.inner_step way.inward p.inner_step_in_range.0 is in
@@ -105,7 +109,8 @@ enters_entered p e j m n le h = either h.on
   where
     either : ((j ≡ 0) × (m ≡ 0)) ⊎ ComesInward p e j m → (j ≡ 0) ⊎ (p.square < norm (inner_at p (j - 1)) (outer_at p n))
     either (inl first) = inl first.0
-    either (inr down) = inr (let more = norm_le (inner_at p (j - 1)) (outer_at p m) (inner_at p (j - 1)) (outer_at p n) (omega arith) (outer_le p m n le) in let outside = down.outside in omega arith)
+    either (inr down) = inr (let more = norm_le (inner_at p (j - 1)) (outer_at p m) (inner_at p (j - 1))
+        (outer_at p n) (omega arith) (outer_le p m n le) in let outside = down.outside in omega arith)
 
 comes : (p : QuadrantSweep) (e : QuadrantEnd) (j m more : ℕ) → Enters p e j m → p.outer * e.inner < p.inner * e.outer → LeavesPast p e j
     → IsPast p e j (m + more) → (0 < more → IsBefore p e j (m + more - 1)) → ComesInward p e j (m + more) ⊎ ComesOutward p e j (m + more)
@@ -156,8 +161,12 @@ first_past_is p e j m more h enters leaves is =
     let some : 1 * 1 ≤ p.outer_step * e.inner = mul-le 1 1 p.outer_step e.inner p.outer_step_in_range.0 e.inner_in_range.0 in
     let q = ceil_div_is (inner_at p j * e.outer - outer_at p m * e.inner) (p.outer_step * e.inner) (omega arith) in
     let enough : inner_at p j * e.outer - outer_at p m * e.inner ≤ more * (p.outer_step * e.inner) = rw is q.0 in
-    let past = past_after (inner_at p j * e.outer) p.outer m more p.outer_step e.inner enough in
-    (past, comes p e j m more h enters leaves past (λ some_more. before_less (inner_at p j * e.outer) p.outer m more p.outer_step e.inner some_more (rw is (q.1 (rw (← is) some_more)))))
+    let past = past_after (inner_at p j * e.outer) p.outer m more p.outer_step e.inner enough in (
+      past,
+      comes p e j m more h enters leaves past
+          (λ some_more. before_less (inner_at p j * e.outer) p.outer m more p.outer_step e.inner some_more
+          (rw is (q.1 (rw (← is) some_more)))),
+    )
   where
     past_after : (x o m more s a : ℕ) → x - (o + m * s) * a ≤ more * (s * a) → x ≤ (o + (m + more) * s) * a
     past_after x o m more s a h = omega arith
@@ -173,7 +182,8 @@ first_past_is p e j m more h enters leaves is =
 pub enters_at_none : (p : QuadrantSweep) (e : QuadrantEnd) (j m : ℕ) → j ≡ 0 → m ≡ 0 → Enters p e j m
 enters_at_none p e j m f g = record { inside = (let some = p.inner_in_range in rw f (omega arith)); on = inl (f, g) }
 
-pub enters_below : (p : QuadrantSweep) (e : QuadrantEnd) (j m : ℕ) → 0 < j → j * p.inner_step < p.inner → IsLeaving p.square (inner_at p (j - 1)) p.outer p.outer_step m → LeavesBefore p e (j - 1) → Enters p e j m
+pub enters_below : (p : QuadrantSweep) (e : QuadrantEnd) (j m : ℕ) → 0 < j → j * p.inner_step < p.inner
+    → IsLeaving p.square (inner_at p (j - 1)) p.outer p.outer_step m → LeavesBefore p e (j - 1) → Enters p e j m
 enters_below p e j m some inside h before =
     let same = leaving_only p.square (inner_at p (j - 1)) p.outer p.outer_step before.m m before.leaving h in
     let product = scaled_le (j - 1) j p.inner_step (omega arith) in
@@ -202,7 +212,8 @@ halves_all p e last past = record {
   before = inl refl;
 }
 
-pub halves_low : (p : QuadrantSweep) (e : QuadrantEnd) (last first levels half : ℕ) → Halves p e last first levels → 0 < half → half ≤ levels → LeavesPast p e (first + half - 1) → Halves p e last first half
+pub halves_low : (p : QuadrantSweep) (e : QuadrantEnd) (last first levels half : ℕ) → Halves p e last first levels
+    → 0 < half → half ≤ levels → LeavesPast p e (first + half - 1) → Halves p e last first half
 halves_low p e last first levels half h some le past = record {
   some = some;
   within = omega (arith, h.within);
@@ -210,7 +221,8 @@ halves_low p e last first levels half h some le past = record {
   before = h.before;
 }
 
-pub halves_high : (p : QuadrantSweep) (e : QuadrantEnd) (last first levels half : ℕ) → Halves p e last first levels → half < levels → LeavesBefore p e (first + half - 1) → Halves p e last (first + half) (levels - half)
+pub halves_high : (p : QuadrantSweep) (e : QuadrantEnd) (last first levels half : ℕ) → Halves p e last first levels
+    → half < levels → LeavesBefore p e (first + half - 1) → Halves p e last (first + half) (levels - half)
 halves_high p e last first levels half h less before = record {
   some = omega arith;
   within = omega (arith, h.within);
@@ -219,11 +231,14 @@ halves_high p e last first levels half h less before = record {
 }
 
 -- each of its levels is in the quadrant
-pub halves_inside : (p : QuadrantSweep) (e : QuadrantEnd) (last first levels level : ℕ) → last * p.inner_step < p.inner → Halves p e last first levels → level < first + levels → level * p.inner_step < p.inner
+pub halves_inside : (p : QuadrantSweep) (e : QuadrantEnd) (last first levels level : ℕ)
+    → last * p.inner_step < p.inner → Halves p e last first levels → level < first + levels
+    → level * p.inner_step < p.inner
 halves_inside p e last first levels level inside h less = let product = scaled_le level last p.inner_step (omega (arith, h.within)) in omega arith
 
 -- at most the root and one step away
-pub root_room : (square i o s r q : ℕ) → 0 < s → s ≤ 2 ^ 47 → square ≤ 2 ^ 94 → norm i o ≤ square → r * r ≤ square - i * i → square - i * i < (r + 1) * (r + 1) → q ≡ (r - o) / s → o + (q + 1) * s ≤ 2 ^ 48
+pub root_room : (square i o s r q : ℕ) → 0 < s → s ≤ 2 ^ 47 → square ≤ 2 ^ 94 → norm i o ≤ square
+    → r * r ≤ square - i * i → square - i * i < (r + 1) * (r + 1) → q ≡ (r - o) / s → o + (q + 1) * s ≤ 2 ^ 48
 root_room square i o s r q some small few inside low high is =
     let parts = quotient (r - o) s q some is in
     let above : o ≤ r = root_ge o r (omega arith) in

@@ -1,5 +1,7 @@
 -- The machine's position on an arc is a point of its path.
-use Rattle.std.proofs.Common.{arith, ℕ, zero, suc, ◌+◌, ◌*◌, ◌<◌, ◌≤◌, ◌≡◌, inl, inr, refl, sym, ap, ◌∙◌, subst, ℤ, pos, ◌+ℤ◌, ◌-ℤ◌, ◌*ℤ◌, false, max, List, [], ◌∷◌, ◌++◌, map, length, take, get_or, Some}
+use Rattle.std.proofs.Common.{arith, ℕ, zero, suc, ◌+◌, ◌*◌, ◌<◌, ◌≤◌, ◌≡◌, inl, inr, refl, sym, ap, ◌∙◌, subst, ℤ}
+use Rattle.std.proofs.Common.{pos, ◌+ℤ◌, ◌-ℤ◌, ◌*ℤ◌, false, max, List, [], ◌∷◌, ◌++◌, map, length, take, get_or}
+use Rattle.std.proofs.Common.{Some}
 use Rattle.std.proofs.lemmas.Int.{ints}
 use Rattle.std.proofs.lemmas.Bool.{cases_lt}
 use Rattle.std.proofs.lemmas.List.{map-append}
@@ -55,7 +57,8 @@ abbrev NearBy : Circle → ℕ → ℕ → PlanePoint → Type 0
 NearBy c w f0 x = unsigned_abs (excess c x) ≤ 2 * (larger c * w) + larger c * larger c + f0
 
 -- what is near at each point of the path is near at the machine's position
-near_at : (c : Circle) (p : PlanePoint) (ms : List PlaneStep) (n : ℕ) (at : ℕ → PlanePoint) → 0 < n → length ms ≤ n → ((k : ℕ) → k ≤ n → slice_get (spots c p ms) (made n (length ms) k) ≡ Some (at k))
+near_at : (c : Circle) (p : PlanePoint) (ms : List PlaneStep) (n : ℕ) (at : ℕ → PlanePoint) → 0 < n → length ms ≤ n
+    → ((k : ℕ) → k ≤ n → slice_get (spots c p ms) (made n (length ms) k) ≡ Some (at k))
     → IsNearCircle c p ms → (w : ℕ) → ((k : ℕ) → k ≤ n → IsAtMostInSize w (at k)) → (k : ℕ) → k ≤ n → NearBy c w (unsigned_abs (excess c p)) (at k)
 near_at c p ms n at some le stands near w within k most =
     let path = spots c p ms in
@@ -74,21 +77,31 @@ near_at c p ms n at some le stands near w within k most =
 
 -- ---- the whole arc
 
-start_scaled_a : (plane : Plane) (x y z : ℤ) (sx sy sz : ℕ) → pick_a plane (in_steps x sx) (in_steps y sy) (in_steps z sz) *ℤ pos (pick_a plane sx sy sz) ≡ rounded (pick_a plane x y z) (pick_a plane sx sy sz)
+start_scaled_a : (plane : Plane) (x y z : ℤ) (sx sy sz : ℕ)
+    → pick_a plane (in_steps x sx) (in_steps y sy) (in_steps z sz) *ℤ pos (pick_a plane sx sy sz) ≡ rounded
+    (pick_a plane x y z) (pick_a plane sx sy sz)
 start_scaled_a Xy x y z sx sy sz = refl
 start_scaled_a Xz x y z sx sy sz = refl
 start_scaled_a Yz x y z sx sy sz = refl
 
-start_scaled_b : (plane : Plane) (x y z : ℤ) (sx sy sz : ℕ) → pick_b plane (in_steps x sx) (in_steps y sy) (in_steps z sz) *ℤ pos (pick_b plane sx sy sz) ≡ rounded (pick_b plane x y z) (pick_b plane sx sy sz)
+start_scaled_b : (plane : Plane) (x y z : ℤ) (sx sy sz : ℕ)
+    → pick_b plane (in_steps x sx) (in_steps y sy) (in_steps z sz) *ℤ pos (pick_b plane sx sy sz) ≡ rounded
+    (pick_b plane x y z) (pick_b plane sx sy sz)
 start_scaled_b Xy x y z sx sy sz = refl
 start_scaled_b Xz x y z sx sy sz = refl
 start_scaled_b Yz x y z sx sy sz = refl
 
 start_is : (g : Geometry) (arc : Arc) → offset_of g arc (point_in_steps g arc.start) ≡ (centred g arc).from
 unfolding centred
-start_is g arc = rw (start_scaled_a arc.plane arc.start.x arc.start.y arc.start.z g.x.step_nm g.y.step_nm g.z.step_nm, start_scaled_b arc.plane arc.start.x arc.start.y arc.start.z g.x.step_nm g.y.step_nm g.z.step_nm) refl
+start_is g arc = rw (
+  start_scaled_a arc.plane arc.start.x arc.start.y arc.start.z g.x.step_nm g.y.step_nm
+      g.z.step_nm,
+  start_scaled_b arc.plane arc.start.x arc.start.y arc.start.z g.x.step_nm g.y.step_nm g.z.step_nm,
+)
+    refl
 
-third_ends : (plane : Plane) (g : Geometry) (p q : Point) → third_of plane (point_in_steps g p) +ℤ third_of plane (distances g p q) ≡ third_of plane (point_in_steps g q)
+third_ends : (plane : Plane) (g : Geometry) (p q : Point) → third_of plane (point_in_steps g p) +ℤ third_of plane
+    (distances g p q) ≡ third_of plane (point_in_steps g q)
 third_ends Xy g p q = rest_of _ _
 third_ends Xz g p q = rest_of _ _
 third_ends Yz g p q = rest_of _ _
@@ -100,13 +113,17 @@ large_list g arc us =
     ++ line_pulses (closing (centred g arc).frame (distances g arc.start arc.end) (arc_path (centred g arc))))
 
 large_goes : (g : Geometry) (arc : Arc) (us k : ℕ) → 0 < round_total g arc → k ≤ round_total g arc
-    → (slice_get (spots (centred g arc).circle (centred g arc).from (arc_path (centred g arc))) (made (round_total g arc) (length (arc_path (centred g arc))) k) ≡ Some (offset_of g arc (position_after g arc (large_list g arc us) k)))
-    × (third_of arc.plane (position_after g arc (large_list g arc us) k) ≡ point_on_line (round_total g arc) (third_of arc.plane (point_in_steps g arc.start)) (third_of arc.plane (point_in_steps g arc.end)) k)
+    → (slice_get (spots (centred g arc).circle (centred g arc).from (arc_path (centred g arc)))
+    (made (round_total g arc) (length (arc_path (centred g arc))) k) ≡ Some
+    (offset_of g arc (position_after g arc (large_list g arc us) k)))
+    × (third_of arc.plane (position_after g arc (large_list g arc us) k) ≡ point_on_line (round_total g arc)
+    (third_of arc.plane (point_in_steps g arc.start)) (third_of arc.plane (point_in_steps g arc.end)) k)
 unfolding centred
 large_goes g arc us k some le =
     let ms = arc_path (centred g arc) in
     let d = distances g arc.start arc.end in
-    let both = goes_round g arc us (centred g arc).circle.square (across (centred g arc).frame d) ms (point_in_steps g arc.start) (line_pulses (closing (centred g arc).frame d ms)) k some le in (
+    let both = goes_round g arc us (centred g arc).circle.square (across (centred g arc).frame d) ms
+    (point_in_steps g arc.start) (line_pulses (closing (centred g arc).frame d ms)) k some le in (
       ap (λ (x : PlanePoint). slice_get (spots (centred g arc).circle x ms) (made (round_total g arc) (length ms) k)) (sym (start_is g arc)) ∙ both.0,
       both.1 ∙ ap (λ z. point_on_line (round_total g arc) (third_of arc.plane (point_in_steps g arc.start)) z k) (third_ends arc.plane g arc.start arc.end),
     )
@@ -129,14 +146,19 @@ abbrev after_arc : ℕ → Frame → Distances → List PlaneStep → Distances 
 after_arc us frame d ms p = stands_after (map (pulse_item us) (arc_pulses frame ms (across frame d))) p
 
 over_length : (frame : Frame) (d : Distances) (ms : List PlaneStep) → length (arc_pulses frame ms (across frame d)) ≡ over_total frame d ms
-over_length frame d ms = length-interleaved frame (over_total frame d ms) (length ms) (int_le (pos 0) (across frame d)) (unsigned_abs (across frame d)) ms (over_total frame d ms)
+over_length frame d ms = length-interleaved frame (over_total frame d ms) (length ms)
+    (int_le (pos 0) (across frame d)) (unsigned_abs (across frame d)) ms (over_total frame d ms)
 
-at_total : (us : ℕ) (frame : Frame) (d : Distances) (ms : List PlaneStep) (p : Distances) → stands_after (take (over_total frame d ms) (over_list us frame d ms)) p ≡ after_arc us frame d ms p
+at_total : (us : ℕ) (frame : Frame) (d : Distances) (ms : List PlaneStep) (p : Distances)
+    → stands_after (take (over_total frame d ms) (over_list us frame d ms)) p ≡ after_arc us frame d ms p
 at_total us frame d ms p =
     let e : over_total frame d ms ≡ over_total frame d ms + 0 = omega arith in
-    ap (λ k. stands_after (take k (over_list us frame d ms)) p) e ∙ then_items us (arc_pulses frame ms (across frame d)) (line_pulses (closing frame d ms)) (over_total frame d ms) 0 p (over_length frame d ms)
+    ap (λ k. stands_after (take k (over_list us frame d ms)) p) e
+    ∙ then_items us (arc_pulses frame ms (across frame d)) (line_pulses (closing frame d ms))
+    (over_total frame d ms) 0 p (over_length frame d ms)
 
-closes : (us : ℕ) (frame : Frame) (d : Distances) (ms : List PlaneStep) (p q : Distances) → moved p d ≡ q → moved (after_arc us frame d ms p) (closing frame d ms) ≡ q
+closes : (us : ℕ) (frame : Frame) (d : Distances) (ms : List PlaneStep) (p q : Distances) → moved p d ≡ q
+    → moved (after_arc us frame d ms p) (closing frame d ms) ≡ q
 closes us frame d ms p q to =
     sym (line_leads us (after_arc us frame d ms p) (closing frame d ms))
     ∙ sym (stands_after-append (map (pulse_item us) (arc_pulses frame ms (across frame d))) (map (pulse_item us) (line_pulses (closing frame d ms))) p)
@@ -159,25 +181,33 @@ line_between us k p d q to some le =
     ∙ ap (λ (r : Distances). on_line (largest d) p r k) to
     ∙ ap (λ n. on_line n p q k) (sym n_is)
 
-closing_line : (us : ℕ) (frame : Frame) (d : Distances) (ms : List PlaneStep) (p q s : Distances) (k : ℕ) → moved p d ≡ q → s ≡ stands_after (take (over_total frame d ms) (over_list us frame d ms)) p
-    → 0 < largest (steps_between s q) → k ≤ largest (steps_between s q) → stands_after (take (over_total frame d ms + k) (over_list us frame d ms)) p ≡ on_line (largest (steps_between s q)) s q k
+closing_line : (us : ℕ) (frame : Frame) (d : Distances) (ms : List PlaneStep) (p q s : Distances) (k : ℕ)
+    → moved p d ≡ q → s ≡ stands_after (take (over_total frame d ms) (over_list us frame d ms)) p
+    → 0 < largest (steps_between s q) → k ≤ largest (steps_between s q)
+    → stands_after (take (over_total frame d ms + k) (over_list us frame d ms)) p ≡ on_line
+    (largest (steps_between s q)) s q k
 closing_line us frame d ms p q s k to at some le =
     let is : s ≡ after_arc us frame d ms p = at ∙ at_total us frame d ms p in
     then_items us (arc_pulses frame ms (across frame d)) (line_pulses (closing frame d ms)) (over_total frame d ms) k p (over_length frame d ms)
     ∙ ap (stands_after (take k (map (pulse_item us) (line_pulses (closing frame d ms))))) (sym is)
     ∙ line_between us k s (closing frame d ms) q (ap (λ (r : Distances). moved r (closing frame d ms)) is ∙ closes us frame d ms p q to) some le
 
-follows_large : (g : Geometry) (arc : Arc) (us : ℕ) → IsNearCircle (centred g arc).circle (centred g arc).from (arc_path (centred g arc)) → FollowsPath g arc (large_list g arc us)
+follows_large : (g : Geometry) (arc : Arc) (us : ℕ) → IsNearCircle (centred g arc).circle (centred g arc).from
+    (arc_path (centred g arc)) → FollowsPath g arc (large_list g arc us)
 follows_large g arc us near = record {
   path = λ k some le. (large_goes g arc us k some le).0;
   third = λ k some le. (large_goes g arc us k some le).1;
   near = λ w within k le. elim (cases_lt 0 (round_total g arc)) [
-    | inl some ↦ near_at (centred g arc).circle (centred g arc).from (arc_path (centred g arc)) (round_total g arc) (λ j. offset_of g arc (position_after g arc (large_list g arc us) j)) some (omega arith)
+    | inl some ↦ near_at (centred g arc).circle (centred g arc).from (arc_path (centred g arc)) (round_total g arc)
+        (λ j. offset_of g arc (position_after g arc (large_list g arc us) j)) some (omega arith)
         (λ j most. (large_goes g arc us j some most).0) near w within k le
-    | inr none ↦ near_start (centred g arc).circle w (centred g arc).from _ (ap (offset_of g arc) (stands_none g arc (large_list g arc us) k (omega arith)) ∙ start_is g arc)
+    | inr none ↦ near_start (centred g arc).circle w (centred g arc).from _
+        (ap (offset_of g arc) (stands_none g arc (large_list g arc us) k (omega arith)) ∙ start_is g arc)
   ];
   closing = λ k some le.
-      closing_line us (centred g arc).frame (distances g arc.start arc.end) (arc_path (centred g arc)) (point_in_steps g arc.start) (point_in_steps g arc.end) _ k (start_moved g arc.start arc.end) refl some le;
+      closing_line us (centred g arc).frame (distances g arc.start arc.end) (arc_path (centred g arc))
+      (point_in_steps g arc.start) (point_in_steps g arc.end) _ k (start_moved g arc.start arc.end) refl some
+      le;
 }
 
 large_is : (g : Geometry) (arc : Arc) → is_small (centred g arc).circle ≡ false → FollowsPath g arc (arc_items g arc)

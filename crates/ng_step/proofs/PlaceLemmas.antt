@@ -47,7 +47,8 @@ moved_inward c Second j o = spot_same _ _ _ _ refl (omega (arith, ints))
 moved_inward c Third j o = spot_same _ _ _ _ (omega (arith, ints)) refl
 moved_inward c Fourth j o = spot_same _ _ _ _ refl (omega (arith, ints))
 
-pub moved_crossing : (c : Circle) (q : Quadrant) (i o j : ℕ) → i + j ≡ in_step c q → moved c (inward q) (point_of_quadrant q i o) ≡ point_of_quadrant (quadrant_after q) o j
+pub moved_crossing : (c : Circle) (q : Quadrant) (i o j : ℕ) → i + j ≡ in_step c q
+    → moved c (inward q) (point_of_quadrant q i o) ≡ point_of_quadrant (quadrant_after q) o j
 moved_crossing c First i o j e = spot_same _ _ _ _ (omega (arith, ints)) refl
 moved_crossing c Second i o j e = spot_same _ _ _ _ refl (omega (arith, ints))
 moved_crossing c Third i o j e = spot_same _ _ _ _ (omega (arith, ints)) refl
@@ -73,11 +74,13 @@ pub step_inside : (c : Circle) (q : Quadrant) (i o : ℕ) → 0 < i → norm i o
 unfolding step_at
 step_inside c q i o some h = rw (excess-place c q i o, inside_test (norm i o) c.square h, quadrant-place q i o some) refl
 
-pub next_outside : (c : Circle) (q : Quadrant) (i o : ℕ) → 0 < i → c.square < norm i o → next_spot c (point_of_quadrant q i o) ≡ moved c (inward q) (point_of_quadrant q i o)
+pub next_outside : (c : Circle) (q : Quadrant) (i o : ℕ) → 0 < i → c.square < norm i o
+    → next_spot c (point_of_quadrant q i o) ≡ moved c (inward q) (point_of_quadrant q i o)
 unfolding next_spot step_at
 next_outside c q i o some h = rw (excess-place c q i o, outside_test (norm i o) c.square h, quadrant-place q i o some) refl
 
-pub next_inside : (c : Circle) (q : Quadrant) (i o : ℕ) → 0 < i → norm i o ≤ c.square → next_spot c (point_of_quadrant q i o) ≡ moved c (outward q) (point_of_quadrant q i o)
+pub next_inside : (c : Circle) (q : Quadrant) (i o : ℕ) → 0 < i → norm i o ≤ c.square
+    → next_spot c (point_of_quadrant q i o) ≡ moved c (outward q) (point_of_quadrant q i o)
 unfolding next_spot step_at
 next_inside c q i o some h = rw (excess-place c q i o, inside_test (norm i o) c.square h, quadrant-place q i o some) refl
 

@@ -1,5 +1,6 @@
 -- What holds of every segment's items.
-use Rattle.std.proofs.Common.{take, arith, ℕ, zero, suc, ◌+◌, ◌-◌, ◌*◌, ◌<◌, ◌≤◌, ◌≡◌, inl, inr, refl, sym, ap, ◌∙◌, subst, ℤ, ◌+ℤ◌, ◌-ℤ◌, Bool, true, false, List, [], map}
+use Rattle.std.proofs.Common.{take, arith, ℕ, zero, suc, ◌+◌, ◌-◌, ◌*◌, ◌<◌, ◌≤◌, ◌≡◌, inl, inr, refl, sym, ap, ◌∙◌}
+use Rattle.std.proofs.Common.{subst, ℤ, ◌+ℤ◌, ◌-ℤ◌, Bool, true, false, List, [], map}
 use Rattle.std.proofs.lemmas.Int.{ints}
 use Rattle.std.proofs.lemmas.Bool.{cases_lt}
 use Rattle.std.proofs.lemmas.Bool.Decides.{nat_tests}
@@ -24,14 +25,17 @@ use Rattle.ng_step.specs.Arcs.{larger, HasSteps, IsLargeArc, quadrants_to_walk, 
 use Rattle.ng_step.specs.Frames.{mirrored}
 use Rattle.ng_step.specs.Lines.{in_steps, point_on_line, line_from, largest, line_pulses, IsByHalfIn}
 use Rattle.ng_step.specs.Hands.{pulse_item, distances, line_items, centred, is_small, arc_path, large_arc_items, arc_items, step_a, step_b}
-use Rattle.ng_step.specs.Promises.{stands_after, on_line, FollowsLine, FollowsItsLine, StaysInTravel, point_in_steps, stands_at, LeadsTo, EndsOnItsEnd, IsInsideByHalf, StaysInside, IsTrueArc, KeepsToItsCircle}
+use Rattle.ng_step.specs.Promises.{stands_after, on_line, FollowsLine, FollowsItsLine, StaysInTravel}
+use Rattle.ng_step.specs.Promises.{point_in_steps, stands_at, LeadsTo, EndsOnItsEnd, IsInsideByHalf, StaysInside}
+use Rattle.ng_step.specs.Promises.{IsTrueArc, KeepsToItsCircle}
 use Rattle.ng_step.proofs.LineLemmas.{in_steps_near, line_inside}
 use Rattle.ng_step.proofs.RoundLemmas.{rounded_near}
 use Rattle.ng_step.proofs.LengthLemmas.{limits}
 use Rattle.ng_step.proofs.StartLemmas.{start_some}
 use Rattle.ng_step.proofs.ArcLemmas.{is_arc, is_near_circle, length-plane_steps_within, larger_some}
 use Rattle.ng_step.proofs.HandLemmas.{line_none}
-use Rattle.ng_step.proofs.EndLemmas.{moved, distances_same, line_leads, over_leads, rest_of, line_point, line_moves, line_point_none, AreAtMost, at_most_largest}
+use Rattle.ng_step.proofs.EndLemmas.{moved, distances_same, line_leads, over_leads, rest_of, line_point, line_moves}
+use Rattle.ng_step.proofs.EndLemmas.{line_point_none, AreAtMost, at_most_largest}
 
 -- ---- the end
 
@@ -50,7 +54,9 @@ arc_ends : (g : Geometry) (arc : Arc) → LeadsTo g (arc_items g arc) arc.start 
 unfolding arc_items
 arc_ends g arc = either (is_small (centred g arc).circle)
   where
-    either : (small : Bool) → LeadsTo g (if small then line_items g arc.pace arc.start arc.end else large_arc_items g arc.pace (centred g arc) (distances g arc.start arc.end)) arc.start arc.end
+    either : (small : Bool)
+        → LeadsTo g (if small then line_items g arc.pace arc.start arc.end else large_arc_items g arc.pace
+        (centred g arc) (distances g arc.start arc.end)) arc.start arc.end
     either true = line_ends g arc.pace arc.start arc.end
     either false = large_ends g arc.pace (centred g arc) arc.start arc.end
 
@@ -71,9 +77,11 @@ first_stands us n p d (suc left) (suc j) some most small le =
     let e : n - suc left + 1 ≡ n - left = omega arith in
     let e' : n - left + j ≡ n - suc left + suc j = omega arith in
     let step = line_moves us n (n - suc left) p d some most ∙ ap (line_point n p d) e in
-    ap (stands_after (take j (map (pulse_item us) (line_from n d left)))) step ∙ first_stands us n p d left j some most (omega arith) (omega arith) ∙ ap (line_point n p d) e'
+    ap (stands_after (take j (map (pulse_item us) (line_from n d left)))) step
+    ∙ first_stands us n p d left j some most (omega arith) (omega arith) ∙ ap (line_point n p d) e'
 
-pub line_goes : (us : ℕ) (p d : Distances) (k : ℕ) → 0 < largest d → k ≤ largest d → stands_after (take k (map (pulse_item us) (line_pulses d))) p ≡ line_point (largest d) p d k
+pub line_goes : (us : ℕ) (p d : Distances) (k : ℕ) → 0 < largest d → k ≤ largest d
+    → stands_after (take k (map (pulse_item us) (line_pulses d))) p ≡ line_point (largest d) p d k
 unfolding line_pulses
 line_goes us p d k some le =
     let n = largest d in
@@ -83,11 +91,14 @@ line_goes us p d k some le =
     ∙ ap (line_point n p d) e
 
 pulses_follow : (g : Geometry) (us : ℕ) (p q : Point) (k : ℕ) → 0 < largest (distances g p q) → k ≤ largest (distances g p q)
-    → stands_after (take k (map (pulse_item us) (line_pulses (distances g p q)))) (point_in_steps g p) ≡ on_line (largest (distances g p q)) (point_in_steps g p) (point_in_steps g q) k
+    → stands_after (take k (map (pulse_item us) (line_pulses (distances g p q)))) (point_in_steps g p) ≡ on_line
+    (largest (distances g p q)) (point_in_steps g p) (point_in_steps g q) k
 pulses_follow g us p q k some le =
     let n = largest (distances g p q) in
     line_goes us (point_in_steps g p) (distances g p q) k some le
-    ∙ distances_same _ _ _ _ _ _ (ap (λ z. point_on_line n (in_steps p.x g.x.step_nm) z k) (rest_of _ _)) (ap (λ z. point_on_line n (in_steps p.y g.y.step_nm) z k) (rest_of _ _)) (ap (λ z. point_on_line n (in_steps p.z g.z.step_nm) z k) (rest_of _ _))
+    ∙ distances_same _ _ _ _ _ _ (ap (λ z. point_on_line n (in_steps p.x g.x.step_nm) z k) (rest_of _ _))
+    (ap (λ z. point_on_line n (in_steps p.y g.y.step_nm) z k) (rest_of _ _))
+    (ap (λ z. point_on_line n (in_steps p.z g.z.step_nm) z k) (rest_of _ _))
 
 line_follows : (g : Geometry) (pace : Pace) (p q : Point) (k : ℕ) → 0 < largest (distances g p q) → k ≤ largest (distances g p q)
     → stands_after (take k (line_items g pace p q)) (point_in_steps g p) ≡ on_line (largest (distances g p q)) (point_in_steps g p) (point_in_steps g q) k
@@ -101,7 +112,8 @@ small_items g arc small = rw small refl
 
 pub follows : (s : Segment) (g : Geometry) → FollowsItsLine s g
 follows (LineSegment l) g = λ k some le. line_follows g l.pace l.start l.end k some le
-follows (ArcSegment arc) g = λ small. subst (λ (items : List Item). FollowsLine g items arc.start arc.end) (small_items g arc small) (λ k some le. line_follows g arc.pace arc.start arc.end k some le)
+follows (ArcSegment arc) g = λ small. subst (λ (items : List Item). FollowsLine g items arc.start arc.end)
+    (small_items g arc small) (λ k some le. line_follows g arc.pace arc.start arc.end k some le)
 follows (DwellSegment time) g = tt
 follows (SwitchSegment outputs) g = tt
 
@@ -119,7 +131,9 @@ within axis z h = let parts = both _ _ h in (at_most _ _ parts.0, at_most _ _ pa
 
 -- a coordinate between the ends of a line
 axis_inside : (axis : Axis) (n k : ℕ) (p q : ℤ) → 0 < axis.step_nm → 0 < n → k ≤ n → is_on axis p ≡ true → is_on axis q ≡ true
-    → IsByHalfIn axis.low axis.high axis.step_nm (point_on_line n (in_steps p axis.step_nm) (in_steps p axis.step_nm +ℤ (in_steps q axis.step_nm -ℤ in_steps p axis.step_nm)) k)
+    → IsByHalfIn axis.low axis.high axis.step_nm
+    (point_on_line n (in_steps p axis.step_nm)
+    (in_steps p axis.step_nm +ℤ (in_steps q axis.step_nm -ℤ in_steps p axis.step_nm)) k)
 axis_inside axis n k p q step some le hp hq =
     let first = within axis p hp in
     let last = within axis q hq in
@@ -128,7 +142,8 @@ axis_inside axis n k p q step some le hp hq =
     (line_inside n k axis.step_nm p q axis.low axis.high step some le first.0 last.0 first.1 last.1)
 
 -- a point on the way
-point_inside : (g : Geometry) (n k : ℕ) (p q : Point) → 0 < n → k ≤ n → is_inside g p ≡ true → is_inside g q ≡ true → IsInsideByHalf g (line_point n (point_in_steps g p) (distances g p q) k)
+point_inside : (g : Geometry) (n k : ℕ) (p q : Point) → 0 < n → k ≤ n → is_inside g p ≡ true → is_inside g q ≡ true
+    → IsInsideByHalf g (line_point n (point_in_steps g p) (distances g p q) k)
 point_inside g n k p q some le hp hq =
     let l = limits g in
     let p_xy = both (is_on g.x p.x && is_on g.y p.y) (is_on g.z p.z) hp in
@@ -149,30 +164,44 @@ start_inside g p hp =
     let x = within g.x p.x p_x.0 in
     let y = within g.y p.y p_x.1 in
     let z = within g.z p.z p_xy.1 in
-    record { x = in_steps_near p.x g.x.low g.x.high g.x.step_nm l.x.0 x.0 x.1; y = in_steps_near p.y g.y.low g.y.high g.y.step_nm l.y.0 y.0 y.1; z = in_steps_near p.z g.z.low g.z.high g.z.step_nm l.z.0 z.0 z.1 }
+    record {
+      x = in_steps_near p.x g.x.low g.x.high g.x.step_nm l.x.0 x.0 x.1;
+      y =
+          in_steps_near p.y g.y.low g.y.high g.y.step_nm l.y.0 y.0 y.1;
+      z = in_steps_near p.z g.z.low g.z.high
+          g.z.step_nm l.z.0 z.0 z.1;
+    }
 
-all_inside : (g : Geometry) (us n : ℕ) (p d : Distances) (left : ℕ) → 0 < n → AreAtMost d n → left ≤ n → ((k : ℕ) → k ≤ n → IsInsideByHalf g (line_point n p d k))
+all_inside : (g : Geometry) (us n : ℕ) (p d : Distances) (left : ℕ) → 0 < n → AreAtMost d n → left ≤ n
+    → ((k : ℕ) → k ≤ n → IsInsideByHalf g (line_point n p d k))
     → All (IsInsideByHalf g) (stands_at (map (pulse_item us) (line_from n d left)) (line_point n p d (n - left)))
 all_inside g us n p d zero some most small inside = All-cons (IsInsideByHalf g) _ [] (inside (n - 0) (omega arith)) (All-nil (IsInsideByHalf g))
 all_inside g us n p d (suc left) some most small inside =
     let e : n - suc left + 1 ≡ n - left = omega arith in
     let step = line_moves us n (n - suc left) p d some most ∙ ap (line_point n p d) e in
     All-cons (IsInsideByHalf g) _ _ (inside (n - suc left) (omega arith))
-    (subst (λ (x : Distances). All (IsInsideByHalf g) (stands_at (map (pulse_item us) (line_from n d left)) x)) (sym step) (all_inside g us n p d left some most (omega arith) inside))
+    (subst (λ (x : Distances). All (IsInsideByHalf g) (stands_at (map (pulse_item us) (line_from n d left)) x))
+    (sym step) (all_inside g us n p d left some most (omega arith) inside))
 
 pulses_inside : (g : Geometry) (us : ℕ) (p q : Point) → 0 < largest (distances g p q) → is_inside g p ≡ true → is_inside g q ≡ true
     → All (IsInsideByHalf g) (stands_at (map (pulse_item us) (line_pulses (distances g p q))) (point_in_steps g p))
 unfolding line_pulses
 pulses_inside g us p q some hp hq =
     let n = largest (distances g p q) in
-    subst (λ (x : Distances). All (IsInsideByHalf g) (stands_at (map (pulse_item us) (line_from n (distances g p q) n)) x)) (line_point_none n (point_in_steps g p) (distances g p q) some)
-    (all_inside g us n (point_in_steps g p) (distances g p q) n some (at_most_largest (distances g p q)) (omega arith) (λ k le. point_inside g n k p q some le hp hq))
+    subst (λ (x : Distances).
+    All (IsInsideByHalf g) (stands_at (map (pulse_item us) (line_from n (distances g p q) n)) x))
+    (line_point_none n (point_in_steps g p) (distances g p q) some)
+    (all_inside g us n (point_in_steps g p) (distances g p q) n some (at_most_largest (distances g p q))
+    (omega arith) (λ k le. point_inside g n k p q some le hp hq))
 
-none_inside : (g : Geometry) (us : ℕ) (d at : Distances) → largest d ≡ 0 → IsInsideByHalf g at → All (IsInsideByHalf g) (stands_at (map (pulse_item us) (line_pulses d)) at)
+none_inside : (g : Geometry) (us : ℕ) (d at : Distances) → largest d ≡ 0 → IsInsideByHalf g at
+    → All (IsInsideByHalf g) (stands_at (map (pulse_item us) (line_pulses d)) at)
 none_inside g us d at none inside =
-    subst (λ ps. All (IsInsideByHalf g) (stands_at (map (pulse_item us) ps) at)) (sym (line_none d none)) (All-cons (IsInsideByHalf g) at [] inside (All-nil (IsInsideByHalf g)))
+    subst (λ ps. All (IsInsideByHalf g) (stands_at (map (pulse_item us) ps) at)) (sym (line_none d none))
+    (All-cons (IsInsideByHalf g) at [] inside (All-nil (IsInsideByHalf g)))
 
-line_stays : (g : Geometry) (pace : Pace) (p q : Point) → is_inside g p ≡ true → is_inside g q ≡ true → All (IsInsideByHalf g) (stands_at (line_items g pace p q) (point_in_steps g p))
+line_stays : (g : Geometry) (pace : Pace) (p q : Point) → is_inside g p ≡ true → is_inside g q ≡ true
+    → All (IsInsideByHalf g) (stands_at (line_items g pace p q) (point_in_steps g p))
 unfolding line_items
 line_stays g pace p q hp hq = elim (cases_lt 0 (largest (distances g p q))) [
   | inl some ↦ pulses_inside g _ p q some hp hq
@@ -181,13 +210,15 @@ line_stays g pace p q hp hq = elim (cases_lt 0 (largest (distances g p q))) [
 
 pub stays : (s : Segment) (g : Geometry) → StaysInside s g
 stays (LineSegment l) g = λ hp hq. line_stays g l.pace l.start l.end hp hq
-stays (ArcSegment arc) g = λ small. subst (λ (items : List Item). StaysInTravel g items arc.start arc.end) (small_items g arc small) (λ hp hq. line_stays g arc.pace arc.start arc.end hp hq)
+stays (ArcSegment arc) g = λ small. subst (λ (items : List Item). StaysInTravel g items arc.start arc.end)
+    (small_items g arc small) (λ hp hq. line_stays g arc.pace arc.start arc.end hp hq)
 stays (DwellSegment time) g = tt
 stays (SwitchSegment outputs) g = tt
 
 -- ---- the circle
 
-true_of : (c : CentredArc) → IsLargeArc c.circle (unsigned_abs c.start.a + unsigned_abs c.start.b) → 0 < unsigned_abs c.from.a + unsigned_abs c.from.b → IsTrueArc c
+true_of : (c : CentredArc) → IsLargeArc c.circle (unsigned_abs c.start.a + unsigned_abs c.start.b)
+    → 0 < unsigned_abs c.from.a + unsigned_abs c.from.b → IsTrueArc c
 unfolding arc_path plane_steps
 true_of c large some =
     let rule = is_arc c.circle c.end (unsigned_abs c.start.a + unsigned_abs c.start.b) (quadrants_to_walk c.start c.end c.from) c.from large some in
@@ -210,7 +241,8 @@ b_some g Yz = (limits g).z.0
 near_a : (u z c : ℤ) (s m : ℕ) → 2 * unsigned_abs (u -ℤ z) ≤ s → s ≤ m → 2 * unsigned_abs ((u -ℤ c) -ℤ (z -ℤ c)) ≤ m
 near_a u z c s m h le = omega (arith, ints)
 
-near_b : (turn : ArcDirection) (u z c : ℤ) (s m : ℕ) → 2 * unsigned_abs (u -ℤ z) ≤ s → s ≤ m → 2 * unsigned_abs (mirrored turn (u -ℤ c) -ℤ mirrored turn (z -ℤ c)) ≤ m
+near_b : (turn : ArcDirection) (u z c : ℤ) (s m : ℕ) → 2 * unsigned_abs (u -ℤ z) ≤ s → s ≤ m
+    → 2 * unsigned_abs (mirrored turn (u -ℤ c) -ℤ mirrored turn (z -ℤ c)) ≤ m
 near_b Counterclockwise u z c s m h le = omega (arith, ints)
 near_b Clockwise u z c s m h le = omega (arith, ints)
 

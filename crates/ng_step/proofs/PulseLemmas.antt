@@ -33,7 +33,8 @@ pulses_from_more frame n count forward d c p zero some = absurd (omega arith)
 pulses_from_more frame n count forward d c p (suc left) some = let less : suc left - 1 ≡ left = omega arith in rw less refl
 
 -- a pulse in which the arc makes no step
-pub rest_keeps : (a : Inside) (arc third : Spread) (i j : AxisStep) → IsArcLeft a → 0 < a.left → SpreadStepSpec a.whole a.arc arc i → SpreadStepSpec a.whole a.third third j
+pub rest_keeps : (a : Inside) (arc third : Spread) (i j : AxisStep) → IsArcLeft a → 0 < a.left
+    → SpreadStepSpec a.whole a.arc arc i → SpreadStepSpec a.whole a.third third j
     → IsArcLeft (record a { left = a.left - 1; arc = arc; third = third })
 rest_keeps a arc third i j h some sa st = record {
   whole = h.whole;
@@ -45,19 +46,22 @@ rest_keeps a arc third i j h some sa st = record {
   third = λ more. axis_left a.total a.left third some h.left (st.axis a.total (a.total - a.left) h.whole (h.third some));
 }
 
-pub rest_next : (a : Inside) (arc third : Spread) (i j : AxisStep) (p : AxisSteps) → IsArcLeft a → 0 < a.left → SpreadStepSpec a.whole a.arc arc i → SpreadStepSpec a.whole a.third third j
+pub rest_next : (a : Inside) (arc third : Spread) (i j : AxisStep) (p : AxisSteps) → IsArcLeft a → 0 < a.left
+    → SpreadStepSpec a.whole a.arc arc i → SpreadStepSpec a.whole a.third third j
     → i ≡ Still → p ≡ pulse_without a.walk.frame j
     → arc_left a ≡ p ∷ arc_left (record a { left = a.left - 1; arc = arc; third = third })
 rest_next a arc third i j p h some sa st still is =
     let first = pulses_from_more a.walk.frame a.total a.arc.count a.third.forward a.third.count a.walk.circle (spot_of a.walk) a.left some in
     let onward = h.onward in
-    let ei : i ≡ axis_step a.total true a.arc.count (a.total - a.left) = sa.step a.total (a.total - a.left) h.whole (h.arc some) ∙ ap (λ f. axis_step a.total f a.arc.count (a.total - a.left)) onward in
+    let ei : i ≡ axis_step a.total true a.arc.count (a.total - a.left) = sa.step a.total (a.total - a.left) h.whole
+    (h.arc some) ∙ ap (λ f. axis_step a.total f a.arc.count (a.total - a.left)) onward in
     let rests : axis_step a.total true a.arc.count (a.total - a.left) ≡ Still = sym ei ∙ still in
     let ej = st.step a.total (a.total - a.left) h.whole (h.third some) in
     first ∙ rw (rests, is, ej, sa.count, st.count, st.forward) refl
 
 -- a pulse with a step of the arc
-pub step_keeps : (a : Inside) (walk : ArcWalk) (arc third : Spread) (i j : AxisStep) (made : AxisSteps) → IsArcLeft a → 0 < a.left → SpreadStepSpec a.whole a.arc arc i → SpreadStepSpec a.whole a.third third j
+pub step_keeps : (a : Inside) (walk : ArcWalk) (arc third : Spread) (i j : AxisStep) (made : AxisSteps)
+    → IsArcLeft a → 0 < a.left → SpreadStepSpec a.whole a.arc arc i → SpreadStepSpec a.whole a.third third j
     → ArcStepSpec a.walk walk made → IsArcLeft (record a { left = a.left - 1; arc = arc; third = third; walk = walk })
 step_keeps a walk arc third i j made h some sa st s = record {
   whole = h.whole;
@@ -88,18 +92,21 @@ third_set Yz a b Backward = refl
 third_set Yz a b Still = refl
 third_set Yz a b Forward = refl
 
-pub step_next : (a : Inside) (walk : ArcWalk) (arc third : Spread) (i j : AxisStep) (made p : AxisSteps) → IsArcLeft a → 0 < a.left → SpreadStepSpec a.whole a.arc arc i → SpreadStepSpec a.whole a.third third j
+pub step_next : (a : Inside) (walk : ArcWalk) (arc third : Spread) (i j : AxisStep) (made p : AxisSteps)
+    → IsArcLeft a → 0 < a.left → SpreadStepSpec a.whole a.arc arc i → SpreadStepSpec a.whole a.third third j
     → ArcStepSpec a.walk walk made → (i ≡ Still → ⊥) → p ≡ with_third a.walk.frame.plane made j
     → arc_left a ≡ p ∷ arc_left (record a { left = a.left - 1; arc = arc; third = third; walk = walk })
 step_next a walk arc third i j made p h some sa st s moves is =
     let first = pulses_from_more a.walk.frame a.total a.arc.count a.third.forward a.third.count a.walk.circle (spot_of a.walk) a.left some in
     let onward = h.onward in
-    let ei : i ≡ axis_step a.total true a.arc.count (a.total - a.left) = sa.step a.total (a.total - a.left) h.whole (h.arc some) ∙ ap (λ f. axis_step a.total f a.arc.count (a.total - a.left)) onward in
+    let ei : i ≡ axis_step a.total true a.arc.count (a.total - a.left) = sa.step a.total (a.total - a.left) h.whole
+    (h.arc some) ∙ ap (λ f. axis_step a.total f a.arc.count (a.total - a.left)) onward in
     let goes : axis_step a.total true a.arc.count (a.total - a.left) ≡ Forward = onward_step a.total a.arc.count (a.total - a.left) (λ e. moves (ei ∙ e)) in
     let ej = st.step a.total (a.total - a.left) h.whole (h.third some) in
     let same : p ≡ pulse_with a.walk.frame (step_at a.walk.circle (spot_of a.walk)) j =
     is ∙ ap (λ (q : AxisSteps). with_third a.walk.frame.plane q j) s.step
-    ∙ third_set a.walk.frame.plane (on_a (step_at a.walk.circle (spot_of a.walk))) (mirrored_step a.walk.frame.turn (on_b (step_at a.walk.circle (spot_of a.walk)))) j in
+    ∙ third_set a.walk.frame.plane (on_a (step_at a.walk.circle (spot_of a.walk)))
+    (mirrored_step a.walk.frame.turn (on_b (step_at a.walk.circle (spot_of a.walk)))) j in
     first ∙ rw (goes, same, ej, sa.count, st.count, st.forward, s.circle, s.spot, s.frame) refl
 
 pub onward_count : (n : ℕ) (b : Bool) → n < 2 ^ 60 → b ≡ int_le (pos 0) (to_z w64 n) → b ≡ true
@@ -116,7 +123,8 @@ follows c e left p [] h = tt
 follows c e left p (m ∷ ms) h = (h.1, follows c e (left_after c left p) (next_spot c p) ms h.2)
 
 -- the effect of one pulse on both
-same_pulse : (frame : Frame) (c : Circle) (p : PlanePoint) (ms : List PlaneStep) (third : AxisStep) (count before after : ℕ) → before ≤ after → after ≤ before + 1 → after ≤ count
+same_pulse : (frame : Frame) (c : Circle) (p : PlanePoint) (ms : List PlaneStep) (third : AxisStep)
+    (count before after : ℕ) → before ≤ after → after ≤ before + 1 → after ≤ count
     → length ms ≡ count - before → Follows c p ms
     → (walking frame (step_toward true (after - before)) c p third ≡ taking frame (step_toward true (after - before)) ms third)
     × Follows c (walked (step_toward true (after - before)) c p) (taken (step_toward true (after - before)) ms)
@@ -126,8 +134,11 @@ same_pulse frame c p ms third count before after le more most len f = elim (case
   | inr rest ↦ (let none : after - before ≡ 0 = omega arith in rw none (refl, f, omega arith))
 ]
   where
-    stepping : (frame : Frame) (c : Circle) (p : PlanePoint) (ms : List PlaneStep) (third : AxisStep) (count before after : ℕ) → after ≡ before + 1 → after ≤ count → length ms ≡ count - before → Follows c p ms
-        → (walking frame (step_toward true 1) c p third ≡ taking frame (step_toward true 1) ms third) × Follows c (walked (step_toward true 1) c p) (taken (step_toward true 1) ms) × (length (taken (step_toward true 1) ms) ≡ count - after)
+    stepping : (frame : Frame) (c : Circle) (p : PlanePoint) (ms : List PlaneStep) (third : AxisStep)
+        (count before after : ℕ) → after ≡ before + 1 → after ≤ count → length ms ≡ count - before → Follows c p ms
+        → (walking frame (step_toward true 1) c p third ≡ taking frame (step_toward true 1) ms third)
+        × Follows c (walked (step_toward true 1) c p) (taken (step_toward true 1) ms)
+        × (length (taken (step_toward true 1) ms) ≡ count - after)
     stepping frame c p [] third count before after is most len f = absurd (omega arith)
     stepping frame c p (m ∷ ms) third count before after is most len f = (ap (λ x. pulse_with frame x third) (sym f.0), f.1, omega arith)
 
@@ -142,13 +153,16 @@ pulses_are frame n count forward d c p ms (suc left) le small len f =
     let most : made n count (k + 1) ≤ count = made_le n count (k + 1) (omega arith) (omega arith) in
     let s = same_pulse frame c p ms (axis_step n forward d k) count (made n count k) (made n count (k + 1)) more.0 more.1 most len f in
     let len' : length (taken (axis_step n true count k) ms) ≡ count - made n count (n - left) = s.2 ∙ ap (λ x. count - made n count x) e in
-    let others = pulses_are frame n count forward d c (walked (axis_step n true count k) c p) (taken (axis_step n true count k) ms) left le (omega arith) len' s.1 in
+    let others = pulses_are frame n count forward d c (walked (axis_step n true count k) c p)
+    (taken (axis_step n true count k) ms) left le (omega arith) len' s.1 in
     rw (s.0, others) refl
 
 -- the code's pulses for the count of an arc's steps are the pulses of these steps
 pub pulses_of : (frame : Frame) (c : Circle) (e : PlanePoint) (left : ℕ) (p : PlanePoint) (ms : List PlaneStep) (d : ℤ) → IsArc c e left p ms
-    → pulses_from frame (max (length ms) (unsigned_abs d)) (length ms) (int_le (pos 0) d) (unsigned_abs d) c p (max (length ms) (unsigned_abs d)) ≡ arc_pulses frame ms d
-pulses_of frame c e left p ms d arc = of_total frame (max (length ms) (unsigned_abs d)) c p ms (int_le (pos 0) d) (unsigned_abs d) (omega arith) (follows c e left p ms arc)
+    → pulses_from frame (max (length ms) (unsigned_abs d)) (length ms) (int_le (pos 0) d) (unsigned_abs d) c p
+    (max (length ms) (unsigned_abs d)) ≡ arc_pulses frame ms d
+pulses_of frame c e left p ms d arc = of_total frame (max (length ms) (unsigned_abs d)) c p ms (int_le (pos 0) d)
+    (unsigned_abs d) (omega arith) (follows c e left p ms arc)
   where
     of_total : (frame : Frame) (n : ℕ) (c : Circle) (p : PlanePoint) (ms : List PlaneStep) (forward : Bool) (d : ℕ) → length ms ≤ n → Follows c p ms
         → pulses_from frame n (length ms) forward d c p n ≡ interleaved frame n (length ms) forward d ms n

@@ -1,5 +1,7 @@
 -- An arc's pulses move the machine from point to point of its path.
-use Rattle.std.proofs.Common.{arith, ℕ, zero, suc, ◌+◌, ◌-◌, ◌<◌, ◌≤◌, ◌≡◌, inl, inr, refl, sym, ap, ◌∙◌, subst, ℤ, pos, negsuc, neg_ℤ, ◌+ℤ◌, ◌-ℤ◌, ◌*ℤ◌, Bool, true, max, List, [], ◌∷◌, ◌++◌, map, length, take, Some}
+use Rattle.std.proofs.Common.{arith, ℕ, zero, suc, ◌+◌, ◌-◌, ◌<◌, ◌≤◌, ◌≡◌, inl, inr, refl, sym, ap, ◌∙◌, subst, ℤ}
+use Rattle.std.proofs.Common.{pos, negsuc, neg_ℤ, ◌+ℤ◌, ◌-ℤ◌, ◌*ℤ◌, Bool, true, max, List, [], ◌∷◌, ◌++◌, map}
+use Rattle.std.proofs.Common.{length, take, Some}
 use Rattle.std.proofs.lemmas.Int.{ints}
 use Rattle.std.proofs.lemmas.Bool.{cases_lt}
 use Rattle.std.proofs.lemmas.List.{map-append, length-map}
@@ -85,12 +87,16 @@ offset_rests : (turn : ArcDirection) (za zb ka kb : ℤ) (sa sb : ℕ) →
 offset_rests Counterclockwise za zb ka kb sa sb = spot_same _ _ _ _ (level za ka sa) (level zb kb sb)
 offset_rests Clockwise za zb ka kb sa sb = spot_same _ _ _ _ (level za ka sa) (ap neg_ℤ (level zb kb sb))
 
-of_a_moved : (plane : Plane) (p : Distances) (a b t : ℤ) → pick_a plane (moved p (placed plane a b t)).x (moved p (placed plane a b t)).y (moved p (placed plane a b t)).z ≡ pick_a plane p.x p.y p.z +ℤ a
+of_a_moved : (plane : Plane) (p : Distances) (a b t : ℤ)
+    → pick_a plane (moved p (placed plane a b t)).x (moved p (placed plane a b t)).y
+    (moved p (placed plane a b t)).z ≡ pick_a plane p.x p.y p.z +ℤ a
 of_a_moved Xy p a b t = refl
 of_a_moved Xz p a b t = refl
 of_a_moved Yz p a b t = refl
 
-of_b_moved : (plane : Plane) (p : Distances) (a b t : ℤ) → pick_b plane (moved p (placed plane a b t)).x (moved p (placed plane a b t)).y (moved p (placed plane a b t)).z ≡ pick_b plane p.x p.y p.z +ℤ b
+of_b_moved : (plane : Plane) (p : Distances) (a b t : ℤ)
+    → pick_b plane (moved p (placed plane a b t)).x (moved p (placed plane a b t)).y
+    (moved p (placed plane a b t)).z ≡ pick_b plane p.x p.y p.z +ℤ b
 of_b_moved Xy p a b t = refl
 of_b_moved Xz p a b t = refl
 of_b_moved Yz p a b t = refl
@@ -105,9 +111,11 @@ third_moved Yz p a b t = refl
 
 -- ---- the pulses before the closing line, and those of the closing line
 
-pub length-interleaved : (frame : Frame) (n count : ℕ) (forward : Bool) (d : ℕ) (ms : List PlaneStep) (left : ℕ) → length (interleaved frame n count forward d ms left) ≡ left
+pub length-interleaved : (frame : Frame) (n count : ℕ) (forward : Bool) (d : ℕ) (ms : List PlaneStep) (left : ℕ)
+    → length (interleaved frame n count forward d ms left) ≡ left
 length-interleaved frame n count forward d ms zero = refl
-length-interleaved frame n count forward d ms (suc left) = ap suc (length-interleaved frame n count forward d (taken (axis_step n true count (n - suc left)) ms) left)
+length-interleaved frame n count forward d ms (suc left) =
+    ap suc (length-interleaved frame n count forward d (taken (axis_step n true count (n - suc left)) ms) left)
 
 first_of : (xs ys : List Item) (k : ℕ) (p : Distances) → k ≤ length xs → stands_after (take k (xs ++ ys)) p ≡ stands_after (take k xs) p
 first_of [] [] zero p le = refl
@@ -120,14 +128,20 @@ then_of : (xs ys : List Item) (k : ℕ) (p : Distances) → stands_after (take (
 then_of [] ys k p = let e : 0 + k ≡ k = omega arith in rw e refl
 then_of (x ∷ xs) ys k p = let e : length (x ∷ xs) + k ≡ suc (length xs + k) = omega arith in rw e (then_of xs ys k (moved_by x p))
 
-first_items : (us : ℕ) (xs ys : List AxisSteps) (k : ℕ) (p : Distances) → k ≤ length xs → stands_after (take k (map (pulse_item us) (xs ++ ys))) p ≡ stands_after (take k (map (pulse_item us) xs)) p
+first_items : (us : ℕ) (xs ys : List AxisSteps) (k : ℕ) (p : Distances) → k ≤ length xs
+    → stands_after (take k (map (pulse_item us) (xs ++ ys))) p ≡ stands_after (take k (map (pulse_item us) xs)) p
 first_items us xs ys k p le =
-    ap (λ (is : List Item). stands_after (take k is) p) (map-append (pulse_item us) xs ys) ∙ first_of (map (pulse_item us) xs) (map (pulse_item us) ys) k p (let e = length-map xs (pulse_item us) in omega arith)
+    ap (λ (is : List Item). stands_after (take k is) p) (map-append (pulse_item us) xs ys)
+    ∙ first_of (map (pulse_item us) xs) (map (pulse_item us) ys) k p
+    (let e = length-map xs (pulse_item us) in omega arith)
 
-pub then_items : (us : ℕ) (xs ys : List AxisSteps) (n k : ℕ) (p : Distances) → length xs ≡ n → stands_after (take (n + k) (map (pulse_item us) (xs ++ ys))) p ≡ stands_after (take k (map (pulse_item us) ys)) (stands_after (map (pulse_item us) xs) p)
+pub then_items : (us : ℕ) (xs ys : List AxisSteps) (n k : ℕ) (p : Distances) → length xs ≡ n
+    → stands_after (take (n + k) (map (pulse_item us) (xs ++ ys))) p ≡ stands_after
+    (take k (map (pulse_item us) ys)) (stands_after (map (pulse_item us) xs) p)
 then_items us xs ys n k p len =
     let e : n + k ≡ length (map (pulse_item us) xs) + k = (let same = length-map xs (pulse_item us) in omega arith) in
-    ap (λ (is : List Item). stands_after (take (n + k) is) p) (map-append (pulse_item us) xs ys) ∙ ap (λ v. stands_after (take v (map (pulse_item us) xs ++ map (pulse_item us) ys)) p) e
+    ap (λ (is : List Item). stands_after (take (n + k) is) p) (map-append (pulse_item us) xs ys)
+    ∙ ap (λ v. stands_after (take v (map (pulse_item us) xs ++ map (pulse_item us) ys)) p) e
     ∙ then_of (map (pulse_item us) xs) (map (pulse_item us) ys) k p
 
 module _ (g : Geometry) (arc : Arc) (us square : ℕ) where
@@ -137,18 +151,24 @@ module _ (g : Geometry) (arc : Arc) (us square : ℕ) where
   abbrev c : Circle
   c = record { step_a = step_a g arc.plane; step_b = step_b g arc.plane; square = square }
 
-  offset_placed : (p : Distances) (a b t : ℤ) → offset_of g arc (moved p (placed arc.plane a b t)) ≡ from_centre arc ((pick_a arc.plane p.x p.y p.z +ℤ a) *ℤ pos (step_a g arc.plane)) ((pick_b arc.plane p.x p.y p.z +ℤ b) *ℤ pos (step_b g arc.plane))
+  offset_placed : (p : Distances) (a b t : ℤ) → offset_of g arc (moved p (placed arc.plane a b t)) ≡ from_centre arc
+      ((pick_a arc.plane p.x p.y p.z +ℤ a) *ℤ pos (step_a g arc.plane))
+      ((pick_b arc.plane p.x p.y p.z +ℤ b) *ℤ pos (step_b g arc.plane))
   offset_placed p a b t = rw (of_a_moved arc.plane p a b t, of_b_moved arc.plane p a b t) refl
 
   -- what one pulse does
   record AfterPulse (ms : List PlaneStep) (x : PlanePoint) (third : AxisStep) (p : Distances) (before after count : ℕ) : Type 0 where
     x' : PlanePoint
     at : offset_of g arc (moved_by (pulse_item us (taking frame (step_toward true (after - before)) ms third)) p) ≡ x'
-    moves : third_of arc.plane (moved_by (pulse_item us (taking frame (step_toward true (after - before)) ms third)) p) ≡ third_of arc.plane p +ℤ step_value third
+    moves : third_of arc.plane (moved_by (pulse_item us (taking frame (step_toward true (after - before)) ms third))
+        p) ≡ third_of arc.plane p +ℤ step_value third
     rest : length (taken (step_toward true (after - before)) ms) ≡ count - after
-    later : (last : ℕ) (y : PlanePoint) → after ≤ last → slice_get (spots c x' (taken (step_toward true (after - before)) ms)) (last - after) ≡ Some y → slice_get (spots c x ms) (last - before) ≡ Some y
+    later : (last : ℕ) (y : PlanePoint) → after ≤ last
+        → slice_get (spots c x' (taken (step_toward true (after - before)) ms)) (last - after) ≡ Some y
+        → slice_get (spots c x ms) (last - before) ≡ Some y
 
-  stepping : (ms : List PlaneStep) (x : PlanePoint) (third : AxisStep) (p : Distances) (before after count : ℕ) → after ≡ before + 1 → after ≤ count → length ms ≡ count - before → offset_of g arc p ≡ x
+  stepping : (ms : List PlaneStep) (x : PlanePoint) (third : AxisStep) (p : Distances) (before after count : ℕ)
+      → after ≡ before + 1 → after ≤ count → length ms ≡ count - before → offset_of g arc p ≡ x
       → AfterPulse ms x third p before after count
   stepping [] x third p before after count is most len here = absurd (omega arith)
   stepping (m ∷ ms) x third p before after count is most len here =
@@ -157,13 +177,15 @@ module _ (g : Geometry) (arc : Arc) (us square : ℕ) where
       record {
         x' = stepped c m x;
         at = rw one (ap (offset_of g arc) shift ∙ offset_placed p (along_a m) (mirrored arc.turn (along_b m)) (step_value third)
-            ∙ offset_moves arc.turn m (pick_a arc.plane p.x p.y p.z) (pick_b arc.plane p.x p.y p.z) arc.centre_a arc.centre_b (step_a g arc.plane) (step_b g arc.plane) square ∙ ap (stepped c m) here);
+            ∙ offset_moves arc.turn m (pick_a arc.plane p.x p.y p.z) (pick_b arc.plane p.x p.y p.z) arc.centre_a
+            arc.centre_b (step_a g arc.plane) (step_b g arc.plane) square ∙ ap (stepped c m) here);
         moves = rw one (ap (third_of arc.plane) shift ∙ third_moved arc.plane p (along_a m) (mirrored arc.turn (along_b m)) (step_value third));
         rest = rw one (omega arith);
         later = λ last y le found. (let more : last - before ≡ suc (last - after) = omega arith in rw more (rw one at found));
       }
 
-  resting : (ms : List PlaneStep) (x : PlanePoint) (third : AxisStep) (p : Distances) (before after count : ℕ) → after ≡ before → length ms ≡ count - before → offset_of g arc p ≡ x
+  resting : (ms : List PlaneStep) (x : PlanePoint) (third : AxisStep) (p : Distances) (before after count : ℕ)
+      → after ≡ before → length ms ≡ count - before → offset_of g arc p ≡ x
       → AfterPulse ms x third p before after count
   resting ms x third p before after count is len here =
       let none : after - before ≡ 0 = omega arith in
@@ -171,13 +193,15 @@ module _ (g : Geometry) (arc : Arc) (us square : ℕ) where
       record {
         x' = x;
         at = rw none (ap (offset_of g arc) shift ∙ offset_placed p (pos 0) (mirrored arc.turn (pos 0)) (step_value third)
-            ∙ offset_rests arc.turn (pick_a arc.plane p.x p.y p.z) (pick_b arc.plane p.x p.y p.z) arc.centre_a arc.centre_b (step_a g arc.plane) (step_b g arc.plane) ∙ here);
+            ∙ offset_rests arc.turn (pick_a arc.plane p.x p.y p.z) (pick_b arc.plane p.x p.y p.z) arc.centre_a
+            arc.centre_b (step_a g arc.plane) (step_b g arc.plane) ∙ here);
         moves = rw none (ap (third_of arc.plane) shift ∙ third_moved arc.plane p (pos 0) (mirrored arc.turn (pos 0)) (step_value third));
         rest = rw none (omega arith);
         later = λ last y le found. (let same : last - before ≡ last - after = omega arith in rw same (rw none at found));
       }
 
-  pulsed : (ms : List PlaneStep) (x : PlanePoint) (third : AxisStep) (p : Distances) (before after count : ℕ) → before ≤ after → after ≤ before + 1 → after ≤ count → length ms ≡ count - before → offset_of g arc p ≡ x
+  pulsed : (ms : List PlaneStep) (x : PlanePoint) (third : AxisStep) (p : Distances) (before after count : ℕ)
+      → before ≤ after → after ≤ before + 1 → after ≤ count → length ms ≡ count - before → offset_of g arc p ≡ x
       → AfterPulse ms x third p before after count
   pulsed ms x third p before after count le more most len here = elim (cases_lt before after) [
     | inl step ↦ stepping ms x third p before after count (omega arith) most len here
@@ -197,11 +221,15 @@ module _ (g : Geometry) (arc : Arc) (us square : ℕ) where
       rw e (omega arith)
 
   -- the machine goes from point to point of the path, and the third axis along its line
-  pub goes : (n count : ℕ) (third z : ℤ) (ms : List PlaneStep) (x : PlanePoint) (p : Distances) (left j : ℕ) → 0 < n → count ≤ n → unsigned_abs third ≤ n → left ≤ n → j ≤ left
+  pub goes : (n count : ℕ) (third z : ℤ) (ms : List PlaneStep) (x : PlanePoint) (p : Distances) (left j : ℕ) → 0 < n
+      → count ≤ n → unsigned_abs third ≤ n → left ≤ n → j ≤ left
       → length ms ≡ count - made n count (n - left) → offset_of g arc p ≡ x → third_of arc.plane p ≡ point_on_line n z (z +ℤ third) (n - left)
       → (slice_get (spots c x ms) (made n count (n - left + j) - made n count (n - left))
       ≡ Some (offset_of g arc (stands_after (take j (map (pulse_item us) (interleaved frame n count (int_le (pos 0) third) (unsigned_abs third) ms left))) p)))
-      × (third_of arc.plane (stands_after (take j (map (pulse_item us) (interleaved frame n count (int_le (pos 0) third) (unsigned_abs third) ms left))) p) ≡ point_on_line n z (z +ℤ third) (n - left + j))
+      × (third_of arc.plane
+      (stands_after (take j
+      (map (pulse_item us) (interleaved frame n count (int_le (pos 0) third) (unsigned_abs third) ms left))) p)
+      ≡ point_on_line n z (z +ℤ third) (n - left + j))
   unfolding axis_step
   goes n count third z ms x p zero zero some le_c le_d small le len here line =
       let e : n - 0 + 0 ≡ n - 0 = omega arith in
@@ -219,29 +247,42 @@ module _ (g : Geometry) (arc : Arc) (us square : ℕ) where
       let t = pulsed ms x (line_step n third k) p (made n count k) (made n count (k + 1)) count more.0 more.1 most len here in
       let len' : length (taken (axis_step n true count k) ms) ≡ count - made n count (n - left) = t.rest ∙ ap (λ v. count - made n count v) e in
       let line' = t.moves ∙ ap (λ v. v +ℤ step_value (line_step n third k)) line ∙ axis_moves n k z third some le_d ∙ ap (point_on_line n z (z +ℤ third)) e in
-      let others = goes n count third z (taken (axis_step n true count k) ms) t.x' (moved_by (pulse_item us (taking frame (axis_step n true count k) ms (line_step n third k))) p) left j
+      let others = goes n count third z (taken (axis_step n true count k) ms) t.x'
+      (moved_by (pulse_item us (taking frame (axis_step n true count k) ms (line_step n third k))) p) left j
       some le_c le_d (omega arith) (omega arith) len' t.at line' in
       let up : made n count (k + 1) ≤ made n count (n - left + j) = (let grows = made_up n count (n - left) j some le_c in rw e grows) in
       let p' = moved_by (pulse_item us (taking frame (axis_step n true count k) ms (line_step n third k))) p in
-      let y = offset_of g arc (stands_after (take j (map (pulse_item us) (interleaved frame n count (int_le (pos 0) third) (unsigned_abs third) (taken (axis_step n true count k) ms) left))) p') in
-      let found = subst (λ (v : ℕ). slice_get (spots c t.x' (taken (axis_step n true count k) ms)) (made n count (n - left + j) - made n count v) ≡ Some y) (sym e) others.0 in
+      let y = offset_of g arc
+      (stands_after (take j
+      (map (pulse_item us) (interleaved frame n count (int_le (pos 0) third) (unsigned_abs third)
+      (taken (axis_step n true count k) ms) left))) p') in
+      let found = subst (λ (v : ℕ). slice_get (spots c t.x' (taken (axis_step n true count k) ms))
+      (made n count (n - left + j) - made n count v) ≡ Some y) (sym e) others.0 in
       rw e' (t.later (made n count (n - left + j)) y up found, others.1)
 
   -- from its first pulse on
-  pub goes_round : (third : ℤ) (ms : List PlaneStep) (p : Distances) (line : List AxisSteps) (k : ℕ) → 0 < max (length ms) (unsigned_abs third) → k ≤ max (length ms) (unsigned_abs third)
+  pub goes_round : (third : ℤ) (ms : List PlaneStep) (p : Distances) (line : List AxisSteps) (k : ℕ)
+      → 0 < max (length ms) (unsigned_abs third) → k ≤ max (length ms) (unsigned_abs third)
       → (slice_get (spots c (offset_of g arc p) ms) (made (max (length ms) (unsigned_abs third)) (length ms) k)
       ≡ Some (offset_of g arc (stands_after (take k (map (pulse_item us) (arc_pulses frame ms third ++ line))) p)))
-      × (third_of arc.plane (stands_after (take k (map (pulse_item us) (arc_pulses frame ms third ++ line))) p) ≡ point_on_line (max (length ms) (unsigned_abs third)) (third_of arc.plane p) (third_of arc.plane p +ℤ third) k)
+      × (third_of arc.plane (stands_after (take k (map (pulse_item us) (arc_pulses frame ms third ++ line))) p)
+      ≡ point_on_line (max (length ms) (unsigned_abs third)) (third_of arc.plane p)
+      (third_of arc.plane p +ℤ third) k)
   goes_round third ms p line k some le =
       let n = max (length ms) (unsigned_abs third) in
       let none : n - n ≡ 0 = omega arith in
       let from_k : n - n + k ≡ k = omega arith in
       let first : made n (length ms) (n - n) ≡ 0 = ap (made n (length ms)) none ∙ made_none n (length ms) some in
-      let start = sym (ap (point_on_line n (third_of arc.plane p) (third_of arc.plane p +ℤ third)) none ∙ line_at_none n (third_of arc.plane p) (third_of arc.plane p +ℤ third) some) in
+      let start = sym (ap (point_on_line n (third_of arc.plane p) (third_of arc.plane p +ℤ third)) none
+      ∙ line_at_none n (third_of arc.plane p) (third_of arc.plane p +ℤ third) some) in
       let len : length ms ≡ length ms - made n (length ms) (n - n) = omega arith in
-      let both = goes n (length ms) third (third_of arc.plane p) ms (offset_of g arc p) p n k some (omega arith) (omega arith) (omega arith) le len refl start in
-      let place : made n (length ms) (n - n + k) - made n (length ms) (n - n) ≡ made n (length ms) k = (let e = ap (made n (length ms)) from_k in omega arith) in
-      let same = first_items us (arc_pulses frame ms third) line k p (let all = length-interleaved frame n (length ms) (int_le (pos 0) third) (unsigned_abs third) ms n in omega arith) in (
+      let both = goes n (length ms) third (third_of arc.plane p) ms (offset_of g arc p) p n k some (omega arith)
+      (omega arith) (omega arith) le len refl start in
+      let place : made n (length ms) (n - n + k) - made n (length ms) (n - n) ≡ made n (length ms) k =
+      (let e = ap (made n (length ms)) from_k in omega arith) in
+      let same = first_items us (arc_pulses frame ms third) line k p
+      (let all = length-interleaved frame n (length ms) (int_le (pos 0) third) (unsigned_abs third) ms n in
+      omega arith) in (
         ap (λ i. slice_get (spots c (offset_of g arc p) ms) i) (sym place) ∙ both.0 ∙ ap (λ (q : Distances). Some (offset_of g arc q)) (sym same),
         ap (third_of arc.plane) same ∙ both.1 ∙ ap (point_on_line n (third_of arc.plane p) (third_of arc.plane p +ℤ third)) from_k,
       )

@@ -19,7 +19,8 @@ centre_far a b s some large ha hb =
     let three : 1 * 1 ≤ s * s = mul-le 1 1 s s some some in
     omega arith
 
-pub start_some : (start p : PlanePoint) (s : ℕ) → 0 < s → 4 * (s * s) ≤ unsigned_abs start.a * unsigned_abs start.a + unsigned_abs start.b * unsigned_abs start.b
+pub start_some : (start p : PlanePoint) (s : ℕ) → 0 < s → 4 * (s * s) ≤ unsigned_abs start.a * unsigned_abs start.a
+    + unsigned_abs start.b * unsigned_abs start.b
     → 2 * unsigned_abs (p.a -ℤ start.a) ≤ s → 2 * unsigned_abs (p.b -ℤ start.b) ≤ s → 0 < unsigned_abs p.a + unsigned_abs p.b
 start_some start p s some large ha hb = elim (cases_lt 0 (unsigned_abs p.a + unsigned_abs p.b)) [
   | inl h ↦ h
@@ -27,7 +28,8 @@ start_some start p s some large ha hb = elim (cases_lt 0 (unsigned_abs p.a + uns
       (half_zero start.a p.a s (omega arith) ha) (half_zero start.b p.b s (omega arith) hb) in omega arith)
 ]
 
-step_adds : (a z : ℤ) (m m' : ℕ) (t : Bool) → int_le (pos 0) (z -ℤ a) ≡ t → m ≤ m' → m' ≤ m + 1 → toward a z m' ≡ toward a z m +ℤ step_value (step_toward t (m' - m))
+step_adds : (a z : ℤ) (m m' : ℕ) (t : Bool) → int_le (pos 0) (z -ℤ a) ≡ t → m ≤ m' → m' ≤ m + 1
+    → toward a z m' ≡ toward a z m +ℤ step_value (step_toward t (m' - m))
 step_adds a z m m' true e le more = elim (cases_lt m m') [
   | inl h ↦ (let one : m' - m ≡ 1 = omega arith in rw one (grind (arith, ints)))
   | inr h ↦ (let none : m' - m ≡ 0 = omega arith in rw none (grind (arith, ints)))
@@ -38,7 +40,8 @@ step_adds a z m m' false e le more = elim (cases_lt m m') [
 ]
 
 -- the pulses of a line are the differences of its points
-pub point_on_line-step : (n k : ℕ) (a z : ℤ) → 0 < n → unsigned_abs (z -ℤ a) ≤ n → point_on_line n a z (k + 1) ≡ point_on_line n a z k +ℤ step_value (line_step n (z -ℤ a) k)
+pub point_on_line-step : (n k : ℕ) (a z : ℤ) → 0 < n → unsigned_abs (z -ℤ a) ≤ n
+    → point_on_line n a z (k + 1) ≡ point_on_line n a z k +ℤ step_value (line_step n (z -ℤ a) k)
 unfolding point_on_line axis_step
 point_on_line-step n k a z some le =
     let more = made_more n (unsigned_abs (z -ℤ a)) k some le in

@@ -141,7 +141,8 @@ inward_is w h excess_high far =
       walks = record {
         has = h.has;
         roomy = h.roomy;
-        sound = sound_inward _ _ _ _ j w.outer w.inner_step (omega arith) (subst (λ x. Sound w.circle.square farthest (larger w.circle) beyond x w.outer) split h.sound);
+        sound = sound_inward _ _ _ _ j w.outer w.inner_step (omega arith)
+            (subst (λ x. Sound w.circle.square farthest (larger w.circle) beyond x w.outer) split h.sound);
         inward_made = h.inward_made;
         outward_made = h.outward_made;
         inner_step = h.inner_step;
@@ -160,13 +161,15 @@ inward_is w h excess_high far =
       circle = refl;
     }
   where
-    excess_inward : (s j i o n : ℕ) → i ≡ s + j → (z d : ℤ) → z ≡ pos (norm i o) -ℤ pos n → d ≡ pos (s * s) -ℤ pos (2 * (i * s)) → z +ℤ d ≡ pos (norm j o) -ℤ pos n
+    excess_inward : (s j i o n : ℕ) → i ≡ s + j → (z d : ℤ) → z ≡ pos (norm i o) -ℤ pos n
+        → d ≡ pos (s * s) -ℤ pos (2 * (i * s)) → z +ℤ d ≡ pos (norm j o) -ℤ pos n
     excess_inward s j i o n split z d e f =
         let one : i * i ≡ (s + j) * (s + j) = ap (λ x. x * x) split in
         let two : i * s ≡ (s + j) * s = ap (λ x. x * s) split in
         omega (arith, ints)
 
-    inward_inward : (s j i : ℕ) → i ≡ s + j → (d g : ℤ) → d ≡ pos (s * s) -ℤ pos (2 * (i * s)) → g ≡ pos (2 * (s * s)) → d +ℤ g ≡ pos (s * s) -ℤ pos (2 * (j * s))
+    inward_inward : (s j i : ℕ) → i ≡ s + j → (d g : ℤ) → d ≡ pos (s * s) -ℤ pos (2 * (i * s))
+        → g ≡ pos (2 * (s * s)) → d +ℤ g ≡ pos (s * s) -ℤ pos (2 * (j * s))
     inward_inward s j i split d g f k =
         let two : i * s ≡ (s + j) * s = ap (λ x. x * s) split in
         omega (arith, ints)
@@ -199,7 +202,8 @@ crossing_is w h excess_high near =
       circle = refl;
     }
   where
-    excess_crossing : (s j i o n : ℕ) → s ≡ i + j → (z d : ℤ) → z ≡ pos (norm i o) -ℤ pos n → d ≡ pos (s * s) -ℤ pos (2 * (i * s)) → z +ℤ d ≡ pos (norm o j) -ℤ pos n
+    excess_crossing : (s j i o n : ℕ) → s ≡ i + j → (z d : ℤ) → z ≡ pos (norm i o) -ℤ pos n
+        → d ≡ pos (s * s) -ℤ pos (2 * (i * s)) → z +ℤ d ≡ pos (norm o j) -ℤ pos n
     excess_crossing s j i o n split z d e f =
         let one : s * s ≡ (i + j) * (i + j) = ap (λ x. x * x) split in
         let two : i * s ≡ i * (i + j) = ap (λ x. i * x) split in
@@ -208,7 +212,8 @@ crossing_is w h excess_high near =
     inward_crossing : (s o : ℕ) (d g : ℤ) → d ≡ pos (s * s) +ℤ pos (2 * (o * s)) → g ≡ pos (2 * (s * s)) → g -ℤ d ≡ pos (s * s) -ℤ pos (2 * (o * s))
     inward_crossing s o d g e f = omega (arith, ints)
 
-    outward_crossing : (s j i : ℕ) → s ≡ i + j → (d g : ℤ) → d ≡ pos (s * s) -ℤ pos (2 * (i * s)) → g ≡ pos (2 * (s * s)) → d +ℤ g ≡ pos (s * s) +ℤ pos (2 * (j * s))
+    outward_crossing : (s j i : ℕ) → s ≡ i + j → (d g : ℤ) → d ≡ pos (s * s) -ℤ pos (2 * (i * s))
+        → g ≡ pos (2 * (s * s)) → d +ℤ g ≡ pos (s * s) +ℤ pos (2 * (j * s))
     outward_crossing s j i split d g e f =
         let one : s * s ≡ (i + j) * s = ap (λ x. x * s) split in
         omega (arith, ints)
@@ -228,7 +233,9 @@ pub step_inward : (w : ArcWalk) (excess change : ℤ) (m : AxisSteps) → Walks 
     → ArcStepSpec w (record w { excess = excess; inward = change; inner = w.inner - w.inner_step }) m
 step_inward w excess change m h high far is e f = rw (is, e, f) (inward_is w h high far)
 
-pub step_crossing : (w : ArcWalk) (q : Quadrant) (excess change back first second : ℤ) (m in_made out_made : AxisSteps) → Walks w → pos 0 <ℤ w.excess → w.inner ≤ w.inner_step → m ≡ flat w (inward w.quadrant)
+pub step_crossing : (w : ArcWalk) (q : Quadrant) (excess change back first second : ℤ)
+    (m in_made out_made : AxisSteps) → Walks w → pos 0 <ℤ w.excess → w.inner ≤ w.inner_step
+    → m ≡ flat w (inward w.quadrant)
     → q ≡ quadrant_after w.quadrant → excess ≡ w.excess +ℤ w.inward → change ≡ w.outer_second -ℤ w.outward → back ≡ w.inward +ℤ w.inner_second
     → first ≡ w.outer_second → second ≡ w.inner_second → in_made ≡ flat w (inward q) → out_made ≡ flat w (outward q)
     → ArcStepSpec w (record {
@@ -247,7 +254,8 @@ pub step_crossing : (w : ArcWalk) (q : Quadrant) (excess change back first secon
       inward_made = in_made;
       outward_made = out_made;
     }) m
-step_crossing w q excess change back first second m in_made out_made h high near is turned e f g k l i o = rw (is, i, o, turned, e, f, g, k, l) (crossing_is w h high near)
+step_crossing w q excess change back first second m in_made out_made h high near is turned e f g k l i o =
+    rw (is, i, o, turned, e, f, g, k, l) (crossing_is w h high near)
 
 -- ---- past the end
 

@@ -33,7 +33,8 @@ interleaved frame n count forward d ms (suc left) =
 
 -- an arc's pulses before the closing line, given its steps
 abbrev pub arc_pulses : Frame → List PlaneStep → ℤ → List AxisSteps
-arc_pulses frame ms d = interleaved frame (max (length ms) (unsigned_abs d)) (length ms) (int_le (pos 0) d) (unsigned_abs d) ms (max (length ms) (unsigned_abs d))
+arc_pulses frame ms d = interleaved frame (max (length ms) (unsigned_abs d)) (length ms) (int_le (pos 0) d)
+    (unsigned_abs d) ms (max (length ms) (unsigned_abs d))
 
 -- an arc's pulses, with the steps by the rule instead of a list
 abbrev pub walking : Frame → AxisStep → Circle → PlanePoint → AxisStep → AxisSteps

@@ -40,7 +40,8 @@ distances g p q = record {
 -- the square of the distance between two points, in nanometres
 abbrev pub square_between : Point → Point → ℕ
 square_between p q =
-    unsigned_abs (q.x -ℤ p.x) * unsigned_abs (q.x -ℤ p.x) + unsigned_abs (q.y -ℤ p.y) * unsigned_abs (q.y -ℤ p.y) + unsigned_abs (q.z -ℤ p.z) * unsigned_abs (q.z -ℤ p.z)
+    unsigned_abs (q.x -ℤ p.x) * unsigned_abs (q.x -ℤ p.x) + unsigned_abs (q.y -ℤ p.y) * unsigned_abs (q.y -ℤ p.y) +
+    unsigned_abs (q.z -ℤ p.z) * unsigned_abs (q.z -ℤ p.z)
 
 unfoldable pub line_items : Geometry → Pace → Point → Point → List Item
 line_items g pace p q =
@@ -67,7 +68,8 @@ step_b g plane = pick_b plane g.x.step_nm g.y.step_nm g.z.step_nm
 
 abbrev pub rounded_start : Arc → ℕ → ℕ → PlanePoint
 rounded_start arc step_a step_b =
-    from_centre arc (rounded (pick_a arc.plane arc.start.x arc.start.y arc.start.z) step_a) (rounded (pick_b arc.plane arc.start.x arc.start.y arc.start.z) step_b)
+    from_centre arc (rounded (pick_a arc.plane arc.start.x arc.start.y arc.start.z) step_a)
+    (rounded (pick_b arc.plane arc.start.x arc.start.y arc.start.z) step_b)
 
 abbrev pub circle : Geometry → Plane → PlanePoint → Circle
 circle g plane s = record {

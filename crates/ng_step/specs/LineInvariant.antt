@@ -13,7 +13,12 @@ spread_step n a k = axis_step n a.forward a.count k
 -- the last `left` of n pulses of three axes
 abbrev pub axes_from : ℕ → Spread → Spread → Spread → ℕ → List AxisSteps
 axes_from n x y z zero = []
-axes_from n x y z (suc left) = record { x = spread_step n x (n - suc left); y = spread_step n y (n - suc left); z = spread_step n z (n - suc left) } ∷ axes_from n x y z left
+axes_from n x y z (suc left) = record {
+  x = spread_step n x (n - suc left);
+  y = spread_step n y (n - suc left);
+  z =
+      spread_step n z (n - suc left);
+} ∷ axes_from n x y z left
 
 abbrev pub pulses_left : Inside → List AxisSteps
 pulses_left a = axes_from a.total a.x a.y a.z a.left

@@ -1,5 +1,6 @@
 -- What holds of every segment's items (own).
-use Rattle.std.specs.Prelude.{◌≡◌, ℕ, ◌+◌, ◌*◌, ◌<◌, ◌≤◌, max, take, ℤ, pos, negsuc, ◌+ℤ◌, ◌-ℤ◌, ◌*ℤ◌, unsigned_abs, true, false, List, [], ◌∷◌, All, length, slice_get, Some}
+use Rattle.std.specs.Prelude.{◌≡◌, ℕ, ◌+◌, ◌*◌, ◌<◌, ◌≤◌, max, take, ℤ, pos, negsuc, ◌+ℤ◌, ◌-ℤ◌, ◌*ℤ◌, unsigned_abs}
+use Rattle.std.specs.Prelude.{true, false, List, [], ◌∷◌, All, length, slice_get, Some}
 use Rattle.ng_num.specs.declared.point.Point.{Point}
 use Rattle.ng_canon.specs.Inside.{is_inside}
 use Rattle.ng_canon.specs.declared.geometry.Geometry.{Geometry}
@@ -128,7 +129,8 @@ closing_total g arc items = largest (steps_between (position_after g arc items (
 pub record FollowsPath (g : Geometry) (arc : Arc) (items : List Item) : Type 0 where
   -- after pulse k the machine is at the point of the path that the arc steps made so far lead to
   pub path : (k : ℕ) → 0 < round_total g arc → k ≤ round_total g arc
-      → slice_get (spots (centred g arc).circle (centred g arc).from (arc_path (centred g arc))) (made (round_total g arc) (length (arc_path (centred g arc))) k)
+      → slice_get (spots (centred g arc).circle (centred g arc).from (arc_path (centred g arc)))
+      (made (round_total g arc) (length (arc_path (centred g arc))) k)
       ≡ Some (offset_of g arc (position_after g arc items k))
   -- and the third axis is where a line's formula says
   pub third : (k : ℕ) → 0 < round_total g arc → k ≤ round_total g arc
@@ -138,10 +140,12 @@ pub record FollowsPath (g : Geometry) (arc : Arc) (items : List Item) : Type 0 w
   -- each position up to there is near the circle, given the largest coordinate w among them
   pub near : (w : ℕ) → ((k : ℕ) → k ≤ round_total g arc → IsAtMostInSize w (offset_of g arc (position_after g arc items k))) → (k : ℕ) → k ≤ round_total g arc
       → unsigned_abs (excess (centred g arc).circle (offset_of g arc (position_after g arc items k)))
-      ≤ 2 * (larger (centred g arc).circle * w) + larger (centred g arc).circle * larger (centred g arc).circle + unsigned_abs (excess (centred g arc).circle (centred g arc).from)
+      ≤ 2 * (larger (centred g arc).circle * w) + larger (centred g arc).circle * larger (centred g arc).circle +
+      unsigned_abs (excess (centred g arc).circle (centred g arc).from)
   -- then the machine follows the closing line
   pub closing : (k : ℕ) → 0 < closing_total g arc items → k ≤ closing_total g arc items
-      → position_after g arc items (round_total g arc + k) ≡ on_line (closing_total g arc items) (position_after g arc items (round_total g arc)) (point_in_steps g arc.end) k
+      → position_after g arc items (round_total g arc + k) ≡ on_line (closing_total g arc items)
+      (position_after g arc items (round_total g arc)) (point_in_steps g arc.end) k
 
 -- an arc that isn't small follows its path
 abbrev pub FollowsItsPath : Segment → Geometry → Type 0

@@ -9,7 +9,7 @@ use std::marker::Model;
 
 /// The remaining pulses of an arc, without its closing line.
 #[derive(Drop)]
-pub struct ArcPulses {
+pub(crate) struct ArcPulses {
     total: u64,
     left: u64,
     whole: u64,

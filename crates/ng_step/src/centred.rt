@@ -9,7 +9,7 @@ use ng_num::Point;
 /// An arc in the frame of its plane. All points are offsets from its centre in nanometres; b is negated if the arc is
 /// clockwise.
 #[derive(Clone, Copy)]
-pub struct CentredArc {
+pub(crate) struct CentredArc {
     pub frame: Frame,
     pub circle: Circle,
     /// The programmed start.

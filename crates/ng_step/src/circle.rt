@@ -2,7 +2,7 @@
 
 /// What the step from a point of an arc depends on: the steps of the two axes, and the square of the radius.
 #[derive(Clone, Copy)]
-pub struct Circle {
+pub(crate) struct Circle {
     pub step_a: u64,
     pub step_b: u64,
     pub square: u128,

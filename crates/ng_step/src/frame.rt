@@ -7,7 +7,7 @@ use ng_canon::{ArcDirection, AxisStep, Plane, pick_a, pick_b};
 /// The frame of an arc: its plane and its direction. A clockwise arc is stepped as a counterclockwise one with b
 /// negated.
 #[derive(Clone, Copy)]
-pub struct Frame {
+pub(crate) struct Frame {
     pub plane: Plane,
     pub turn: ArcDirection,
 }

@@ -6,7 +6,7 @@ use std::marker::Model;
 
 /// The remaining pulses of a line.
 #[derive(Drop)]
-pub struct LinePulses {
+pub(crate) struct LinePulses {
     total: u64,
     left: u64,
     whole: u64,

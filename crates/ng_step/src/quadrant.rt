@@ -4,7 +4,7 @@ use ng_canon::{AxisStep, PlanePoint, Quadrant};
 
 /// One step of one axis of the plane.
 #[derive(Clone, Copy)]
-pub enum PlaneStep {
+pub(crate) enum PlaneStep {
     AddA,
     SubA,
     AddB,

@@ -4,7 +4,7 @@ use ng_canon::AxisStep;
 
 /// One axis of a line, with its accumulated error.
 #[derive(Clone, Copy)]
-pub struct Spread {
+pub(crate) struct Spread {
     count: u64,
     forward: bool,
     twice: u64,

@@ -6,7 +6,7 @@ use ng_num::Point;
 
 /// One pulse: the step of each axis.
 #[derive(Clone, Copy)]
-pub struct AxisSteps {
+pub(crate) struct AxisSteps {
     pub x: AxisStep,
     pub y: AxisStep,
     pub z: AxisStep,
@@ -14,7 +14,7 @@ pub struct AxisSteps {
 
 /// The steps that each axis has to make.
 #[derive(Clone, Copy)]
-pub struct Distances {
+pub(crate) struct Distances {
     pub x: i64,
     pub y: i64,
     pub z: i64,

@@ -9,7 +9,7 @@ use crate::timing::ceil_div;
 
 /// Where an arc enters a quadrant, in nanometres. Inward steps decrease `inner`, and outward steps increase `outer`.
 #[derive(Clone, Copy)]
-pub struct QuadrantSweep {
+pub(crate) struct QuadrantSweep {
     pub square: u128,
     pub inner: u64,
     pub outer: u64,
@@ -24,14 +24,14 @@ pub struct QuadrantSweep {
 
 /// A point of a sweep, given by the number of inward and outward steps that lead to it.
 #[derive(Clone, Copy)]
-pub struct SweepSteps {
+pub(crate) struct SweepSteps {
     pub inward: u64,
     pub outward: u64,
 }
 
 /// An end in a quadrant, in the same two coordinates.
 #[derive(Clone, Copy)]
-pub struct QuadrantEnd {
+pub(crate) struct QuadrantEnd {
     pub inner: u64,
     pub outer: u64,
     pub ghost inner_in_range: { (0 < inner) × (inner ≤ 2 ^ 50) },

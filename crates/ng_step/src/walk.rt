@@ -14,7 +14,7 @@ use ng_canon::{AxisStep, PlanePoint, Quadrant};
 /// A point on the way around a circle, relative to its quadrant. An inward step decreases `inner`, and an outward step
 /// increases `outer`. The other fields are differences, and the steps that belong to the quadrant.
 #[derive(Clone, Copy)]
-pub struct ArcWalk {
+pub(crate) struct ArcWalk {
     circle: Circle,
     quadrant: Quadrant,
     inner: u64,

@@ -1,3 +1,4 @@
+//! Canonical commands printed in little memory; the limits of axes and machines.
 use linked_list_allocator::LocalHeap;
 use ng_canon::{ArcDirection, ArcFeed, Axis, Canon, CanonicalCommand, Feed, Geometry, Rate, print};
 use ng_num::{Len, Point};

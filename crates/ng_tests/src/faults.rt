@@ -1,3 +1,4 @@
+//! The texts of all faults.
 use ng_num::Fault;
 use std::alloc::{AllocError, AllocFailed};
 

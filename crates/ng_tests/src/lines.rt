@@ -1,3 +1,4 @@
+//! Lines and the words that are read from them.
 use ng_num::Fault;
 use ng_words::{
     Function, Letter, Line, Node, Operation, PIECES, PieceRef, Pieces, Tree, is_deletable,

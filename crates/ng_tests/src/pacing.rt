@@ -1,3 +1,4 @@
+//! A stream of pulses that runs dry.
 use ng_canon::{AxisStep, Item, Pulse};
 use ng_pace::{Limits, PaceFault, Stream};
 use std::alloc::Allocator;

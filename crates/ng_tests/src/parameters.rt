@@ -1,3 +1,4 @@
+//! Parameters that last, their numbers, and changes of them.
 use linked_list_allocator::LocalHeap;
 use ng_num::{Len, Num, Point};
 use ng_params::{Change, Index, Params, System, g92_changes};

@@ -1,3 +1,4 @@
+//! Numbers printed in little memory.
 use linked_list_allocator::LocalHeap;
 use ng_num::{Num, print_number, print_whole};
 use std::alloc::Global;

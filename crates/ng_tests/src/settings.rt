@@ -1,3 +1,4 @@
+//! The standard settings.
 use ng_canon::{Axis, Feed, Geometry, Rate};
 use ng_num::Len;
 use ng_settings::Settings;

@@ -1,5 +1,7 @@
 -- What a beginning of a text decides about its first line, byte by byte.
-use Rattle.std.proofs.Common.{◌≡◌, ◌≢◌, ◌⊎◌, inl, inr, ℕ, suc, ◌+◌, ◌-◌, ◌==◌, Bool, true, false, cond, List, [], ◌∷◌, ◌++◌, length, take, drop, get_or, refl, sym, ◌∙◌, ap, subst, arith, append_assoc, append-nil, take-append-drop, ◌&&◌, ◌≤◌, ◌<◌, nat_le}
+use Rattle.std.proofs.Common.{◌≡◌, ◌≢◌, ◌⊎◌, inl, inr, ℕ, suc, ◌+◌, ◌-◌, ◌==◌, Bool, true, false, cond, List, []}
+use Rattle.std.proofs.Common.{◌∷◌, ◌++◌, length, take, drop, get_or, refl, sym, ◌∙◌, ap, subst, arith, append_assoc}
+use Rattle.std.proofs.Common.{append-nil, take-append-drop, ◌&&◌, ◌≤◌, ◌<◌, nat_le}
 use Rattle.std.proofs.lemmas.Bool.Decides.{nat_tests}
 use Rattle.std.proofs.lemmas.List.{take_all}
 use Rattle.std.proofs.Math.Seq.{take-suc}
@@ -51,7 +53,8 @@ begins b f plain is more = elim (split more) [
   | inl alone ↦ kind_in-alone b (f ++ more) (HasNoNewline-append (b ∷ f) more plain alone) ∙ is.0 more
   | inr p ↦
       let whole : (b ∷ f) ++ more ≡ ((b ∷ f) ++ p.0) ++ (10 ∷ p.1) = ap (λ (l : List ℕ). (b ∷ f) ++ l) p.2 ∙ sym (append_assoc (b ∷ f) p.0 (10 ∷ p.1)) in
-      ap kind_in whole ∙ kind_in-newline ((b ∷ f) ++ p.0) p.1 (HasNoNewline-append (b ∷ f) p.0 plain p.3) ∙ ap (λ (k : LineKind). kind_before k (kind_in p.1)) (stripped p.0)
+      ap kind_in whole ∙ kind_in-newline ((b ∷ f) ++ p.0) p.1 (HasNoNewline-append (b ∷ f) p.0 plain p.3)
+      ∙ ap (λ (k : LineKind). kind_before k (kind_in p.1)) (stripped p.0)
 ]
   where
     stripped : (x : List ℕ) → kind_of (strip_carriage_return ((b ∷ f) ++ x)) ≡ Other
@@ -183,10 +186,13 @@ differ front one other kind apart is = apart (is one ∙ sym (is other))
 
 undecided_as : (seen : FirstLine) (one other : List ℕ) (kind : LineKind) → kind_in (shortest seen ++ one) ≢ kind_in (shortest seen ++ other)
     → (now : FirstLine) → now ≡ seen → IsDecided (shortest now) kind → ⊥
-undecided_as seen one other kind apart now is = subst (λ (s : FirstLine). IsDecided (shortest s) kind → ⊥) (sym is) (differ (shortest seen) one other kind apart)
+undecided_as seen one other kind apart now is = subst (λ (s : FirstLine). IsDecided (shortest s) kind → ⊥) (sym is)
+    (differ (shortest seen) one other kind apart)
 
 -- a digit or a newline may follow, or nothing
-pub undecided : (now : FirstLine) → (now ≡ seen.Unseen) ⊎ ((now ≡ seen.Return) ⊎ ((now ≡ seen.Sign) ⊎ (now ≡ seen.SignReturn))) → (kind : LineKind) → IsDecided (shortest now) kind → ⊥
+pub undecided : (now : FirstLine) → (now ≡ seen.Unseen)
+    ⊎ ((now ≡ seen.Return) ⊎ ((now ≡ seen.Sign) ⊎ (now ≡ seen.SignReturn))) → (kind : LineKind)
+    → IsDecided (shortest now) kind → ⊥
 undecided now (inl is) kind = undecided_as seen.Unseen [] (48 ∷ []) kind (λ e. cc e) now is
 undecided now (inr (inl is)) kind = undecided_as seen.Return [] (10 ∷ []) kind (λ e. cc e) now is
 undecided now (inr (inr (inl is))) kind = undecided_as seen.Sign [] (48 ∷ []) kind (λ e. cc e) now is
@@ -248,7 +254,8 @@ return_decided b new is other = return_decided_as (13 ∷ []) b seen.Unseen new 
 
 pub sign_return_decided : (b : ℕ) (new : FirstLine) → (b ≡ 10 → new ≡ seen.Percent) → (b ≢ 10 → new ≡ seen.Other) → DecidesFirstLine (37 ∷ (13 ∷ (b ∷ []))) new
 sign_return_decided b new is other =
-    return_decided_as (37 ∷ (13 ∷ [])) b seen.Percent new is other (λ more. sign_return_newline more ∙ sym (sign_newline more)) (λ more e. sign_return_other b more e)
+    return_decided_as (37 ∷ (13 ∷ [])) b seen.Percent new is other (λ more. sign_return_newline more
+    ∙ sym (sign_newline more)) (λ more e. sign_return_other b more e)
 
 pub percent_decided : (b : ℕ) → DecidesFirstLine (37 ∷ (10 ∷ (b ∷ []))) seen.Percent
 percent_decided b more = sign_newline (b ∷ more) ∙ sym (sign_newline more)
@@ -257,26 +264,34 @@ pub other_decided : (b : ℕ) → DecidesFirstLine (48 ∷ (b ∷ [])) seen.Othe
 other_decided b more = known_other (b ∷ more) ∙ sym (known_other more)
 
 -- a beginning, and then another part
-pub decides_more : (front part : List ℕ) (old new : FirstLine) → DecidesFirstLine front old → DecidesFirstLine (shortest old ++ part) new → DecidesFirstLine (front ++ part) new
+pub decides_more : (front part : List ℕ) (old new : FirstLine) → DecidesFirstLine front old
+    → DecidesFirstLine (shortest old ++ part) new → DecidesFirstLine (front ++ part) new
 decides_more front part old new first then_part more =
     ap kind_in (append_assoc front part more) ∙ first (part ++ more) ∙ sym (ap kind_in (append_assoc (shortest old) part more)) ∙ then_part more
 
 -- one byte of some, and all of them
-pub decides_one : (front bytes : List ℕ) (i : ℕ) (old new : FirstLine) → i < length bytes → DecidesFirstLine (front ++ take i bytes) old → DecidesFirstLine (shortest old ++ (get_or bytes i 0 ∷ [])) new → DecidesFirstLine (front ++ take (i + 1) bytes) new
+pub decides_one : (front bytes : List ℕ) (i : ℕ) (old new : FirstLine) → i < length bytes
+    → DecidesFirstLine (front ++ take i bytes) old → DecidesFirstLine (shortest old ++ (get_or bytes i 0 ∷ [])) new
+    → DecidesFirstLine (front ++ take (i + 1) bytes) new
 decides_one front bytes i old new lt told one =
     let next : suc i ≡ i + 1 = omega arith in
     let whole : (front ++ take i bytes) ++ (get_or bytes i 0 ∷ []) ≡ front ++ take (i + 1) bytes =
-    append_assoc front (take i bytes) (get_or bytes i 0 ∷ []) ∙ ap (λ (l : List ℕ). front ++ l) (sym (take-suc bytes i 0 lt)) ∙ ap (λ (n : ℕ). front ++ take n bytes) next in
+    append_assoc front (take i bytes) (get_or bytes i 0 ∷ [])
+    ∙ ap (λ (l : List ℕ). front ++ l) (sym (take-suc bytes i 0 lt))
+    ∙ ap (λ (n : ℕ). front ++ take n bytes) next in
     subst (λ (l : List ℕ). DecidesFirstLine l new) whole (decides_more (front ++ take i bytes) (get_or bytes i 0 ∷ []) old new told one)
 
-pub decides_all : (front bytes : List ℕ) (n : ℕ) (new : FirstLine) → length bytes ≤ n → DecidesFirstLine (front ++ take n bytes) new → DecidesFirstLine (front ++ bytes) new
+pub decides_all : (front bytes : List ℕ) (n : ℕ) (new : FirstLine) → length bytes ≤ n
+    → DecidesFirstLine (front ++ take n bytes) new → DecidesFirstLine (front ++ bytes) new
 decides_all front bytes n new all told = subst (λ (l : List ℕ). DecidesFirstLine (front ++ l) new) (take_all n bytes all) told
 
 -- ---- the whole text
 
-pub known_in : (text : List ℕ) (n : ℕ) (seen : FirstLine) (kind : LineKind) → DecidesFirstLine (take n text) seen → ((more : List ℕ) → kind_in (shortest seen ++ more) ≡ kind) → kind ≡ kind_in text
+pub known_in : (text : List ℕ) (n : ℕ) (seen : FirstLine) (kind : LineKind) → DecidesFirstLine (take n text) seen
+    → ((more : List ℕ) → kind_in (shortest seen ++ more) ≡ kind) → kind ≡ kind_in text
 known_in text n seen kind told known = sym (ap kind_in (sym (take-append-drop n text)) ∙ told (drop n text) ∙ known (drop n text))
 
-pub all_in : (text : List ℕ) (n : ℕ) (seen : FirstLine) (kind : LineKind) → length text ≤ n → DecidesFirstLine (take n text) seen → kind ≡ kind_in (shortest seen) → kind ≡ kind_in text
+pub all_in : (text : List ℕ) (n : ℕ) (seen : FirstLine) (kind : LineKind) → length text ≤ n
+    → DecidesFirstLine (take n text) seen → kind ≡ kind_in (shortest seen) → kind ≡ kind_in text
 all_in text n seen kind all told is =
     is ∙ sym (ap kind_in (append-nil (shortest seen))) ∙ sym (told []) ∙ ap kind_in (append-nil (take n text) ∙ take_all n text all)

@@ -1,5 +1,7 @@
 -- The lines of bytes, newline by newline.
-use Rattle.std.proofs.Common.{arith, ◌≡◌, ◌≢◌, ◌⊎◌, inl, inr, ℕ, zero, suc, ◌+◌, ◌-◌, ◌<◌, ◌≤◌, List, [], ◌∷◌, ◌++◌, length, take, drop, map, Bool, true, false, cond, ◌==◌, get_or, refl, sym, ap, ◌∙◌, length-append, length-take, append-nil}
+use Rattle.std.proofs.Common.{arith, ◌≡◌, ◌≢◌, ◌⊎◌, inl, inr, ℕ, zero, suc, ◌+◌, ◌-◌, ◌<◌, ◌≤◌, List, [], ◌∷◌, ◌++◌}
+use Rattle.std.proofs.Common.{length, take, drop, map, Bool, true, false, cond, ◌==◌, get_or, refl, sym, ap, ◌∙◌}
+use Rattle.std.proofs.Common.{length-append, length-take, append-nil}
 use Rattle.std.proofs.lemmas.Bool.Decides.{nat_tests}
 use Rattle.std.specs.List.{slice_split, onto_first}
 use Rattle.std.specs.Str.Lines.{lines, lines_of_parts, strip_carriage_return}
@@ -28,7 +30,8 @@ parts-newline [] more = refl
 parts-newline (b ∷ front) more = at (b == 10) (parts-newline front more)
   where
     at : (t : Bool) → parts (front ++ (10 ∷ more)) ≡ parts front ++ parts more
-        → cond t ([] ∷ parts (front ++ (10 ∷ more))) (onto_first b (parts (front ++ (10 ∷ more)))) ≡ cond t ([] ∷ parts front) (onto_first b (parts front)) ++ parts more
+        → cond t ([] ∷ parts (front ++ (10 ∷ more))) (onto_first b (parts (front ++ (10 ∷ more)))) ≡ cond t
+        ([] ∷ parts front) (onto_first b (parts front)) ++ parts more
     at true same = ap (λ (l : List (List ℕ)). [] ∷ l) same
     at false same =
         let some = parts-some front in
@@ -42,7 +45,8 @@ parts-alone (b ∷ front) h = rw (not_newline b h.0) (ap (onto_first b) (parts-a
 pub lines-newline : (front more : List ℕ) → HasNoNewline front → lines (front ++ (10 ∷ more)) ≡ strip_carriage_return front ∷ lines more
 lines-newline front more h =
     let tail = parts-some more in
-    let whole : parts (front ++ (10 ∷ more)) ≡ front ∷ parts more = parts-newline front more ∙ ap (λ (l : List (List ℕ)). l ++ parts more) (parts-alone front h) in
+    let whole : parts (front ++ (10 ∷ more)) ≡ front ∷ parts more = parts-newline front more
+    ∙ ap (λ (l : List (List ℕ)). l ++ parts more) (parts-alone front h) in
     ap lines_of_parts (whole ∙ ap (λ l. front ∷ l) tail.2) ∙ ap (λ l. strip_carriage_return front ∷ lines_of_parts l) (sym tail.2)
 
 pub some_length : (n : ℕ) → (suc n == 0) ≡ false
@@ -80,7 +84,8 @@ lines-long front more h full =
 
 -- ---- lines before and after a newline
 
-lines_of-append : (xs : List (List ℕ)) (y : List ℕ) (ys : List (List ℕ)) → lines_of_parts (xs ++ (y ∷ ys)) ≡ map strip_carriage_return xs ++ lines_of_parts (y ∷ ys)
+lines_of-append : (xs : List (List ℕ)) (y : List ℕ) (ys : List (List ℕ))
+    → lines_of_parts (xs ++ (y ∷ ys)) ≡ map strip_carriage_return xs ++ lines_of_parts (y ∷ ys)
 lines_of-append [] y ys = refl
 lines_of-append (x ∷ []) y ys = refl
 lines_of-append (x ∷ (z ∷ xs)) y ys = ap (λ (l : List (List ℕ)). strip_carriage_return x ∷ l) (lines_of-append (z ∷ xs) y ys)
@@ -88,7 +93,9 @@ lines_of-append (x ∷ (z ∷ xs)) y ys = ap (λ (l : List (List ℕ)). strip_ca
 pub lines-sides : (front more : List ℕ) → lines (front ++ (10 ∷ more)) ≡ lines (front ++ (10 ∷ [])) ++ lines more
 lines-sides front more =
     let some = parts-some more in
-    let ended : lines (front ++ (10 ∷ [])) ≡ map strip_carriage_return (parts front) = ap lines_of_parts (parts-newline front []) ∙ lines_of-append (parts front) [] [] ∙ append-nil (map strip_carriage_return (parts front)) in
+    let ended : lines (front ++ (10 ∷ [])) ≡ map strip_carriage_return (parts front) =
+    ap lines_of_parts (parts-newline front []) ∙ lines_of-append (parts front) [] []
+    ∙ append-nil (map strip_carriage_return (parts front)) in
     ap lines_of_parts (parts-newline front more ∙ ap (λ (l : List (List ℕ)). parts front ++ l) some.2)
     ∙ lines_of-append (parts front) some.0 some.1
     ∙ (λ i. sym ended i ++ lines_of_parts (sym some.2 i))

@@ -18,9 +18,11 @@ span-alone (b ∷ raw) plain = let e = not_newline b plain.0 in let s = span-alo
 
 -- ---- where the next line begins
 
-pub first_found : (ls : List (List ℕ)) (n : ℕ) (line : ProgramLineModel) → first_line ls n ≡ Some line → (l : List ℕ) × (more : List (List ℕ)) × (ls ≡ l ∷ more) × (take 257 l ≡ line.text) × (n ≡ line.next)
+pub first_found : (ls : List (List ℕ)) (n : ℕ) (line : ProgramLineModel) → first_line ls n ≡ Some line
+    → (l : List ℕ) × (more : List (List ℕ)) × (ls ≡ l ∷ more) × (take 257 l ≡ line.text) × (n ≡ line.next)
 first_found [] n line e = absurd (cc e)
-first_found (l ∷ ls) n line e = let is : record { text = take 257 l; next = n } ≡ line = cc e in (l, ls, refl, ap (λ (x : ProgramLineModel). x.text) is, ap (λ (x : ProgramLineModel). x.next) is)
+first_found (l ∷ ls) n line e = let is : record { text = take 257 l; next = n } ≡ line =
+    cc e in (l, ls, refl, ap (λ (x : ProgramLineModel). x.text) is, ap (λ (x : ProgramLineModel). x.next) is)
 
 -- after a line that was found at a place
 first_next : (ls : List (List ℕ)) (next : ℕ) (line : ProgramLineModel) → first_line ls next ≡ Some line → line.next ≡ next
@@ -41,9 +43,11 @@ some_line b x (y ∷ more) next e = cc e
 line_some : (b : ℕ) (bs : List ℕ) (next : ℕ) → None ≡ first_line (lines (b ∷ bs)) next → ⊥
 line_some b bs next e = at (b == 10) (parts-some bs) e
   where
-    at : (t : Bool) → ((x : List ℕ) × (xs : List (List ℕ)) × (parts bs ≡ x ∷ xs)) → None ≡ first_line (lines_of_parts (cond t ([] ∷ parts bs) (onto_first b (parts bs)))) next → ⊥
+    at : (t : Bool) → ((x : List ℕ) × (xs : List (List ℕ)) × (parts bs ≡ x ∷ xs))
+        → None ≡ first_line (lines_of_parts (cond t ([] ∷ parts bs) (onto_first b (parts bs)))) next → ⊥
     at true tail e =
-        let none : None ≡ first_line (lines_of_parts ([] ∷ (tail.0 ∷ tail.1))) next = e ∙ ap (λ (ps : List (List ℕ)). first_line (lines_of_parts ([] ∷ ps)) next) tail.2 in
+        let none : None ≡ first_line (lines_of_parts ([] ∷ (tail.0 ∷ tail.1))) next = e
+        ∙ ap (λ (ps : List (List ℕ)). first_line (lines_of_parts ([] ∷ ps)) next) tail.2 in
         cc none
     at false tail e = some_line b tail.0 tail.1 next (e ∙ ap (λ (ps : List (List ℕ)). first_line (lines_of_parts (onto_first b ps)) next) tail.2)
 

@@ -1,11 +1,14 @@
 -- What is kept in places is read back unchanged.
-use Rattle.std.proofs.Common.{ℕ, suc, ◌+◌, ◌-◌, ◌≤◌, ◌≡◌, List, [], ◌∷◌, ◌++◌, length, take, drop, map, Bool, true, false, ℤ, Option, Some, None, ◌⊎◌, inl, inr, refl, sym, ap, ◌∙◌, subst, arith, append_assoc, length-append}
+use Rattle.std.proofs.Common.{ℕ, suc, ◌+◌, ◌-◌, ◌≤◌, ◌≡◌, List, [], ◌∷◌, ◌++◌, length, take, drop, map, Bool, true}
+use Rattle.std.proofs.Common.{false, ℤ, Option, Some, None, ◌⊎◌, inl, inr, refl, sym, ap, ◌∙◌, subst, arith}
+use Rattle.std.proofs.Common.{append_assoc, length-append}
 use Rattle.std.specs.List.{flat_map}
 use Rattle.std.specs.Option.{option_or}
 use Rattle.std.proofs.lemmas.List.{append-nil, take_at, drop_at, take_rest}
 use Rattle.std.proofs.Math.Seq.{take-append_seam, drop-append_seam, drop-append-add}
 use Rattle.ng_words.specs.Grammar.{Tree, number, parameter, bracketed, applied, joined, Piece, word, assignment, comment}
-use Rattle.ng_words.specs.Kept.{postfix, IsTree, built, latest, tree_by, word_item, word_nodes, item_of, nodes_of, bytes_of, PieceStore, EncodesPieces, AreEncodedPieces, pieces_from, pieces_by}
+use Rattle.ng_words.specs.Kept.{postfix, IsTree, built, latest, tree_by, word_item, word_nodes, item_of, nodes_of}
+use Rattle.ng_words.specs.Kept.{bytes_of, PieceStore, EncodesPieces, AreEncodedPieces, pieces_from, pieces_by}
 use Rattle.ng_words.specs.Private.Items.{last_size}
 use Rattle.ng_words.specs.Lines.{last_comment}
 use Rattle.ng_words.specs.declared.letter.Letter.{Letter}
@@ -24,7 +27,8 @@ built-postfix (bracketed t) ts more = ap (built ts) (append_assoc (postfix t) (n
 built-postfix (applied f t) ts more = ap (built ts) (append_assoc (postfix t) (node.Applied f ∷ []) more) ∙ built-postfix t ts (node.Applied f ∷ more)
 built-postfix (joined op l r) ts more =
     let right : List Node = postfix r ++ (node.Joined op ∷ more) in
-    ap (built ts) (append_assoc (postfix l) (postfix r ++ node.Joined op ∷ []) more ∙ ap (λ (x : List Node). postfix l ++ x) (append_assoc (postfix r) (node.Joined op ∷ []) more))
+    ap (built ts) (append_assoc (postfix l) (postfix r ++ node.Joined op ∷ []) more
+    ∙ ap (λ (x : List Node). postfix l ++ x) (append_assoc (postfix r) (node.Joined op ∷ []) more))
     ∙ built-postfix l ts right ∙ built-postfix r (l ∷ ts) (node.Joined op ∷ more)
 
 pub tree_by-postfix : (t : Tree) → tree_by (postfix t) ≡ t
@@ -53,7 +57,15 @@ pieces_kept (word letter t ∷ ps) =
     ]
 pieces_kept (assignment i v ∷ ps) =
     let nodes = flat_map nodes_of ps in
-    rw (append_assoc (postfix i) (postfix v) nodes, take-append_seam (postfix i) (postfix v ++ nodes), drop-append_seam (postfix i) (postfix v ++ nodes), take-append_seam (postfix v) nodes, drop-append_seam (postfix v) nodes, tree_by-postfix i, tree_by-postfix v)
+    rw (
+      append_assoc (postfix i) (postfix v) nodes,
+      take-append_seam (postfix i) (postfix v ++ nodes),
+      drop-append_seam (postfix i) (postfix v ++ nodes),
+      take-append_seam (postfix v) nodes,
+      drop-append_seam (postfix v) nodes,
+      tree_by-postfix i,
+      tree_by-postfix v,
+    )
     (ap (λ (x : List Piece). assignment i v ∷ x) (pieces_kept ps))
 pieces_kept (comment text ∷ ps) =
     let bytes = flat_map bytes_of ps in
@@ -101,7 +113,8 @@ number_first (word l t ∷ ps) letter n items nodes bytes e f g = elim (word_kep
 number_first (assignment i v ∷ ps) letter n items nodes bytes e f g = absurd (cc)
 number_first (comment text ∷ ps) letter n items nodes bytes e f g = absurd (cc)
 
-pub kept_number : (places : PieceStore) (first : PieceEntry) (letter : Letter) (n : Node) (items : List PieceEntry) → AreEncodedPieces places → places.items ≡ first ∷ items → first ≡ item.Number letter n
+pub kept_number : (places : PieceStore) (first : PieceEntry) (letter : Letter) (n : Node) (items : List PieceEntry)
+    → AreEncodedPieces places → places.items ≡ first ∷ items → first ≡ item.Number letter n
     → NumberFirst n items places.nodes places.bytes
 kept_number places first letter n items k e is =
     number_first k.0 letter n items places.nodes places.bytes (ap (λ (x : PieceEntry). x ∷ items) (sym is) ∙ sym e ∙ k.1.items_are) k.1.nodes_are k.1.bytes_are
@@ -134,7 +147,8 @@ word_first (word l t ∷ ps) letter n items nodes bytes e f g = elim (word_kept 
 word_first (assignment i v ∷ ps) letter n items nodes bytes e f g = absurd (cc)
 word_first (comment text ∷ ps) letter n items nodes bytes e f g = absurd (cc)
 
-pub kept_word : (places : PieceStore) (first : PieceEntry) (letter : Letter) (n : ℕ) (items : List PieceEntry) → AreEncodedPieces places → places.items ≡ first ∷ items → first ≡ item.Word letter n
+pub kept_word : (places : PieceStore) (first : PieceEntry) (letter : Letter) (n : ℕ) (items : List PieceEntry)
+    → AreEncodedPieces places → places.items ≡ first ∷ items → first ≡ item.Word letter n
     → WordFirst n items places.nodes places.bytes
 kept_word places first letter n items k e is =
     word_first k.0 letter n items places.nodes places.bytes (ap (λ (x : PieceEntry). x ∷ items) (sym is) ∙ sym e ∙ k.1.items_are) k.1.nodes_are k.1.bytes_are
@@ -168,7 +182,8 @@ pub record AssignmentFirst (i n : ℕ) (items : List PieceEntry) (nodes : List N
   pub kept : AreEncodedPieces (record { items = items; nodes = drop n (drop i nodes); bytes = bytes })
 
 assignment_first : (pieces : List Piece) (i n : ℕ) (items : List PieceEntry) (nodes : List Node) (bytes : List ℕ)
-    → item.Assignment i n ∷ items ≡ map item_of pieces → nodes ≡ flat_map nodes_of pieces → bytes ≡ flat_map bytes_of pieces → AssignmentFirst i n items nodes bytes
+    → item.Assignment i n ∷ items ≡ map item_of pieces → nodes ≡ flat_map nodes_of pieces
+    → bytes ≡ flat_map bytes_of pieces → AssignmentFirst i n items nodes bytes
 assignment_first [] i n items nodes bytes e f g = absurd (cc)
 assignment_first (word l t ∷ ps) i n items nodes bytes e f g = absurd (other_item l t (item.Assignment i n) items (map item_of ps) e refl)
 assignment_first (assignment t u ∷ ps) i n items nodes bytes e f g =
@@ -187,7 +202,8 @@ assignment_first (assignment t u ∷ ps) i n items nodes bytes e f g =
     }
 assignment_first (comment text ∷ ps) i n items nodes bytes e f g = absurd (cc)
 
-pub kept_assignment : (places : PieceStore) (first : PieceEntry) (i n : ℕ) (items : List PieceEntry) → AreEncodedPieces places → places.items ≡ first ∷ items → first ≡ item.Assignment i n
+pub kept_assignment : (places : PieceStore) (first : PieceEntry) (i n : ℕ) (items : List PieceEntry)
+    → AreEncodedPieces places → places.items ≡ first ∷ items → first ≡ item.Assignment i n
     → AssignmentFirst i n items places.nodes places.bytes
 kept_assignment places first i n items k e is =
     assignment_first k.0 i n items places.nodes places.bytes (ap (λ (x : PieceEntry). x ∷ items) (sym is) ∙ sym e ∙ k.1.items_are) k.1.nodes_are k.1.bytes_are
@@ -211,7 +227,8 @@ comment_first (comment text ∷ ps) n items nodes bytes e f g =
       kept = (ps, record { items_are = others; nodes_are = f; bytes_are = ap (drop n) g ∙ drop_at text rest n count });
     }
 
-pub kept_comment : (places : PieceStore) (first : PieceEntry) (n : ℕ) (items : List PieceEntry) → AreEncodedPieces places → places.items ≡ first ∷ items → first ≡ item.Comment n
+pub kept_comment : (places : PieceStore) (first : PieceEntry) (n : ℕ) (items : List PieceEntry)
+    → AreEncodedPieces places → places.items ≡ first ∷ items → first ≡ item.Comment n
     → CommentFirst n items places.nodes places.bytes
 kept_comment places first n items k e is =
     comment_first k.0 n items places.nodes places.bytes (ap (λ (x : PieceEntry). x ∷ items) (sym is) ∙ sym e ∙ k.1.items_are) k.1.nodes_are k.1.bytes_are
@@ -249,7 +266,8 @@ abbrev pub IsLastIn : List Piece → List ℕ → Option ℕ → Type 0
 IsLastIn pieces bytes None = (last_comment pieces ≡ None) × (bytes ≡ [])
 IsLastIn pieces bytes (Some n) = (last_comment pieces ≡ Some (drop (length bytes - n) bytes)) × (n ≤ length bytes)
 
-last_after : (text rest : List ℕ) (pieces : List Piece) (o : Option ℕ) → IsLastIn pieces rest o → IsLastIn (comment text ∷ pieces) (text ++ rest) (option_or o (Some (length text)))
+last_after : (text rest : List ℕ) (pieces : List Piece) (o : Option ℕ) → IsLastIn pieces rest o
+    → IsLastIn (comment text ∷ pieces) (text ++ rest) (option_or o (Some (length text)))
 last_after text rest pieces None h =
     let all : text ++ rest ≡ text = ap (λ (l : List ℕ). text ++ l) h.1 ∙ append-nil text in
     let P : List ℕ → Type 0 = λ l. (option_or (last_comment pieces) (Some text) ≡ Some (drop (length l - length text) l)) × (length text ≤ length l) in
@@ -265,7 +283,8 @@ last_after text rest pieces (Some n) h =
 
 last_in : (pieces : List Piece) → IsLastIn pieces (flat_map bytes_of pieces) (last_size (map item_of pieces))
 last_in [] = (refl, refl)
-last_in (word l t ∷ ps) = subst (IsLastIn (word l t ∷ ps) (flat_map bytes_of ps)) (sym (passed l t (map item_of ps))) (last_word l t ps (last_size (map item_of ps)) (last_in ps))
+last_in (word l t ∷ ps) = subst (IsLastIn (word l t ∷ ps) (flat_map bytes_of ps))
+    (sym (passed l t (map item_of ps))) (last_word l t ps (last_size (map item_of ps)) (last_in ps))
   where
     passed : (l : Letter) (t : Tree) (items : List PieceEntry) → last_size (word_item l t ∷ items) ≡ last_size items
     passed l (number value) items = refl
@@ -274,12 +293,14 @@ last_in (word l t ∷ ps) = subst (IsLastIn (word l t ∷ ps) (flat_map bytes_of
     passed l (applied f t) items = refl
     passed l (joined op left right) items = refl
 
-    last_word : (l : Letter) (t : Tree) (ps : List Piece) (o : Option ℕ) → IsLastIn ps (flat_map bytes_of ps) o → IsLastIn (word l t ∷ ps) (flat_map bytes_of ps) o
+    last_word : (l : Letter) (t : Tree) (ps : List Piece) (o : Option ℕ) → IsLastIn ps (flat_map bytes_of ps) o
+        → IsLastIn (word l t ∷ ps) (flat_map bytes_of ps) o
     last_word l t ps None h = h
     last_word l t ps (Some n) h = h
 last_in (assignment i v ∷ ps) = last_assignment i v ps (last_size (map item_of ps)) (last_in ps)
   where
-    last_assignment : (i v : Tree) (ps : List Piece) (o : Option ℕ) → IsLastIn ps (flat_map bytes_of ps) o → IsLastIn (assignment i v ∷ ps) (flat_map bytes_of ps) o
+    last_assignment : (i v : Tree) (ps : List Piece) (o : Option ℕ) → IsLastIn ps (flat_map bytes_of ps) o
+        → IsLastIn (assignment i v ∷ ps) (flat_map bytes_of ps) o
     last_assignment i v ps None h = h
     last_assignment i v ps (Some n) h = h
 last_in (comment text ∷ ps) = last_after text (flat_map bytes_of ps) ps (last_size (map item_of ps)) (last_in ps)
@@ -292,7 +313,8 @@ kept_last places k =
     subst P (sym (kept_is places k.0 k.1)) (subst Q (sym k.1.bytes_are) (subst R (sym k.1.items_are) (last_in k.0)))
 
 -- what is kept of the last comment says where it is
-last_by : (places : PieceStore) (o answer : Option ℕ) → AreEncodedPieces places → o ≡ last_size places.items → o ≡ answer → IsLastIn (pieces_by places) places.bytes answer
+last_by : (places : PieceStore) (o answer : Option ℕ) → AreEncodedPieces places → o ≡ last_size places.items
+    → o ≡ answer → IsLastIn (pieces_by places) places.bytes answer
 last_by places o answer k is was = subst (IsLastIn (pieces_by places) places.bytes) (sym is ∙ was) (kept_last places k)
 
 -- the last comment has at most as many bytes as there are

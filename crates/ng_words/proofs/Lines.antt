@@ -1,5 +1,6 @@
 -- Reading a line as a function is the grammar.
-use Rattle.std.proofs.Common.{ℕ, zero, suc, ◌^◌, ◌≤◌, ◌≡◌, List, [], ◌∷◌, ◌++◌, length, Bool, true, false, cond, ◌||◌, ◌==◌, nat_lt, Option, Some, None, refl, sym, ap, ◌∙◌, subst, arith}
+use Rattle.std.proofs.Common.{ℕ, zero, suc, ◌^◌, ◌≤◌, ◌≡◌, List, [], ◌∷◌, ◌++◌, length, Bool, true, false, cond}
+use Rattle.std.proofs.Common.{◌||◌, ◌==◌, nat_lt, Option, Some, None, refl, sym, ap, ◌∙◌, subst, arith}
 use Rattle.std.specs.Option.{option_map, option_and_then}
 use Rattle.std.proofs.lemmas.Bool.Decides.{nat_tests, Decides-eqb}
 use Rattle.std.proofs.Math.Nat.{pow-le-pow_right}
@@ -10,7 +11,9 @@ use Rattle.ng_words.specs.Reading.{body_at, parse_line}
 use Rattle.ng_words.proofs.Round.{written_lt}
 use Rattle.ng_words.proofs.Numbers.{option_map_some, front_digits_again, digits_split, whole_after_is}
 use Rattle.ng_words.proofs.Walk.{and_then_some}
-use Rattle.ng_words.proofs.PieceLaws.{piece_again, piece_sound, BeginsPiece, Reads-begins, BeginsPiece-Stops, BeginsPiece-NoDigit, NoSlash, BeginsPiece-NoSlash, NoN, BeginsPiece-NoN, pieces_step}
+use Rattle.ng_words.proofs.PieceLaws.{piece_again, piece_sound, BeginsPiece, Reads-begins, BeginsPiece-Stops}
+use Rattle.ng_words.proofs.PieceLaws.{BeginsPiece-NoDigit, NoSlash, BeginsPiece-NoSlash, NoN, BeginsPiece-NoN}
+use Rattle.ng_words.proofs.PieceLaws.{pieces_step}
 
 -- ---- pieces
 
@@ -41,7 +44,9 @@ slash_again true rest h = refl
 slash_again false [] h = refl
 slash_again false (b ∷ rest) h = grind (arith, nat_tests)
 
-slash_is_at : (b : ℕ) (bs : List ℕ) (t : Bool) → (b == 47) ≡ t → b ∷ bs ≡ slash (cond {A = Bool × List ℕ} t (true, bs) (false, b ∷ bs)).0 ++ (cond {A = Bool × List ℕ} t (true, bs) (false, b ∷ bs)).1
+slash_is_at : (b : ℕ) (bs : List ℕ) (t : Bool) → (b == 47) ≡ t
+    → b ∷ bs ≡ slash (cond {A = Bool × List ℕ} t (true, bs) (false, b ∷ bs)).0
+    ++ (cond {A = Bool × List ℕ} t (true, bs) (false, b ∷ bs)).1
 slash_is_at b bs true e = ap (λ c. c ∷ bs) ((Decides-eqb b 47).0 e)
 slash_is_at b bs false e = refl
 
@@ -59,7 +64,8 @@ five_digits digits d short =
     let hundred_thousand : 10 ^ length digits ≤ 100000 = pow_small (length digits) short in
     whole_after_is digits 0 0 (omega arith) ∙ omega arith
 
-numbered_is : (digits rest : List ℕ) → AreDigits digits → 1 ≤ length digits → length digits ≤ 5 → numbered digits rest ≡ Some (Some (written_after 0 digits), rest)
+numbered_is : (digits rest : List ℕ) → AreDigits digits → 1 ≤ length digits → length digits ≤ 5
+    → numbered digits rest ≡ Some (Some (written_after 0 digits), rest)
 numbered_is [] rest d some short = absurd (omega arith)
 numbered_is (b ∷ bs) rest d some short =
     let fits : nat_lt 5 (length (b ∷ bs)) ≡ false = grind (arith, nat_tests) in
@@ -112,7 +118,8 @@ line_found bytes line h =
     let no_slash = no_slash_number h.0 rest line.number h.3 begins in
     let slash_is : slash_at bytes ≡ (line.deletable, h.0 ++ rest) = ap slash_at h.2 ∙ slash_again line.deletable (h.0 ++ rest) no_slash in
     ap (λ s. body_at s.0 s.1) slash_is
-    ∙ ap (option_and_then (λ x. option_map (λ ps. record { deletable = line.deletable; number = x.0; pieces = ps }) (pieces_at (length x.1) x.1))) (block_number_again h.0 rest line.number h.3 begins)
+    ∙ ap (option_and_then (λ x. option_map (λ ps. record { deletable = line.deletable; number = x.0; pieces = ps })
+    (pieces_at (length x.1) x.1))) (block_number_again h.0 rest line.number h.3 begins)
     ∙ ap (option_map (λ ps. record { deletable = line.deletable; number = line.number; pieces = ps })) (pieces_again rest line.pieces h.4)
   where
     no_slash_number : (front rest : List ℕ) (n : Option ℕ) → IsBlockNumber front n → BeginsPiece rest → NoSlash (front ++ rest)
@@ -127,7 +134,8 @@ line_only bytes w e line h = let found = line_found bytes line h in cc
 pub line_sound : (bytes : List ℕ) (w : ParsedLine) → parse_line bytes ≡ Some w → SpellsLine bytes w
 line_sound bytes w e =
     let deletable = (slash_at bytes).0 in
-    let x = and_then_some (λ x. option_map (λ ps. record { deletable = deletable; number = x.0; pieces = ps }) (pieces_at (length x.1) x.1)) (block_number_at (slash_at bytes).1) w e in
+    let x = and_then_some (λ x. option_map (λ ps. record { deletable = deletable; number = x.0; pieces = ps })
+    (pieces_at (length x.1) x.1)) (block_number_at (slash_at bytes).1) w e in
     let ps = option_map_some (λ ps. record { deletable = deletable; number = x.0.0; pieces = ps }) (pieces_at (length x.0.1) x.0.1) w x.2 in
     let number = block_number_sound (slash_at bytes).1 x.0 x.1 in
     subst (SpellsLine bytes) ps.2 (

@@ -1,5 +1,7 @@
 -- The number found at the front is the one that the grammar says, in both directions.
-use Rattle.std.proofs.Common.{ℕ, zero, suc, unsigned_abs, ◌+◌, ◌*◌, ◌/◌, ◌<◌, ◌≤◌, ◌≡◌, ◌≢◌, ◌⊎◌, inl, inr, List, [], ◌∷◌, ◌++◌, length, Bool, true, false, cond, ◌&&◌, ◌==◌, nat_lt, ℤ, pos, neg_ℤ, Option, Some, None, min, refl, sym, ap, ◌∙◌, subst, arith, append_assoc, nat_le}
+use Rattle.std.proofs.Common.{ℕ, zero, suc, unsigned_abs, ◌+◌, ◌*◌, ◌/◌, ◌<◌, ◌≤◌, ◌≡◌, ◌≢◌, ◌⊎◌, inl, inr, List}
+use Rattle.std.proofs.Common.{[], ◌∷◌, ◌++◌, length, Bool, true, false, cond, ◌&&◌, ◌==◌, nat_lt, ℤ, pos, neg_ℤ}
+use Rattle.std.proofs.Common.{Option, Some, None, min, refl, sym, ap, ◌∙◌, subst, arith, append_assoc, nat_le}
 use Rattle.std.specs.Option.{option_map}
 use Rattle.std.proofs.lemmas.Bool.Decides.{nat_tests, Decides-eqb}
 use Rattle.std.proofs.Common.{rules}
@@ -101,10 +103,13 @@ count_of_capped_at negative whole f false e =
     ap (λ w. count_of (signed negative (w * 1000000 + f))) same
 
 -- past ten million every count is out of range
-pub count_of_capped : (negative : Bool) (whole f : ℕ) → count_of (signed negative (min 10000000 whole * 1000000 + f)) ≡ count_of (signed negative (whole * 1000000 + f))
+pub count_of_capped : (negative : Bool) (whole f : ℕ)
+    → count_of (signed negative (min 10000000 whole * 1000000 + f)) ≡ count_of
+    (signed negative (whole * 1000000 + f))
 count_of_capped negative whole f = count_of_capped_at negative whole f (nat_lt 10000000 whole) refl
 
-count_of-capped : (negative : Bool) (whole fraction : List ℕ) → AreDigits fraction → count_of (signed negative (capped whole fraction)) ≡ count_of (signed negative (millionths whole fraction))
+count_of-capped : (negative : Bool) (whole fraction : List ℕ) → AreDigits fraction
+    → count_of (signed negative (capped whole fraction)) ≡ count_of (signed negative (millionths whole fraction))
 count_of-capped negative whole fraction d =
     ap (λ f. count_of (signed negative (whole_after 0 whole * 1000000 + f))) (fraction_is fraction d)
     ∙ rw (whole_after_is whole 0 0 (omega arith)) (count_of_capped negative (written_after 0 whole) _)
@@ -166,9 +171,11 @@ pub number_again : (bytes rest : List ℕ) (z : ℤ) → IsNumber bytes z → St
 number_again bytes rest z h s =
     let digits = h.1 in
     let again = unsigned_again digits rest h.0 h.2 s in
-    let same = λ (negative : Bool) (e : z ≡ signed negative h.0). ap {B = Option (Option ℤ × List ℕ)} (λ c. Some (c, rest)) (again.2 negative ∙ ap count_of (sym e)) in
+    let same = λ (negative : Bool) (e : z ≡ signed negative h.0). ap {B = Option (Option ℤ × List ℕ)}
+    (λ c. Some (c, rest)) (again.2 negative ∙ ap count_of (sym e)) in
     elim h.3 [
-      | inl e ↦ number_at_from (bytes ++ rest) (digits ++ rest) rest false again.0 (ap (λ l. sign_at (l ++ rest)) e.0 ∙ sign_at_unsigned digits rest h.0 h.2) again.1 ∙ same false e.1
+      | inl e ↦ number_at_from (bytes ++ rest) (digits ++ rest) rest false again.0
+          (ap (λ l. sign_at (l ++ rest)) e.0 ∙ sign_at_unsigned digits rest h.0 h.2) again.1 ∙ same false e.1
       | inr other ↦ elim other [
         | inl e ↦ number_at_from (bytes ++ rest) (digits ++ rest) rest false again.0 (ap (λ l. sign_at (l ++ rest)) e.0) again.1 ∙ same false e.1
         | inr e ↦ number_at_from (bytes ++ rest) (digits ++ rest) rest true again.0 (ap (λ l. sign_at (l ++ rest)) e.0) again.1 ∙ same true e.1
@@ -199,7 +206,8 @@ some_not_empty [] (y ∷ ys) e = omega arith
 some_not_empty (x ∷ xs) ys e = omega arith
 
 abbrev FoundUnsigned : List ℕ → ℕ × List ℕ → Type 0
-FoundUnsigned bytes x = (digits : List ℕ) × (n : ℕ) × IsUnsigned digits n × (bytes ≡ digits ++ x.1) × ((negative : Bool) → count_of (signed negative x.0) ≡ count_of (signed negative n))
+FoundUnsigned bytes x = (digits : List ℕ) × (n : ℕ) × IsUnsigned digits n × (bytes ≡ digits ++ x.1)
+    × ((negative : Bool) → count_of (signed negative x.0) ≡ count_of (signed negative n))
 
 unsigned_sound_at : (bytes : List ℕ) (x : ℕ × List ℕ) (o : Option (List ℕ)) → point_at (after_digits bytes) ≡ o
     → unsigned_parts (front_digits bytes) (after_digits bytes) o ≡ Some x → FoundUnsigned bytes x
@@ -211,7 +219,16 @@ unsigned_sound_at bytes x None o_is e =
     subst (FoundUnsigned bytes) found.1 (
       whole,
       millionths whole [],
-      record { whole = whole; fraction = []; whole_digits = (digits_split bytes).1; fraction_digits = tt; some = omega arith; spelled = inl (refl, refl); count = refl },
+      record {
+        whole = whole;
+        fraction = [];
+        whole_digits = (digits_split bytes).1;
+        fraction_digits = tt;
+        some =
+            omega arith;
+        spelled = inl (refl, refl);
+        count = refl;
+      },
       (digits_split bytes).0,
       λ negative. ap (λ m. count_of (signed negative m)) (sym zero_more) ∙ count_of-capped negative whole [] tt,
     )
@@ -225,7 +242,16 @@ unsigned_sound_at bytes x (Some after) o_is e =
     subst (FoundUnsigned bytes) found.1 (
       whole ++ (46 ∷ fraction),
       millionths whole fraction,
-      record { whole = whole; fraction = fraction; whole_digits = (digits_split bytes).1; fraction_digits = (digits_split after).1; some = some_not_empty whole fraction found.0; spelled = inr refl; count = refl },
+      record {
+        whole = whole;
+        fraction = fraction;
+        whole_digits = (digits_split bytes).1;
+        fraction_digits =
+            (digits_split after).1;
+        some = some_not_empty whole fraction found.0;
+        spelled = inr refl;
+        count = refl;
+      },
       joined,
       λ negative. count_of-capped negative whole fraction (digits_split after).1,
     )

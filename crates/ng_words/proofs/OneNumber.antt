@@ -1,5 +1,7 @@
 -- A text without blanks is a number exactly if its bytes that count are one: they are all of its bytes, unchanged.
-use Rattle.std.proofs.Common.{◌≡◌, ◌≤◌, ℕ, ℤ, unsigned_abs, Bool, true, false, if◌then◌else◌, ◌==◌, nat_le, ◌||◌, List, [], ◌∷◌, ◌++◌, Option, Some, None, Result, Ok, Err, IfOk, refl, sym, ◌∙◌, ap, subst, inl, inr, arith, append-nil}
+use Rattle.std.proofs.Common.{◌≡◌, ◌≤◌, ℕ, ℤ, unsigned_abs, Bool, true, false, if◌then◌else◌, ◌==◌, nat_le, ◌||◌}
+use Rattle.std.proofs.Common.{List, [], ◌∷◌, ◌++◌, Option, Some, None, Result, Ok, Err, IfOk, refl, sym, ◌∙◌, ap}
+use Rattle.std.proofs.Common.{subst, inl, inr, arith, append-nil}
 use Rattle.std.proofs.lemmas.Bool.Decides.{nat_tests}
 use Rattle.std.specs.List.{list_any}
 use Rattle.std.specs.Option.{ok_or}
@@ -28,7 +30,8 @@ bytes_both (b ∷ front) back are also = (are.0, are.1, bytes_both front back ar
 unsigned_bytes : (bytes : List ℕ) (n : ℕ) → IsUnsigned bytes n → AreBytes bytes
 unsigned_bytes bytes n u = elim u.spelled [
   | inl e ↦ subst AreBytes (sym e.0) (digits_bytes u.whole u.whole_digits)
-  | inr e ↦ subst AreBytes (sym e) (bytes_both u.whole (46 ∷ u.fraction) (digits_bytes u.whole u.whole_digits) (omega arith, omega arith, digits_bytes u.fraction u.fraction_digits))
+  | inr e ↦ subst AreBytes (sym e) (bytes_both u.whole (46 ∷ u.fraction) (digits_bytes u.whole u.whole_digits)
+      (omega arith, omega arith, digits_bytes u.fraction u.fraction_digits))
 ]
 
 pub number_bytes : (bytes : List ℕ) (z : ℤ) → IsNumber bytes z → AreBytes bytes
@@ -64,7 +67,9 @@ bytes_again [] none are = refl
 bytes_again (b ∷ text) none are =
     let counts : is_blank b ≡ false = first (is_blank b) none in
     let others : list_any is_blank text ≡ false = later (is_blank b) none in
-    let found : AreBytes (capital b ∷ plain (b == 40) text) = subst (λ (t : Bool). AreBytes (if t then plain false text else (capital b ∷ plain (b == 40) text))) counts are in
+    let found : AreBytes (capital b ∷ plain (b == 40) text) =
+    subst (λ (t : Bool). AreBytes (if t then plain false text else (capital b ∷ plain (b == 40) text))) counts
+    are in
     let same : capital b ≡ b = grind (arith, nat_tests, found.0, found.1) in
     let goes : (b == 40) ≡ false = grind (arith, nat_tests, found.0, same) in
     let rest : AreBytes (plain false text) = subst (λ (t : Bool). AreBytes (plain t text)) goes found.2 in
@@ -115,7 +120,8 @@ both_same v w xs ys e =
 number_one : (text : List ℕ) (y z : ℤ) → IsNumber text y → IsNumber text z → count_of y ≡ count_of z
 number_one text y z is also = (both_same _ _ _ _ (sym (number_whole text y is) ∙ number_whole text z also)).0
 
-pub answer_value : (text : List ℕ) (v : Option ℤ) (r : Result ℤ Fault) → list_any is_blank text ≡ false → number_at (plain false text) ≡ Some (v, []) → r ≡ ok_or v OutOfRange
+pub answer_value : (text : List ℕ) (v : Option ℤ) (r : Result ℤ Fault) → list_any is_blank text ≡ false
+    → number_at (plain false text) ≡ Some (v, []) → r ≡ ok_or v OutOfRange
     → (z : ℤ) → IsNumber text z → r ≡ in_range z
 answer_value text v r none e is z writes =
     let found = number_found text v none e in
@@ -128,7 +134,8 @@ in_range_ok z n e = at (nat_le (unsigned_abs z) greatest) e
     at true e = cc
     at false e = absurd cc
 
-pub answer_reads : (text : List ℕ) (v : Option ℤ) (r : Result ℤ Fault) → list_any is_blank text ≡ false → number_at (plain false text) ≡ Some (v, []) → r ≡ ok_or v OutOfRange
+pub answer_reads : (text : List ℕ) (v : Option ℤ) (r : Result ℤ Fault) → list_any is_blank text ≡ false
+    → number_at (plain false text) ≡ Some (v, []) → r ≡ ok_or v OutOfRange
     → IfOk r (IsNumber text)
 answer_reads text v (Err e) none at is = tt
 answer_reads text v (Ok n) none at is =
@@ -136,7 +143,8 @@ answer_reads text v (Ok n) none at is =
     let same : found.0 ≡ n = in_range_ok found.0 n (sym (answer_value text v (Ok n) none at is found.0 found.1)) in
     subst (IsNumber text) same found.1
 
-pub answer_unreadable : (text : List ℕ) (v : Option ℤ) (r : Result ℤ Fault) → list_any is_blank text ≡ false → number_at (plain false text) ≡ Some (v, []) → r ≡ ok_or v OutOfRange
+pub answer_unreadable : (text : List ℕ) (v : Option ℤ) (r : Result ℤ Fault) → list_any is_blank text ≡ false
+    → number_at (plain false text) ≡ Some (v, []) → r ≡ ok_or v OutOfRange
     → (r ≡ Err Unreadable → (z : ℤ) → IsNumber text z → ⊥) × (((z : ℤ) → IsNumber text z → ⊥) → r ≡ Err Unreadable)
 answer_unreadable text v r none e is = (
   λ refused z writes. out v (sym is ∙ refused),

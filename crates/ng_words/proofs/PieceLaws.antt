@@ -1,6 +1,8 @@
 -- The piece found at the front is the one that the grammar says, in both directions; and the pieces up to the end, in
 -- order.
-use Rattle.std.proofs.Common.{ℕ, zero, suc, ◌+◌, ◌≤◌, ◌≡◌, ◌≢◌, ◌⊎◌, inl, inr, List, [], ◌∷◌, ◌++◌, length, Bool, true, false, cond, ◌==◌, Option, Some, None, refl, sym, ap, ◌∙◌, subst, arith, append_assoc, append-nil, length-append}
+use Rattle.std.proofs.Common.{ℕ, zero, suc, ◌+◌, ◌≤◌, ◌≡◌, ◌≢◌, ◌⊎◌, inl, inr, List, [], ◌∷◌, ◌++◌, length, Bool}
+use Rattle.std.proofs.Common.{true, false, cond, ◌==◌, Option, Some, None, refl, sym, ap, ◌∙◌, subst, arith}
+use Rattle.std.proofs.Common.{append_assoc, append-nil, length-append}
 use Rattle.std.specs.Option.{option_map, option_and_then}
 use Rattle.std.proofs.lemmas.Bool.Decides.{nat_tests, Decides-eqb}
 use Rattle.ng_words.specs.Grammar.{is_digit, Tree, IsValue, code, Piece, word, assignment, comment, HasNoParentheses, Spells, SpellsPieces}
@@ -147,7 +149,9 @@ assignment_found bs x e =
       (index_is.0, value_is.0, refl, index_is.2, value_is.2),
     )
 
-word_found : (b : ℕ) (bs : List ℕ) (x : Piece × List ℕ) → option_and_then (λ l. option_map (λ v. (word l v.0, v.1)) (value_at bs)) (letter_of b) ≡ Some x → FoundPiece (b ∷ bs) x
+word_found : (b : ℕ) (bs : List ℕ) (x : Piece × List ℕ)
+    → option_and_then (λ l. option_map (λ v. (word l v.0, v.1)) (value_at bs)) (letter_of b) ≡ Some x
+    → FoundPiece (b ∷ bs) x
 word_found b bs x e =
     let l = and_then_some (λ l. option_map (λ (v : Tree × List ℕ). (word l v.0, v.1)) (value_at bs)) (letter_of b) x e in
     let v = option_map_some (λ (v : Tree × List ℕ). (word l.0 v.0, v.1)) (value_at bs) x l.2 in
@@ -256,7 +260,8 @@ abbrev pieces_after : ℕ → Piece × List ℕ → Option (List Piece)
 pieces_after most x = option_map (λ ps. x.0 ∷ ps) (pieces_at most x.1)
 
 pieces_at-more_at : (most : ℕ) (b : ℕ) (bs : List ℕ) (o : Option (Piece × List ℕ)) → piece_at (b ∷ bs) ≡ o → length bs ≤ most
-    → ((rest : List ℕ) → length rest ≤ length bs → (pieces_at most rest ≡ pieces_at (length rest) rest) × (pieces_at (length bs) rest ≡ pieces_at (length rest) rest))
+    → ((rest : List ℕ) → length rest ≤ length bs → (pieces_at most rest ≡ pieces_at (length rest) rest)
+    × (pieces_at (length bs) rest ≡ pieces_at (length rest) rest))
     → option_and_then (pieces_after most) o ≡ option_and_then (pieces_after (length bs)) o
 pieces_at-more_at most b bs None e h same = refl
 pieces_at-more_at most b bs (Some x) e h same =
@@ -278,7 +283,8 @@ pub pieces_step : (bytes : List ℕ) (x : Piece × List ℕ) → piece_at bytes 
 pieces_step [] x e = absurd (cc)
 pieces_step (b ∷ bs) x e =
     let shorter = length-piece_at (b ∷ bs) x e in
-    ap (option_and_then (pieces_after (length bs))) e ∙ ap (option_map (λ ps. x.0 ∷ ps)) (pieces_at-more (length bs) (length bs) x.1 (omega arith) (omega arith))
+    ap (option_and_then (pieces_after (length bs))) e
+    ∙ ap (option_map (λ ps. x.0 ∷ ps)) (pieces_at-more (length bs) (length bs) x.1 (omega arith) (omega arith))
 
 -- if there is no piece at the front, the pieces can't be read
 pub pieces_none : (bytes : List ℕ) → bytes ≢ [] → piece_at bytes ≡ None → pieces_at (length bytes) bytes ≡ None
@@ -298,7 +304,8 @@ found_before_start found rest e = ap (λ f. found_before f rest) e ∙ same (pie
     same None = refl
     same (Some ps) = refl
 
-pub found_before_more : (found more : List Piece) (rest : List ℕ) (x : Piece × List ℕ) (all : Option (List Piece)) → found_before found rest ≡ all → piece_at rest ≡ Some x
+pub found_before_more : (found more : List Piece) (rest : List ℕ) (x : Piece × List ℕ) (all : Option (List Piece))
+    → found_before found rest ≡ all → piece_at rest ≡ Some x
     → more ≡ found ++ x.0 ∷ [] → found_before more x.1 ≡ all
 found_before_more found more rest x all h e m =
     ap (λ f. found_before f x.1) m ∙ moved (pieces_at (length x.1) x.1) ∙ ap (option_map (λ ps. found ++ ps)) (sym (pieces_step rest x e)) ∙ h
@@ -310,5 +317,6 @@ found_before_more found more rest x all h e m =
 pub found_before_end : (found : List Piece) (rest : List ℕ) (all : Option (List Piece)) → found_before found rest ≡ all → rest ≡ [] → all ≡ Some found
 found_before_end found rest all h e = sym h ∙ ap (found_before found) e ∙ ap {B = Option (List Piece)} Some (append-nil found)
 
-pub found_before_none : (found : List Piece) (rest : List ℕ) (all : Option (List Piece)) → found_before found rest ≡ all → rest ≢ [] → piece_at rest ≡ None → all ≡ None
+pub found_before_none : (found : List Piece) (rest : List ℕ) (all : Option (List Piece))
+    → found_before found rest ≡ all → rest ≢ [] → piece_at rest ≡ None → all ≡ None
 found_before_none found rest all h n e = sym h ∙ ap (option_map (λ ps. found ++ ps)) (pieces_none rest n e)

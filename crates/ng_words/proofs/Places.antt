@@ -1,13 +1,19 @@
 -- How the places of a walk are represented in the code, and what each step of the code makes of them.
-use Rattle.std.proofs.Common.{ℕ, zero, suc, ◌+◌, ◌-◌, ◌<◌, ◌≡◌, List, [], ◌∷◌, ◌++◌, length, take, codes, Bool, true, false, cond, ◌==◌, nat_le, IsTrue, ◌↔◌, rules, OnSome, ℤ, Option, Some, None, slice_get, refl, sym, ap, ◌∙◌, subst, arith, append_assoc, append-nil, length-append}
+use Rattle.std.proofs.Common.{ℕ, zero, suc, ◌+◌, ◌-◌, ◌<◌, ◌≡◌, List, [], ◌∷◌, ◌++◌, length, take, codes, Bool}
+use Rattle.std.proofs.Common.{true, false, cond, ◌==◌, nat_le, IsTrue, ◌↔◌, rules, OnSome, ℤ, Option, Some, None}
+use Rattle.std.proofs.Common.{slice_get, refl, sym, ap, ◌∙◌, subst, arith, append_assoc, append-nil, length-append}
 use Rattle.std.proofs.lemmas.List.{length-take}
 use Rattle.std.specs.Option.{option_map}
 use Rattle.std.proofs.lemmas.Bool.Decides.{nat_tests}
 use Rattle.ng_words.specs.Grammar.{Tree, number, parameter, bracketed, applied, joined, level}
 use Rattle.ng_words.specs.Scan.{number_at}
-use Rattle.ng_words.specs.Values.{strip_prefix, Waiting, index, brackets, function, left, openings, operations, entry_at, WalkPosition, before, after, settled_value, gathered, closed, opened, continued, step_at, value_from, value_at}
+use Rattle.ng_words.specs.Values.{strip_prefix, Waiting, index, brackets, function, left, openings, operations}
+use Rattle.ng_words.specs.Values.{entry_at, WalkPosition, before, after, settled_value, gathered, closed, opened}
+use Rattle.ng_words.specs.Values.{continued, step_at, value_from, value_at}
 use Rattle.ng_words.specs.Kept.{postfix}
-use Rattle.ng_words.specs.Private.Walks.{mark, marks, waiting_nodes, HoldsBefore, HoldsAfter, Stands, nearest, is_index, operation_within, closing, IsOpening, function_openings, TakesValue, WalkStepSpec, Settles, Gathers, ClosesBrackets, BeginsNumber}
+use Rattle.ng_words.specs.Private.Walks.{mark, marks, waiting_nodes, HoldsBefore, HoldsAfter, Stands, nearest}
+use Rattle.ng_words.specs.Private.Walks.{is_index, operation_within, closing, IsOpening, function_openings}
+use Rattle.ng_words.specs.Private.Walks.{TakesValue, WalkStepSpec, Settles, Gathers, ClosesBrackets, BeginsNumber}
 use Rattle.ng_words.specs.declared.tree.Operation.{Operation}
 use Rattle.ng_words.specs.declared.tree.Function.{Function}
 use Rattle.ng_words.specs.declared.tree.Function.TheVariants.{Abs, Fix, Fup, Round, Sqrt}
@@ -74,7 +80,8 @@ is_index_some (Some (marked.Operation op)) e = absurd (cc)
 pub index_waits : (stack : List Mark) (o : Option Mark) (b : Bool) → o ≡ nearest stack → b ≡ is_index o → b ≡ true → 0 < length stack
 index_waits stack o b e f g = some_waits stack marked.Index (sym e ∙ is_index_some o (sym f ∙ g))
 
-settling_on : (base : List Node) (u : Tree) (vs : List Waiting) (stack stack_then : List Mark) (nodes nodes_then : List Node) → HoldsAfter u vs base stack nodes → is_index (nearest_of vs) ≡ true
+settling_on : (base : List Node) (u : Tree) (vs : List Waiting) (stack stack_then : List Mark)
+    (nodes nodes_then : List Node) → HoldsAfter u vs base stack nodes → is_index (nearest_of vs) ≡ true
     → stack_then ≡ take (length stack - 1) stack → nodes_then ≡ nodes ++ node.Parameter ∷ []
     → (v : Tree) × (rest : List Waiting) × HoldsAfter v rest base stack_then nodes_then × (settled_value v rest ≡ settled_value u vs)
 settling_on base u [] stack stack_then nodes nodes_then h i s n = absurd (cc)
@@ -88,7 +95,8 @@ settling_on base u (brackets ∷ vs) stack stack_then nodes nodes_then h i s n =
 settling_on base u (function f ∷ vs) stack stack_then nodes nodes_then h i s n = absurd (cc)
 settling_on base u (left op l ∷ vs) stack stack_then nodes nodes_then h i s n = absurd (cc)
 
-pub settling_goes : (stack_first stack stack_then : List Mark) (nodes_first nodes nodes_then : List Node) (o : Option Mark) (b : Bool) → IsSettling stack_first nodes_first stack nodes
+pub settling_goes : (stack_first stack stack_then : List Mark) (nodes_first nodes nodes_then : List Node)
+    (o : Option Mark) (b : Bool) → IsSettling stack_first nodes_first stack nodes
     → o ≡ nearest stack → b ≡ is_index o → b ≡ true → stack_then ≡ take (length stack - 1) stack → nodes_then ≡ nodes ++ node.Parameter ∷ []
     → IsSettling stack_first nodes_first stack_then nodes_then
 settling_goes stack_first stack stack_then nodes_first nodes nodes_then o b h e f g s n t ws base holds =
@@ -104,7 +112,8 @@ settling_stops u (brackets ∷ vs) e = refl
 settling_stops u (function f ∷ vs) e = refl
 settling_stops u (left op l ∷ vs) e = refl
 
-pub settling_ends : (stack_first stack : List Mark) (nodes_first nodes : List Node) (o : Option Mark) (b : Bool) → IsSettling stack_first nodes_first stack nodes
+pub settling_ends : (stack_first stack : List Mark) (nodes_first nodes : List Node) (o : Option Mark) (b : Bool)
+    → IsSettling stack_first nodes_first stack nodes
     → o ≡ nearest stack → b ≡ is_index o → b ≡ false → Settles stack_first nodes_first stack nodes
 settling_ends stack_first stack nodes_first nodes o b h e f g t ws base holds =
     let was = h t ws base holds in
@@ -122,14 +131,16 @@ IsGathering most stack_first nodes_first stack nodes =
 pub gathering_starts : (most : ℕ) (stack : List Mark) (nodes : List Node) → IsGathering most stack nodes stack nodes
 gathering_starts most stack nodes t ws base h = (t, ws, h, refl)
 
-operation_within_some : (most : ℕ) (op : Operation) (o : Option Mark) → operation_within most o ≡ Some op → (o ≡ Some (marked.Operation op)) × (nat_le (level op) most ≡ true)
+operation_within_some : (most : ℕ) (op : Operation) (o : Option Mark) → operation_within most o ≡ Some op
+    → (o ≡ Some (marked.Operation op)) × (nat_le (level op) most ≡ true)
 operation_within_some most op None e = absurd (cc)
 operation_within_some most op (Some marked.Index) e = absurd (cc)
 operation_within_some most op (Some marked.Brackets) e = absurd (cc)
 operation_within_some most op (Some (marked.Function f)) e = absurd (cc)
 operation_within_some most op (Some (marked.Operation other)) e = tested (nat_le (level other) most) refl e
   where
-    tested : (t : Bool) → nat_le (level other) most ≡ t → cond t (Some other) None ≡ Some op → (Some (marked.Operation other) ≡ Some (marked.Operation op)) × (nat_le (level op) most ≡ true)
+    tested : (t : Bool) → nat_le (level other) most ≡ t → cond t (Some other) None ≡ Some op
+        → (Some (marked.Operation other) ≡ Some (marked.Operation op)) × (nat_le (level op) most ≡ true)
     tested true t e = let same : other ≡ op = cc in (ap (λ x. Some (marked.Operation x)) same, ap (λ x. nat_le (level x) most) (sym same) ∙ t)
     tested false t e = absurd (cc)
 
@@ -140,11 +151,14 @@ operation_within_none most op e = tested (nat_le (level op) most) refl e
     tested true t e = absurd (cc)
     tested false t e = t
 
-pub operation_waits : (most : ℕ) (op : Operation) (stack : List Mark) (o : Option Mark) → o ≡ nearest stack → operation_within most o ≡ Some op → 0 < length stack
+pub operation_waits : (most : ℕ) (op : Operation) (stack : List Mark) (o : Option Mark) → o ≡ nearest stack
+    → operation_within most o ≡ Some op → 0 < length stack
 operation_waits most op stack o e f = some_waits stack (marked.Operation op) (sym e ∙ (operation_within_some most op o f).0)
 
-gathering_on : (most : ℕ) (op : Operation) (base : List Node) (u : Tree) (vs : List Waiting) (stack stack_then : List Mark) (nodes nodes_then : List Node) → HoldsAfter u vs base stack nodes
-    → nearest_of vs ≡ Some (marked.Operation op) → nat_le (level op) most ≡ true → stack_then ≡ take (length stack - 1) stack → nodes_then ≡ nodes ++ node.Joined op ∷ []
+gathering_on : (most : ℕ) (op : Operation) (base : List Node) (u : Tree) (vs : List Waiting)
+    (stack stack_then : List Mark) (nodes nodes_then : List Node) → HoldsAfter u vs base stack nodes
+    → nearest_of vs ≡ Some (marked.Operation op) → nat_le (level op) most ≡ true
+    → stack_then ≡ take (length stack - 1) stack → nodes_then ≡ nodes ++ node.Joined op ∷ []
     → (v : Tree) × (rest : List Waiting) × HoldsAfter v rest base stack_then nodes_then × (gathered most v rest ≡ gathered most u vs)
 gathering_on most op base u [] stack stack_then nodes nodes_then h i k s n = absurd (cc)
 gathering_on most op base u (index ∷ vs) stack stack_then nodes nodes_then h i k s n = absurd (cc)
@@ -162,13 +176,16 @@ gathering_on most op base u (left other l ∷ vs) stack stack_then nodes nodes_t
       rw within refl,
     )
 
-pub gathering_goes : (most : ℕ) (op : Operation) (stack_first stack stack_then : List Mark) (nodes_first nodes nodes_then : List Node) (o : Option Mark) → IsGathering most stack_first nodes_first stack nodes
+pub gathering_goes : (most : ℕ) (op : Operation) (stack_first stack stack_then : List Mark)
+    (nodes_first nodes nodes_then : List Node) (o : Option Mark)
+    → IsGathering most stack_first nodes_first stack nodes
     → o ≡ nearest stack → operation_within most o ≡ Some op → stack_then ≡ take (length stack - 1) stack → nodes_then ≡ nodes ++ node.Joined op ∷ []
     → IsGathering most stack_first nodes_first stack_then nodes_then
 gathering_goes most op stack_first stack stack_then nodes_first nodes nodes_then o h e f s n t ws base holds =
     let was = h t ws base holds in
     let found = operation_within_some most op o f in
-    let now = gathering_on most op base was.0 was.1 stack stack_then nodes nodes_then was.2 (sym (nearest-marks was.1 stack was.2.stack_is) ∙ sym e ∙ found.0) found.1 s n in
+    let now = gathering_on most op base was.0 was.1 stack stack_then nodes nodes_then was.2
+    (sym (nearest-marks was.1 stack was.2.stack_is) ∙ sym e ∙ found.0) found.1 s n in
     (now.0, now.1, now.2, now.3 ∙ was.3)
 
 gathering_stops : (most : ℕ) (u : Tree) (vs : List Waiting) → operation_within most (nearest_of vs) ≡ None → gathered most u vs ≡ (u, vs)
@@ -178,11 +195,13 @@ gathering_stops most u (brackets ∷ vs) e = refl
 gathering_stops most u (function f ∷ vs) e = refl
 gathering_stops most u (left op l ∷ vs) e = let beyond : nat_le (level op) most ≡ false = operation_within_none most op e in rw beyond refl
 
-pub gathering_ends : (most : ℕ) (stack_first stack : List Mark) (nodes_first nodes : List Node) (o : Option Mark) → IsGathering most stack_first nodes_first stack nodes
+pub gathering_ends : (most : ℕ) (stack_first stack : List Mark) (nodes_first nodes : List Node) (o : Option Mark)
+    → IsGathering most stack_first nodes_first stack nodes
     → o ≡ nearest stack → operation_within most o ≡ None → Gathers most stack_first nodes_first stack nodes
 gathering_ends most stack_first stack nodes_first nodes o h e f t ws base holds =
     let was = h t ws base holds in
-    let none_waits : operation_within most (nearest_of was.1) ≡ None = ap (operation_within most) (sym (nearest-marks was.1 stack was.2.stack_is) ∙ sym e) ∙ f in
+    let none_waits : operation_within most (nearest_of was.1) ≡ None =
+    ap (operation_within most) (sym (nearest-marks was.1 stack was.2.stack_is) ∙ sym e) ∙ f in
     let P : Tree × List Waiting → Type 0 = λ x. HoldsAfter x.0 x.1 base stack nodes in
     subst P (sym (gathering_stops most was.0 was.1 none_waits) ∙ was.3) was.2
 
@@ -192,7 +211,8 @@ pub closing_waits : (stack : List Mark) (o : Option Mark) (n : Node) → o ≡ n
 closing_waits stack None n e f = absurd (cc)
 closing_waits stack (Some m) n e f = some_waits stack m (sym e)
 
-closes_at : (base : List Node) (n : Node) (t : Tree) (ws : List Waiting) (stack stack_then : List Mark) (nodes nodes_then : List Node) → HoldsAfter t ws base stack nodes → closing (nearest_of ws) ≡ Some n
+closes_at : (base : List Node) (n : Node) (t : Tree) (ws : List Waiting) (stack stack_then : List Mark)
+    (nodes nodes_then : List Node) → HoldsAfter t ws base stack nodes → closing (nearest_of ws) ≡ Some n
     → stack_then ≡ take (length stack - 1) stack → nodes_then ≡ nodes ++ n ∷ []
     → (u : Tree) × (rest : List Waiting) × (closed t ws ≡ Some (settled_value u rest)) × HoldsAfter u rest base stack_then nodes_then
 closes_at base n t [] stack stack_then nodes nodes_then h i s m = absurd (cc)
@@ -219,7 +239,8 @@ closes_at base n t (function f ∷ ws) stack stack_then nodes nodes_then h i s m
     )
 closes_at base n t (left op l ∷ ws) stack stack_then nodes nodes_then h i s m = absurd (cc)
 
-pub closes : (n : Node) (stack stack_then stack_last : List Mark) (nodes nodes_then nodes_last : List Node) (o : Option Mark) → o ≡ nearest stack → closing o ≡ Some n
+pub closes : (n : Node) (stack stack_then stack_last : List Mark) (nodes nodes_then nodes_last : List Node)
+    (o : Option Mark) → o ≡ nearest stack → closing o ≡ Some n
     → stack_then ≡ take (length stack - 1) stack → nodes_then ≡ nodes ++ n ∷ [] → Settles stack_then nodes_then stack_last nodes_last
     → ClosesBrackets stack nodes true stack_last nodes_last
 closes n stack stack_then stack_last nodes nodes_then nodes_last o e f s m settles t ws base holds =
@@ -233,7 +254,8 @@ closes_none_at t (brackets ∷ ws) e = absurd (cc)
 closes_none_at t (function f ∷ ws) e = absurd (cc)
 closes_none_at t (left op l ∷ ws) e = refl
 
-pub closes_none : (stack stack_last : List Mark) (nodes nodes_last : List Node) (o : Option Mark) → o ≡ nearest stack → closing o ≡ None → ClosesBrackets stack nodes false stack_last nodes_last
+pub closes_none : (stack stack_last : List Mark) (nodes nodes_last : List Node) (o : Option Mark)
+    → o ≡ nearest stack → closing o ≡ None → ClosesBrackets stack nodes false stack_last nodes_last
 closes_none stack stack_last nodes nodes_last o e f t ws base holds =
     closes_none_at t ws (ap closing (sym (nearest-marks ws stack holds.stack_is) ∙ sym e) ∙ f)
 
@@ -247,7 +269,8 @@ name_opens Fup rest = refl
 name_opens Round rest = refl
 name_opens Sqrt rest = refl
 
-pub opening_function : (bytes rest : List ℕ) (f : Function) → entry_at function_openings bytes ≡ Some (function f, rest) → IsOpening bytes (Some (marked.Function f)) rest
+pub opening_function : (bytes rest : List ℕ) (f : Function)
+    → entry_at function_openings bytes ≡ Some (function f, rest) → IsOpening bytes (Some (marked.Function f)) rest
 opening_function bytes rest f found =
     let e = entry_found IsOpener function_openings bytes (function f, rest) ((refl, tt), ((refl, tt), ((refl, tt), ((refl, tt), ((refl, tt), tt))))) found in
     (function f, ap (entry_at openings) (e.1 ∙ ap (λ text. text ++ rest) e.2.0) ∙ name_opens f rest, refl, refl)
@@ -268,7 +291,8 @@ value_shorter bytes rest base nodes (Some n) h = length-value_at bytes (h.0, res
 -- ---- a step before a value
 
 -- something that opens one
-pub begin_opens : (bytes rest : List ℕ) (m : Mark) (stack stack_then : List Mark) (nodes : List Node) → IsOpening bytes (Some m) rest → stack_then ≡ stack ++ m ∷ []
+pub begin_opens : (bytes rest : List ℕ) (m : Mark) (stack stack_then : List Mark) (nodes : List Node)
+    → IsOpening bytes (Some m) rest → stack_then ≡ stack ++ m ∷ []
     → WalkStepSpec false bytes stack nodes (Some false) rest stack_then nodes
 begin_opens bytes rest m stack stack_then nodes h s (before ws) base stands = (
   before (h.0 ∷ ws),
@@ -290,18 +314,27 @@ begin_opens bytes rest m stack stack_then nodes h s (before ws) base stands = (
 begin_opens bytes rest m stack stack_then nodes h s (after t ws) base stands = absurd (let e : true ≡ false = sym stands.0 in cc)
 
 -- a number
-pub begin_number : (bytes same rest : List ℕ) (value : Option ℤ) (stack stack_last : List Mark) (nodes nodes_then nodes_last : List Node) → entry_at openings bytes ≡ None → same ≡ bytes
+pub begin_number : (bytes same rest : List ℕ) (value : Option ℤ) (stack stack_last : List Mark)
+    (nodes nodes_then nodes_last : List Node) → entry_at openings bytes ≡ None → same ≡ bytes
     → number_at same ≡ Some (value, rest) → nodes_then ≡ nodes ++ node.Number value ∷ [] → Settles stack nodes_then stack_last nodes_last
     → WalkStepSpec false bytes stack nodes (Some true) rest stack_last nodes_last
 begin_number bytes same rest value stack stack_last nodes nodes_then nodes_last none e found n settles (before ws) base stands = (
   settled_value (number value) ws,
   ap (opened ws bytes) none ∙ ap (option_map (λ (v : Option ℤ × List ℕ). (settled_value (number v.0) ws, v.1))) (ap number_at (sym e) ∙ found),
-  settles (number value) ws base (record { stack_is = stands.1.stack_is; nodes_are = n ∙ ap (λ l. l ++ node.Number value ∷ []) stands.1.nodes_are ∙ append_assoc base (waiting_nodes ws) (node.Number value ∷ []) }),
+  settles (number value) ws base
+      (record {
+        stack_is = stands.1.stack_is;
+        nodes_are = n
+            ∙ ap (λ l. l ++ node.Number value ∷ []) stands.1.nodes_are
+            ∙ append_assoc base (waiting_nodes ws) (node.Number value ∷ []);
+      }),
 )
-begin_number bytes same rest value stack stack_last nodes nodes_then nodes_last none e found n settles (after t ws) base stands = absurd (let f : true ≡ false = sym stands.0 in cc)
+begin_number bytes same rest value stack stack_last nodes nodes_then nodes_last none e found n settles (after t ws)
+    base stands = absurd (let f : true ≡ false = sym stands.0 in cc)
 
 -- neither
-pub begin_none : (bytes same rest : List ℕ) (stack stack_last : List Mark) (nodes nodes_last : List Node) → entry_at openings bytes ≡ None → same ≡ bytes → number_at same ≡ None
+pub begin_none : (bytes same rest : List ℕ) (stack stack_last : List Mark) (nodes nodes_last : List Node)
+    → entry_at openings bytes ≡ None → same ≡ bytes → number_at same ≡ None
     → WalkStepSpec false bytes stack nodes None rest stack_last nodes_last
 begin_none bytes same rest stack stack_last nodes nodes_last none e found (before ws) base stands =
     ap (opened ws bytes) none ∙ ap (option_map (λ (v : Option ℤ × List ℕ). (settled_value (number v.0) ws, v.1))) (ap number_at (sym e) ∙ found)
@@ -310,40 +343,56 @@ begin_none bytes same rest stack stack_last nodes nodes_last none e found (after
 -- ---- a step after a value
 
 -- a closing bracket
-pub go_on_closes : (bytes rest : List ℕ) (stack stack_then stack_last : List Mark) (nodes nodes_then nodes_last : List Node) → strip_prefix (codes "]") bytes ≡ Some rest
-    → Gathers 3 stack nodes stack_then nodes_then → ClosesBrackets stack_then nodes_then true stack_last nodes_last → WalkStepSpec true bytes stack nodes (Some true) rest stack_last nodes_last
-go_on_closes bytes rest stack stack_then stack_last nodes nodes_then nodes_last found gathers closes (before ws) base stands = absurd (let e : true ≡ false = stands.0 in cc)
+pub go_on_closes : (bytes rest : List ℕ) (stack stack_then stack_last : List Mark)
+    (nodes nodes_then nodes_last : List Node) → strip_prefix (codes "]") bytes ≡ Some rest
+    → Gathers 3 stack nodes stack_then nodes_then → ClosesBrackets stack_then nodes_then true stack_last nodes_last
+    → WalkStepSpec true bytes stack nodes (Some true) rest stack_last nodes_last
+go_on_closes bytes rest stack stack_then stack_last nodes nodes_then nodes_last found gathers closes (before ws)
+    base stands = absurd (let e : true ≡ false = stands.0 in cc)
 go_on_closes bytes rest stack stack_then stack_last nodes nodes_then nodes_last found gathers closes (after t ws) base stands =
     let c = closes (gathered 3 t ws).0 (gathered 3 t ws).1 base (gathers t ws base stands.1) in
     (c.0, ap (continued t ws bytes) found ∙ ap (option_map (λ (p : WalkPosition). (p, rest))) c.1, c.2)
 
 -- a closing bracket that closes nothing
-pub go_on_unopened : (bytes rest after_it : List ℕ) (stack stack_then stack_last : List Mark) (nodes nodes_then nodes_last : List Node) → strip_prefix (codes "]") bytes ≡ Some rest
-    → Gathers 3 stack nodes stack_then nodes_then → ClosesBrackets stack_then nodes_then false stack_last nodes_last → WalkStepSpec true bytes stack nodes None after_it stack_last nodes_last
-go_on_unopened bytes rest after_it stack stack_then stack_last nodes nodes_then nodes_last found gathers closes (before ws) base stands = absurd (let e : true ≡ false = stands.0 in cc)
+pub go_on_unopened : (bytes rest after_it : List ℕ) (stack stack_then stack_last : List Mark)
+    (nodes nodes_then nodes_last : List Node) → strip_prefix (codes "]") bytes ≡ Some rest
+    → Gathers 3 stack nodes stack_then nodes_then → ClosesBrackets stack_then nodes_then false stack_last nodes_last
+    → WalkStepSpec true bytes stack nodes None after_it stack_last nodes_last
+go_on_unopened bytes rest after_it stack stack_then stack_last nodes nodes_then nodes_last found gathers closes
+    (before ws) base stands = absurd (let e : true ≡ false = stands.0 in cc)
 go_on_unopened bytes rest after_it stack stack_then stack_last nodes nodes_then nodes_last found gathers closes (after t ws) base stands =
-    ap (continued t ws bytes) found ∙ ap (option_map (λ (p : WalkPosition). (p, rest))) (closes (gathered 3 t ws).0 (gathered 3 t ws).1 base (gathers t ws base stands.1))
+    ap (continued t ws bytes) found ∙ ap (option_map (λ (p : WalkPosition). (p, rest)))
+    (closes (gathered 3 t ws).0 (gathered 3 t ws).1 base (gathers t ws base stands.1))
 
 -- an operation
-pub go_on_operation : (bytes rest : List ℕ) (op : Operation) (most : ℕ) (stack stack_then stack_last : List Mark) (nodes nodes_then : List Node) → entry_at operations bytes ≡ Some (op, rest) → most ≡ level op
-    → Gathers most stack nodes stack_then nodes_then → stack_last ≡ stack_then ++ marked.Operation op ∷ [] → WalkStepSpec true bytes stack nodes (Some false) rest stack_last nodes_then
-go_on_operation bytes rest op most stack stack_then stack_last nodes nodes_then found m gathers s (before ws) base stands = absurd (let f : true ≡ false = stands.0 in cc)
+pub go_on_operation : (bytes rest : List ℕ) (op : Operation) (most : ℕ) (stack stack_then stack_last : List Mark)
+    (nodes nodes_then : List Node) → entry_at operations bytes ≡ Some (op, rest) → most ≡ level op
+    → Gathers most stack nodes stack_then nodes_then → stack_last ≡ stack_then ++ marked.Operation op ∷ []
+    → WalkStepSpec true bytes stack nodes (Some false) rest stack_last nodes_then
+go_on_operation bytes rest op most stack stack_then stack_last nodes nodes_then found m gathers s (before ws) base
+    stands = absurd (let f : true ≡ false = stands.0 in cc)
 go_on_operation bytes rest op most stack stack_then stack_last nodes nodes_then found m gathers s (after t ws) base stands =
     let P : ℕ → Type 0 = λ n. HoldsAfter (gathered n t ws).0 (gathered n t ws).1 base stack_then nodes_then in
     let g = subst P m (gathers t ws base stands.1) in
     let e = operation_found bytes (op, rest) found in
     let none : strip_prefix (codes "]") bytes ≡ None = ap (strip_prefix (codes "]")) (e.1 ∙ ap (λ text. text ++ rest) e.2) ∙ no_bracket op rest in (
       before (left op (gathered (level op) t ws).0 ∷ (gathered (level op) t ws).1),
-      ap (continued t ws bytes) none ∙ ap (option_map (λ (x : Operation × List ℕ). (before (left x.0 (gathered (level x.0) t ws).0 ∷ (gathered (level x.0) t ws).1), x.1))) found,
+      ap (continued t ws bytes) none
+          ∙ ap (option_map (λ (x : Operation × List ℕ).
+          (before (left x.0 (gathered (level x.0) t ws).0 ∷ (gathered (level x.0) t ws).1), x.1))) found,
       (refl, record { stack_is = s ∙ ap (λ l. l ++ marked.Operation op ∷ []) g.stack_is; nodes_are = g.nodes_are }),
     )
 
 -- neither
-pub go_on_none : (bytes same rest : List ℕ) (stack stack_last : List Mark) (nodes nodes_last : List Node) → strip_prefix (codes "]") bytes ≡ None → same ≡ bytes → entry_at operations same ≡ None
+pub go_on_none : (bytes same rest : List ℕ) (stack stack_last : List Mark) (nodes nodes_last : List Node)
+    → strip_prefix (codes "]") bytes ≡ None → same ≡ bytes → entry_at operations same ≡ None
     → WalkStepSpec true bytes stack nodes None rest stack_last nodes_last
 go_on_none bytes same rest stack stack_last nodes nodes_last none e found (before ws) base stands = absurd (let f : true ≡ false = stands.0 in cc)
 go_on_none bytes same rest stack stack_last nodes nodes_last none e found (after t ws) base stands =
-    ap (continued t ws bytes) none ∙ ap (option_map (λ (x : Operation × List ℕ). (before (left x.0 (gathered (level x.0) t ws).0 ∷ (gathered (level x.0) t ws).1), x.1))) (ap (entry_at operations) (sym e) ∙ found)
+    ap (continued t ws bytes) none
+    ∙ ap (option_map (λ (x : Operation × List ℕ).
+    (before (left x.0 (gathered (level x.0) t ws).0 ∷ (gathered (level x.0) t ws).1), x.1)))
+    (ap (entry_at operations) (sym e) ∙ found)
 
 -- ---- the walk
 
@@ -355,25 +404,31 @@ IsWalking bytes_first base bytes after_value stack nodes =
 pub walking_starts : (bytes : List ℕ) (stack : List Mark) (nodes : List Node) → stack ≡ [] → IsWalking bytes nodes bytes false stack nodes
 walking_starts bytes stack nodes e = (before [], refl, (refl, record { stack_is = e; nodes_are = sym (append-nil nodes) }))
 
-walking_goes_at : (bytes_first bytes : List ℕ) (base : List Node) (after_value : Bool) (stack : List Mark) (nodes : List Node) (p : WalkPosition) (x : WalkPosition × List ℕ)
-    → value_from (length bytes) p bytes ≡ value_at bytes_first → Stands p base after_value stack nodes → ((after_value ≡ true) × (stack ≡ []) → ⊥) → step_at p bytes ≡ Some x
+walking_goes_at : (bytes_first bytes : List ℕ) (base : List Node) (after_value : Bool) (stack : List Mark)
+    (nodes : List Node) (p : WalkPosition) (x : WalkPosition × List ℕ)
+    → value_from (length bytes) p bytes ≡ value_at bytes_first → Stands p base after_value stack nodes
+    → ((after_value ≡ true) × (stack ≡ []) → ⊥) → step_at p bytes ≡ Some x
     → value_from (length x.1) x.0 x.1 ≡ value_at bytes_first
 walking_goes_at bytes_first bytes base after_value stack nodes (before ws) x e h n s = sym (walk_before ws bytes x s) ∙ e
 walking_goes_at bytes_first bytes base after_value stack nodes (after t []) x e h n s = absurd (n (h.0, h.1.stack_is))
 walking_goes_at bytes_first bytes base after_value stack nodes (after t (w ∷ ws)) x e h n s = sym (walk_after t w ws bytes x s) ∙ e
 
 -- a loop that goes on
-pub not_ended : (ended : Bool) (after_value : Bool) (stack : List Mark) → (IsTrue ended ↔ ((after_value ≡ true) × (stack ≡ []))) → ended ≡ false → (after_value ≡ true) × (stack ≡ []) → ⊥
+pub not_ended : (ended : Bool) (after_value : Bool) (stack : List Mark)
+    → (IsTrue ended ↔ ((after_value ≡ true) × (stack ≡ []))) → ended ≡ false → (after_value ≡ true) × (stack ≡ [])
+    → ⊥
 not_ended true after_value stack h e f = absurd (cc)
 not_ended false after_value stack h e f = let t : IsTrue false = h.1 f in grind (arith, nat_tests)
 
 -- a loop that is left
-pub has_ended_is : (ended : Bool) (after_value : Bool) (stack : List Mark) → (IsTrue ended ↔ ((after_value ≡ true) × (stack ≡ []))) → ended ≡ true → (after_value ≡ true) × (stack ≡ [])
+pub has_ended_is : (ended : Bool) (after_value : Bool) (stack : List Mark)
+    → (IsTrue ended ↔ ((after_value ≡ true) × (stack ≡ []))) → ended ≡ true → (after_value ≡ true) × (stack ≡ [])
 has_ended_is true after_value stack h e = h.0 (search rules)
 has_ended_is false after_value stack h e = absurd (cc)
 
 -- one more step
-pub walking_goes : (bytes_first bytes rest : List ℕ) (base : List Node) (after_value after_value_then : Bool) (stack stack_then : List Mark) (nodes nodes_then : List Node)
+pub walking_goes : (bytes_first bytes rest : List ℕ) (base : List Node) (after_value after_value_then : Bool)
+    (stack stack_then : List Mark) (nodes nodes_then : List Node)
     → IsWalking bytes_first base bytes after_value stack nodes → ((after_value ≡ true) × (stack ≡ []) → ⊥)
     → WalkStepSpec after_value bytes stack nodes (Some after_value_then) rest stack_then nodes_then
     → IsWalking bytes_first base rest after_value_then stack_then nodes_then × (length rest < length bytes)
@@ -382,7 +437,8 @@ walking_goes bytes_first bytes rest base after_value after_value_then stack stac
     ((s.0, walking_goes_at bytes_first bytes base after_value stack nodes h.0 (s.0, rest) h.1 h.2 n s.1, s.2), step_shorter h.0 bytes (s.0, rest) s.1)
 
 walking_none_at : (bytes_first bytes : List ℕ) (base : List Node) (after_value : Bool) (stack : List Mark) (nodes : List Node) (p : WalkPosition)
-    → value_from (length bytes) p bytes ≡ value_at bytes_first → Stands p base after_value stack nodes → ((after_value ≡ true) × (stack ≡ []) → ⊥) → step_at p bytes ≡ None
+    → value_from (length bytes) p bytes ≡ value_at bytes_first → Stands p base after_value stack nodes
+    → ((after_value ≡ true) × (stack ≡ []) → ⊥) → step_at p bytes ≡ None
     → value_at bytes_first ≡ None
 walking_none_at bytes_first bytes base after_value stack nodes (before ws) e h n s = sym e ∙ walk_before_none ws bytes s
 walking_none_at bytes_first bytes base after_value stack nodes (after t []) e h n s = absurd (n (h.0, h.1.stack_is))
@@ -400,7 +456,8 @@ value_from-end zero t bytes = refl
 value_from-end (suc most) t bytes = refl
 
 walking_ends_at : (bytes_first bytes : List ℕ) (base : List Node) (after_value : Bool) (stack : List Mark) (nodes : List Node) (p : WalkPosition) (n : ℕ)
-    → value_from (length bytes) p bytes ≡ value_at bytes_first → Stands p base after_value stack nodes → after_value ≡ true → stack ≡ [] → n ≡ length nodes - length base
+    → value_from (length bytes) p bytes ≡ value_at bytes_first → Stands p base after_value stack nodes
+    → after_value ≡ true → stack ≡ [] → n ≡ length nodes - length base
     → TakesValue bytes_first base (Some n) bytes nodes
 walking_ends_at bytes_first bytes base after_value stack nodes (before ws) n e h b s l = absurd (let f : true ≡ false = sym b ∙ h.0 in cc)
 walking_ends_at bytes_first bytes base after_value stack nodes (after t []) n e h b s l =
@@ -442,7 +499,8 @@ begins_otherwise true bytes h e b = absurd (cc)
 begins_otherwise false bytes h e b = let t : IsTrue false = h.1 b in grind (arith, nat_tests)
 
 -- a number is the value
-pub number_value : (bytes rest : List ℕ) (value : Option ℤ) → BeginsNumber bytes → number_at bytes ≡ Some (value, rest) → value_at bytes ≡ Some (number value, rest)
+pub number_value : (bytes rest : List ℕ) (value : Option ℤ) → BeginsNumber bytes
+    → number_at bytes ≡ Some (value, rest) → value_at bytes ≡ Some (number value, rest)
 number_value bytes rest value h e =
     let stepped : step_at (before []) bytes ≡ Some (after (number value) [], rest) =
     ap (opened [] bytes) (no_opening bytes h) ∙ ap (option_map (λ (v : Option ℤ × List ℕ). (settled_value (number v.0) [], v.1))) e in

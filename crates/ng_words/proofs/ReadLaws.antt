@@ -1,5 +1,6 @@
 -- What the reader's calls have to show: that its steps compute `read`, and what `read` says of a line.
-use Rattle.std.proofs.Common.{ℕ, suc, ◌+◌, ◌<◌, ◌≤◌, ◌≡◌, ◌↔◌, List, [], ◌∷◌, length, Bool, true, false, cond, not, ◌==◌, nat_lt, Option, Some, None, Ok, Err, refl, sym, ap, ◌∙◌, arith, length-append}
+use Rattle.std.proofs.Common.{ℕ, suc, ◌+◌, ◌<◌, ◌≤◌, ◌≡◌, ◌↔◌, List, [], ◌∷◌, length, Bool, true, false, cond, not}
+use Rattle.std.proofs.Common.{◌==◌, nat_lt, Option, Some, None, Ok, Err, refl, sym, ap, ◌∙◌, arith, length-append}
 use Rattle.std.specs.Option.{option_map, option_and_then}
 use Rattle.std.proofs.lemmas.Bool.Decides.{nat_tests}
 use Rattle.ng_num.specs.declared.fault.Fault.{Fault}
@@ -69,7 +70,8 @@ length_over text t e f = let long : nat_lt 256 (length text) ≡ true = sym e �
 pub length_within : (text : List ℕ) (t : Bool) → t ≡ is_too_long text → t ≡ false → length text ≤ 256
 length_within text t e f = let fits : nat_lt 256 (length text) ≡ false = sym e ∙ f in grind (arith, nat_tests)
 
-fault_by : (text : List ℕ) (t : Bool) (o : Option ParsedLine) → nat_lt 256 (length text) ≡ t → cond t (Err LineTooLong) (or_unreadable o) ≡ Err LineTooLong → 256 < length text
+fault_by : (text : List ℕ) (t : Bool) (o : Option ParsedLine) → nat_lt 256 (length text) ≡ t
+    → cond t (Err LineTooLong) (or_unreadable o) ≡ Err LineTooLong → 256 < length text
 fault_by text true o t_is e = grind (arith, nat_tests)
 fault_by text false None t_is e = absurd cc
 fault_by text false (Some w) t_is e = absurd cc
@@ -81,7 +83,8 @@ read_long text e = fault_by text (nat_lt 256 (length text)) (parse_line (plain f
 pub too_long_iff : (text : List ℕ) → (read text ≡ Err LineTooLong) ↔ (256 < length text)
 too_long_iff text = (read_long text, read_too_long text)
 
-short_by : (text : List ℕ) (t : Bool) (o : Option ParsedLine) → nat_lt 256 (length text) ≡ t → cond t (Err LineTooLong) (or_unreadable o) ≡ Err Unreadable → length text ≤ 256
+short_by : (text : List ℕ) (t : Bool) (o : Option ParsedLine) → nat_lt 256 (length text) ≡ t
+    → cond t (Err LineTooLong) (or_unreadable o) ≡ Err Unreadable → length text ≤ 256
 short_by text true o t_is e = absurd cc
 short_by text false o t_is e = grind (arith, nat_tests)
 
@@ -89,7 +92,8 @@ read_short : (text : List ℕ) → read text ≡ Err Unreadable → length text 
 unfolding read
 read_short text e = short_by text (nat_lt 256 (length text)) (parse_line (plain false text)) refl e
 
-unread_by : (text : List ℕ) (o : Option ParsedLine) → length text ≤ 256 → parse_line (plain false text) ≡ o → ((line : ParsedLine) → IsLineOf text line → ⊥) → read text ≡ Err Unreadable
+unread_by : (text : List ℕ) (o : Option ParsedLine) → length text ≤ 256 → parse_line (plain false text) ≡ o
+    → ((line : ParsedLine) → IsLineOf text line → ⊥) → read text ≡ Err Unreadable
 unread_by text None short e none = read_is text None short e
 unread_by text (Some w) short e none = absurd (none w (read_sound text w (read_is text (Some w) short e)))
 
@@ -111,11 +115,13 @@ pub read_no_number : (text bytes rest : List ℕ) (deletable : Bool) → length 
 read_no_number text bytes rest deletable short b s e =
     read_is text None short (ap parse_line (sym b) ∙ ap (λ s. body_at s.0 s.1) (sym s) ∙ ap (option_and_then (pieces_line deletable)) e)
 
-line_at_is : (bytes rest : List ℕ) (deletable : Bool) (x : Option ℕ × List ℕ) → (deletable, rest) ≡ slash_at bytes → block_number_at rest ≡ Some x → parse_line bytes ≡ pieces_line deletable x
+line_at_is : (bytes rest : List ℕ) (deletable : Bool) (x : Option ℕ × List ℕ) → (deletable, rest) ≡ slash_at bytes
+    → block_number_at rest ≡ Some x → parse_line bytes ≡ pieces_line deletable x
 line_at_is bytes rest deletable x s e = ap (λ s. body_at s.0 s.1) (sym s) ∙ ap (option_and_then (pieces_line deletable)) e
 
 -- no pieces can be read
-pub read_no_pieces : (text bytes rest : List ℕ) (deletable : Bool) (x : Option ℕ × List ℕ) → length text ≤ 256 → bytes ≡ plain false text → (deletable, rest) ≡ slash_at bytes
+pub read_no_pieces : (text bytes rest : List ℕ) (deletable : Bool) (x : Option ℕ × List ℕ) → length text ≤ 256
+    → bytes ≡ plain false text → (deletable, rest) ≡ slash_at bytes
     → block_number_at rest ≡ Some x → pieces_at (length x.1) x.1 ≡ None → read text ≡ Err Unreadable
 read_no_pieces text bytes rest deletable x short b s e p =
     read_is text None short (
@@ -124,7 +130,8 @@ read_no_pieces text bytes rest deletable x short b s e p =
     )
 
 -- everything is read
-pub read_ok : (text bytes rest : List ℕ) (deletable : Bool) (x : Option ℕ × List ℕ) (w : ParsedLine) → length text ≤ 256 → bytes ≡ plain false text → (deletable, rest) ≡ slash_at bytes
+pub read_ok : (text bytes rest : List ℕ) (deletable : Bool) (x : Option ℕ × List ℕ) (w : ParsedLine)
+    → length text ≤ 256 → bytes ≡ plain false text → (deletable, rest) ≡ slash_at bytes
     → block_number_at rest ≡ Some x → pieces_at (length x.1) x.1 ≡ Some w.pieces → w.deletable ≡ deletable → w.number ≡ x.0 → read text ≡ Ok w
 read_ok text bytes rest deletable x w short b s e p d n =
     read_is text (Some w) short (
@@ -153,7 +160,8 @@ length-slash_at (b ∷ bs) = elim (b == 47) as (λ t. length (cond {A = Bool × 
 ]
 
 -- the pieces have at most as many bytes left
-pub length-pieces : (text bytes rest : List ℕ) (deletable : Bool) (x : Option ℕ × List ℕ) → length text ≤ 256 → bytes ≡ plain false text → (deletable, rest) ≡ slash_at bytes
+pub length-pieces : (text bytes rest : List ℕ) (deletable : Bool) (x : Option ℕ × List ℕ) → length text ≤ 256
+    → bytes ≡ plain false text → (deletable, rest) ≡ slash_at bytes
     → block_number_at rest ≡ Some x → length x.1 ≤ 256
 length-pieces text bytes rest deletable x short b s e =
     let all = length-plain false text in

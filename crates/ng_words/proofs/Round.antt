@@ -63,7 +63,9 @@ fraction_near zero (b ∷ ds) d =
     let none = fraction-zero ds in
     let sum : b - 48 ≡ (b - 48) * 1 + fraction_from 0 ds = omega arith in
     let split : written_after (0 + (b - 48)) ds ≡ (b - 48) * 10 ^ length ds + written_after 0 ds = omega (arith, written_split (0 + (b - 48)) ds) in
-    subst (λ c. P c (10 ^ suc (length ds))) sum (subst (P (b - 48)) (sym (pow-suc 10 (length ds))) (near_last (b - 48) (10 ^ length ds) _ (written_after 0 ds) split (written_lt ds d.1)))
+    subst (λ c. P c (10 ^ suc (length ds))) sum
+    (subst (P (b - 48)) (sym (pow-suc 10 (length ds)))
+    (near_last (b - 48) (10 ^ length ds) _ (written_after 0 ds) split (written_lt ds d.1)))
 fraction_near (suc k) (b ∷ ds) d =
     let split : written_after (0 + (b - 48)) ds ≡ (b - 48) * 10 ^ length ds + written_after 0 ds = omega (arith, written_split (0 + (b - 48)) ds) in
     let step = near_step (b - 48) (10 ^ k) _ (10 ^ length ds) _ (written_after 0 ds) split (fraction_near k ds d.1) in

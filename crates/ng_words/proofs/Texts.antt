@@ -1,5 +1,7 @@
 -- A text or a comment at the front, byte by byte.
-use Rattle.std.proofs.Common.{ℕ, ◌+◌, ◌<◌, ◌≤◌, ◌≡◌, ◌≢◌, List, [], ◌∷◌, ◌++◌, length, drop, take, get_or, append-nil, append_assoc, Bool, true, false, not, ◌==◌, Option, Some, None, refl, sym, ap, ◌∙◌, subst, arith, add-one, drop-cons, MatchOption, eqb}
+use Rattle.std.proofs.Common.{ℕ, ◌+◌, ◌<◌, ◌≤◌, ◌≡◌, ◌≢◌, List, [], ◌∷◌, ◌++◌, length, drop, take, get_or}
+use Rattle.std.proofs.Common.{append-nil, append_assoc, Bool, true, false, not, ◌==◌, Option, Some, None, refl, sym}
+use Rattle.std.proofs.Common.{ap, ◌∙◌, subst, arith, add-one, drop-cons, MatchOption, eqb}
 use Rattle.std.specs.Option.{option_map, option_eq}
 use Rattle.std.proofs.Math.Seq.{take-suc}
 use Rattle.std.proofs.lemmas.List.{drop_all}
@@ -45,7 +47,8 @@ skip_goes text i bytes after None h m o a = absurd (cc)
 skip_goes text i bytes after (Some b) h m o a =
     let it : Some b ≡ Some (get_or text i 0) = next_same (Some b) (get_or text i 0) o in
     let same : b ≡ get_or text i 0 = cc in
-    ap (strip_prefix (drop (i + 1) text)) a ∙ sym (skip_goes_at _ _ bytes (subst (StartsWithByte bytes) same m)) ∙ ap (λ t. strip_prefix t bytes) (sym (text_from text i h))
+    ap (strip_prefix (drop (i + 1) text)) a ∙ sym (skip_goes_at _ _ bytes (subst (StartsWithByte bytes) same m))
+    ∙ ap (λ t. strip_prefix t bytes) (sym (text_from text i h))
 
 skip_stops_at : (c b : ℕ) (cs bytes : List ℕ) → StartsWithByte bytes b → b ≢ c → strip_prefix (c ∷ cs) bytes ≡ None
 skip_stops_at c b cs [] s n = refl
@@ -87,7 +90,8 @@ pub found_after-nothing : (o : Option (List ℕ × List ℕ)) → found_after []
 found_after-nothing None = refl
 found_after-nothing (Some x) = refl
 
-plain_from : (bytes : List ℕ) (i : ℕ) → i < length bytes → plain true (drop i bytes) ≡ get_or bytes i 0 ∷ plain (not (get_or bytes i 0 == 41)) (drop (i + 1) bytes)
+plain_from : (bytes : List ℕ) (i : ℕ) → i < length bytes → plain true (drop i bytes) ≡ get_or bytes i 0 ∷ plain
+    (not (get_or bytes i 0 == 41)) (drop (i + 1) bytes)
 plain_from bytes i h = ap (plain true) (text_from bytes i h)
 
 -- a closing parenthesis
@@ -98,8 +102,13 @@ comment_closes bytes i h e f =
     let shown : comment_at (plain true bytes) ≡ Some (take i bytes, plain false (drop (i + 1) bytes)) =
     sym f ∙ ap (λ l. found_after (take i bytes) (comment_at l)) (plain_from bytes i h) ∙ closed (get_or bytes i 0) e in (h, shown)
   where
-    closed : (b : ℕ) → b ≡ 41 → found_after (take i bytes) (comment_at (b ∷ plain (not (b == 41)) (drop (i + 1) bytes))) ≡ Some (take i bytes, plain false (drop (i + 1) bytes))
-    closed b e = let t : (b == 41) ≡ true = (Decides-eqb b 41).1 e in rw t (ap {B = Option (List ℕ × List ℕ)} (λ l. Some (l, plain false (drop (i + 1) bytes))) (append-nil (take i bytes)))
+    closed : (b : ℕ) → b ≡ 41
+        → found_after (take i bytes) (comment_at (b ∷ plain (not (b == 41)) (drop (i + 1) bytes))) ≡ Some
+        (take i bytes, plain false (drop (i + 1) bytes))
+    closed b e = let t : (b == 41) ≡ true =
+        (Decides-eqb b 41).1 e in rw t
+        (ap {B = Option (List ℕ × List ℕ)} (λ l. Some (l, plain false (drop (i + 1) bytes)))
+        (append-nil (take i bytes)))
 
 -- an opening parenthesis
 pub comment_opens : (bytes : List ℕ) (i : ℕ) → i < length bytes → get_or bytes i 0 ≡ 40
@@ -124,7 +133,8 @@ comment_goes bytes i h n m f =
     longer : take (i + 1) bytes ≡ take i bytes ++ (get_or bytes i 0 ∷ [])
     longer = rw add-one (take-suc bytes i 0 h)
 
-    moved : (o : Option (List ℕ × List ℕ)) → found_after (take i bytes ++ (get_or bytes i 0 ∷ [])) o ≡ found_after (take i bytes) (option_map (λ x. (get_or bytes i 0 ∷ x.0, x.1)) o)
+    moved : (o : Option (List ℕ × List ℕ)) → found_after (take i bytes ++ (get_or bytes i 0 ∷ [])) o ≡ found_after
+        (take i bytes) (option_map (λ x. (get_or bytes i 0 ∷ x.0, x.1)) o)
     moved None = refl
     moved (Some x) = ap {B = Option (List ℕ × List ℕ)} (λ l. Some (l, x.1)) (append_assoc (take i bytes) (get_or bytes i 0 ∷ []) x.0)
 

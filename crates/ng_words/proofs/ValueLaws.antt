@@ -1,10 +1,14 @@
 -- The value found at the front is the one that the grammar says, in both directions.
-use Rattle.std.proofs.Common.{ℕ, zero, suc, ◌+◌, ◌<◌, ◌≤◌, ◌≡◌, ◌≢◌, ◌⊎◌, inl, inr, List, [], ◌∷◌, ◌++◌, length, codes, Bool, true, false, cond, ◌==◌, nat_le, ℤ, Option, Some, None, refl, sym, ap, ◌∙◌, subst, arith, append_assoc, append-nil, length-append}
+use Rattle.std.proofs.Common.{ℕ, zero, suc, ◌+◌, ◌<◌, ◌≤◌, ◌≡◌, ◌≢◌, ◌⊎◌, inl, inr, List, [], ◌∷◌, ◌++◌, length}
+use Rattle.std.proofs.Common.{codes, Bool, true, false, cond, ◌==◌, nat_le, ℤ, Option, Some, None, refl, sym, ap}
+use Rattle.std.proofs.Common.{◌∙◌, subst, arith, append_assoc, append-nil, length-append}
 use Rattle.std.specs.Option.{option_map}
 use Rattle.std.proofs.lemmas.Bool.Decides.{nat_tests}
 use Rattle.ng_words.specs.Grammar.{AreDigits, IsNumber, symbol, level, name, Tree, number, parameter, bracketed, applied, joined, looseness, IsChain, IsValue}
 use Rattle.ng_words.specs.Scan.{number_at}
-use Rattle.ng_words.specs.Values.{strip_prefix, entry_or, entry_at, Waiting, index, brackets, function, left, openings, operations, WalkPosition, before, after, settled_value, gathered, closed, opened, continued, step_at, value_from, value_at}
+use Rattle.ng_words.specs.Values.{strip_prefix, entry_or, entry_at, Waiting, index, brackets, function, left}
+use Rattle.ng_words.specs.Values.{openings, operations, WalkPosition, before, after, settled_value, gathered}
+use Rattle.ng_words.specs.Values.{closed, opened, continued, step_at, value_from, value_at}
 use Rattle.ng_words.specs.declared.tree.Operation.{Operation}
 use Rattle.ng_words.specs.declared.tree.Operation.TheVariants.{Power, Times, Over, Modulo, Plus, Minus, Or, Xor, And}
 use Rattle.ng_words.specs.declared.tree.Function.{Function}
@@ -196,11 +200,14 @@ leads_to : (p q r : WalkPosition) (bytes rest : List ℕ) → Leads p bytes q re
 leads_to p q r bytes rest h e = h ∙ ap (λ s. value_from (length rest) s rest) e
 
 -- a bracket closes what waits after the operations
-close_leads : (u t : Tree) (waits ws : List Waiting) (w : Waiting) (p : WalkPosition) (rest : List ℕ) → gathered 3 u waits ≡ (t, w ∷ ws) → closed t (w ∷ ws) ≡ Some p
+close_leads : (u t : Tree) (waits ws : List Waiting) (w : Waiting) (p : WalkPosition) (rest : List ℕ)
+    → gathered 3 u waits ≡ (t, w ∷ ws) → closed t (w ∷ ws) ≡ Some p
     → Leads (after u waits) (93 ∷ rest) p rest
 close_leads u t [] ws w p rest e f = let nothing : [] ≡ w ∷ ws = ap (λ x. x.1) e in absurd (cc)
 close_leads u t (v ∷ waits) ws w p rest e f =
-    walk_after u v waits (93 ∷ rest) (p, rest) (ap {A = Tree × List Waiting} (λ x. option_map (λ (p : WalkPosition). (p, rest)) (closed x.0 x.1)) e ∙ ap (option_map (λ (p : WalkPosition). (p, rest))) f)
+    walk_after u v waits (93 ∷ rest) (p, rest)
+    (ap {A = Tree × List Waiting} (λ x. option_map (λ (p : WalkPosition). (p, rest)) (closed x.0 x.1)) e
+    ∙ ap (option_map (λ (p : WalkPosition). (p, rest))) f)
 
 pub no_bracket : (op : Operation) (tail : List ℕ) → strip_prefix (codes "]") (symbol op ++ tail) ≡ None
 no_bracket Power tail = refl
@@ -262,7 +269,8 @@ join_leads op u l (w ∷ waits) ws tail e h f =
 
 -- a single value, up to where it has settled
 abbrev WalkedAlone : Tree → Type 0
-WalkedAlone t = looseness t ≡ 0 → (ws : List Waiting) (bytes rest : List ℕ) → IsChain bytes t → Stops rest → Leads (before ws) (bytes ++ rest) (settled_value t ws) rest
+WalkedAlone t = looseness t ≡ 0 → (ws : List Waiting) (bytes rest : List ℕ) → IsChain bytes t → Stops rest
+    → Leads (before ws) (bytes ++ rest) (settled_value t ws) rest
 
 -- a chain, up to where its parts wait
 abbrev WalkedTo : List Waiting → Tree → List ℕ → List ℕ → Type 0
@@ -272,8 +280,16 @@ abbrev Walked : Tree → Type 0
 Walked t = (ws : List Waiting) (bytes rest : List ℕ) → IsChain bytes t → Stops rest → Fits (looseness t) ws → NotIndex ws → WalkedTo ws t (bytes ++ rest) rest
 
 walked_by : (t : Tree) → looseness t ≡ 0 → WalkedAlone t → WalkedAlone t × Walked t
-walked_by t e alone =
-    (alone, λ ws bytes rest h s fits not_index. (t, ws, leads_to (before ws) (settled_value t ws) (after t ws) (bytes ++ rest) rest (alone e ws bytes rest h s) (settled_not t ws not_index), gathered_none (looseness t) t ws fits))
+walked_by t e alone = (
+  alone,
+  λ ws bytes rest h s fits not_index. (
+    t,
+    ws,
+    leads_to (before ws) (settled_value t ws) (after t ws) (bytes ++ rest) rest
+        (alone e ws bytes rest h s) (settled_not t ws not_index),
+    gathered_none (looseness t) t ws fits,
+  ),
+)
 
 number_walked : (value : Option ℤ) → WalkedAlone (number value)
 number_walked value e ws bytes rest h s =
@@ -292,7 +308,8 @@ parameter_walked t alone e ws bytes rest h s =
     (walk_before ws (35 ∷ (h.0 ++ rest)) (before (index ∷ ws), h.0 ++ rest) refl ∙ alone h.3 (index ∷ ws) h.0 rest h.2 s)
 
 -- a chain, and the closing bracket of what waits
-closed_walked : (t : Tree) (w : Waiting) (ws : List Waiting) (p : WalkPosition) (inner rest : List ℕ) → Walked t → IsChain inner t → Fits (looseness t) (w ∷ ws) → NotIndex (w ∷ ws)
+closed_walked : (t : Tree) (w : Waiting) (ws : List Waiting) (p : WalkPosition) (inner rest : List ℕ) → Walked t
+    → IsChain inner t → Fits (looseness t) (w ∷ ws) → NotIndex (w ∷ ws)
     → closed t (w ∷ ws) ≡ Some p → Leads (before (w ∷ ws)) (inner ++ (93 ∷ rest)) p rest
 closed_walked t w ws p inner rest walked h fits not_index e =
     let to = walked (w ∷ ws) inner (93 ∷ rest) h (refl, omega arith) fits not_index in
@@ -379,14 +396,16 @@ StandsAlone t ws bytes = (front : List ℕ) × (back : List ℕ) × (bytes ≡ f
 -- these bytes are the entries that wait, then a chain no looser than n, which may be there as an operand of an
 -- operation of that level
 abbrev pub StandsAt : ℕ → Tree → List Waiting → List ℕ → Type 0
-StandsAt n t ws bytes = (front : List ℕ) × (back : List ℕ) × (bytes ≡ front ++ back) × Waits ws front × IsChain back t × (looseness t ≤ n) × Fits n ws × NotIndex ws
+StandsAt n t ws bytes = (front : List ℕ) × (back : List ℕ) × (bytes ≡ front ++ back) × Waits ws front
+    × IsChain back t × (looseness t ≤ n) × Fits n ws × NotIndex ws
 
 -- these bytes lead to a place
 abbrev pub LeadTo : WalkPosition → List ℕ → Type 0
 LeadTo (before ws) bytes = Waits ws bytes
 LeadTo (after t ws) bytes = StandsAlone t ws bytes
 
-settled_stands : (t : Tree) (ws : List Waiting) (front back bytes : List ℕ) → bytes ≡ front ++ back → Waits ws front → IsChain back t → looseness t ≡ 0 → LeadTo (settled_value t ws) bytes
+settled_stands : (t : Tree) (ws : List Waiting) (front back bytes : List ℕ) → bytes ≡ front ++ back → Waits ws front
+    → IsChain back t → looseness t ≡ 0 → LeadTo (settled_value t ws) bytes
 settled_stands t [] front back bytes e w c alone = (front, back, e, w, c, alone, tt)
 settled_stands t (index ∷ ws) front back bytes e w c alone =
     settled_stands (parameter t) ws w.0 (35 ∷ back) bytes (e ∙ ap (λ l. l ++ back) w.1 ∙ append_assoc w.0 (35 ∷ []) back) w.2 (back, refl, c, alone) refl
@@ -450,7 +469,8 @@ gathered_stands n t (left op l ∷ ws) front back bytes e w c h fits is_inside =
     )
     (λ loose. (front, back, e, w, c, h, loose, tt))
 
-alone_stands : (n : ℕ) (t : Tree) (w : Waiting) (ws : List Waiting) (bytes : List ℕ) → StandsAlone t (w ∷ ws) bytes → StandsAt n (gathered n t (w ∷ ws)).0 (gathered n t (w ∷ ws)).1 bytes
+alone_stands : (n : ℕ) (t : Tree) (w : Waiting) (ws : List Waiting) (bytes : List ℕ) → StandsAlone t (w ∷ ws) bytes
+    → StandsAt n (gathered n t (w ∷ ws)).0 (gathered n t (w ∷ ws)).1 bytes
 alone_stands n t w ws bytes s =
     let alone = s.5 in
     gathered_stands n t (w ∷ ws) s.0 s.1 bytes s.2 s.3 s.4 (omega arith) (fits_zero (looseness t) (w ∷ ws) s.5) (inside_more w ws s.6)
@@ -494,7 +514,8 @@ opened_waits brackets ws bytes text h e o = (bytes, ap (λ l. bytes ++ l) e, h)
 opened_waits (function f) ws bytes text h e o = (bytes, ap (λ l. bytes ++ l) e, h)
 opened_waits (left op l) ws bytes text h e o = absurd o
 
-opened_steps : (ws : List Waiting) (past bytes : List ℕ) (x : WalkPosition × List ℕ) (o : Option (Waiting × List ℕ)) → Waits ws past → entry_at openings bytes ≡ o → opened ws bytes o ≡ Some x
+opened_steps : (ws : List Waiting) (past bytes : List ℕ) (x : WalkPosition × List ℕ) (o : Option (Waiting × List ℕ))
+    → Waits ws past → entry_at openings bytes ≡ o → opened ws bytes o ≡ Some x
     → Stepped past bytes x
 opened_steps ws past bytes x (Some y) h o_is e =
     let f = opening_found bytes y o_is in
@@ -505,11 +526,13 @@ opened_steps ws past bytes x None h o_is e =
     let n = number_sound bytes v.0 v.1 in
     subst (Stepped past bytes) v.2 (n.0, n.3, settled_stands (number v.0.0) ws past n.0 (past ++ n.0) refl h (n.1, n.2, n.4) refl)
 
-operation_waits : (op : Operation) (t : Tree) (ws : List Waiting) (bytes text : List ℕ) → StandsAt (level op) t ws bytes → text ≡ symbol op → Waits (left op t ∷ ws) (bytes ++ text)
+operation_waits : (op : Operation) (t : Tree) (ws : List Waiting) (bytes text : List ℕ)
+    → StandsAt (level op) t ws bytes → text ≡ symbol op → Waits (left op t ∷ ws) (bytes ++ text)
 operation_waits op t ws bytes text s e =
     (s.0, s.1, ap (λ l. l ++ text) s.2 ∙ append_assoc s.0 s.1 text ∙ ap (λ l. s.0 ++ (s.1 ++ l)) e, s.4, s.5, s.6, s.7, s.3)
 
-continued_steps : (t : Tree) (w : Waiting) (ws : List Waiting) (past bytes : List ℕ) (x : WalkPosition × List ℕ) (o : Option (List ℕ)) → StandsAlone t (w ∷ ws) past → strip_prefix (codes "]") bytes ≡ o
+continued_steps : (t : Tree) (w : Waiting) (ws : List Waiting) (past bytes : List ℕ) (x : WalkPosition × List ℕ)
+    (o : Option (List ℕ)) → StandsAlone t (w ∷ ws) past → strip_prefix (codes "]") bytes ≡ o
     → continued t (w ∷ ws) bytes o ≡ Some x → Stepped past bytes x
 continued_steps t w ws past bytes x (Some rest) s o_is e =
     let all = gathered 3 t (w ∷ ws) in
@@ -527,7 +550,8 @@ continued_steps t w ws past bytes x None s o_is e =
 abbrev FoundValue : List ℕ → List ℕ → Tree × List ℕ → Type 0
 FoundValue past bytes x = (taken : List ℕ) × (bytes ≡ taken ++ x.1) × IsValue (past ++ taken) x.0
 
-found_more : (past bytes : List ℕ) (x : Tree × List ℕ) (y : WalkPosition × List ℕ) (s : Stepped past bytes y) → FoundValue (past ++ s.0) y.1 x → FoundValue past bytes x
+found_more : (past bytes : List ℕ) (x : Tree × List ℕ) (y : WalkPosition × List ℕ) (s : Stepped past bytes y)
+    → FoundValue (past ++ s.0) y.1 x → FoundValue past bytes x
 found_more past bytes x y s f =
     (s.0 ++ f.0, s.1 ∙ ap (λ l. s.0 ++ l) f.1 ∙ sym (append_assoc s.0 f.0 x.1), subst (λ l. IsValue l x.0) (append_assoc past s.0 f.0) f.2)
 

@@ -1,6 +1,8 @@
 -- The grammar of a line, on the bytes that count. The rules are from NISTIR 6556, section 3.3, unless another source is
 -- given.
-use Rattle.std.specs.Prelude.{ℕ, ◌+◌, ◌-◌, ◌*◌, ◌^◌, ◌<◌, ◌≤◌, ◌≡◌, ◌≢◌, ◌⊎◌, List, [], ◌∷◌, ◌++◌, length, codes, Bool, true, false, ◌&&◌, nat_le, nat_lt, IsTrue, ℤ, pos, neg_ℤ, unsigned_abs, Option, Some, None, if◌then◌else◌}
+use Rattle.std.specs.Prelude.{ℕ, ◌+◌, ◌-◌, ◌*◌, ◌^◌, ◌<◌, ◌≤◌, ◌≡◌, ◌≢◌, ◌⊎◌, List, [], ◌∷◌, ◌++◌, length, codes}
+use Rattle.std.specs.Prelude.{Bool, true, false, ◌&&◌, nat_le, nat_lt, IsTrue, ℤ, pos, neg_ℤ, unsigned_abs, Option}
+use Rattle.std.specs.Prelude.{Some, None, if◌then◌else◌}
 use Rattle.ng_num.specs.Rounding.{nearest}
 use Rattle.ng_num.specs.Range.{greatest}
 use Rattle.ng_words.specs.Plain.{plain}
@@ -174,11 +176,13 @@ slash false = []
 -- N and one to five digits (3.3.1), or nothing
 abbrev pub IsBlockNumber : List ℕ → Option ℕ → Type 0
 IsBlockNumber bytes None = bytes ≡ []
-IsBlockNumber bytes (Some n) = (digits : List ℕ) × (bytes ≡ 78 ∷ digits) × AreDigits digits × (1 ≤ length digits) × (length digits ≤ 5) × (n ≡ written_after 0 digits)
+IsBlockNumber bytes (Some n) = (digits : List ℕ) × (bytes ≡ 78 ∷ digits) × AreDigits digits × (1 ≤ length digits)
+    × (length digits ≤ 5) × (n ≡ written_after 0 digits)
 
 -- these bytes that count are this line
 abbrev pub SpellsLine : List ℕ → ParsedLine → Type 0
-SpellsLine bytes line = (front : List ℕ) × (rest : List ℕ) × (bytes ≡ slash line.deletable ++ (front ++ rest)) × IsBlockNumber front line.number × SpellsPieces rest line.pieces
+SpellsLine bytes line = (front : List ℕ) × (rest : List ℕ) × (bytes ≡ slash line.deletable ++ (front ++ rest))
+    × IsBlockNumber front line.number × SpellsPieces rest line.pieces
 
 -- the most bytes of a line, without its end (own)
 abbrev pub longest : ℕ

@@ -1,6 +1,7 @@
 -- What is at the front of a list of bytes, and what is left: the functions that the readers compute. They serve the
 -- proofs only; the contract is the grammar (`laws::lines`).
-use Rattle.std.specs.Prelude.{ℕ, ◌+◌, ◌-◌, ◌*◌, ◌/◌, List, [], ◌∷◌, length, Bool, true, false, ◌||◌, ◌&&◌, ◌==◌, ℤ, Option, Some, None, if◌then◌else◌, nat_lt, min}
+use Rattle.std.specs.Prelude.{ℕ, ◌+◌, ◌-◌, ◌*◌, ◌/◌, List, [], ◌∷◌, length, Bool, true, false, ◌||◌, ◌&&◌, ◌==◌, ℤ}
+use Rattle.std.specs.Prelude.{Option, Some, None, if◌then◌else◌, nat_lt, min}
 use Rattle.std.specs.Option.{option_map}
 use Rattle.ng_num.specs.Rounding.{signed}
 use Rattle.ng_words.specs.Grammar.{is_digit, count_of, code}

@@ -1,3 +1,4 @@
+//! The rest of a line, without blanks and outside comments.
 ghost use Rattle.std.specs.Prelude.{◌≡◌, ◌≢◌, ◌<◌, [], ◌∷◌, Some, None, MatchOption, MatchBool, IsTrue, ◌↔◌, drop, true, false};
 ghost use Rattle.ng_words.specs.Plain.{plain, is_blank, capital, StartsWithByte, IsOutside, AtPlain, HasNoComment};
 ghost use Rattle.ng_words.specs.Values.{strip_prefix};

@@ -1,3 +1,4 @@
+//! The letters of words.
 ghost use Rattle.std.specs.Prelude.{◌≡◌};
 ghost use Rattle.ng_words.specs.Plain.{capital};
 ghost use Rattle.ng_words.specs.Scan.{letter_of};

@@ -1,3 +1,4 @@
+//! A line of a program, read into its pieces.
 ghost use Rattle.std.specs.Prelude.{◌≡◌, ◌<◌, ◌≤◌, ◌↔◌, ◌⊎◌, [], false, length, None, Ok, Err, MatchResult, MatchOption, OnOk, OnErr, IfOk, IfErr, IfSome, IsErrOf};
 ghost use Rattle.ng_words.specs.Grammar.{ParsedLine, IsLineOf, is_too_long};
 ghost use Rattle.ng_words.specs.Reading.{read};

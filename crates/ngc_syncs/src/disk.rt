@@ -4,8 +4,8 @@ use std::alloc::{AllocError, Global};
 use std::io;
 use std::io::ErrorKind;
 
-/// The bytes of a block, which the system writes to the disk whole: as few as there are. A larger one would have more of
-/// what was lost written again by chance.
+/// The bytes of a block, which the system writes to the disk whole: as few as there are. A larger one would have more
+/// of what was lost written again by chance.
 const BLOCK: usize = 512;
 
 /// A block that the disk has otherwise than a read returns it.

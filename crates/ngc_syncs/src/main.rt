@@ -1,13 +1,13 @@
 //! A sync that fails once, and what is found after that.
 //!
 //! Linux takes for written what a sync couldn't write: a read returns it, the next sync succeeds, and the disk has what
-//! was there before. `Disk` is such a file in memory. Each sync of a session, of a migration and of a grow fails in turn;
-//! then `ngc run` is started again, and power is cut before each call of the file that it makes, and after the last. What
-//! the disk has then must stand for all that was acknowledged, or for one entry more: the parameters, the program and the
-//! number of entries, as one more session shows them.
+//! was there before. `Disk` is such a file in memory. Each sync of a session, of a migration and of a grow fails in
+//! turn; then `ngc run` is started again, and power is cut before each call of the file that it makes, and after the
+//! last. What the disk has then must stand for all that was acknowledged, or for one entry more: the parameters, the
+//! program and the number of entries, as one more session shows them.
 //!
-//! For each of the three a line is printed, with the syncs that failed, the cuts, and how many were wrong. The status is
-//! 1 if any was.
+//! For each of the three a line is printed, with the syncs that failed, the cuts, and how many were wrong. The status
+//! is 1 if any was.
 #![tactic(auto)]
 
 mod disk;

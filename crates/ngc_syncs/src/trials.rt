@@ -121,7 +121,8 @@ pub fn tried(alloc: Global, kind: &Kind) -> Result<Trials> {
 }
 
 /// Starts another session over a device, cuts power before each of its calls and after the last, and counts what is
-/// found. What wasn't synced is kept; where all of it is lost, the same is found as by a cut right after the sync before.
+/// found. What wasn't synced is kept; where all of it is lost, the same is found as by a cut right after the sync
+/// before.
 fn try_cuts(
     alloc: Global,
     disk: &Disk,

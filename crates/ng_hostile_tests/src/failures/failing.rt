@@ -208,8 +208,8 @@ impl<'a> Choice<'a> {
         Ok(self.either_is_found(&found)?)
     }
 
-    /// The same. If nothing is kept that wasn't synced, it has to stand for the state before, since an event that stores
-    /// something ends with its sync.
+    /// The same. If nothing is kept that wasn't synced, it has to stand for the state before, since an event that
+    /// stores something ends with its sync.
     fn is_standing(&self, alloc: Global, rig: Device) -> Result<bool, Fault> {
         let is_before = stands_for(alloc, cut(&rig)?, &self.before)?;
         Ok(is_before && self.stands_for_either(alloc, rig)?)

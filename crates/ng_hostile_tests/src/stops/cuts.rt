@@ -156,8 +156,9 @@ impl Played {
         self.first_mismatch_alone(alloc, calls, choice, is_over)
     }
 
-    /// The first stop after this many calls, the last of which is a write, that keeps only one unsynced sector, or loses
-    /// only one, and leaves something else. Only what was written last is kept alone, since the others were before.
+    /// The first stop after this many calls, the last of which is a write, that keeps only one unsynced sector, or
+    /// loses only one, and leaves something else. Only what was written last is kept alone, since the others were
+    /// before.
     fn first_mismatch_alone(
         &self,
         alloc: Global,

@@ -96,8 +96,8 @@ fn cut_after(alloc: Global, rig: Device, choice: &mut Choice, calls: u64) -> Res
     }
 }
 
-/// The device that such a cut leaves, with all unsynced sectors kept after an odd number of calls and none after an even
-/// one.
+/// The device that such a cut leaves, with all unsynced sectors kept after an odd number of calls and none after an
+/// even one.
 fn left_after(
     alloc: Global,
     rig: Device,

@@ -146,8 +146,8 @@ fn failed_later<R: Rig + Drop>(
     }
 }
 
-/// That of a load, and that of power on. Once the first sync of the next power on is over, what was written before it is
-/// durable.
+/// That of a load, and that of power on. Once the first sync of the next power on is over, what was written before it
+/// is durable.
 const OF_SESSIONS: &[Failing] = &[
     Failing {
         before: Before::Loaded(1_710),

@@ -27,8 +27,8 @@ fn calls_of_a_migration_and_of_the_next_power_on(rt: HostRuntime) -> Result<(), 
     Ok(())
 }
 
-/// The first of these stops that leaves something else, in a migration or while a half-done line is resumed after it. The
-/// device has this many sectors, and this many blank lines in its log.
+/// The first of these stops that leaves something else, in a migration or while a half-done line is resumed after it.
+/// The device has this many sectors, and this many blank lines in its log.
 fn first_mismatch_of(
     alloc: Global,
     sectors: usize,

@@ -1,3 +1,4 @@
+//! A device that notes its calls.
 use ng_canon::Item;
 use ng_rig::{Failed, Rig};
 use std::alloc::Global;

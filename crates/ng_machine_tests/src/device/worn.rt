@@ -1,3 +1,4 @@
+//! A device on which every call fails.
 ghost use Rattle.ng_rig.specs.Trace.{Began};
 ghost use Rattle.std.specs.Prelude.{[]};
 

@@ -1,3 +1,4 @@
+//! The pulses of the largest arcs.
 use super::{len, point, steps_of};
 use ng_canon::{Arc, ArcDirection, AxisStep, Geometry, InverseTime, Item, Pace, Plane, Segment};
 use ng_num::{Num, Point};

@@ -9,7 +9,8 @@ use Rattle.ng_pace.specs.Flow.{Flow, all_items}
 use Rattle.ng_pace.specs.Rest.{CanRest}
 use Rattle.ng_pace.specs.Run.{Event, IsRun, lines_given}
 use Rattle.ng_pace.specs.declared.limits.Limits.{Limits}
-use Rattle.ng_schedule.specs.Schedule.{AreNeverSooner, ArePaced, AskAtEnd, AskForMost, AskWhereFull, room, BeginsNoLine, Timed, lines_of, span, timed_text, times_of}
+use Rattle.ng_schedule.specs.Schedule.{AreNeverSooner, ArePaced, AskAtEnd, AskForMost, AskWhereFull, room}
+use Rattle.ng_schedule.specs.Schedule.{BeginsNoLine, Timed, lines_of, span, timed_text, times_of}
 use Rattle.ng_schedule.specs.declared.ending.Shown.{Shown}
 use Rattle.ng_schedule.specs.declared.ending.Halt.{Halt}
 use Rattle.ng_schedule.specs.declared.ending.Halt.TheVariants as halt

@@ -24,7 +24,8 @@ pub record Leads (c : Circle) (e : PlanePoint) (q : Quadrant) (i o left : ℕ) (
   pub sound : Sound c.square farthest (larger c) beyond i' o'
   pub rest : (ms : List PlaneStep) → IsArc c e left (point_of_quadrant q i o) ms → (n ≤ length ms) × IsArc c e left' (point_of_quadrant q' i' o') (drop n ms)
   pub net : (ms : List PlaneStep) → IsArc c e left (point_of_quadrant q i o) ms
-      → (reach_a c (point_of_quadrant q' i' o') (drop n ms) ≡ reach_a c (point_of_quadrant q i o) ms) × (reach_b c (point_of_quadrant q' i' o') (drop n ms) ≡ reach_b c (point_of_quadrant q i o) ms)
+      → (reach_a c (point_of_quadrant q' i' o') (drop n ms) ≡ reach_a c (point_of_quadrant q i o) ms)
+      × (reach_b c (point_of_quadrant q' i' o') (drop n ms) ≡ reach_b c (point_of_quadrant q i o) ms)
   pub bound : n + budget beyond left' i' o' ≤ budget beyond left i o
 
 abbrev pub WalkLeads : PlanePoint → ArcWalk → ℕ → ArcWalk → ℕ → ℕ → Type 0

@@ -8,7 +8,7 @@ use ng_canon::PlanePoint;
 
 /// The number of steps of an arc, and how far they go along each axis, in steps.
 #[derive(Clone, Copy)]
-pub struct Count {
+pub(crate) struct Count {
     pub steps: u64,
     pub a: i64,
     pub b: i64,

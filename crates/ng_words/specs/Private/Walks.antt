@@ -1,10 +1,12 @@
 -- For the proofs of the reader only: what its parts have to show, how the places of a walk are represented in the code,
 -- and what each step does.
-use Rattle.std.specs.Prelude.{ℕ, ◌+◌, ◌-◌, ◌<◌, ◌≤◌, ◌≡◌, List, [], ◌∷◌, ◌++◌, length, take, drop, Bool, true, false, Option, Some, None, slice_get, nat_le, if◌then◌else◌}
+use Rattle.std.specs.Prelude.{ℕ, ◌+◌, ◌-◌, ◌<◌, ◌≤◌, ◌≡◌, List, [], ◌∷◌, ◌++◌, length, take, drop, Bool, true}
+use Rattle.std.specs.Prelude.{false, Option, Some, None, slice_get, nat_le, if◌then◌else◌}
 use Rattle.std.specs.Option.{option_and_then}
 use Rattle.ng_words.specs.Plain.{plain}
 use Rattle.ng_words.specs.Grammar.{Tree, level, Piece, word, assignment, comment}
-use Rattle.ng_words.specs.Values.{Waiting, index, brackets, function, left, openings, entry_at, WalkPosition, before, after, settled_value, gathered, closed, step_at, value_at}
+use Rattle.ng_words.specs.Values.{Waiting, index, brackets, function, left, openings, entry_at, WalkPosition}
+use Rattle.ng_words.specs.Values.{before, after, settled_value, gathered, closed, step_at, value_at}
 use Rattle.ng_words.specs.Pieces.{comment_at, set_at, piece_at, pieces_at}
 use Rattle.ng_words.specs.Kept.{postfix, item_of, nodes_of, bytes_of, PieceStore, EncodesPieces}
 use Rattle.ng_words.specs.declared.tree.Operation.{Operation}
@@ -121,14 +123,16 @@ Settles stack nodes stack_then nodes_then =
 -- wherever a value is, the operations that bind as tightly as n or more tightly gather it
 abbrev pub Gathers : ℕ → List Mark → List Node → List Mark → List Node → Type 0
 Gathers n stack nodes stack_then nodes_then =
-    (t : Tree) (ws : List Waiting) (base : List Node) → HoldsAfter t ws base stack nodes → HoldsAfter (gathered n t ws).0 (gathered n t ws).1 base stack_then nodes_then
+    (t : Tree) (ws : List Waiting) (base : List Node) → HoldsAfter t ws base stack nodes
+    → HoldsAfter (gathered n t ws).0 (gathered n t ws).1 base stack_then nodes_then
 
 -- wherever a chain is, the waiting brackets are closed around it
 abbrev pub ClosesBrackets : List Mark → List Node → Bool → List Mark → List Node → Type 0
 ClosesBrackets stack nodes false stack_then nodes_then =
     (t : Tree) (ws : List Waiting) (base : List Node) → HoldsAfter t ws base stack nodes → closed t ws ≡ None
 ClosesBrackets stack nodes true stack_then nodes_then =
-    (t : Tree) (ws : List Waiting) (base : List Node) → HoldsAfter t ws base stack nodes → (p : WalkPosition) × (closed t ws ≡ Some p) × Stands p base true stack_then nodes_then
+    (t : Tree) (ws : List Waiting) (base : List Node) → HoldsAfter t ws base stack nodes → (p : WalkPosition)
+    × (closed t ws ≡ Some p) × Stands p base true stack_then nodes_then
 
 -- a byte from the plus to the nine comes first: of all values, only a number begins so
 abbrev pub BeginsNumber : List ℕ → Type 0

@@ -16,11 +16,19 @@ returns c =
     let low_a : c.room_nm-3.result ≡ arc.centre_a -ℤ (axis_a arc g).low = rw (← c.pick_a-a.ensures) c.room_nm-3.ensures.value in
     let low_b : c.room_nm-4.result ≡ arc.centre_b -ℤ (axis_b arc g).low = rw (← c.pick_b-b.ensures) c.room_nm-4.ensures.value in
     let first : c.keeps.result ≡ is_kept arc (direction First) ((axis_a arc g).high -ℤ arc.centre_a) =
-    kept_is arc (direction First) c.from_centre.result c.from_centre-2.result _ _ _ c.room_nm.result _ c.keeps.ensures (passes First) square c.room_nm.ensures.size high_a c.from_centre.ensures.value c.from_centre-2.ensures.value in
+    kept_is arc (direction First) c.from_centre.result c.from_centre-2.result _ _ _ c.room_nm.result _
+    c.keeps.ensures (passes First) square c.room_nm.ensures.size high_a c.from_centre.ensures.value
+    c.from_centre-2.ensures.value in
     let second : c.keeps-2.result ≡ is_kept arc (direction Second) ((axis_b arc g).high -ℤ arc.centre_b) =
-    kept_is arc (direction Second) c.from_centre.result c.from_centre-2.result _ _ _ c.room_nm-2.result _ c.keeps-2.ensures (passes Second) square c.room_nm-2.ensures.size high_b c.from_centre.ensures.value c.from_centre-2.ensures.value in
+    kept_is arc (direction Second) c.from_centre.result c.from_centre-2.result _ _ _ c.room_nm-2.result _
+    c.keeps-2.ensures (passes Second) square c.room_nm-2.ensures.size high_b c.from_centre.ensures.value
+    c.from_centre-2.ensures.value in
     let third : c.keeps-3.result ≡ is_kept arc (direction Third) (arc.centre_a -ℤ (axis_a arc g).low) =
-    kept_is arc (direction Third) c.from_centre.result c.from_centre-2.result _ _ _ c.room_nm-3.result _ c.keeps-3.ensures (passes Third) square c.room_nm-3.ensures.size low_a c.from_centre.ensures.value c.from_centre-2.ensures.value in
+    kept_is arc (direction Third) c.from_centre.result c.from_centre-2.result _ _ _ c.room_nm-3.result _
+    c.keeps-3.ensures (passes Third) square c.room_nm-3.ensures.size low_a c.from_centre.ensures.value
+    c.from_centre-2.ensures.value in
     let fourth : c.keeps-4.result ≡ is_kept arc (direction Fourth) (arc.centre_b -ℤ (axis_b arc g).low) =
-    kept_is arc (direction Fourth) c.from_centre.result c.from_centre-2.result _ _ _ c.room_nm-4.result _ c.keeps-4.ensures (passes Fourth) square c.room_nm-4.ensures.size low_b c.from_centre.ensures.value c.from_centre-2.ensures.value in
+    kept_is arc (direction Fourth) c.from_centre.result c.from_centre-2.result _ _ _ c.room_nm-4.result _
+    c.keeps-4.ensures (passes Fourth) square c.room_nm-4.ensures.size low_b c.from_centre.ensures.value
+    c.from_centre-2.ensures.value in
     rw (first, second, third, fourth) refl

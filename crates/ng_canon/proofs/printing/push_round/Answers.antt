@@ -7,7 +7,8 @@ use Rattle.ng_canon.proofs.printing.push_round.Goals as goal
 pub returns-clause-ok : goal.returns-clause-ok
 returns-clause-ok g c =
     let arc = c.args.arc in
-    by_pairs c.push_turn.result c.args.text.now.items (number_text arc.centre_a) (codes ", ") (number_text arc.centre_b) (codes ", ") (turn_text arc.turn) (codes ")\n")
+    by_pairs c.push_turn.result c.args.text.now.items (number_text arc.centre_a) (codes ", ")
+    (number_text arc.centre_b) (codes ", ") (turn_text arc.turn) (codes ")\n")
     c.print_length.new.text.items c.print_length-2.new.text.items c.push_turn.new.text.items
     c.in_ok-print_length.ensures.ok c.in_ok-print_length-2.ensures.ok c.push_turn.ensures.ok
 
@@ -17,4 +18,5 @@ returns-clause-err g c =
     let two = c.print_length-2.new.text.items in
     last_within c.push_turn.result c.args.text.now.items (number_text arc.centre_a ++ codes ", ") (number_text arc.centre_b ++ codes ", ")
     c.print_length.new.text.items two c.push_turn.new.text.items
-    c.in_ok-print_length.ensures.ok c.in_ok-print_length-2.ensures.ok (unchanged_within c.push_turn.result two c.push_turn.new.text.items c.push_turn.ensures.err)
+    c.in_ok-print_length.ensures.ok c.in_ok-print_length-2.ensures.ok
+    (unchanged_within c.push_turn.result two c.push_turn.new.text.items c.push_turn.ensures.err)

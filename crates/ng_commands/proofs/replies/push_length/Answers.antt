@@ -8,4 +8,6 @@ pub returns : goal.returns
 returns g c =
     let printed = c.in_ok-print_length.ensures.ok in
     let text = c.print_length.new.text in
-    c.pop.ensures.rest ∙ (ap (λ items. take (vec_len text - 1) items) printed ∙ one_blank c.args.text.now.items (number_text c.args.length) (vec_len text) (text.ok.0 ∙ ap length printed))
+    c.pop.ensures.rest ∙ (ap (λ items. take (vec_len text - 1) items) printed
+    ∙ one_blank c.args.text.now.items (number_text c.args.length) (vec_len text)
+    (text.ok.0 ∙ ap length printed))

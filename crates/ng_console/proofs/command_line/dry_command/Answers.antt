@@ -34,15 +34,25 @@ returns c =
     ∙ (ap (λ a. record (rule_of a) { action = Some SetTrue }) c.help-4.ensures
     ∙ (ap (λ a. record (rule_of a) { action = Some SetTrue }) c.long-3.ensures
     ∙ ap (λ (r : Rule). record r { long = Some (codes "block-delete"); action = Some SetTrue }) c.new-4.ensures.rule)) in
-    let program_own : c.required-program.result.global ≡ false = global_as c.required-program.ensures ∙ (global_as c.action.ensures ∙ (global_as c.help.ensures ∙ c.new.ensures.optional.1)) in
+    let program_own : c.required-program.result.global ≡ false = global_as c.required-program.ensures
+    ∙ (global_as c.action.ensures ∙ (global_as c.help.ensures ∙ c.new.ensures.optional.1)) in
     let from_own : c.action-from.result.global ≡ false =
-    global_as c.action-from.ensures ∙ (global_as c.help-2.ensures ∙ (global_as c.value_name.ensures ∙ (global_as c.long.ensures ∙ c.new-2.ensures.optional.1))) in
+    global_as c.action-from.ensures
+    ∙ (global_as c.help-2.ensures
+    ∙ (global_as c.value_name.ensures ∙ (global_as c.long.ensures ∙ c.new-2.ensures.optional.1))) in
     let settings_own : c.action-settings.result.global ≡ false =
-    global_as c.action-settings.ensures ∙ (global_as c.help-3.ensures ∙ (global_as c.value_name-2.ensures ∙ (global_as c.long-2.ensures ∙ c.new-3.ensures.optional.1))) in
+    global_as c.action-settings.ensures
+    ∙ (global_as c.help-3.ensures
+    ∙ (global_as c.value_name-2.ensures ∙ (global_as c.long-2.ensures ∙ c.new-3.ensures.optional.1))) in
     let flag_own : c.action-block_delete.result.global ≡ false =
     global_as c.action-block_delete.ensures ∙ (global_as c.help-4.ensures ∙ (global_as c.long-3.ensures ∙ c.new-4.ensures.optional.1)) in
-    let dry_is : app_of c.after_help.result ≡ new_app (codes "dry") = ap app_of_fields c.after_help.ensures ∙ (ap app_of_fields c.about.ensures ∙ c.new-5.ensures.app) in
-    let first : app_of c.in_ok-arg.field-0 ≡ with_rule (new_app (codes "dry")) program_rule = c.in_ok-arg.ensures.shape program_own ∙ ap₂ with_rule dry_is program_is in
-    let second : app_of c.in_ok-arg-2.field-0 ≡ with_rule (with_rule (new_app (codes "dry")) program_rule) from_rule = c.in_ok-arg-2.ensures.shape from_own ∙ ap₂ with_rule first from_is in
-    let third : app_of c.in_ok-arg-3.field-0 ≡ with_rule (with_rule (with_rule (new_app (codes "dry")) program_rule) from_rule) settings_rule = c.in_ok-arg-3.ensures.shape settings_own ∙ ap₂ with_rule second settings_is in
+    let dry_is : app_of c.after_help.result ≡ new_app (codes "dry") = ap app_of_fields c.after_help.ensures
+    ∙ (ap app_of_fields c.about.ensures ∙ c.new-5.ensures.app) in
+    let first : app_of c.in_ok-arg.field-0 ≡ with_rule (new_app (codes "dry")) program_rule =
+    c.in_ok-arg.ensures.shape program_own ∙ ap₂ with_rule dry_is program_is in
+    let second : app_of c.in_ok-arg-2.field-0 ≡ with_rule (with_rule (new_app (codes "dry")) program_rule) from_rule
+    = c.in_ok-arg-2.ensures.shape from_own ∙ ap₂ with_rule first from_is in
+    let third : app_of c.in_ok-arg-3.field-0 ≡ with_rule
+    (with_rule (with_rule (new_app (codes "dry")) program_rule) from_rule) settings_rule =
+    c.in_ok-arg-3.ensures.shape settings_own ∙ ap₂ with_rule second settings_is in
     IfOk-weaker c.arg-4.result _ _ (λ r h. h.shape flag_own ∙ ap₂ with_rule third flag_is) c.arg-4.ensures

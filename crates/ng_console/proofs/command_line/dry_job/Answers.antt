@@ -22,8 +22,10 @@ returns-clause-flags c = go c.requires.flag.0 c.requires.flag.1
     go : (is_on : Bool) → SaysFlag (codes "block-delete") (rows_of (found_of c.args.matches.now)) is_on
         → SaysFlag (codes "block-delete") (rows_of (found_of c.args.matches.now)) c.get_flag-block_delete.result
     go true says =
-        let on : c.get_flag-block_delete.result ≡ true = c.get_flag-block_delete.ensures.value (one_text-rows (found_of c.args.matches.now) (codes "block-delete") ∙ says) in
+        let on : c.get_flag-block_delete.result ≡ true = c.get_flag-block_delete.ensures.value
+        (one_text-rows (found_of c.args.matches.now) (codes "block-delete") ∙ says) in
         rw on says
     go false says =
-        let off : c.get_flag-block_delete.result ≡ false = c.get_flag-block_delete.ensures.other (one_text-rows (found_of c.args.matches.now) (codes "block-delete") ∙ says) in
+        let off : c.get_flag-block_delete.result ≡ false = c.get_flag-block_delete.ensures.other
+        (one_text-rows (found_of c.args.matches.now) (codes "block-delete") ∙ says) in
         rw off says

@@ -17,13 +17,17 @@ returns c =
     ∙ (ap (λ a. record (rule_of a) { action = Some Set }) c.required.ensures
     ∙ (ap (λ a. record (rule_of a) { action = Some Set; required = true }) c.help.ensures
     ∙ ap (λ (r : Rule). record r { action = Some Set; required = true }) c.new.ensures.rule)) in
-    let device_own : c.action-device.result.global ≡ false = global_as c.action-device.ensures ∙ (global_as c.required.ensures ∙ (global_as c.help.ensures ∙ c.new.ensures.optional.1)) in
+    let device_own : c.action-device.result.global ≡ false = global_as c.action-device.ensures
+    ∙ (global_as c.required.ensures ∙ (global_as c.help.ensures ∙ c.new.ensures.optional.1)) in
     let flag_is : rule_of c.action-large.result ≡ large_rule =
     ap rule_of c.action-large.ensures
     ∙ (ap (λ a. record (rule_of a) { action = Some SetTrue }) c.help-2.ensures
     ∙ (ap (λ a. record (rule_of a) { action = Some SetTrue }) c.long.ensures
     ∙ ap (λ (r : Rule). record r { long = Some (codes "large"); action = Some SetTrue }) c.new-2.ensures.rule)) in
-    let flag_own : c.action-large.result.global ≡ false = global_as c.action-large.ensures ∙ (global_as c.help-2.ensures ∙ (global_as c.long.ensures ∙ c.new-2.ensures.optional.1)) in
-    let format_is : app_of c.after_help.result ≡ new_app (codes "format") = ap app_of_fields c.after_help.ensures ∙ (ap app_of_fields c.about.ensures ∙ c.new-3.ensures.app) in
-    let first : app_of c.in_ok-arg.field-0 ≡ with_rule (new_app (codes "format")) device_rule = c.in_ok-arg.ensures.shape device_own ∙ ap₂ with_rule format_is device_is in
+    let flag_own : c.action-large.result.global ≡ false = global_as c.action-large.ensures
+    ∙ (global_as c.help-2.ensures ∙ (global_as c.long.ensures ∙ c.new-2.ensures.optional.1)) in
+    let format_is : app_of c.after_help.result ≡ new_app (codes "format") = ap app_of_fields c.after_help.ensures
+    ∙ (ap app_of_fields c.about.ensures ∙ c.new-3.ensures.app) in
+    let first : app_of c.in_ok-arg.field-0 ≡ with_rule (new_app (codes "format")) device_rule =
+    c.in_ok-arg.ensures.shape device_own ∙ ap₂ with_rule format_is device_is in
     IfOk-weaker c.arg-2.result _ _ (λ r h. h.shape flag_own ∙ ap₂ with_rule first flag_is) c.arg-2.ensures

@@ -17,6 +17,8 @@ returns c =
     ∙ (ap (λ a. record (rule_of a) { action = Some Set }) c.required.ensures
     ∙ (ap (λ a. record (rule_of a) { action = Some Set; required = true }) c.help.ensures
     ∙ ap (λ (r : Rule). record r { action = Some Set; required = true }) c.new.ensures.rule)) in
-    let device_own : c.action-device.result.global ≡ false = global_as c.action-device.ensures ∙ (global_as c.required.ensures ∙ (global_as c.help.ensures ∙ c.new.ensures.optional.1)) in
-    let grow_is : app_of c.after_help.result ≡ new_app (codes "grow") = ap app_of_fields c.after_help.ensures ∙ (ap app_of_fields c.about.ensures ∙ c.new-2.ensures.app) in
+    let device_own : c.action-device.result.global ≡ false = global_as c.action-device.ensures
+    ∙ (global_as c.required.ensures ∙ (global_as c.help.ensures ∙ c.new.ensures.optional.1)) in
+    let grow_is : app_of c.after_help.result ≡ new_app (codes "grow") = ap app_of_fields c.after_help.ensures
+    ∙ (ap app_of_fields c.about.ensures ∙ c.new-2.ensures.app) in
     IfOk-weaker c.arg.result _ _ (λ r h. h.shape device_own ∙ ap₂ with_rule grow_is device_is) c.arg.ensures

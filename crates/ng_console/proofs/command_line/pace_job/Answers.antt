@@ -9,7 +9,8 @@ pub unreachable-requires : goal.unreachable-requires
 unreachable-requires c = never_none (found_of c.args.matches.now) (codes "SETTINGS") c.get_str.result c.requires.settings c.get_str.ensures c.in_default.is
 
 pub unreachable-requires-in-None : goal.unreachable-requires-in-None
-unreachable-requires-in-None c = never_none (found_of c.args.matches.now) (codes "MACHINE") c.get_str-2.result c.requires.machine c.get_str-2.ensures c.in-None.is
+unreachable-requires-in-None c = never_none (found_of c.args.matches.now) (codes "MACHINE") c.get_str-2.result
+    c.requires.machine c.get_str-2.ensures c.in-None.is
 
 pub returns-clause-files : goal.returns-clause-files
 returns-clause-files c =

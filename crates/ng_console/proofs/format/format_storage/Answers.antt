@@ -9,7 +9,14 @@ returns-in-Ok-clause-run g c =
       c.in-Ok.rig,
       c.format_rig.new.rig,
       c.sink.result,
-      record { bytes = c.in-Ok.ensures.bytes; sectors = c.in-Ok.ensures.size; hands_out = c.in-Ok.ensures.out; failures = c.in-Ok.ensures.failures; begins = c.in-Ok.ensures.trace; honest = c.in-Ok.ensures.honest },
+      record {
+        bytes = c.in-Ok.ensures.bytes;
+        sectors = c.in-Ok.ensures.size;
+        hands_out = c.in-Ok.ensures.out;
+        failures = c.in-Ok.ensures.failures;
+        begins = c.in-Ok.ensures.trace;
+        honest = c.in-Ok.ensures.honest;
+      },
       h,
     ))
     c.format_rig.ensures.run

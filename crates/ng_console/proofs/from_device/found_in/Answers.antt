@@ -8,4 +8,5 @@ returns-in-Ok g c =
 pub returns-in-Err : goal.returns-in-Err
 returns-in-Err g c =
     λ held is. finds_otherwise c.args.settings.now.tools held c.in-Err.fault c.in_memory.result c.in_memory.ensures
-    (finds_nothing c.args.settings.now.tools held c.args.copy c.in-Err.fault _ is c.in-Err.ensures.recovers (λ few. (c.in-Err.ensures.small few).0) c.in-Err.ensures.faults)
+    (finds_nothing c.args.settings.now.tools held c.args.copy c.in-Err.fault _ is c.in-Err.ensures.recovers
+    (λ few. (c.in-Err.ensures.small few).0) c.in-Err.ensures.faults)

@@ -17,7 +17,14 @@ returns-in-Ok-clause-run g c =
         same = c.settle.ensures.same;
         lasts = good c.settle.result c.is_err.result c.is_err.ensures.value c.if-is_err.false c.settle.ensures.lasts;
       },
-      record { bytes = c.in-Ok.ensures.bytes; sectors = c.in-Ok.ensures.size; hands_out = c.in-Ok.ensures.out; failures = c.in-Ok.ensures.failures; begins = c.in-Ok.ensures.trace; honest = c.in-Ok.ensures.honest },
+      record {
+        bytes = c.in-Ok.ensures.bytes;
+        sectors = c.in-Ok.ensures.size;
+        hands_out = c.in-Ok.ensures.out;
+        failures = c.in-Ok.ensures.failures;
+        begins = c.in-Ok.ensures.trace;
+        honest = c.in-Ok.ensures.honest;
+      },
       (λ honest. c.in-Ok.ensures.honest (c.settle.ensures.honest honest)
           (good c.settle.result c.is_err.result c.is_err.ensures.value c.if-is_err.false (c.settle.ensures.durable honest))),
       c.console-status.ensures.console,

@@ -11,5 +11,8 @@ returns g c =
     let v = g.W.Write.contents c.write_all-4.new.self in
     on_ok_weaker c.write_all-4.result
     (λ h. subst (λ (text : List ℕ). Appends w v (codes "refused MACHINE" ++ text))
-    (ap₂ (λ (cause name : List ℕ). cause ++ (name ++ codes "\n")) c.text.ensures c.name.ensures ∙ sym (append_assoc (cause_text c.args.fault) (name_told c.args.fault) (codes "\n")))
-    (Appends-trans _ _ _ _ _ c.in_ok-write_all.ensures.bytes (Appends-trans _ _ _ _ _ c.in_ok-write_all-2.ensures.bytes (Appends-trans _ _ _ _ _ c.in_ok-write_all-3.ensures.bytes h)))) c.write_all-4.ensures.bytes
+    (ap₂ (λ (cause name : List ℕ). cause ++ (name ++ codes "\n")) c.text.ensures c.name.ensures
+    ∙ sym (append_assoc (cause_text c.args.fault) (name_told c.args.fault) (codes "\n")))
+    (Appends-trans _ _ _ _ _ c.in_ok-write_all.ensures.bytes
+    (Appends-trans _ _ _ _ _ c.in_ok-write_all-2.ensures.bytes
+    (Appends-trans _ _ _ _ _ c.in_ok-write_all-3.ensures.bytes h)))) c.write_all-4.ensures.bytes

@@ -29,8 +29,11 @@ returns-in-Err-clause-drill c =
     let words = c.args.in_force.now in
     let l = c.args.lengths.now in
     let above : l.z ≤ℤ l.r = omega (arith, ints) in
-    hole_err _ s.is_inverse_time (work_causes w.kind words s.outputs.spindle) ((is_none (above_zero s.feed_per_min), NoFeed) ∷ []) c.in-Err.fault (drill_by w s words l)
-    (not_below l.r l.z above) c.if-context.false (unless_err (first_fault (work_causes w.kind words s.outputs.spindle)) (work_of w.kind words) c.in-Err.fault (sym c.in-Err.ensures.work))
+    hole_err _ s.is_inverse_time (work_causes w.kind words s.outputs.spindle)
+    ((is_none (above_zero s.feed_per_min), NoFeed) ∷ []) c.in-Err.fault (drill_by w s words l)
+    (not_below l.r l.z above) c.if-context.false
+    (unless_err (first_fault (work_causes w.kind words s.outputs.spindle)) (work_of w.kind words) c.in-Err.fault
+    (sym c.in-Err.ensures.work))
 
 pub returns-in-None-clause-drill : goal.returns-in-None-clause-drill
 returns-in-None-clause-drill c =
@@ -55,7 +58,8 @@ returns-in-Some-clause-drill c =
     let work = unless_ok (first_fault causes) (work_of w.kind words) c.in-Ok.work (sym c.in-Ok.ensures.work) in
     let fed : is_none (above_zero s.feed_per_min) ≡ false = ap is_none (sym c.in-Some.ensures) in
     let rate : c.in-Some.rate ≡ unwrap_or (above_zero s.feed_per_min) 1 = ap (λ o. unwrap_or o 1) c.in-Some.ensures in
-    hole_ok _ s.is_inverse_time _ causes (drill_by w s words l) _ (not_below l.r l.z above) c.if-context.false work.0 fed (rw (sym work.1, c.clear_of.ensures, rate) refl)
+    hole_ok _ s.is_inverse_time _ causes (drill_by w s words l) _ (not_below l.r l.z above) c.if-context.false
+    work.0 fed (rw (sym work.1, c.clear_of.ensures, rate) refl)
 
 pub returns-in-Some-clause-made : goal.returns-in-Some-clause-made
 returns-in-Some-clause-made c =

@@ -19,7 +19,9 @@ pub returns-in_ok-add : goal.returns-in_ok-add
 returns-in_ok-add c =
     let current = near_ok (c.args.at -ℤ c.args.shift) c.in_ok-current.current c.in_ok-current.ensures.value in
     let r = near_ok (c.in_ok-current.current +ℤ c.args.word) c.in_ok-add.field-0 c.in_ok-add.ensures in
-    rw c.if-is_incremental.true (c.add-then-is_incremental.ensures ∙ far_third (c.args.at -ℤ c.args.shift) ((c.args.at -ℤ c.args.shift) +ℤ c.args.word) (c.args.at +ℤ c.args.word) current.1 (rw current.0 at r.1))
+    rw c.if-is_incremental.true (c.add-then-is_incremental.ensures
+    ∙ far_third (c.args.at -ℤ c.args.shift) ((c.args.at -ℤ c.args.shift) +ℤ c.args.word)
+    (c.args.at +ℤ c.args.word) current.1 (rw current.0 at r.1))
 
 pub returns-else-is_incremental : goal.returns-else-is_incremental
 returns-else-is_incremental c = rw c.if-is_incremental.false (c.to_machine.ensures.value ∙ far_alone (c.args.word +ℤ c.args.shift))

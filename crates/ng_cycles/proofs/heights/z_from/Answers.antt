@@ -16,4 +16,5 @@ returns c =
     let r = near_ok (c.unwrap-current.result +ℤ c.args.r) c.unwrap.result (sym c.unwrap.ensures ∙ c.add.ensures) in
     let z = near_ok (c.unwrap.result +ℤ c.args.word) c.in_ok-add.field-0 c.in_ok-add.ensures in
     let machine = near_ok (c.args.at +ℤ c.args.r) c.unwrap-2.result (sym c.unwrap-2.ensures ∙ c.add-3.ensures) in
-    c.add-4.ensures ∙ rw machine.0 (far_second (((c.args.at -ℤ c.args.shift) +ℤ c.args.r) +ℤ c.args.word) ((c.args.at +ℤ c.args.r) +ℤ c.args.word) (rw current.0 at (rw r.0 at z.1)))
+    c.add-4.ensures ∙ rw machine.0 (far_second (((c.args.at -ℤ c.args.shift) +ℤ c.args.r) +ℤ c.args.word)
+    ((c.args.at +ℤ c.args.r) +ℤ c.args.word) (rw current.0 at (rw r.0 at z.1)))

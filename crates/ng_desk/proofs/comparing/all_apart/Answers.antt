@@ -14,7 +14,9 @@ pub returns-then-not-is_apart_from : goal.returns-then-not-is_apart_from
 returns-then-not-is_apart_from g c = (
   λ e. cc,
   λ all. (let apart = apart_first c.loop-first.left.now c.in-Some.first.now c.in-Some.others.now c.in-Some.ensures.cases.0 (c.loop-first.invariant.back all) in
-      let is = c.is_apart_from.ensures.1 (subst (λ (l : List (Call g.row.A.Denot)). All (λ (s : Seated g.row.A.Denot). AreApart l s.calls) c.in-Some.others.now) (sym c.calls.ensures) apart) in
+      let is = c.is_apart_from.ensures.1
+      (subst (λ (l : List (Call g.row.A.Denot)). All (λ (s : Seated g.row.A.Denot). AreApart l s.calls)
+      c.in-Some.others.now) (sym c.calls.ensures) apart) in
       sym c.if-not-is_apart_from.true ∙ is),
 )
 
@@ -24,7 +26,8 @@ loop-first-preserved g c =
     let first = c.in-Some.first.now in
     let others = c.in-Some.others.now in
     let left = c.loop-first.left.now in
-    let apart = subst (λ (l : List (Call g.row.A.Denot)). All (λ (s : Seated g.row.A.Denot). AreApart l s.calls) others) c.calls.ensures (c.is_apart_from.ensures.0 c.if-not-is_apart_from.false) in
+    let apart = subst (λ (l : List (Call g.row.A.Denot)). All (λ (s : Seated g.row.A.Denot). AreApart l s.calls)
+    others) c.calls.ensures (c.is_apart_from.ensures.0 c.if-not-is_apart_from.false) in
     record {
       rise = (first_rises left first others is c.loop-first.invariant.rise).1;
       all = λ all. c.loop-first.invariant.all (apart_more_seats left first others is apart all);

@@ -15,7 +15,9 @@ loop-call-preserved g c =
     let at = here calls i call (omega arith) c.call-item.is in
     let least = c.if-call-least.false in
     record {
-      stand = All-more (StandsIn c.args.history.now) calls i call (omega arith) c.loop-call.invariant.stand (subst (λ (x : Call g.row.A.Denot). StandsIn c.args.history.now x) c.call-item.is (c.stands.ensures.0 c.if-not-stands.false));
+      stand = All-more (StandsIn c.args.history.now) calls i call (omega arith) c.loop-call.invariant.stand
+          (subst (λ (x : Call g.row.A.Denot). StandsIn c.args.history.now x) c.call-item.is
+          (c.stands.ensures.0 c.if-not-stands.false));
       rise = λ rest. c.loop-call.invariant.rise (subst (λ (l : List (Call g.row.A.Denot)). RiseFrom c.loop-call.least l) (sym at) (omega arith, rest));
       back = λ all. (subst (λ (l : List (Call g.row.A.Denot)). RiseFrom c.loop-call.least l) at (c.loop-call.invariant.back all)).1;
     }

@@ -44,8 +44,11 @@ close-controller-requires g c =
     let whole : c.push_reserved-2.new.self.items ≡ c.push_reserved.new.self.items ++ c.retell.new.seat ∷ [] = c.push_reserved-2.ensures.items in
     let size : length made ≡ length others + 1 = ap (λ (l : List (Seated Global)). length l) popped ∙ length_push others c.in-Some-Some.second in
     let size_rest : length others ≡ length rest + 1 = ap (λ (l : List (Seated Global)). length l) popped_first ∙ length_push rest c.in-Some-Some.first in
-    let size_pushed : length c.push_reserved.new.self.items ≡ length rest + 1 = ap (λ (l : List (Seated Global)). length l) pushed ∙ length_push rest c.call.new.seat in
-    let size_whole : length c.push_reserved-2.new.self.items ≡ length c.push_reserved.new.self.items + 1 = ap (λ (l : List (Seated Global)). length l) whole ∙ length_push c.push_reserved.new.self.items c.retell.new.seat in (
+    let size_pushed : length c.push_reserved.new.self.items ≡ length rest + 1 =
+    ap (λ (l : List (Seated Global)). length l) pushed ∙ length_push rest c.call.new.seat in
+    let size_whole : length c.push_reserved-2.new.self.items ≡ length c.push_reserved.new.self.items + 1 =
+    ap (λ (l : List (Seated Global)). length l) whole
+    ∙ length_push c.push_reserved.new.self.items c.retell.new.seat in (
       omega (arith, size, size_rest, size_pushed, size_whole, c.in-Ok.ensures.seats.0, c.requires.parts.1),
       subst (λ (l : List (Seated Global)). All P l) (sym whole)
           (All-push P c.push_reserved.new.self.items c.retell.new.seat

@@ -17,5 +17,7 @@ close-controller-requires g c =
     let pushed : c.push_reserved.new.self.items ≡ rest ++ seat ∷ [] = c.push_reserved.ensures.items in
     let size : length first ≡ length rest + 1 = ap (λ (l : List (Seated g.row.A.Denot)). length l) popped ∙ length_push rest c.in-Some.seat in (
       ap (λ (l : List (Seated g.row.A.Denot)). length l) pushed ∙ omega (arith, length_push rest seat, size, c.in-Ok.ensures.seats.0, c.requires.parts.1),
-      subst (λ (l : List (Seated g.row.A.Denot)). All P l) (sym pushed) (All-push P rest seat (All-pop P first rest (Some c.in-Some.seat) popped all).0 c.call-reply.ensures.seat),
+      subst (λ (l : List (Seated g.row.A.Denot)). All P l) (sym pushed)
+          (All-push P rest seat (All-pop P first rest (Some c.in-Some.seat) popped all).0
+          c.call-reply.ensures.seat),
     )

@@ -19,4 +19,6 @@ returns-in-Some-clause-order g c =
     let new = text_left c.ask.new.input (g.R.Read.remaining c.ask.new.reader) in
     let more : c.in_ok-next_line.field-0 ≡ true = search rules in
     let P : List ℕ → Type 0 = λ l. TakesLine 301 old mid l in
-    heard_ok old mid new c.as_slice.result.now c.in-Some.command c.ask.result (subst P (sym c.as_slice.ensures.value) (c.in_ok-next_line.ensures.some more)) c.in-Some.ensures c.ask.ensures.order
+    heard_ok old mid new c.as_slice.result.now c.in-Some.command c.ask.result
+    (subst P (sym c.as_slice.ensures.value) (c.in_ok-next_line.ensures.some more)) c.in-Some.ensures
+    c.ask.ensures.order

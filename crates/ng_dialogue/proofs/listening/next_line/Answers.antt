@@ -26,9 +26,13 @@ returns-in-Some-clause-some g c =
     let going : c.in_ok-fill.field-0 ≡ true = search rules in
     let on : c.fill.new.self.ended ≡ false = (c.in_ok-fill.ensures.some going).1 in
     let parts : c.fill.new.self.bytes ≡ front ++ 10 ∷ rest = sym c.waiting-waiting.ensures ∙ c.in-Some.ensures.1 in
-    let left : c.consume.new.self.bytes ≡ rest = left_bytes c.fill.new.self c.consume.new.self (length front + 1) c.consume.ensures ∙ ap (drop (length front + 1)) parts ∙ after_newline front rest (length front + 1) refl in
-    λ more. line_ends old now (g.R.Read.remaining c.fill.new.reader) 301 so_far.0 front rest c.keep.new.line.items c.fill.new.self c.consume.new.self so_far.3 c.fill.ensures.keeps on
-    (left_on c.fill.new.self c.consume.new.self (length front + 1) c.consume.ensures on) so_far.1 c.in-Some.ensures.0 parts left (c.keep.ensures ∙ ap (λ l. take 301 (l ++ front)) so_far.2 ∙ cut_on 301 so_far.0 front)
+    let left : c.consume.new.self.bytes ≡ rest = left_bytes c.fill.new.self c.consume.new.self (length front + 1)
+    c.consume.ensures ∙ ap (drop (length front + 1)) parts ∙ after_newline front rest (length front + 1) refl in
+    λ more. line_ends old now (g.R.Read.remaining c.fill.new.reader) 301 so_far.0 front rest c.keep.new.line.items
+    c.fill.new.self c.consume.new.self so_far.3 c.fill.ensures.keeps on
+    (left_on c.fill.new.self c.consume.new.self (length front + 1) c.consume.ensures on) so_far.1
+    c.in-Some.ensures.0 parts left (c.keep.ensures ∙ ap (λ l. take 301 (l ++ front)) so_far.2
+    ∙ cut_on 301 so_far.0 front)
 
 pub loop-turn-preserved : goal.loop-turn-preserved
 loop-turn-preserved g c =
@@ -40,7 +44,8 @@ loop-turn-preserved g c =
     let on : c.fill.new.self.ended ≡ false = (c.in_ok-fill.ensures.some going).1 in
     let after = c.consume-in-None.new.self in
     let going_on : after.ended ≡ false = left_on c.fill.new.self after (length w) c.consume-in-None.ensures on in
-    let parts = all_taken c.fill.new.self.bytes w after.bytes c.waiting-waiting.ensures (left_bytes c.fill.new.self after (length w) c.consume-in-None.ensures) in (
+    let parts = all_taken c.fill.new.self.bytes w after.bytes c.waiting-waiting.ensures
+    (left_bytes c.fill.new.self after (length w) c.consume-in-None.ensures) in (
       so_far.0 ++ w,
       HasNoNewline-append so_far.0 w so_far.1 c.in-None.ensures,
       c.keep-in-None.ensures ∙ ap (λ l. take 301 (l ++ w)) so_far.2 ∙ cut_on 301 so_far.0 w,

@@ -5,4 +5,5 @@ use Rattle.ng_dialogue.proofs.telling.tell_refusal.Goals as goal
 
 pub returns-in-Ok : goal.returns-in-Ok
 returns-in-Ok g c =
-    sends_as _ _ c.as_slice.result.now (refused_line c.args.fault) _ (c.as_slice.ensures.value ∙ c.in-Ok.ensures ∙ ap (λ l. l ++ refused_line c.args.fault) c.new-line.ensures.items) c.send.ensures
+    sends_as _ _ c.as_slice.result.now (refused_line c.args.fault) _ (c.as_slice.ensures.value ∙ c.in-Ok.ensures
+    ∙ ap (λ l. l ++ refused_line c.args.fault) c.new-line.ensures.items) c.send.ensures

@@ -5,4 +5,5 @@ use Rattle.ng_dialogue.proofs.telling.tell_ticks.Goals as goal
 
 pub returns-in-Ok : goal.returns-in-Ok
 returns-in-Ok g c =
-    sends_as _ _ c.as_slice.result.now (ticks_line c.args.count) _ (c.as_slice.ensures.value ∙ c.in-Ok.ensures ∙ ap (λ l. l ++ ticks_line c.args.count) c.new-line.ensures.items) c.send.ensures
+    sends_as _ _ c.as_slice.result.now (ticks_line c.args.count) _ (c.as_slice.ensures.value ∙ c.in-Ok.ensures
+    ∙ ap (λ l. l ++ ticks_line c.args.count) c.new-line.ensures.items) c.send.ensures

@@ -7,7 +7,8 @@ use Rattle.ng_lines.proofs.number.from_zero.Goals as goal
 
 pub returns-in-Some-clause-found : goal.returns-in-Some-clause-found
 returns-in-Some-clause-found c =
-    made (λ z. number_text z ≡ c.args.text.now) (pos c.in-Some.size) c.ok.result (c.ok.ensures.value ∙ ap result_ok c.of_size.ensures) (text_pos c.in-Some.size ∙ c.in-Some.ensures.found)
+    made (λ z. number_text z ≡ c.args.text.now) (pos c.in-Some.size) c.ok.result (c.ok.ensures.value
+    ∙ ap result_ok c.of_size.ensures) (text_pos c.in-Some.size ∙ c.in-Some.ensures.found)
 
 pub returns-in-Some-clause-only : goal.returns-in-Some-clause-only
 returns-in-Some-clause-only c n small written =

@@ -4,7 +4,9 @@ use Rattle.ng_lines.proofs.number.size_in.Goals as goal
 
 pub returns-clause-found : goal.returns-clause-found
 returns-clause-found c =
-    size_found c.in-Some.whole c.in-Some-millionths_in.millionths (length c.args.text.now - 7) _ _ c.args.text.now c.in_millionths.result c.in_millionths.ensures c.in-Some-millionths_in.ensures.found.0 c.in-Some.ensures.found
+    size_found c.in-Some.whole c.in-Some-millionths_in.millionths (length c.args.text.now - 7) _ _ c.args.text.now
+    c.in_millionths.result c.in_millionths.ensures c.in-Some-millionths_in.ensures.found.0
+    c.in-Some.ensures.found
     c.in-Some-millionths_in.ensures.found.1 c.split_at.ensures.front c.split_at.ensures.back
 
 pub returns-clause-only : goal.returns-clause-only

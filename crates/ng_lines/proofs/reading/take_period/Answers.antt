@@ -10,12 +10,14 @@ returns-in_default-clause-only c period more fits is = no_part 10 (decimal perio
 pub returns-in-Some-whole_in-clause-only : goal.returns-in-Some-whole_in-clause-only
 returns-in-Some-whole_in-clause-only c period more fits is =
     let wide : period < 2 ^ 64 = omega (arith, fits) in
-    let same = one_first 10 c.in-Some.front.now c.in-Some.after.now (decimal period) more c.in-Some.ensures.0 (decimal_has_none 10 period (omega arith) wide) (sym c.in-Some.ensures.1 ∙ is) in
+    let same = one_first 10 c.in-Some.front.now c.in-Some.after.now (decimal period) more c.in-Some.ensures.0
+    (decimal_has_none 10 period (omega arith) wide) (sym c.in-Some.ensures.1 ∙ is) in
     (same_size _ period (c.in-Some-whole_in.ensures.only period fits (sym same.0)), same.1)
 
 pub returns-in-None-clause-only : goal.returns-in-None-clause-only
 returns-in-None-clause-only c period more fits is =
     let wide : period < 2 ^ 64 = omega (arith, fits) in
-    let same = one_first 10 c.in-Some.front.now c.in-Some.after.now (decimal period) more c.in-Some.ensures.0 (decimal_has_none 10 period (omega arith) wide) (sym c.in-Some.ensures.1 ∙ is) in
+    let same = one_first 10 c.in-Some.front.now c.in-Some.after.now (decimal period) more c.in-Some.ensures.0
+    (decimal_has_none 10 period (omega arith) wide) (sym c.in-Some.ensures.1 ∙ is) in
     let no = c.in-None.ensures.only period fits (sym same.0) in
     cc

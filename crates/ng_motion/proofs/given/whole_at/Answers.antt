@@ -6,5 +6,11 @@ use Rattle.ng_motion.proofs.given.whole_at.Goals as goal
 
 pub returns-in-None-whole_in : goal.returns-in-None-whole_in
 returns-in-None-whole_in c =
-    let d = view c.in-Some.value.now in
-    (refl, (d, ap (λ k. get_member k (table_view c.args.table.now)) (sym c.name.ensures) ∙ sym c.in-Some.ensures, unfit_whole c.args.key d c.requires c.in-None-whole_in.ensures.none))
+    let d = view c.in-Some.value.now in (
+      refl,
+      (
+        d,
+        ap (λ k. get_member k (table_view c.args.table.now)) (sym c.name.ensures) ∙ sym c.in-Some.ensures,
+        unfit_whole c.args.key d c.requires c.in-None-whole_in.ensures.none,
+      ),
+    )

@@ -14,5 +14,8 @@ pub returns-in_default-whole_in-3-clause-none : goal.returns-in_default-whole_in
 returns-in_default-whole_in-3-clause-none c a three =
     let vs = c.in-Some.array.now.items in
     let len : length vs ≡ 3 = omega arith in
-    c.in_default-whole_in-3.ensures.none a.z
-    (third_is vs c.index-3.result.now (view c.args.value.now) a.x a.y a.z len c.index-3.ensures (is_array (view c.args.value.now) (items_view vs) c.in-Some.ensures) three.0, three.3)
+    c.in_default-whole_in-3.ensures.none a.z (
+      third_is vs c.index-3.result.now (view c.args.value.now) a.x a.y a.z len c.index-3.ensures
+          (is_array (view c.args.value.now) (items_view vs) c.in-Some.ensures) three.0,
+      three.3,
+    )

@@ -8,6 +8,7 @@ pub returns-clause-text : goal.returns-clause-text
 returns-clause-text c =
     let end : c.args.end - 2 + 2 ≡ c.args.end = omega (arith, c.requires.room) in
     let filled = c.put_after.ensures ∙ ap (λ n. c.args.after ++ drop n c.args.buffer.now) end in
-    written_then _ _ _ _ _ _ (c.args.after ++ drop c.args.end c.args.buffer.now) c.put_after.new.buffer c.write_decimals-point.new.buffer c.write_whole_part-whole.new.buffer c.write_minus.new.buffer
+    written_then _ _ _ _ _ _ (c.args.after ++ drop c.args.end c.args.buffer.now) c.put_after.new.buffer
+    c.write_decimals-point.new.buffer c.write_whole_part-whole.new.buffer c.write_minus.new.buffer
     c.unsigned_abs-size.ensures.value filled c.write_decimals-point.ensures.written c.write_whole_part-whole.ensures.written c.write_minus.ensures.written
     ∙ ap (λ (z : ℤ). number_text z ++ (c.args.after ++ drop c.args.end c.args.buffer.now)) (to_z-of_z w64 c.args.count c.ranges.count)

@@ -16,7 +16,8 @@ returns-then-unsigned_abs-le-CLOSE-clause-value c =
 
 far : (c : goal.Else-unsigned_abs-le-CLOSE) → 100 < unsigned_abs (c.args.count -ℤ near c.args.count 1_000_000 *ℤ million)
 far c =
-    let value : c.nearest_whole-nearest.result ≡ near c.args.count 1_000_000 = rw (to_z-of_z w64 c.args.count c.ranges.count) at c.nearest_whole-nearest.ensures.value in
+    let value : c.nearest_whole-nearest.result ≡ near c.args.count 1_000_000 =
+    rw (to_z-of_z w64 c.args.count c.ranges.count) at c.nearest_whole-nearest.ensures.value in
     rw (← value) (omega (arith, ints))
 
 pub returns-else-unsigned_abs-le-CLOSE-clause-value :

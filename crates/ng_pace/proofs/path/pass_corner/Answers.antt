@@ -36,7 +36,8 @@ returns-clause-passes g c =
       then = c.settle-2.ensures.makes;
       feed = c.greatest_feed-feed.result;
       feeds = λ k d short. made-feeds c.args.pacer.now c.settle.new.pacer c.settle-2.new.pacer c.args.waiting.now.items c.settle.new.waiting.items
-          c.settle-2.new.waiting.items _ _ _ _ _ _ c.saturating_sub-count.result c.corner_pulses-pulses.result c.saturating_add.result c.greatest_feed-feed.result
+          c.settle-2.new.waiting.items _ _ _ _ _ _ c.saturating_sub-count.result c.corner_pulses-pulses.result
+          c.saturating_add.result c.greatest_feed-feed.result
           c.settle.ensures.keeps c.settle.ensures.makes c.settle-2.ensures.keeps c.settle-2.ensures.makes c.saturating_add.ensures
           (omega (arith, c.len.ensures, len)) c.greatest_feed-feed.ensures k d short;
       full = record {

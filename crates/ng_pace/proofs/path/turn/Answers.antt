@@ -12,7 +12,8 @@ returns-then-is_left-clause-turns g c = λ legs path begun.
     turned-path c.args.limits.now c.args.chord.now c.close.new.chord c.open-then-is_left.new.self c.args.pacer.now c.close.new.pacer
     (length c.args.waiting.now.items) (length c.close.new.waiting.items) c.kept_of-kept.result c.args.pulse.now legs
     path begun c.if-not-chord.false c.kept_of-kept.ensures
-    (λ pulses cones count. c.is_left.ensures.leaves c.args.limits.now.slack pulses cones count c.if-is_left.true) c.close.ensures.closes c.open-then-is_left.ensures.same
+    (λ pulses cones count. c.is_left.ensures.leaves c.args.limits.now.slack pulses cones count c.if-is_left.true)
+    c.close.ensures.closes c.open-then-is_left.ensures.same
     (c.open-then-is_left.ensures.cones c.args.limits.now.slack)
 
 pub returns-else-is_left-clause-turns : goal.returns-else-is_left-clause-turns

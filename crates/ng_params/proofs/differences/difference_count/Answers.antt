@@ -13,11 +13,16 @@ loop-k-preserved g c =
     let index = c.known-index.ensures in
     elim c.if-ne.branch [
       | then-ne w ↦ record {
-        count = one_counted (differences_to c.loop-k.k c.args.old.now c.args.new.now) _ _ c.loop-k.count c.if-ne.count (next_other c.loop-k.k c.known-index.result c.args.old.now c.args.new.now c.get.result c.get-in-loop-k.result index c.get.ensures c.get-in-loop-k.ensures (sym c.ne.ensures ∙ w.if-ne.true)) inv.count w.count-is;
+        count = one_counted (differences_to c.loop-k.k c.args.old.now c.args.new.now) _ _ c.loop-k.count
+            c.if-ne.count (next_other c.loop-k.k c.known-index.result c.args.old.now c.args.new.now c.get.result
+            c.get-in-loop-k.result index c.get.ensures c.get-in-loop-k.ensures (sym c.ne.ensures ∙ w.if-ne.true))
+            inv.count w.count-is;
         few = omega (arith, w.count-is, inv.few);
       }
       | else-ne w ↦ record {
-        count = w.count-is ∙ inv.count ∙ sym (ap length (next_same c.loop-k.k c.known-index.result c.args.old.now c.args.new.now c.get.result c.get-in-loop-k.result index c.get.ensures c.get-in-loop-k.ensures (sym c.ne.ensures ∙ w.if-ne.false)));
+        count = w.count-is ∙ inv.count
+            ∙ sym (ap length (next_same c.loop-k.k c.known-index.result c.args.old.now c.args.new.now c.get.result
+            c.get-in-loop-k.result index c.get.ensures c.get-in-loop-k.ensures (sym c.ne.ensures ∙ w.if-ne.false)));
         few = omega (arith, w.count-is, inv.few);
       }
     ]

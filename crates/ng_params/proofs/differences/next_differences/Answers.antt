@@ -18,11 +18,17 @@ loop-k-preserved g c =
       | then-ne w ↦
           let p = w.push.ensures in
           rw w.taken-is (record {
-            on = one_taken (differences_to c.loop-k.k old new) (differences_to c.args.from old new) c.loop-k.taken.items w.push.new.self.items (record { index = c.known-index.result; value = c.get-value.result }) (differences_to (c.loop-k.k + 1) old new) (next_other c.loop-k.k c.known-index.result old new c.get-value.result c.get.result index c.get-value.ensures c.get.ensures (sym c.ne.ensures ∙ w.if-ne.true)) inv.on p.items;
+            on = one_taken (differences_to c.loop-k.k old new) (differences_to c.args.from old new)
+                c.loop-k.taken.items w.push.new.self.items
+                (record { index = c.known-index.result; value = c.get-value.result })
+                (differences_to (c.loop-k.k + 1) old new)
+                (next_other c.loop-k.k c.known-index.result old new c.get-value.result c.get.result index
+                c.get-value.ensures c.get.ensures (sym c.ne.ensures ∙ w.if-ne.true)) inv.on p.items;
             few = let v = c.is_full.ensures.value in let f = c.if-is_full.false in let n = inv.few in let l = p.len in room _ _ _ c.is_full.result v f n l;
           })
       | else-ne w ↦ rw w.taken-is (record {
-        on = next_same c.loop-k.k c.known-index.result old new c.get-value.result c.get.result index c.get-value.ensures c.get.ensures (sym c.ne.ensures ∙ w.if-ne.false) ∙ inv.on;
+        on = next_same c.loop-k.k c.known-index.result old new c.get-value.result c.get.result index
+            c.get-value.ensures c.get.ensures (sym c.ne.ensures ∙ w.if-ne.false) ∙ inv.on;
         few = inv.few;
       })
     ]

@@ -18,7 +18,9 @@ loop-call-preserved g c = λ sectors.
           ap (λ v. v.items) w.handed-is ∙ c.loop-call.invariant sectors ∙ sym (ap (λ (l : Trace). items l) next)
       | in-Hand+in_ok-push-in-Hand w ↦
           let next = trace_of_calls-next sectors c.args.calls.now c.loop-call.call-index _ _ c.loop-call-test.true (sym c.call-item.is ∙ w.in-Hand.is) in
-          ap (λ v. v.items) w.handed-is ∙ w.in_ok-push-in-Hand.ensures.items ∙ ap (λ l. l ++ w.in-Hand.item ∷ []) (c.loop-call.invariant sectors) ∙ sym (ap (λ (l : Trace). items l) next)
+          ap (λ v. v.items) w.handed-is ∙ w.in_ok-push-in-Hand.ensures.items
+          ∙ ap (λ l. l ++ w.in-Hand.item ∷ []) (c.loop-call.invariant sectors)
+          ∙ sym (ap (λ (l : Trace). items l) next)
     ]
 
 pub returns : goal.returns

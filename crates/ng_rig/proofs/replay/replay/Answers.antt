@@ -15,16 +15,21 @@ loop-call-preserved c =
           let within = within_at (length c.args.image.now) c.args.calls.now c.loop-call.call-index _ _ _ c.requires c.loop-call-test.true at in
           record {
             whole = λ was. whole_set _ _ w.in-Write.sector w.in-Write.bytes w.image-is within.1 (c.loop-call.invariant.whole was);
-            reads = λ n. reads_write (trace_of_calls c.args.image.now (take c.loop-call.call-index c.args.calls.now)) _ _ w.in-Write.sector w.in-Write.bytes (omega arith) w.image-is c.loop-call.invariant.reads n ∙ sym (ap (λ (l : Trace). reads l n) next);
+            reads = λ n. reads_write
+                (trace_of_calls c.args.image.now (take c.loop-call.call-index c.args.calls.now)) _ _
+                w.in-Write.sector w.in-Write.bytes (omega arith) w.image-is c.loop-call.invariant.reads n
+                ∙ sym (ap (λ (l : Trace). reads l n) next);
           }
       | in-Sync w ↦
-          let next = trace_of_calls-next c.args.image.now c.args.calls.now c.loop-call.call-index _ _ c.loop-call-test.true (sym c.call-item.is ∙ w.in-Sync.is) in
+          let next = trace_of_calls-next c.args.image.now c.args.calls.now c.loop-call.call-index _ _
+          c.loop-call-test.true (sym c.call-item.is ∙ w.in-Sync.is) in
           record {
             whole = λ was. rw w.image-is (c.loop-call.invariant.whole was);
             reads = λ n. ap (λ xs. contents xs n) w.image-is ∙ c.loop-call.invariant.reads n ∙ sym (ap (λ (l : Trace). reads l n) next);
           }
       | in-Hand w ↦
-          let next = trace_of_calls-next c.args.image.now c.args.calls.now c.loop-call.call-index _ _ c.loop-call-test.true (sym c.call-item.is ∙ w.in-Hand.is) in
+          let next = trace_of_calls-next c.args.image.now c.args.calls.now c.loop-call.call-index _ _
+          c.loop-call-test.true (sym c.call-item.is ∙ w.in-Hand.is) in
           record {
             whole = λ was. rw w.image-is (c.loop-call.invariant.whole was);
             reads = λ n. ap (λ xs. contents xs n) w.image-is ∙ c.loop-call.invariant.reads n ∙ sym (ap (λ (l : Trace). reads l n) next);

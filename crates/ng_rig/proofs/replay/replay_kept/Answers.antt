@@ -22,15 +22,20 @@ loop-call-preserved c =
               | else-before-number_at w' ↦ rw (w.image-is ∙ w'.image-is) (h.whole was)
             ];
             image = elim w.if-before-number_at.branch [
-              | then-before-number_at w' ↦ kept_write trace c.args.keep.now _ _ w.in-Write.sector w.in-Write.bytes (omega arith) (omega (arith, now, w.number_at.ensures)) (w.image-is ∙ w'.image-is) h.image
-              | else-before-number_at w' ↦ kept_passed trace c.args.keep.now _ _ w.in-Write.sector w.in-Write.bytes (omega (arith, now, w.number_at.ensures)) (w.image-is ∙ w'.image-is) h.image
+              | then-before-number_at w' ↦ kept_write trace c.args.keep.now _ _ w.in-Write.sector w.in-Write.bytes
+                  (omega arith) (omega (arith, now, w.number_at.ensures)) (w.image-is ∙ w'.image-is) h.image
+              | else-before-number_at w' ↦ kept_passed trace c.args.keep.now _ _ w.in-Write.sector w.in-Write.bytes
+                  (omega (arith, now, w.number_at.ensures)) (w.image-is ∙ w'.image-is) h.image
             ];
             count = count_write trace _ _ w.in-Write.sector w.in-Write.bytes (omega arith) w.written-is h.count;
             bound = bound_write _ _ w.in-Write.sector c.loop-call.call-index (omega arith) w.written-is h.bound;
           })
-      | in-Sync w ↦ absurd (c.requires.unsynced c.loop-call.call-index c.loop-call-test.true (default_is c.args.calls.now c.loop-call.call-index Sync c.call-item.result c.loop-call-test.true ∙ sym c.call-item.is ∙ w.in-Sync.is))
+      | in-Sync w ↦ absurd (c.requires.unsynced c.loop-call.call-index c.loop-call-test.true
+          (default_is c.args.calls.now c.loop-call.call-index Sync c.call-item.result c.loop-call-test.true
+          ∙ sym c.call-item.is ∙ w.in-Sync.is))
       | in-Hand w ↦
-          let next = trace_of_calls-next c.args.image.now c.args.calls.now c.loop-call.call-index _ _ c.loop-call-test.true (sym c.call-item.is ∙ w.in-Hand.is) in
+          let next = trace_of_calls-next c.args.image.now c.args.calls.now c.loop-call.call-index _ _
+          c.loop-call-test.true (sym c.call-item.is ∙ w.in-Hand.is) in
           let h = c.loop-call.invariant in
           rw next (record {
             whole = λ was. rw w.image-is (h.whole was);

@@ -7,10 +7,15 @@ pub replay-requires : goal.replay-requires
 replay-requires c = within_take _ c.args.calls.now c.synced_calls-synced.result c.requires.within
 
 pub replay_kept-requires-clause-within : goal.replay_kept-requires-clause-within
-replay_kept-requires-clause-within c = rw (take_rest c.args.calls.now c.synced_calls-synced.result, c.replay.auto.image) (within_drop _ c.args.calls.now c.synced_calls-synced.result c.requires.within)
+replay_kept-requires-clause-within c =
+    rw (take_rest c.args.calls.now c.synced_calls-synced.result, c.replay.auto.image)
+    (within_drop _ c.args.calls.now c.synced_calls-synced.result c.requires.within)
 
 pub returns-clause-whole : goal.returns-clause-whole
 returns-clause-whole c = λ was. c.replay_kept.ensures.whole (c.replay.ensures.whole was)
 
 pub returns-clause-image : goal.returns-clause-image
-returns-clause-image c = c.replay_kept.ensures.image ∙ kept_split c.args.image.now c.replay.new.image c.args.calls.now _ c.synced_calls-synced.result c.args.keep.now (take_rest c.args.calls.now c.synced_calls-synced.result) c.synced_calls-synced.ensures.before c.replay.ensures.image
+returns-clause-image c = c.replay_kept.ensures.image
+    ∙ kept_split c.args.image.now c.replay.new.image c.args.calls.now _ c.synced_calls-synced.result c.args.keep.now
+    (take_rest c.args.calls.now c.synced_calls-synced.result) c.synced_calls-synced.ensures.before
+    c.replay.ensures.image

@@ -35,7 +35,8 @@ loop-turn-preserved g c =
       λ before. c.next_order.ensures.holds (c.loop-turn.invariant.1 before),
       λ ended.
           let still = ended_still c.args.input.now c.loop-turn.input (c.loop-turn.invariant.2 ended).0 ended in
-          absurd (asks_none c.next_order.result c.in-Ok-Some.field-0 c.in-Ok-Some.order (c.next_order.ensures.last still).0 c.in-Ok-Some.is c.in-Ok-Some.field-0-is),
+          absurd (asks_none c.next_order.result c.in-Ok-Some.field-0 c.in-Ok-Some.order
+          (c.next_order.ensures.last still).0 c.in-Ok-Some.is c.in-Ok-Some.field-0-is),
     )
 
 pub returns-clause-talk : goal.returns-clause-talk

@@ -15,7 +15,9 @@ returns-in-Err-read g c =
     let so_far = c.loop-turn.invariant.0 in
     let s = c.loop-turn.splitter.schedule in
     run_stops c.args.limits _ _ _ _ so_far.0 c.args.shown (Err Reader) so_far.1
-    (λ more. cut_broken c.args.limits c.args.shown _ _ so_far.0 more Reader (cut c.args.limits _ _ so_far.0 c.loop-turn.splitter.kept.items s c.args.shown (sym c.loop-turn.invariant.2) so_far.2))
+    (λ more. cut_broken c.args.limits c.args.shown _ _ so_far.0 more Reader
+    (cut c.args.limits _ _ so_far.0 c.loop-turn.splitter.kept.items s c.args.shown (sym c.loop-turn.invariant.2)
+    so_far.2))
 
 pub returns-in-Ok-eq0 : goal.returns-in-Ok-eq0
 returns-in-Ok-eq0 g c =
@@ -23,7 +25,8 @@ returns-in-Ok-eq0 g c =
     let r = c.in-Ok-eq0.ensures.bytes in
     let room : 0 < length c.read.new.buf = omega arith in
     run_ends c.args.limits _ _ _ _ _ so_far.0 _ _ c.args.shown c.close.result so_far.1 r.0 c.in-Ok-eq0.field-0-test (r.1 c.in-Ok-eq0.field-0-test room)
-    (ScheduleSpec-from c.args.limits _ c.args.shown so_far.0 so_far.0 _ _ c.close.result (sym c.loop-turn.invariant.2) refl (c.close.ensures c.args.limits _ so_far.0 so_far.2))
+    (ScheduleSpec-from c.args.limits _ c.args.shown so_far.0 so_far.0 _ _ c.close.result
+    (sym c.loop-turn.invariant.2) refl (c.close.ensures c.args.limits _ so_far.0 so_far.2))
 
 pub returns-in-Err-take : goal.returns-in-Err-take
 returns-in-Err-take g c =
@@ -49,7 +52,9 @@ returns g c =
     let so_far = c.loop-turn.invariant.0 in
     let s = c.loop-turn.splitter.schedule in
     run_stops c.args.limits _ _ _ _ so_far.0 c.args.shown (Err Reader) so_far.1
-    (λ more. cut_broken c.args.limits c.args.shown _ _ so_far.0 more Reader (cut c.args.limits _ _ so_far.0 c.loop-turn.splitter.kept.items s c.args.shown (sym c.loop-turn.invariant.2) so_far.2))
+    (λ more. cut_broken c.args.limits c.args.shown _ _ so_far.0 more Reader
+    (cut c.args.limits _ _ so_far.0 c.loop-turn.splitter.kept.items s c.args.shown (sym c.loop-turn.invariant.2)
+    so_far.2))
 
 pub loop-turn-init : goal.loop-turn-init
 loop-turn-init g c =

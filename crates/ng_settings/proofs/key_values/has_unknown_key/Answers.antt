@@ -12,5 +12,6 @@ pub returns : goal.returns
 unfolding has_unknown_key
 returns c =
     let found : c.any.result ≡ list_any (λ (name : String Global). not (is_key (string_bytes name))) (keys c.args.table.now) =
-    any_from_yields_List (λ (name : String Global). not (is_key (string_bytes name))) _ _ c.any.result c.any.ensures.ran (YieldsList-from_rest _ c.keys.ensures.rest) (λ x b q k. search (rules, tests)) in
+    any_from_yields_List (λ (name : String Global). not (is_key (string_bytes name))) _ _ c.any.result
+    c.any.ensures.ran (YieldsList-from_rest _ c.keys.ensures.rest) (λ x b q k. search (rules, tests)) in
     found ∙ unknown_in_names c.args.table.now.entries

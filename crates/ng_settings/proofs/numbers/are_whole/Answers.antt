@@ -9,5 +9,6 @@ use Rattle.ng_settings.proofs.numbers.are_whole.Goals as goal
 
 pub returns : goal.returns
 returns c =
-    all_from_yields_List (λ (v : Value). is_some (as_integer (view v))) _ _ c.all.result c.all.ensures.ran (YieldsList-from_slice c.args.array.now.items cc) (λ x b q k. search (rules, tests))
+    all_from_yields_List (λ (v : Value). is_some (as_integer (view v))) _ _ c.all.result c.all.ensures.ran
+    (YieldsList-from_slice c.args.array.now.items cc) (λ x b q k. search (rules, tests))
     ∙ all_whole c.args.array.now.items

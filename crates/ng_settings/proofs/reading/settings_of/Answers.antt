@@ -43,7 +43,8 @@ returns-in-None-tools_of c =
     let numbers = same_numbers t c.in-Some.found at ∙ c.in-Some-given.ensures.1 in
     let within : is_beyond_limits (numbers_in t) ≡ false = ap (λ (n : Numbers). is_beyond_limits n) numbers ∙ sym c.if-is_beyond_limits.ensures in
     let many : has_many_tools (numbers_in t) ≡ true = ap (λ (n : Numbers). has_many_tools n) numbers ∙ c.in-None-tools_of.ensures in
-    are_many _ _ _ _ _ (all_there t c.in-Some.found at) (sym c.if-has_unknown_key.ensures) (same_types t c.in-Some.found at ∙ c.in-Some-given.ensures.0) within many
+    are_many _ _ _ _ _ (all_there t c.in-Some.found at) (sym c.if-has_unknown_key.ensures)
+    (same_types t c.in-Some.found at ∙ c.in-Some-given.ensures.0) within many
 
 pub returns-in-Some-tools_of : goal.returns-in-Some-tools_of
 unfolding has_many_tools

@@ -9,4 +9,5 @@ returns-clause-value c =
     let range_a = c.nm.ensures.range in
     let range_b = c.nm-2.ensures.range in
     let size = c.mirrored.ensures.size in
-    from_centre_is c.args.arc.now c.args.a c.args.b _ _ c.mirrored.result _ (omega (arith, ints)) (stored c.mirrored.result (omega (arith, ints))) c.mirrored.ensures.value (omega (arith, ints))
+    from_centre_is c.args.arc.now c.args.a c.args.b _ _ c.mirrored.result _ (omega (arith, ints))
+    (stored c.mirrored.result (omega (arith, ints))) c.mirrored.ensures.value (omega (arith, ints))

@@ -24,4 +24,6 @@ pub returns : goal.returns
 returns c =
     let k = c.args.byte - 65 in
     let same : 65 + k ≡ c.args.byte = omega (arith, c.if-byte-lt65.false) in
-    ap (λ (l : List (Option Letter)). get_or l k None) table ∙ letter_at 65 58 k (omega (arith, c.if-byte-lt65.false, c.if-byte-gt122.false)) ∙ ap (λ (x : ℕ). letter_of (capital x)) same
+    ap (λ (l : List (Option Letter)). get_or l k None) table
+    ∙ letter_at 65 58 k (omega (arith, c.if-byte-lt65.false, c.if-byte-gt122.false))
+    ∙ ap (λ (x : ℕ). letter_of (capital x)) same

@@ -15,17 +15,20 @@ returns-then-has_blank-clause-unreadable c = (λ e z is. let none = c.has_blank.
 pub returns-in-Some-clause-value : goal.returns-in-Some-clause-value
 returns-in-Some-clause-value c =
     answer_value c.args.text.now _ _ (sym c.has_blank.ensures ∙ c.if-has_blank.false)
-    (ap number_at (sym c.new-cursor.ensures) ∙ c.in-Some.ensures ∙ ap (λ rest. Some (c.in-Some.value, rest)) (c.is_empty.ensures.0 c.if-is_empty.true)) c.ok_or.ensures.value
+    (ap number_at (sym c.new-cursor.ensures) ∙ c.in-Some.ensures
+    ∙ ap (λ rest. Some (c.in-Some.value, rest)) (c.is_empty.ensures.0 c.if-is_empty.true)) c.ok_or.ensures.value
 
 pub returns-in-Some-clause-reads : goal.returns-in-Some-clause-reads
 returns-in-Some-clause-reads c =
     answer_reads c.args.text.now _ _ (sym c.has_blank.ensures ∙ c.if-has_blank.false)
-    (ap number_at (sym c.new-cursor.ensures) ∙ c.in-Some.ensures ∙ ap (λ rest. Some (c.in-Some.value, rest)) (c.is_empty.ensures.0 c.if-is_empty.true)) c.ok_or.ensures.value
+    (ap number_at (sym c.new-cursor.ensures) ∙ c.in-Some.ensures
+    ∙ ap (λ rest. Some (c.in-Some.value, rest)) (c.is_empty.ensures.0 c.if-is_empty.true)) c.ok_or.ensures.value
 
 pub returns-in-Some-clause-unreadable : goal.returns-in-Some-clause-unreadable
 returns-in-Some-clause-unreadable c =
     answer_unreadable c.args.text.now _ _ (sym c.has_blank.ensures ∙ c.if-has_blank.false)
-    (ap number_at (sym c.new-cursor.ensures) ∙ c.in-Some.ensures ∙ ap (λ rest. Some (c.in-Some.value, rest)) (c.is_empty.ensures.0 c.if-is_empty.true)) c.ok_or.ensures.value
+    (ap number_at (sym c.new-cursor.ensures) ∙ c.in-Some.ensures
+    ∙ ap (λ rest. Some (c.in-Some.value, rest)) (c.is_empty.ensures.0 c.if-is_empty.true)) c.ok_or.ensures.value
 
 not_number : (c : goal.In_default) (z : ℤ) → IsNumber c.args.text.now z → ⊥
 not_number c z is = elim c.in_default.branch [

@@ -36,12 +36,14 @@ returns-in-Some-letter_of-clause-bytes_fit c =
 
 pub returns-in-35-clause-last : goal.returns-in-35-clause-last
 returns-in-35-clause-last c = λ t. c.requires.last ∙ sym (
-    assignment_last c.advance-in-35.new.self c.assignment.new.cursor c.assignment.result c.args.items.now.items c.assignment.new.items.items c.args.nodes.now.items c.assignment.new.nodes.items
+    assignment_last c.advance-in-35.new.self c.assignment.new.cursor c.assignment.result c.args.items.now.items
+    c.assignment.new.items.items c.args.nodes.now.items c.assignment.new.nodes.items
     c.assignment.ensures.assignment t
     )
 
 pub returns-in-Some-letter_of-clause-last : goal.returns-in-Some-letter_of-clause-last
 returns-in-Some-letter_of-clause-last c = λ t. c.requires.last ∙ sym (
-    word_last c.in-Some-letter_of.letter c.advance.new.self c.word.new.cursor c.word.result c.args.items.now.items c.word.new.items.items c.args.nodes.now.items c.word.new.nodes.items
+    word_last c.in-Some-letter_of.letter c.advance.new.self c.word.new.cursor c.word.result c.args.items.now.items
+    c.word.new.items.items c.args.nodes.now.items c.word.new.nodes.items
     c.word.ensures.word t
     )

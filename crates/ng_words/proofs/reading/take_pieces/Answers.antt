@@ -14,12 +14,15 @@ loop-cursor-init c = (
 
 pub loop-cursor-smaller : goal.loop-cursor-smaller
 loop-cursor-smaller c =
-    let less : length c.piece.new.cursor + 2 ≤ length c.loop-cursor.cursor = piece_shorter c.loop-cursor.cursor c.piece.new.cursor true _ _ c.if-not-piece.ensures.piece (search rules) in omega arith
+    let less : length c.piece.new.cursor + 2 ≤ length c.loop-cursor.cursor = piece_shorter c.loop-cursor.cursor
+    c.piece.new.cursor true _ _ c.if-not-piece.ensures.piece (search rules) in omega arith
 
 pub loop-cursor-preserved : goal.loop-cursor-preserved
 loop-cursor-preserved c =
-    let less : length c.piece.new.cursor + 2 ≤ length c.loop-cursor.cursor = piece_shorter c.loop-cursor.cursor c.piece.new.cursor true _ _ c.if-not-piece.ensures.piece (search rules) in
-    let one : length c.piece.new.items.items ≡ length c.loop-cursor.items.items + 1 = one_item_more c.loop-cursor.cursor c.piece.new.cursor true _ _ c.if-not-piece.ensures.piece refl in (
+    let less : length c.piece.new.cursor + 2 ≤ length c.loop-cursor.cursor = piece_shorter c.loop-cursor.cursor
+    c.piece.new.cursor true _ _ c.if-not-piece.ensures.piece (search rules) in
+    let one : length c.piece.new.items.items ≡ length c.loop-cursor.items.items + 1 =
+    one_item_more c.loop-cursor.cursor c.piece.new.cursor true _ _ c.if-not-piece.ensures.piece refl in (
       taking_goes c.args.cursor.now c.loop-cursor.cursor c.piece.new.cursor true _ _ c.loop-cursor.invariant.0 c.if-not-piece.ensures.piece refl,
       omega arith,
       c.if-not-piece.ensures.nodes_fit (search rules),

@@ -13,4 +13,5 @@ returns-in-Some-clause-room c =
 
 pub returns-in-Some-walk-clause-word : goal.returns-in-Some-walk-clause-word
 returns-in-Some-walk-clause-word c =
-    walked_word _ _ _ _ _ _ _ _ (begins_otherwise _ _ c.begins_number.ensures c.if-begins_number.false) c.in-Some-walk.ensures.value c.push-in-Some-walk.ensures.items
+    walked_word _ _ _ _ _ _ _ _ (begins_otherwise _ _ c.begins_number.ensures c.if-begins_number.false)
+    c.in-Some-walk.ensures.value c.push-in-Some-walk.ensures.items

@@ -4,7 +4,8 @@ use Rattle.ng_words.proofs.value.begin.Goals as goal
 
 pub returns-then-begins_number-clause-steps : goal.returns-then-begins_number-clause-steps
 returns-then-begins_number-clause-steps c =
-    begin_number _ _ _ _ _ _ _ _ _ (no_opening _ (begins_so _ _ c.begins_number.ensures c.if-begins_number.true)) refl c.in_ok-value.ensures c.push.ensures.items c.settle.ensures.settles
+    begin_number _ _ _ _ _ _ _ _ _ (no_opening _ (begins_so _ _ c.begins_number.ensures c.if-begins_number.true))
+    refl c.in_ok-value.ensures c.push.ensures.items c.settle.ensures.settles
 
 pub returns-then-begins_number-clause-room : goal.returns-then-begins_number-clause-room
 returns-then-begins_number-clause-room c =

@@ -19,7 +19,9 @@ close-controller-requires g c =
     let lent : length last ≡ length first = c.work.auto.seats ∙ ap (λ (l : List (Seated Global)). length l) c.as_mut_slice.ensures.value in
     let none : drop (length last) first ≡ [] = drop_all (length last) first (omega (arith, lent)) in
     let whole : take n (last ++ drop (length last) first) ≡ last =
-    ap (λ (l : List (Seated Global)). take n (last ++ l)) none ∙ ap (λ (l : List (Seated Global)). take n l) (append-nil last) ∙ take_all n last (omega (arith, lent, c.in-Ok.made.1.ok.0)) in (
+    ap (λ (l : List (Seated Global)). take n (last ++ l)) none
+    ∙ ap (λ (l : List (Seated Global)). take n l) (append-nil last)
+    ∙ take_all n last (omega (arith, lent, c.in-Ok.made.1.ok.0)) in (
       ap (λ (l : List (Seated Global)). length l) whole ∙ omega (arith, lent, c.in-Ok.ensures.seats.0, c.requires.parts.1),
       subst (λ (l : List (Seated Global)). All (λ (s : Seated Global). s.parts ≡ 1) l) (sym whole) c.work.ensures,
     )

@@ -10,4 +10,5 @@ overflow_add-result c =
     omega (arith, ints)
 
 pub returns : goal.returns
-returns c = stored_dot c.args.self c.args.other _ _ c.requires.first c.requires.second c.product.ensures.value c.product-2.ensures.value c.product.ensures.size c.product-2.ensures.size
+returns c = stored_dot c.args.self c.args.other _ _ c.requires.first c.requires.second c.product.ensures.value
+    c.product-2.ensures.value c.product.ensures.size c.product-2.ensures.size

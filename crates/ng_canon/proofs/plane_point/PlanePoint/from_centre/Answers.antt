@@ -3,5 +3,6 @@ use Rattle.ng_canon.proofs.plane_point.PlanePoint.from_centre.Goals as goal
 
 pub returns-clause-value : goal.returns-clause-value
 returns-clause-value c =
-    from_centre_is c.args.arc.now c.args.point.now _ _ _ _ c.pick_a-a.result c.pick_b-b.result c.nm.ensures.range c.nm-2.ensures.range c.nm-3.ensures.range c.nm-4.ensures.range
+    from_centre_is c.args.arc.now c.args.point.now _ _ _ _ c.pick_a-a.result c.pick_b-b.result c.nm.ensures.range
+    c.nm-2.ensures.range c.nm-3.ensures.range c.nm-4.ensures.range
     c.nm.ensures.value c.nm-2.ensures.value c.nm-3.ensures.value c.nm-4.ensures.value c.pick_a-a.ensures c.pick_b-b.ensures

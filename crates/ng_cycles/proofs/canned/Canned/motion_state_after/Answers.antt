@@ -8,12 +8,14 @@ pub returns-then-has_switched : goal.returns-then-has_switched
 returns-then-has_switched c =
     let more : 1 ≤ c.args.n = let h = c.if-n-eq0.false in omega (arith, h) in
     let own = c.standing-own.ensures ∙ ap (λ (a : CycleModel). a.standing) c.from.ensures in
-    let there : has_switch (take c.args.n (cycle_segments c.args.self.now)) ≡ true = sym (rw c.drill-drill.ensures.value at c.has_switched.ensures) ∙ c.if-has_switched.true in
+    let there : has_switch (take c.args.n (cycle_segments c.args.self.now)) ≡ true =
+    sym (rw c.drill-drill.ensures.value at c.has_switched.ensures) ∙ c.if-has_switched.true in
     stood-switched c.args.self.now c.args.before c.standing-own.result c.args.n c.drill-drill.ensures.canned.made.some more own there
 
 pub returns : goal.returns
 returns c =
     let more : 1 ≤ c.args.n = let h = c.if-n-eq0.false in omega (arith, h) in
     let own = c.standing-own.ensures ∙ ap (λ (a : CycleModel). a.standing) c.from.ensures in
-    let none : has_switch (take c.args.n (cycle_segments c.args.self.now)) ≡ false = sym (rw c.drill-drill.ensures.value at c.has_switched.ensures) ∙ c.if-has_switched.false in
+    let none : has_switch (take c.args.n (cycle_segments c.args.self.now)) ≡ false =
+    sym (rw c.drill-drill.ensures.value at c.has_switched.ensures) ∙ c.if-has_switched.false in
     stood-kept c.args.self.now c.args.before c.standing-own.result c.args.n c.drill-drill.ensures.canned.made.some more own none

@@ -26,14 +26,16 @@ drill_in-requires-clause-x c =
 
 pub returns-in-Err-drill_in : goal.returns-in-Err-drill_in
 returns-in-Err-drill_in c =
-    valid_hole c.args.words.now c.args.context.now c.args.geometry.now c.in-Ok.found c.in-Some.lengths c.in-Err-drill_in.fault (rw c.over-in_force.ensures at c.in-Ok.ensures.found)
+    valid_hole c.args.words.now c.args.context.now c.args.geometry.now c.in-Ok.found c.in-Some.lengths
+    c.in-Err-drill_in.fault (rw c.over-in_force.ensures at c.in-Ok.ensures.found)
     (not_true (names_no_axis c.args.words.now) c.names_axis.result c.names_axis.ensures c.if-not-names_axis.false)
     (sym c.in-Some.is ∙ c.lengths.ensures)
     (rw c.over-in_force.ensures at c.in-Err-drill_in.ensures.drill)
 
 pub returns-then-leaves_travel : goal.returns-then-leaves_travel
 returns-then-leaves_travel c =
-    valid_travel c.args.words.now c.args.context.now c.args.geometry.now c.in-Ok.found c.in-Some.lengths c.in-Ok-drill_in.drill (rw c.over-in_force.ensures at c.in-Ok.ensures.found)
+    valid_travel c.args.words.now c.args.context.now c.args.geometry.now c.in-Ok.found c.in-Some.lengths
+    c.in-Ok-drill_in.drill (rw c.over-in_force.ensures at c.in-Ok.ensures.found)
     (not_true (names_no_axis c.args.words.now) c.names_axis.result c.names_axis.ensures c.if-not-names_axis.false)
     (sym c.in-Some.is ∙ c.lengths.ensures)
     (rw c.over-in_force.ensures at c.in-Ok-drill_in.ensures.drill)
@@ -41,7 +43,8 @@ returns-then-leaves_travel c =
 
 pub returns : goal.returns
 returns c =
-    valid_ok c.args.words.now c.args.context.now c.args.geometry.now c.in-Ok.found c.in-Some.lengths c.in-Ok-drill_in.drill (rw c.over-in_force.ensures at c.in-Ok.ensures.found)
+    valid_ok c.args.words.now c.args.context.now c.args.geometry.now c.in-Ok.found c.in-Some.lengths
+    c.in-Ok-drill_in.drill (rw c.over-in_force.ensures at c.in-Ok.ensures.found)
     (not_true (names_no_axis c.args.words.now) c.names_axis.result c.names_axis.ensures c.if-not-names_axis.false)
     (sym c.in-Some.is ∙ c.lengths.ensures)
     (rw c.over-in_force.ensures at c.in-Ok-drill_in.ensures.drill)

@@ -15,6 +15,8 @@ loop-seat-preserved g c =
       amount = omega (arith, inv.amount, c.split_off.ensures.amount_left);
       room = omega (arith, inv.room, c.push_reserved.ensures.capacity);
       count = ap (λ (l : List (Seated g.row.A.Denot)). length l) c.push_reserved.ensures.items ∙ omega (arith, length_push places seat, inv.count);
-      fresh = subst (λ (l : List (Seated g.row.A.Denot)). All (λ (s : Seated g.row.A.Denot). s ≡ record { calls = []; parts = 1 }) l) (sym c.push_reserved.ensures.items)
+      fresh = subst (λ (l : List (Seated g.row.A.Denot)).
+          All (λ (s : Seated g.row.A.Denot). s ≡ record { calls = []; parts = 1 }) l)
+          (sym c.push_reserved.ensures.items)
           (All-push (λ (s : Seated g.row.A.Denot). s ≡ record { calls = []; parts = 1 }) places seat inv.fresh c.new.ensures);
     }

@@ -10,7 +10,9 @@ pub loop-piece-preserved : goal.loop-piece-preserved
 loop-piece-preserved g c =
     let more = ap length c.in-Some.ensures in
     record {
-      found = settled_step c.args.params.now (settled_of c.loop-piece.self) (settled_of c.add.new.self) (piece_of c.in-Some.piece) (pieces_by c.loop-piece.pieces)
-          (pieces_by c.next.new.self) (settled_pieces (pieces_by c.args.line.now.places) c.args.params.now) c.in-Some.ensures c.in-Ok.ensures.found c.loop-piece.invariant.found;
+      found = settled_step c.args.params.now (settled_of c.loop-piece.self) (settled_of c.add.new.self)
+          (piece_of c.in-Some.piece) (pieces_by c.loop-piece.pieces)
+          (pieces_by c.next.new.self) (settled_pieces (pieces_by c.args.line.now.places) c.args.params.now)
+          c.in-Some.ensures c.in-Ok.ensures.found c.loop-piece.invariant.found;
       few = omega (arith, more, c.in-Ok.ensures.few, c.loop-piece.invariant.few);
     }

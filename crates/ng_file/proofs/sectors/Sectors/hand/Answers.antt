@@ -16,5 +16,6 @@ invariant_of-self g c =
 pub returns-clause-trace : goal.returns-clause-trace
 returns-clause-trace g c =
     let s = model c.self.inside.file c.self.inside.count c.self.inside.done.values c.self.inside.files.values in
-    trace-now g.S.Storage.content g.S.Storage.promise s (Hand c.args.item.now) s.file c.and-self-inside.result.values c.and-self-inside-2.result.values c.self.invariant.1
+    trace-now g.S.Storage.content g.S.Storage.promise s (Hand c.args.item.now) s.file
+    c.and-self-inside.result.values c.and-self-inside-2.result.values c.self.invariant.1
     c.and-self-inside.ensures c.and-self-inside-2.ensures ∙ ap (λ t. Handed c.args.item.now (trace_of g.S.Storage.content t)) c.self.view_is

@@ -15,7 +15,8 @@ invariant_of-self g c =
 pub returns-clause-bytes : goal.returns-clause-bytes
 returns-clause-bytes g c = λ honest.
     subst (λ t. OnOk c.read_at.result (c.read_at.new.into ≡ reads (trace_of g.S.Storage.content t) c.args.sector)) c.self.view_is
-    (read-bytes c.read_at.result c.args.sector c.read_at.new.into (c.self.invariant.2 (subst (AreHonest g.S.Storage.content g.S.Storage.promise) (sym c.self.view_is) honest))
+    (read-bytes c.read_at.result c.args.sector c.read_at.new.into
+    (c.self.invariant.2 (subst (AreHonest g.S.Storage.content g.S.Storage.promise) (sym c.self.view_is) honest))
     (subst (λ t. c.args.sector < t.count) (sym c.self.view_is) c.requires)
     (subst (λ p. OnOk c.read_at.result (IfSome (g.S.Storage.content c.self.inside.file) (λ held. c.read_at.new.into ≡ slice_range held p (p + 512))))
     {x = c.args.sector * 512} {y = 512 * c.args.sector} (omega arith) c.read_at.ensures.value))

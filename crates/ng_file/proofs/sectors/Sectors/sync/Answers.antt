@@ -23,5 +23,6 @@ invariant_of-self-2 g c =
 pub returns-clause-trace : goal.returns-clause-trace
 returns-clause-trace g c =
     let s = model c.self.inside.file c.self.inside.count c.self.inside.done.values c.self.inside.files.values in
-    trace-now g.S.Storage.content g.S.Storage.promise s Sync c.sync.new.self c.and-self-inside.result.values c.and-self-inside-2.result.values c.self.invariant.1
+    trace-now g.S.Storage.content g.S.Storage.promise s Sync c.sync.new.self c.and-self-inside.result.values
+    c.and-self-inside-2.result.values c.self.invariant.1
     c.and-self-inside.ensures c.and-self-inside-2.ensures ∙ ap (λ t. Synced (trace_of g.S.Storage.content t)) c.self.view_is

@@ -16,7 +16,8 @@ computed c =
     let x = to_z-of_z w64 c.count-2.result (record { sfits = c.count-2.type_inv }) in
     let y = to_z-of_z w64 c.count-3.result (record { sfits = c.count-3.type_inv }) in
     let r = to_z-of_z w64 c.rem_euclid.result (record { sfits = c.rem_euclid.type_inv }) in
-    let rest : c.rem_euclid.result ≡ int_rem_euclid c.args.self c.args.divisor = rw (x, y, c.count-2.ensures.value, c.count-3.ensures.value) at c.rem_euclid.ensures.value in
+    let rest : c.rem_euclid.result ≡ int_rem_euclid c.args.self c.args.divisor =
+    rw (x, y, c.count-2.ensures.value, c.count-3.ensures.value) at c.rem_euclid.ensures.value in
     rw (r, rest) at c.of_i64.ensures
 
 pub returns-clause-value : goal.returns-clause-value

@@ -13,7 +13,9 @@ multiplied c =
     known ∙ product_by_size c.args.self c.args.other _ _ _ c.size.ensures.value c.size-2.ensures.value (rw size at c.nearest_size.ensures)
 
 beyond : (c : goal.In-None) → 2 ^ 64 ≤ unsigned_abs c.args.self * unsigned_abs c.args.other
-beyond c = rw (← c.size.ensures.value, ← c.size-2.ensures.value) (elim (cases_lt (c.size.result * c.size-2.result) (2 ^ 64)) [ inl h ↦ absurd (c.in-None.ensures h) | inr h ↦ h ])
+beyond c = rw (← c.size.ensures.value, ← c.size-2.ensures.value)
+    (elim (cases_lt (c.size.result * c.size-2.result) (2 ^ 64))
+    [ inl h ↦ absurd (c.in-None.ensures h) | inr h ↦ h ])
 
 pub returns-in-Some-clause-value : goal.returns-in-Some-clause-value
 returns-in-Some-clause-value c = multiplied c

@@ -5,9 +5,12 @@ use Rattle.ng_pace.proofs.chord.Chord.slopes.Goals as goal
 
 pub returns-clause-are : goal.returns-clause-are
 returns-clause-are c = λ slack pulses cones count some. record {
-  x = λ d. c.slopes_at.ensures.between slack (steps_along 0 pulses) (cones.x _) (omega (arith, length-map pulses (step_of 0), count)) (omega (arith, count, some));
-  y = λ d. c.slopes_at-2.ensures.between slack (steps_along 1 pulses) (cones.y _) (omega (arith, length-map pulses (step_of 1), count)) (omega (arith, count, some));
-  z = λ d. c.slopes_at-3.ensures.between slack (steps_along 2 pulses) (cones.z _) (omega (arith, length-map pulses (step_of 2), count)) (omega (arith, count, some));
+  x = λ d. c.slopes_at.ensures.between slack (steps_along 0 pulses) (cones.x _)
+      (omega (arith, length-map pulses (step_of 0), count)) (omega (arith, count, some));
+  y = λ d. c.slopes_at-2.ensures.between slack (steps_along 1 pulses) (cones.y _)
+      (omega (arith, length-map pulses (step_of 1), count)) (omega (arith, count, some));
+  z = λ d. c.slopes_at-3.ensures.between slack (steps_along 2 pulses) (cones.z _)
+      (omega (arith, length-map pulses (step_of 2), count)) (omega (arith, count, some));
 }
 
 pub returns-clause-reached : goal.returns-clause-reached

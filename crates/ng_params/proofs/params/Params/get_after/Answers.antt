@@ -10,7 +10,8 @@ use Rattle.ng_params.proofs.params.Params.get_after.Goals as goal
 pub loop-change-init : goal.loop-change-init
 loop-change-init g c =
     let n = c.number-number.ensures in
-    ahead_start c.self.inside.values.items _ _ _ _ c.self.view_is c.self.invariant (omega (arith, n.value, n.low)) (omega (arith, n.value, n.high)) c.index-value.ensures
+    ahead_start c.self.inside.values.items _ _ _ _ c.self.view_is c.self.invariant (omega (arith, n.value, n.low))
+    (omega (arith, n.value, n.high)) c.index-value.ensures
 
 pub loop-change-preserved : goal.loop-change-preserved
 loop-change-preserved g c =
@@ -22,8 +23,11 @@ loop-change-preserved g c =
     drop_more c.args.changes.now c.loop-change.change-index change c.loop-change-test.true ∙ ap (λ x. x ∷ rest) (sym c.change-item.is) in
     let here = subst (λ l. IsAhead c.args.self.now c.number-number.result c.args.changes.now c.loop-change.value l) parted c.loop-change.invariant in
     elim c.if-number.branch [
-      | then-number w ↦ rw w.value-is (ahead_same _ _ _ _ change rest (omega (arith, n.value, n.low)) (omega (arith, n.value, n.high)) (omega (arith, m.value, w.if-number.true)) here)
-      | else-number w ↦ rw w.value-is (ahead_other _ _ _ _ change rest (omega (arith, n.value, n.low)) m.low (λ e. w.if-number.false (omega (arith, m.value, e))) here)
+      | then-number w ↦ rw w.value-is
+          (ahead_same _ _ _ _ change rest (omega (arith, n.value, n.low)) (omega (arith, n.value, n.high))
+          (omega (arith, m.value, w.if-number.true)) here)
+      | else-number w ↦ rw w.value-is (ahead_other _ _ _ _ change rest (omega (arith, n.value, n.low)) m.low
+          (λ e. w.if-number.false (omega (arith, m.value, e))) here)
     ]
 
 pub returns : goal.returns

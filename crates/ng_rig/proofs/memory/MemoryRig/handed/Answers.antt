@@ -13,5 +13,6 @@ returns g c =
     IfOk-weaker c.items_of.result
     (λ handed. (sectors : List (List ℕ)) → handed.items ≡ items (trace_of_calls sectors c.before-2.result.now))
     (λ handed. handed.items ≡ items (trace_at c.args.n (trace_of_calls first calls)))
-    (λ handed h. h first ∙ ap (λ (cs : List Call). items (trace_of_calls first cs)) c.before-2.ensures ∙ sym (ap (λ (l : Trace). items l) (trace_at-trace_of_calls c.args.n first calls)))
+    (λ handed h. h first ∙ ap (λ (cs : List Call). items (trace_of_calls first cs)) c.before-2.ensures
+    ∙ sym (ap (λ (l : Trace). items l) (trace_at-trace_of_calls c.args.n first calls)))
     c.items_of.ensures

@@ -11,9 +11,13 @@ use Rattle.ng_rig.proofs.Reach.{reached_at, stop-kept_image}
 use Rattle.ng_rig.proofs.memory.MemoryRig.stopped.Goals as goal
 
 -- the image that is left, in terms of the trace at the moment
-left : (first was : List (List ℕ)) (calls part : List Call) (n : ℕ) (keep : List ℕ) (image : ℕ → List ℕ) → was ≡ first → part ≡ take n calls → image ≡ kept_image (trace_of_calls was part) keep → image ≡ kept_image (trace_at n (trace_of_calls first calls)) keep
+left : (first was : List (List ℕ)) (calls part : List Call) (n : ℕ) (keep : List ℕ) (image : ℕ → List ℕ)
+    → was ≡ first → part ≡ take n calls → image ≡ kept_image (trace_of_calls was part) keep
+    → image ≡ kept_image (trace_at n (trace_of_calls first calls)) keep
 left first was calls part n keep image e p is =
-    is ∙ ap (λ (s : List (List ℕ)). kept_image (trace_of_calls s part) keep) e ∙ ap (λ (cs : List Call). kept_image (trace_of_calls first cs) keep) p ∙ sym (ap (λ (l : Trace). kept_image l keep) (trace_at-trace_of_calls n first calls))
+    is ∙ ap (λ (s : List (List ℕ)). kept_image (trace_of_calls s part) keep) e
+    ∙ ap (λ (cs : List Call). kept_image (trace_of_calls first cs) keep) p
+    ∙ sym (ap (λ (l : Trace). kept_image l keep) (trace_at-trace_of_calls n first calls))
 
 pub stop_image-requires : goal.stop_image-requires
 stop_image-requires g c = rw (c.deref.ensures.value, c.before-2.ensures) (within_take _ _ c.args.n c.args.self.now.within)
@@ -29,7 +33,8 @@ returns-clause-exact g c =
     let first = c.args.self.now.first.items in
     let calls = c.args.self.now.calls.items in
     let e = left first _ calls _ c.args.n c.args.keep.now _ c.deref.ensures.value c.before-2.ensures c.in_ok-image.ensures.image in
-    IfOk-weaker c.holding.result (λ rig. trace_of rig ≡ Began (contents c.in_ok-image.image.items)) (λ rig. trace_of rig ≡ Began (kept_image (trace_at c.args.n (trace_of_calls first calls)) c.args.keep.now))
+    IfOk-weaker c.holding.result (λ rig. trace_of rig ≡ Began (contents c.in_ok-image.image.items))
+    (λ rig. trace_of rig ≡ Began (kept_image (trace_at c.args.n (trace_of_calls first calls)) c.args.keep.now))
     (λ rig h. h ∙ ap (λ (image : ℕ → List ℕ). Began image) e)
     c.holding.ensures.trace
 

@@ -7,10 +7,13 @@ use Rattle.ng_rig.proofs.memory.MemoryRigRig.write.Goals as goal
 pub invariant_of-self : goal.invariant_of-self
 invariant_of-self g c = record {
   same_size = length-set c.args.self.now.present.items c.args.sector c.args.bytes.now ∙ c.args.self.now.same_size;
-  within = within-push _ _ _ (Write c.args.sector c.args.bytes.now) c.in-Ok.ensures.items c.args.self.now.within (and_from _ _ (lt-ltb c.args.sector (length c.args.self.now.first.items) c.requires) (lt-ltb 0 (length c.args.bytes.now) (omega (arith, c.told-bytes))));
+  within = within-push _ _ _ (Write c.args.sector c.args.bytes.now) c.in-Ok.ensures.items c.args.self.now.within
+      (and_from _ _ (lt-ltb c.args.sector (length c.args.self.now.first.items) c.requires)
+      (lt-ltb 0 (length c.args.bytes.now) (omega (arith, c.told-bytes))));
   first_whole = c.args.self.now.first_whole;
   whole = whole_set _ _ c.args.sector c.args.bytes.now refl (omega (arith, c.told-bytes)) c.args.self.now.whole;
-  present_is = reads-push_write _ _ _ _ c.args.sector c.args.bytes.now c.in-Ok.ensures.items (omega (arith, c.args.self.now.same_size)) c.args.self.now.present_is;
+  present_is = reads-push_write _ _ _ _ c.args.sector c.args.bytes.now c.in-Ok.ensures.items
+      (omega (arith, c.args.self.now.same_size)) c.args.self.now.present_is;
 }
 
 pub returns-in-Ok-clause-trace : goal.returns-in-Ok-clause-trace

@@ -19,4 +19,5 @@ loop-halt-preserved g c =
     )
 
 pub returns-in-Err-clause-step : goal.returns-in-Err-clause-step
-returns-in-Err-clause-step g c limits start bytes kept here = c.in-Err.ensures.step true limits start bytes kept (c.loop-halt.invariant.0 limits start bytes kept here) (λ no. absurd (cc no))
+returns-in-Err-clause-step g c limits start bytes kept here = c.in-Err.ensures.step true limits start bytes kept
+    (c.loop-halt.invariant.0 limits start bytes kept here) (λ no. absurd (cc no))

@@ -14,14 +14,17 @@ returns-in-Ok-clause-step g c ended limits start bytes kept here full =
     let fits : c.args.self.now.due_ns + c.in-Some.given.ns < 2 ^ 64 - 1 = omega (arith, c.saturating_add-over_ns.ensures, c.if-over_ns.false) in
     let sum : c.saturating_add-over_ns.result ≡ c.args.self.now.due_ns + c.in-Some.given.ns = omega (arith, c.saturating_add-over_ns.ensures, fits) in
     gives limits start _ _ bytes kept c.args.self.now _ c.in-Some.given here full h
-    (long_enough c.args.self.now.stream.motion.percent c.in-Some.given.line.item c.args.self.now.due_ns c.in-Some.given.ns h.given_out.least fits) refl sum c.in-Some-checked_add.ensures.1 c.in-Ok.ensures
+    (long_enough c.args.self.now.stream.motion.percent c.in-Some.given.line.item c.args.self.now.due_ns
+    c.in-Some.given.ns h.given_out.least fits) refl sum c.in-Some-checked_add.ensures.1 c.in-Ok.ensures
 
 pub returns-in-Err-clause-step : goal.returns-in-Err-clause-step
 returns-in-Err-clause-step g c ended limits start bytes kept here full =
     let h = c.in-Some.ensures.given in
     let fits : c.args.self.now.due_ns + c.in-Some.given.ns < 2 ^ 64 - 1 = omega (arith, c.saturating_add-over_ns.ensures, c.if-over_ns.false) in
     cut_in_line limits start _ _ bytes kept c.args.self.now (record c.args.self.now { stream = c.next.new.self }) c.in-Some.given here full h
-    (long_enough c.args.self.now.stream.motion.percent c.in-Some.given.line.item c.args.self.now.due_ns c.in-Some.given.ns h.given_out.least fits) refl c.in-Err.ensures
+    (long_enough c.args.self.now.stream.motion.percent c.in-Some.given.line.item c.args.self.now.due_ns
+    c.in-Some.given.ns h.given_out.least fits) refl c.in-Err.ensures
 
 pub returns-in_default-checked_add-clause-step : goal.returns-in_default-checked_add-clause-step
-returns-in_default-checked_add-clause-step g c ended limits start bytes kept here full = cut limits start _ bytes kept c.args.self.now c.args.self.now.shown refl here
+returns-in_default-checked_add-clause-step g c ended limits start bytes kept here full =
+    cut limits start _ bytes kept c.args.self.now c.args.self.now.shown refl here

@@ -11,9 +11,12 @@ returns-in-Ok-false-give_next-clause-step g c limits start bytes kept here full 
     let same = c.in-Ok-false.ensures.same c.in-Ok-false.field-0-test in
     let none : c.give_next.new.self.stream.motion.known ≡ [] = ap (λ (t : Flow). t.motion.known) same ∙ c.in-Ok-false.ensures.none c.in-Ok-false.field-0-test in
     let full' : IsFull c.give_next.new.self = subst (λ (t : Flow). t.motion.room ≤ length t.motion.known + length t.waiting) (sym same) full in
-    let ended = told limits start _ bytes kept c.give_next.new.self (record c.give_next.new.self { stream = c.end.new.self }) first none full' c.end.ensures refl refl refl refl in
+    let ended = told limits start _ bytes kept c.give_next.new.self
+    (record c.give_next.new.self { stream = c.end.new.self }) first none full' c.end.ensures refl refl refl
+    refl in
     let full'' = still_full c.give_next.new.self.stream c.end.new.self c.end.ensures full' in
-    cut limits start _ bytes kept c.give_next-2.new.self c.give_next-2.new.self.shown refl (c.in-Ok-false-give_next.ensures.step false limits start bytes kept ended (λ no. full''))
+    cut limits start _ bytes kept c.give_next-2.new.self c.give_next-2.new.self.shown refl
+    (c.in-Ok-false-give_next.ensures.step false limits start bytes kept ended (λ no. full''))
 
 pub returns-in-Err-give_next-clause-step : goal.returns-in-Err-give_next-clause-step
 returns-in-Err-give_next-clause-step g c limits start bytes kept here full =
@@ -21,7 +24,9 @@ returns-in-Err-give_next-clause-step g c limits start bytes kept here full =
     let same = c.in-Ok-false.ensures.same c.in-Ok-false.field-0-test in
     let none : c.give_next.new.self.stream.motion.known ≡ [] = ap (λ (t : Flow). t.motion.known) same ∙ c.in-Ok-false.ensures.none c.in-Ok-false.field-0-test in
     let full' : IsFull c.give_next.new.self = subst (λ (t : Flow). t.motion.room ≤ length t.motion.known + length t.waiting) (sym same) full in
-    let ended = told limits start _ bytes kept c.give_next.new.self (record c.give_next.new.self { stream = c.end.new.self }) first none full' c.end.ensures refl refl refl refl in
+    let ended = told limits start _ bytes kept c.give_next.new.self
+    (record c.give_next.new.self { stream = c.end.new.self }) first none full' c.end.ensures refl refl refl
+    refl in
     c.in-Err-give_next.ensures.step false limits start bytes kept ended (λ no. still_full c.give_next.new.self.stream c.end.new.self c.end.ensures full')
 
 pub returns-in-Ok-true-give_next-clause-step : goal.returns-in-Ok-true-give_next-clause-step
@@ -30,7 +35,9 @@ returns-in-Ok-true-give_next-clause-step g c limits start bytes kept here full =
     let same = c.in-Ok-false.ensures.same c.in-Ok-false.field-0-test in
     let none : c.give_next.new.self.stream.motion.known ≡ [] = ap (λ (t : Flow). t.motion.known) same ∙ c.in-Ok-false.ensures.none c.in-Ok-false.field-0-test in
     let full' : IsFull c.give_next.new.self = subst (λ (t : Flow). t.motion.room ≤ length t.motion.known + length t.waiting) (sym same) full in
-    let ended = told limits start _ bytes kept c.give_next.new.self (record c.give_next.new.self { stream = c.end.new.self }) first none full' c.end.ensures refl refl refl refl in
+    let ended = told limits start _ bytes kept c.give_next.new.self
+    (record c.give_next.new.self { stream = c.end.new.self }) first none full' c.end.ensures refl refl refl
+    refl in
     c.in-Ok-true-give_next.ensures.step false limits start bytes kept ended (λ no. still_full c.give_next.new.self.stream c.end.new.self c.end.ensures full')
 
 pub returns-in-Err-clause-step : goal.returns-in-Err-clause-step

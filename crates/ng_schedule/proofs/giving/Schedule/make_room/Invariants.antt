@@ -6,7 +6,9 @@ use Rattle.ng_schedule.proofs.giving.Schedule.make_room.Given as goal
 
 abbrev pub invariant-loop-self : goal.invariant-loop-self
 invariant-loop-self g l =
-    ((limits : Limits) (start : Option (List ℕ)) (bytes kept : List ℕ) → IsUnderWay limits start (g.W.Write.contents l.fn.writer) bytes kept l.fn.self → IsUnderWay limits start (g.W.Write.contents l.writer) bytes kept l.self)
+    ((limits : Limits) (start : Option (List ℕ)) (bytes kept : List ℕ)
+    → IsUnderWay limits start (g.W.Write.contents l.fn.writer) bytes kept l.fn.self
+    → IsUnderWay limits start (g.W.Write.contents l.writer) bytes kept l.self)
     × (l.self.shown ≡ l.fn.self.shown)
 
 abbrev pub decreases-loop-self : goal.decreases-loop-self

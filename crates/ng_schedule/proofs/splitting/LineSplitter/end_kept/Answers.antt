@@ -12,7 +12,9 @@ pub returns-in-Err-clause-step : goal.returns-in-Err-clause-step
 returns-in-Err-clause-step g c limits start bytes here =
     let kept = c.args.self.now.kept.items in
     let line = c.args.line.now in
-    stops_at_long limits start _ bytes kept line (10 ∷ []) c.args.self.now.schedule here (HasNoNewline-append kept line c.requires.kept c.requires.line) (no_room kept line c.in-Err.ensures.variant.1)
+    stops_at_long limits start _ bytes kept line (10 ∷ []) c.args.self.now.schedule here
+    (HasNoNewline-append kept line c.requires.kept c.requires.line)
+    (no_room kept line c.in-Err.ensures.variant.1)
 
 pub returns-in-Ok-clause-step : goal.returns-in-Ok-clause-step
 returns-in-Ok-clause-step g c limits start bytes here =
@@ -21,5 +23,8 @@ returns-in-Ok-clause-step g c limits start bytes here =
     let parts = unkept limits start _ bytes kept c.args.self.now.schedule here in
     let text_is : c.as_slice.result.now ≡ kept ++ line = c.as_slice.ensures.value ∙ c.in-Ok.ensures.ok in
     let bytes_are : bytes ++ (line ++ 10 ∷ []) ≡ parts.0 ++ (c.as_slice.result.now ++ 10 ∷ []) =
-    ap (λ l. l ++ (line ++ 10 ∷ [])) parts.2 ∙ append_assoc parts.0 kept (line ++ 10 ∷ []) ∙ ap (λ l. parts.0 ++ l) (sym (append_assoc kept line (10 ∷ [])) ∙ ap (λ (l : List ℕ). l ++ 10 ∷ []) (sym text_is)) in
-    TakeSpec-from limits start _ _ _ _ _ c.take_line-taken.new.self c.take_line-taken.result bytes_are c.clear.ensures (c.take_line-taken.ensures.step limits start parts.0 parts.1)
+    ap (λ l. l ++ (line ++ 10 ∷ [])) parts.2 ∙ append_assoc parts.0 kept (line ++ 10 ∷ [])
+    ∙ ap (λ l. parts.0 ++ l) (sym (append_assoc kept line (10 ∷ []))
+    ∙ ap (λ (l : List ℕ). l ++ 10 ∷ []) (sym text_is)) in
+    TakeSpec-from limits start _ _ _ _ _ c.take_line-taken.new.self c.take_line-taken.result bytes_are
+    c.clear.ensures (c.take_line-taken.ensures.step limits start parts.0 parts.1)

@@ -8,7 +8,9 @@ pub returns-in-Ok-clause-kept : goal.returns-in-Ok-clause-kept
 returns-in-Ok-clause-kept g c = rw c.in-Ok.ensures.ok (HasNoNewline-append _ _ c.requires.kept c.requires.bytes)
 
 pub returns-in-Ok-clause-step : goal.returns-in-Ok-clause-step
-returns-in-Ok-clause-step g c limits start now before here = rw c.in-Ok.ensures.ok (keeps_more limits start now before c.args.self.now.kept.items c.args.bytes.now c.args.self.now.schedule here)
+returns-in-Ok-clause-step g c limits start now before here =
+    rw c.in-Ok.ensures.ok (keeps_more limits start now before c.args.self.now.kept.items c.args.bytes.now
+    c.args.self.now.schedule here)
 
 pub returns-in-Err-clause-step : goal.returns-in-Err-clause-step
 returns-in-Err-clause-step g c limits start now before here =

@@ -5,4 +5,11 @@ use Rattle.ng_settings.proofs.setting_numbers.SettingNumbers.is_beyond_limits.Go
 pub returns : goal.returns
 unfolding is_beyond_limits
 returns c =
-    rw (c.is_triple_beyond.ensures, c.is_triple_beyond-2.ensures, c.is_triple_beyond-3.ensures, c.is_single_beyond.ensures, c.is_single_beyond-2.ensures, c.is_list_beyond.ensures) refl
+    rw (
+      c.is_triple_beyond.ensures,
+      c.is_triple_beyond-2.ensures,
+      c.is_triple_beyond-3.ensures,
+      c.is_single_beyond.ensures,
+      c.is_single_beyond-2.ensures,
+      c.is_list_beyond.ensures,
+    ) refl

@@ -11,25 +11,43 @@ pub returns-in-Xy-clause-value : goal.returns-in-Xy-clause-value
 returns-in-Xy-clause-value c =
     let small_a = of_a_small c.args.self.plane c.args.distance.now (2 ^ 50) c.requires.distance in
     let small_b = of_b_small c.args.self.plane c.args.distance.now (2 ^ 50) c.requires.distance in
-    let a : c.pick_a.result ≡ pick_a c.args.self.plane c.args.distance.now.x c.args.distance.now.y c.args.distance.now.z = of_a_kept c.args.self.plane c.args.distance.now c.pick_a.result c.requires.distance c.pick_a.ensures in
-    let b : c.pick_b.result ≡ pick_b c.args.self.plane c.args.distance.now.x c.args.distance.now.y c.args.distance.now.z = of_b_kept c.args.self.plane c.args.distance.now c.pick_b.result c.requires.distance c.pick_b.ensures in
+    let a : c.pick_a.result ≡ pick_a c.args.self.plane c.args.distance.now.x c.args.distance.now.y
+    c.args.distance.now.z = of_a_kept c.args.self.plane c.args.distance.now c.pick_a.result c.requires.distance
+    c.pick_a.ensures in
+    let b : c.pick_b.result ≡ pick_b c.args.self.plane c.args.distance.now.x c.args.distance.now.y
+    c.args.distance.now.z = of_b_kept c.args.self.plane c.args.distance.now c.pick_b.result c.requires.distance
+    c.pick_b.ensures in
     let fits : SFits w64 c.args.net_b = search rules in
-    closing_at Xy c.args.self c.args.distance.now c.args.net_a c.args.net_b _ _ c.pick_a.result c.pick_b.result c.mirrored.result c.in-Xy.is a b (simp to_z-of_z at c.mirrored.ensures.value) (omega (arith, ints)) (omega (arith, ints))
+    closing_at Xy c.args.self c.args.distance.now c.args.net_a c.args.net_b _ _ c.pick_a.result c.pick_b.result
+    c.mirrored.result c.in-Xy.is a b (simp to_z-of_z at c.mirrored.ensures.value) (omega (arith, ints))
+    (omega (arith, ints))
 
 pub returns-in-Xz-clause-value : goal.returns-in-Xz-clause-value
 returns-in-Xz-clause-value c =
     let small_a = of_a_small c.args.self.plane c.args.distance.now (2 ^ 50) c.requires.distance in
     let small_b = of_b_small c.args.self.plane c.args.distance.now (2 ^ 50) c.requires.distance in
-    let a : c.pick_a.result ≡ pick_a c.args.self.plane c.args.distance.now.x c.args.distance.now.y c.args.distance.now.z = of_a_kept c.args.self.plane c.args.distance.now c.pick_a.result c.requires.distance c.pick_a.ensures in
-    let b : c.pick_b.result ≡ pick_b c.args.self.plane c.args.distance.now.x c.args.distance.now.y c.args.distance.now.z = of_b_kept c.args.self.plane c.args.distance.now c.pick_b.result c.requires.distance c.pick_b.ensures in
+    let a : c.pick_a.result ≡ pick_a c.args.self.plane c.args.distance.now.x c.args.distance.now.y
+    c.args.distance.now.z = of_a_kept c.args.self.plane c.args.distance.now c.pick_a.result c.requires.distance
+    c.pick_a.ensures in
+    let b : c.pick_b.result ≡ pick_b c.args.self.plane c.args.distance.now.x c.args.distance.now.y
+    c.args.distance.now.z = of_b_kept c.args.self.plane c.args.distance.now c.pick_b.result c.requires.distance
+    c.pick_b.ensures in
     let fits : SFits w64 c.args.net_b = search rules in
-    closing_at Xz c.args.self c.args.distance.now c.args.net_a c.args.net_b _ _ c.pick_a.result c.pick_b.result c.mirrored.result c.in-Xz.is a b (simp to_z-of_z at c.mirrored.ensures.value) (omega (arith, ints)) (omega (arith, ints))
+    closing_at Xz c.args.self c.args.distance.now c.args.net_a c.args.net_b _ _ c.pick_a.result c.pick_b.result
+    c.mirrored.result c.in-Xz.is a b (simp to_z-of_z at c.mirrored.ensures.value) (omega (arith, ints))
+    (omega (arith, ints))
 
 pub returns-in-Yz-clause-value : goal.returns-in-Yz-clause-value
 returns-in-Yz-clause-value c =
     let small_a = of_a_small c.args.self.plane c.args.distance.now (2 ^ 50) c.requires.distance in
     let small_b = of_b_small c.args.self.plane c.args.distance.now (2 ^ 50) c.requires.distance in
-    let a : c.pick_a.result ≡ pick_a c.args.self.plane c.args.distance.now.x c.args.distance.now.y c.args.distance.now.z = of_a_kept c.args.self.plane c.args.distance.now c.pick_a.result c.requires.distance c.pick_a.ensures in
-    let b : c.pick_b.result ≡ pick_b c.args.self.plane c.args.distance.now.x c.args.distance.now.y c.args.distance.now.z = of_b_kept c.args.self.plane c.args.distance.now c.pick_b.result c.requires.distance c.pick_b.ensures in
+    let a : c.pick_a.result ≡ pick_a c.args.self.plane c.args.distance.now.x c.args.distance.now.y
+    c.args.distance.now.z = of_a_kept c.args.self.plane c.args.distance.now c.pick_a.result c.requires.distance
+    c.pick_a.ensures in
+    let b : c.pick_b.result ≡ pick_b c.args.self.plane c.args.distance.now.x c.args.distance.now.y
+    c.args.distance.now.z = of_b_kept c.args.self.plane c.args.distance.now c.pick_b.result c.requires.distance
+    c.pick_b.ensures in
     let fits : SFits w64 c.args.net_b = search rules in
-    closing_at Yz c.args.self c.args.distance.now c.args.net_a c.args.net_b _ _ c.pick_a.result c.pick_b.result c.mirrored.result c.in-Yz.is a b (simp to_z-of_z at c.mirrored.ensures.value) (omega (arith, ints)) (omega (arith, ints))
+    closing_at Yz c.args.self c.args.distance.now c.args.net_a c.args.net_b _ _ c.pick_a.result c.pick_b.result
+    c.mirrored.result c.in-Yz.is a b (simp to_z-of_z at c.mirrored.ensures.value) (omega (arith, ints))
+    (omega (arith, ints))

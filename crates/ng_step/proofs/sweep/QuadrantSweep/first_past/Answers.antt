@@ -13,14 +13,21 @@ enters c =
           let p = c.args.self.now in
           let level = c.first_level_past-inward.result in
           let some : 0 < level = omega arith in
-          let before : LeavesBefore p c.args.end (level - 1) = ⊎_elim (λ none. absurd (omega arith)) (λ before. before) c.first_level_past-inward.ensures.first in
+          let before : LeavesBefore p c.args.end (level - 1) = ⊎_elim (λ none. absurd (omega arith))
+          (λ before. before) c.first_level_past-inward.ensures.first in
           enters_below p c.args.end level c.if-inward-eq0.before some c.first_level_past-inward.ensures.inside
           (subst (λ (m : ℕ). IsLeaving p.square (inner_at p (level - 1)) p.outer p.outer_step m) (sym w.before-is) w.outward_to-before.ensures.leaving) before
     ]
 
-first : (c : goal.After-ceil_div-more) → IsFirstPast c.args.self.now c.args.end (record { inward = c.first_level_past-inward.result; outward = c.if-inward-eq0.before + c.ceil_div-more.result })
+first : (c : goal.After-ceil_div-more)
+    → IsFirstPast c.args.self.now c.args.end
+    (record {
+      inward = c.first_level_past-inward.result;
+      outward = c.if-inward-eq0.before + c.ceil_div-more.result;
+    })
 first c =
-    let past = first_past_is c.args.self.now c.args.end c.first_level_past-inward.result c.if-inward-eq0.before c.ceil_div-more.result (enters c) c.requires.enters c.first_level_past-inward.ensures.past
+    let past = first_past_is c.args.self.now c.args.end c.first_level_past-inward.result c.if-inward-eq0.before
+    c.ceil_div-more.result (enters c) c.requires.enters c.first_level_past-inward.ensures.past
     (c.ceil_div-more.ensures ∙ ap (λ x. ceil_div x (c.args.self.now.outer_step * c.args.end.inner)) c.saturating_sub.ensures) in
     record { inside = c.first_level_past-inward.ensures.inside; past = past.0; comes = past.1 }
 

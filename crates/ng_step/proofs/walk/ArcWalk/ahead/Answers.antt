@@ -24,4 +24,5 @@ returns c =
     let some : int_le c.turned-end.result.a (pos 0) ≡ false = simp to_z-of_z at c.if-end-le0.false in
     let inner : c.unsigned_abs.result ≡ unsigned_abs c.turned-end.result.a = simp to_z-of_z at c.unsigned_abs.ensures.value in
     let outer : c.unsigned_abs-2.result ≡ unsigned_abs c.turned-end.result.b = simp to_z-of_z at c.unsigned_abs-2.ensures.value in
-    ahead_is w.quadrant w.inner w.outer c.args.end c.turned-end.result c.unsigned_abs.result c.unsigned_abs-2.result c.turned-end.ensures some c.requires.before inner outer
+    ahead_is w.quadrant w.inner w.outer c.args.end c.turned-end.result c.unsigned_abs.result c.unsigned_abs-2.result
+    c.turned-end.ensures some c.requires.before inner outer

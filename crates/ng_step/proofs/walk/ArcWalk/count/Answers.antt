@@ -8,8 +8,11 @@ use Rattle.ng_step.proofs.RoundLemmas.{stored}
 use Rattle.ng_step.proofs.StopLemmas.{goes_on_before, reached_more, reached_end, few_steps}
 use Rattle.ng_step.proofs.walk.ArcWalk.count.Goals as goal
 
-leads : (c : goal.After-struct_known-1) → WalkLeads c.args.end c.quadrants.walk c.quadrants.left c.across-leap.result.walk (c.quadrants.left - 1) c.across-leap.result.steps
-leads c = c.across-leap.ensures.leads c.args.end c.quadrants.left (omega arith) (λ i o low high near far. goes_on_before c.args.end (point_of_quadrant c.quadrants.walk.quadrant i o) c.quadrants.left c.quadrants-test.true)
+leads : (c : goal.After-struct_known-1) → WalkLeads c.args.end c.quadrants.walk c.quadrants.left
+    c.across-leap.result.walk (c.quadrants.left - 1) c.across-leap.result.steps
+leads c = c.across-leap.ensures.leads c.args.end c.quadrants.left (omega arith)
+    (λ i o low high near far. goes_on_before c.args.end (point_of_quadrant c.quadrants.walk.quadrant i o)
+    c.quadrants.left c.quadrants-test.true)
 
 pub overflow_add-steps : goal.overflow_add-steps
 overflow_add-steps c =
@@ -20,11 +23,15 @@ overflow_add-steps c =
 
 pub quadrants-preserved : goal.quadrants-preserved
 quadrants-preserved c =
-    reached_more c.args.end c.args.self.now c.args.quadrants c.quadrants.walk c.across-leap.result.walk c.quadrants.left (c.quadrants.left - 1) c.quadrants.steps c.across-leap.result.steps c.quadrants.invariant
+    reached_more c.args.end c.args.self.now c.args.quadrants c.quadrants.walk c.across-leap.result.walk
+    c.quadrants.left (c.quadrants.left - 1) c.quadrants.steps c.across-leap.result.steps c.quadrants.invariant
     c.across-leap.ensures.walks c.across-leap.ensures.circle (leads c)
 
-ends : (c : goal.After-whole_steps-2) → EndsArc c.args.self.now.circle c.args.end c.args.self.now.quadrant c.args.self.now.inner c.args.self.now.outer c.args.quadrants (spot_of c.to_end-leap.result.walk) (c.quadrants.steps + c.to_end-leap.result.steps)
-ends c = reached_end c.args.end c.args.self.now c.args.quadrants c.quadrants.walk c.quadrants.left c.quadrants.steps (spot_of c.to_end-leap.result.walk) c.to_end-leap.result.steps c.quadrants.invariant c.to_end-leap.ensures.ends
+ends : (c : goal.After-whole_steps-2) → EndsArc c.args.self.now.circle c.args.end c.args.self.now.quadrant
+    c.args.self.now.inner c.args.self.now.outer c.args.quadrants (spot_of c.to_end-leap.result.walk)
+    (c.quadrants.steps + c.to_end-leap.result.steps)
+ends c = reached_end c.args.end c.args.self.now c.args.quadrants c.quadrants.walk c.quadrants.left c.quadrants.steps
+    (spot_of c.to_end-leap.result.walk) c.to_end-leap.result.steps c.quadrants.invariant c.to_end-leap.ensures.ends
 
 pub returns-clause-steps : goal.returns-clause-steps
 returns-clause-steps c = (ends c).steps
@@ -45,4 +52,5 @@ returns-clause-b c = λ ms arc.
     let last = ap (λ (p : PlanePoint). p.b) c.spot-last.ensures.value in
     let small_first = c.spot-first.ensures.b in
     let small_last = c.spot-last.ensures.b in
-    stored c.whole_steps-2.result (omega (arith, c.whole_steps-2.ensures.size)) ∙ c.whole_steps-2.ensures.value (net_b ms) (omega (arith, ints, net.1, first, last))
+    stored c.whole_steps-2.result (omega (arith, c.whole_steps-2.ensures.size))
+    ∙ c.whole_steps-2.ensures.value (net_b ms) (omega (arith, ints, net.1, first, last))

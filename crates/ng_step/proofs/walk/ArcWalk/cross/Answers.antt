@@ -7,7 +7,9 @@ pub returns : goal.returns
 returns c =
     let sizes = small c.args.self.now c.requires.walks in
     step_crossing c.args.self.now _ _ _ _ _ _ _ _ _ c.requires.walks c.requires.outside c.requires.near c.requires.walks.inward_made c.next-quadrant.ensures
-    (omega (arith, ints)) (omega (arith, ints)) (omega (arith, ints)) (omega (arith, ints)) (omega (arith, ints)) (c.pulse_with.ensures ∙ ap (flat c.args.self.now) c.inward.ensures) (c.pulse_with-2.ensures ∙ ap (flat c.args.self.now) c.outward.ensures)
+    (omega (arith, ints)) (omega (arith, ints)) (omega (arith, ints)) (omega (arith, ints)) (omega (arith, ints))
+    (c.pulse_with.ensures ∙ ap (flat c.args.self.now) c.inward.ensures) (c.pulse_with-2.ensures
+    ∙ ap (flat c.args.self.now) c.outward.ensures)
 
 pub sum-requires-clause-second : goal.sum-requires-clause-second
 sum-requires-clause-second c = kept c.args.self.now.inward (small c.args.self.now c.requires.walks).inward

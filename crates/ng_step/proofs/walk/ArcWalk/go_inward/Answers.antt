@@ -6,4 +6,5 @@ use Rattle.ng_step.proofs.walk.ArcWalk.go_inward.Goals as goal
 pub returns : goal.returns
 returns c =
     let sizes = small c.args.self.now c.requires.walks in
-    step_inward c.args.self.now _ _ _ c.requires.walks c.requires.outside c.requires.far c.requires.walks.inward_made (omega (arith, ints)) (omega (arith, ints))
+    step_inward c.args.self.now _ _ _ c.requires.walks c.requires.outside c.requires.far
+    c.requires.walks.inward_made (omega (arith, ints)) (omega (arith, ints))

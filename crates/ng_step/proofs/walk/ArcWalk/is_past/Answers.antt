@@ -13,5 +13,6 @@ returns c =
     let fits_second : SFits w128 c.product-2.result = search rules in
     let first : c.product.result ≡ pos c.args.self.now.inner *ℤ c.turned-end.result.b = simp to_z-of_z at c.product.ensures in
     let second : c.product-2.result ≡ pos c.args.self.now.outer *ℤ c.turned-end.result.a = simp to_z-of_z at c.product-2.ensures in
-    simp to_z-of_z (past_is c.args.self.now.quadrant c.args.self.now.inner c.args.self.now.outer c.args.end c.turned-end.result c.product.result c.product-2.result
+    simp to_z-of_z (past_is c.args.self.now.quadrant c.args.self.now.inner c.args.self.now.outer c.args.end
+    c.turned-end.result c.product.result c.product-2.result
     c.turned-end.ensures first second)

@@ -7,7 +7,9 @@ pub loop-byte-init : goal.loop-byte-init
 loop-byte-init c = λ more. ap (λ (l : List _). kind_in (l ++ more)) (append-nil (shortest c.args.self))
 
 pub loop-byte-preserved : goal.loop-byte-preserved
-loop-byte-preserved c = decides_one (shortest c.args.self) c.args.bytes.now c.loop-byte.byte-index _ _ (omega (arith, c.loop-byte-test.true)) c.loop-byte.invariant c.after-seen.ensures
+loop-byte-preserved c = decides_one (shortest c.args.self) c.args.bytes.now c.loop-byte.byte-index _ _
+    (omega (arith, c.loop-byte-test.true)) c.loop-byte.invariant c.after-seen.ensures
 
 pub returns : goal.returns
-returns c = decides_all (shortest c.args.self) c.args.bytes.now c.loop-byte.byte-index c.loop-byte.seen (omega (arith, c.loop-byte-test.false)) c.loop-byte.invariant
+returns c = decides_all (shortest c.args.self) c.args.bytes.now c.loop-byte.byte-index c.loop-byte.seen
+    (omega (arith, c.loop-byte-test.false)) c.loop-byte.invariant

@@ -13,7 +13,8 @@ overflow_sub-result c =
 pub returns-in-Some-clause-text : goal.returns-in-Some-clause-text
 returns-in-Some-clause-text c =
     ap (λ (l : LineModel). last_comment (pieces_by l.places)) (sym c.self.view_is)
-    ∙ last_text _ _ c.in-Some.n c.len.result c.as_slice.result.now c.self.invariant.0 c.self.invariant.1 c.in-Some.is c.as_slice.ensures.value c.len.ensures.value
+    ∙ last_text _ _ c.in-Some.n c.len.result c.as_slice.result.now c.self.invariant.0 c.self.invariant.1
+    c.in-Some.is c.as_slice.ensures.value c.len.ensures.value
 
 pub returns-in-None-clause-text : goal.returns-in-None-clause-text
 returns-in-None-clause-text c =

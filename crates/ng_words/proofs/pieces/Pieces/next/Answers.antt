@@ -24,7 +24,13 @@ pub invariant_of-self-in-Word : goal.invariant_of-self-in-Word
 invariant_of-self-in-Word c =
     let first = kept_word _ _ _ _ _ c.self.invariant.0 c.in_ok-item.ensures.cases.0 c.in-Word.is in
     let rest = c.split_tree-value.ensures.rest in (
-      subst (λ (nodes : List Node). AreEncodedPieces (record { items = c.in_ok-item.others.now; nodes = nodes; bytes = c.self.inside.bytes.now })) (sym rest) first.kept,
+      subst (λ (nodes : List Node).
+          AreEncodedPieces (record {
+            items = c.in_ok-item.others.now;
+            nodes = nodes;
+            bytes =
+                c.self.inside.bytes.now;
+          })) (sym rest) first.kept,
       omega (arith, c.self.invariant.1, ap length rest, length-drop c.in-Word.n c.self.inside.nodes.now),
     )
 
@@ -36,18 +42,32 @@ split_tree-index-requires-clause-tree c = (kept_assignment _ _ _ _ _ c.self.inva
 
 pub split_tree-value-requires-in-Assignment-clause-within : goal.split_tree-value-requires-in-Assignment-clause-within
 split_tree-value-requires-in-Assignment-clause-within c =
-    subst (λ (nodes : List Node). c.in-Assignment.n ≤ length nodes) (sym c.split_tree-index.ensures.rest) (kept_assignment _ _ _ _ _ c.self.invariant.0 c.in_ok-item.ensures.cases.0 c.in-Assignment.is).value_within
+    subst (λ (nodes : List Node). c.in-Assignment.n ≤ length nodes) (sym c.split_tree-index.ensures.rest)
+    (kept_assignment _ _ _ _ _ c.self.invariant.0 c.in_ok-item.ensures.cases.0 c.in-Assignment.is).value_within
 
 pub split_tree-value-requires-in-Assignment-clause-tree : goal.split_tree-value-requires-in-Assignment-clause-tree
 split_tree-value-requires-in-Assignment-clause-tree c =
-    subst (λ (nodes : List Node). IsTree (take c.in-Assignment.n nodes)) (sym c.split_tree-index.ensures.rest) (kept_assignment _ _ _ _ _ c.self.invariant.0 c.in_ok-item.ensures.cases.0 c.in-Assignment.is).value
+    subst (λ (nodes : List Node). IsTree (take c.in-Assignment.n nodes)) (sym c.split_tree-index.ensures.rest)
+    (kept_assignment _ _ _ _ _ c.self.invariant.0 c.in_ok-item.ensures.cases.0 c.in-Assignment.is).value
 
 pub invariant_of-self-in-Assignment : goal.invariant_of-self-in-Assignment
 invariant_of-self-in-Assignment c =
     let first = kept_assignment _ _ _ _ _ c.self.invariant.0 c.in_ok-item.ensures.cases.0 c.in-Assignment.is in
     let rest = c.split_tree-value-in-Assignment.ensures.rest ∙ ap (drop c.in-Assignment.n) c.split_tree-index.ensures.rest in (
-      subst (λ (nodes : List Node). AreEncodedPieces (record { items = c.in_ok-item.others.now; nodes = nodes; bytes = c.self.inside.bytes.now })) (sym rest) first.kept,
-      omega (arith, c.self.invariant.1, ap length rest, length-drop c.in-Assignment.n (drop c.in-Assignment.i c.self.inside.nodes.now), length-drop c.in-Assignment.i c.self.inside.nodes.now),
+      subst (λ (nodes : List Node).
+          AreEncodedPieces (record {
+            items = c.in_ok-item.others.now;
+            nodes = nodes;
+            bytes =
+                c.self.inside.bytes.now;
+          })) (sym rest) first.kept,
+      omega (
+        arith,
+        c.self.invariant.1,
+        ap length rest,
+        length-drop c.in-Assignment.n (drop c.in-Assignment.i c.self.inside.nodes.now),
+        length-drop c.in-Assignment.i c.self.inside.nodes.now,
+      ),
     )
 
 pub split_at-requires : goal.split_at-requires
@@ -55,7 +75,9 @@ split_at-requires c = (kept_comment _ _ _ _ c.self.invariant.0 c.in_ok-item.ensu
 
 pub invariant_of-self-in-Comment : goal.invariant_of-self-in-Comment
 invariant_of-self-in-Comment c = (
-  subst (λ (bytes : List ℕ). AreEncodedPieces (record { items = c.in_ok-item.others.now; nodes = c.self.inside.nodes.now; bytes = bytes })) (sym c.split_at.ensures.back)
+  subst (λ (bytes : List ℕ).
+      AreEncodedPieces (record { items = c.in_ok-item.others.now; nodes = c.self.inside.nodes.now; bytes = bytes }))
+      (sym c.split_at.ensures.back)
       (kept_comment _ _ _ _ c.self.invariant.0 c.in_ok-item.ensures.cases.0 c.in-Comment.is).kept,
   c.self.invariant.1,
 )
