@@ -1,8 +1,7 @@
 pub mod Calls
 pub mod Device
 pub mod Extent
-pub mod FailOnce
-pub mod Fuse
+pub mod Failing
 pub mod Kept
 pub mod Trace
 pub mod MemoryRig
