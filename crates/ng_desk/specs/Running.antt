@@ -31,8 +31,8 @@ abbrev pub RunsFrom : {A R : Type 0} → (R → Device) → Option (ControllerMo
 RunsFrom {A} {R} seen start history moments now =
     (first : ControllerModel R) → start ≡ Some first → IsPromisedRun seen (events_of history) (replies_of history) moments first now
 
--- A desk with these seats was closed. The history's numbers count up from 0, and its moments are those that the book
--- kept. The lists of the seats are as they were, and the history is as long as all of them together.
+-- A desk with these seats was closed. The history's numbers count up from 0, and it ran at some moments. The lists of
+-- the seats are as they were, and the history is as long as all of them together.
 pub record IsClosed {A R : Type 0} (seen : R → Device) (start : Option (ControllerModel R))
     (seats : List (Seated A)) (controller : ControllerModel R) (history : List (Call A)) (left : List (Seated A)) :
     Type 0 where
