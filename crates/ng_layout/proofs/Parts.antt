@@ -10,10 +10,10 @@ use Rattle.ng_params.specs.declared.change.Change.{Change}
 use Rattle.ng_layout.specs.Fields.{number_at, signed_at, AreZero, SameBelow, SameFrom, Puts}
 use Rattle.ng_layout.specs.Log.{PartHeader, is_part, change_at}
 use Rattle.ng_layout.specs.Part.{changes_in, HoldsLabel, HoldsChanges, Makes}
-use Rattle.ng_layout.specs.Report.{and_then, count_of}
-use Rattle.ng_layout.proofs.Places.{number-below, signed-below, bytes-below, from-further}
-use Rattle.ng_layout.proofs.Rows.{zeros-from}
-use Rattle.ng_layout.proofs.SaysAgain.{count-back}
+use Rattle.ng_layout.specs.Decoding.{and_then, count_of}
+use Rattle.ng_layout.proofs.ByteLemmas.{number-below, signed-below, bytes-below, from-further}
+use Rattle.ng_layout.proofs.SectorLemmas.{zeros-from}
+use Rattle.ng_layout.proofs.CodecLemmas.{count-back}
 
 five : (a b c d e p q r s t : ℕ) → a ≡ p → b ≡ q → c ≡ r → d ≡ s → e ≡ t → ((a == p) && (b == q) && (c == r) && (d == s) && (e == t)) ≡ true
 five a b c d e p q r s t v w x y z = grind (arith, nat_tests)

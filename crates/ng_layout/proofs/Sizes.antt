@@ -1,5 +1,5 @@
 -- What a device's size implies for its program areas.
-use Rattle.std.proofs.Common.{◌≡◌, ℕ, zero, suc, ◌+◌, ◌≤◌, nat_le, Bool, true, false, if◌then◌else◌, refl, arith}
+use Rattle.std.proofs.Common.{◌≡◌, ℕ, zero, suc, ◌+◌, ◌≤◌, Bool, true, false, if◌then◌else◌, refl, arith}
 use Rattle.std.proofs.lemmas.Bool.Decides.{nat_tests}
 use Rattle.ng_layout.specs.Areas.{greatest_area, is_large_size, large_size, least_size, program_first, program_size}
 use Rattle.ng_layout.specs.Header.{longest_in, program_room}

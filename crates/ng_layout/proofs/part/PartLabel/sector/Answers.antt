@@ -1,8 +1,8 @@
 use Rattle.std.proofs.Common.{replicate, ◌∙◌, lit≤}
 use Rattle.ng_layout.specs.Part.{label_of}
 use Rattle.ng_layout.proofs.Parts.{labelled}
-use Rattle.ng_layout.proofs.Places.{number-below, bytes-from, below-more, below-none, from-more}
-use Rattle.ng_layout.proofs.Rows.{bytes-zeros}
+use Rattle.ng_layout.proofs.ByteLemmas.{number-below, bytes-from, below-more, below-none, from-more}
+use Rattle.ng_layout.proofs.SectorLemmas.{bytes-zeros}
 use Rattle.ng_layout.proofs.part.PartLabel.sector.Goals as goal
 
 pub returns-clause-rest : goal.returns-clause-rest
