@@ -13,10 +13,6 @@ up_to-back limit n le = grind (arith, nat_tests)
 pub count-back : (z : ℤ) → IsCount z → count_of z ≡ Some z
 count-back z small = grind (arith, nat_tests)
 
-pub rate-back : (z : ℤ) → pos 0 ≤ℤ z → IsCount z → rate_of (unsigned_abs z) ≡ Some z
-rate-back (pos n) le small = count-back (pos n) small
-rate-back (negsuc n) le small = absurd (omega (arith, ints, le))
-
 pub system-back : (n : ℕ) → 1 ≤ n → n ≤ 9 → system_of (pos n) ≡ Some n
 system-back n low high = grind (arith, nat_tests)
 

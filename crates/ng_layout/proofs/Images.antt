@@ -188,15 +188,6 @@ pub area-most : (large : Bool) → greatest_area large ≤ 3
 area-most true = omega arith
 area-most false = omega arith
 
-pub longest-most : (area : ℕ) → longest_in area ≤ longest_program
-longest-most area = elim (cases area) [
-  | inl many ↦ let e : longest_in area ≡ 1_048_576 = grind (arith, nat_tests) in omega arith
-  | inr few ↦ let e : longest_in area ≡ 131_072 = grind (arith, nat_tests) in omega arith
-]
-  where
-    cases : (area : ℕ) → (2 ≤ area) ⊎ (area < 2)
-    cases area = grind arith
-
 -- a sector of another program area
 pub other-where : (area n : ℕ) → IsOfOther area n → ((174 ≤ n) × (n < 686)) ⊎ ((1710 ≤ n) × (n < 5806))
 other-where area n other =

@@ -5,7 +5,6 @@ pub mod Images
 pub mod Parts
 pub mod RowLemmas
 pub mod SectorLemmas
-pub mod Sizes
 pub mod Snapshots
 pub mod Spares
 pub mod Tables

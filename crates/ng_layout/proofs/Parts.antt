@@ -39,10 +39,6 @@ label-below l at old new s le h = record {
   gap = bytes-below 10 22 at old new s (omega arith) ∙ h.gap;
 }
 
--- the content of a sector that is zero after its label
-pub no_content : (sector : List ℕ) → SameFrom 22 (replicate 512 0) sector → drop 32 sector ≡ replicate 480 0
-no_content sector s = (from-further 22 32 (replicate 512 0) sector s (lit≤ tt)).same ∙ drop-replicate 32 512 0
-
 pub change-below : (o at : ℕ) (old new : List ℕ) → SameBelow at old new → o + 10 ≤ at → change_at new o ≡ change_at old o
 change-below o at old new s le =
     let a = number-below 2 o at old new s (omega arith) in

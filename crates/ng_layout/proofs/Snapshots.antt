@@ -65,9 +65,6 @@ one_false test f a (suc n) p from to is = elim (at_or_after a p from) [
     no_right true = refl
     no_right false = refl
 
-pub table-start : (table : List ℤ) (row : Row) → length table ≡ 5399 → TableTo table 0 row
-table-start table row long = record { here = λ p lt within. absurd (omega arith); counts = λ p lt within. absurd (omega arith); long = long }
-
 earlier : (n p : ℕ) → p < 64 * (n + 1) → (p < 64 * n) ⊎ ((p / 64 ≡ n) × (64 * n + p % 64 ≡ p))
 earlier n p lt = elim (lt_cases p (64 * n)) [ inl before ↦ inl before | inr here ↦ inr (omega arith, omega arith) ]
   where

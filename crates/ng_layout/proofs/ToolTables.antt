@@ -40,20 +40,6 @@ tools-made Two sector tools change is slot tool valid =
 
 -- ---- what is read from a tool area
 
-pub length-small : (n m : ℤ) → tool_length_of n ≡ Some m → IsToolLength m
-length-small n m is = go (int_le (pos 0) n && int_le n (pos 1_000_000_000)) refl is
-  where
-    inside : (n : ℤ) → (int_le (pos 0) n && int_le n (pos 1_000_000_000)) ≡ true → IsToolLength n
-    inside (pos n) is = record { least = grind (arith, nat_tests); most = grind (arith, nat_tests) }
-    inside (negsuc n) is = absurd (cc)
-
-    go : (b : Bool) → (int_le (pos 0) n && int_le n (pos 1_000_000_000)) ≡ b → (if b then Some n else None) ≡ Some m → IsToolLength m
-    go true test is = subst IsToolLength (some is) (inside n test)
-      where
-        some : Some n ≡ Some m → n ≡ m
-        some e = cc
-    go false test is = absurd (cc)
-
 module _ (area : ℕ → List ℕ) where
   abbrev one_at : ℕ → Option ℤ
   one_at n = tool_length_of (signed_at (8 * (n % 64)) (area (n / 64)))

@@ -1,5 +1,6 @@
 -- What the bytes of a state field say; None if a number in them is out of range (own).
 use Rattle.std.specs.Prelude.{ℕ, ◌+◌, ◌/◌, ◌%◌, ◌==◌, ◌&&◌, ◌||◌, Bool, true, false, not, nat_le, is_none, ℤ, pos, List, Option, Some, None, if◌then◌else◌}
+use Rattle.std.specs.Bool.{then_some}
 use Rattle.std.specs.Option.{option_map}
 use Rattle.std.specs.Result.{result_ok}
 use Rattle.ng_num.specs.Range.{in_range}
@@ -62,7 +63,7 @@ offsets_in bytes =
 
 -- a word that a cycle keeps; its number has to be within the range even if its bit says that it isn't kept
 abbrev pub word_of : Bool → ℤ → Option (Option ℤ)
-word_of kept n = and_then (count_of n) (λ count. Some (if kept then Some count else None))
+word_of kept n = and_then (count_of n) (λ count. Some (then_some kept count))
 
 -- the words that a cycle keeps, by a bit for each of R, Z, P, Q
 abbrev pub kept_by : ℕ → List ℕ → Option KeptWords

@@ -4,7 +4,7 @@ ghost use Rattle.ng_layout.specs.Limits.{field_size, greatest_slot};
 ghost use Rattle.ng_layout.specs.Sound.{IsSound};
 ghost use Rattle.ng_layout.specs.Storable.{IsStorableModalState, IsStorableHalf};
 ghost use Rattle.ng_layout.specs.Decoding.{count_of, rate_of, up_to, point_at, modes_in, outputs_in, offsets_in};
-ghost use Rattle.ng_layout.specs.Decoding.{word_of, kept_by, kept_in, modal_state_in, known_point, half_by, half_in};
+ghost use Rattle.ng_layout.specs.Decoding.{kept_by, kept_in, modal_state_in, known_point, half_by, half_in};
 ghost use Rattle.ng_layout.specs.Decoding.{decoded_state_of};
 
 use crate::bytes::{get_i64, get_u8, get_u16, get_u64};
@@ -141,32 +141,16 @@ fn offsets_in(bytes: &[u8]) -> Option<Offsets>
     })
 }
 
-/// A length that a cycle keeps.
-fn kept_len(is_kept: bool, nm: i64) -> Option<Option<Len>>
-    ensures { result ≡ word_of is_kept nm }
-{
-    let len = len_of(nm)?;
-    Some(if is_kept { Some(len) } else { None })
-}
-
-/// A number that a cycle keeps.
-fn kept_num(is_kept: bool, millionths: i64) -> Option<Option<Num>>
-    ensures { result ≡ word_of is_kept millionths }
-{
-    let num = num_of(millionths)?;
-    Some(if is_kept { Some(num) } else { None })
-}
-
 /// The words that a cycle keeps, by a bit for each of R, Z, P, Q.
 fn kept_by(kept: u8, bytes: &[u8]) -> Option<KeptWords>
     requires { field_size ≤ length bytes.now }
     ensures { result ≡ kept_by kept bytes.now }
 {
     Some(KeptWords {
-        r: kept_len(kept % 2 == 1, get_i64(bytes, places::KEPT_R_AT))?,
-        z: kept_len(kept / 2 % 2 == 1, get_i64(bytes, places::KEPT_Z_AT))?,
-        p: kept_num(kept / 4 % 2 == 1, get_i64(bytes, places::KEPT_P_AT))?,
-        q: kept_len(kept / 8 == 1, get_i64(bytes, places::KEPT_Q_AT))?,
+        r: (kept % 2 == 1).then_some(len_of(get_i64(bytes, places::KEPT_R_AT))?),
+        z: (kept / 2 % 2 == 1).then_some(len_of(get_i64(bytes, places::KEPT_Z_AT))?),
+        p: (kept / 4 % 2 == 1).then_some(num_of(get_i64(bytes, places::KEPT_P_AT))?),
+        q: (kept / 8 == 1).then_some(len_of(get_i64(bytes, places::KEPT_Q_AT))?),
     })
 }
 

@@ -14,8 +14,10 @@ ghost use Rattle.ng_layout.specs.Snapshot.{decoded_state_in};
 ghost use Rattle.ng_layout.specs.Sound.{IsSound};
 ghost use Rattle.ng_layout.specs.Storable.{IsStorable};
 
-use crate::bytes::{get_i64, get_u16, get_u64, put_i64, put_u16, put_u64};
+use crate::bytes::{get_i64, get_u16, get_u64, put_i64, put_u16};
 use crate::decoding::{DecodedState, decode};
+use crate::rows::Number::{U16, U64};
+use crate::rows::put_rows;
 use crate::sectors::SECTOR_BYTES;
 use crate::stored::Stored;
 use crate::tools::{SLOT_AT, SLOT_LENGTH_AT};
@@ -95,11 +97,16 @@ impl PartLabel {
         ensures rest { SameFrom label_size (replicate sector_size 0) result }
     {
         let mut sector = [0; SECTOR_BYTES];
-        put_u64(&mut sector, EPOCH_AT, self.epoch);
-        put_u64(&mut sector, NUMBER_AT, self.number);
-        put_u16(&mut sector, PART_AT, self.part);
-        put_u16(&mut sector, PARTS_AT, self.parts);
-        put_u16(&mut sector, CHANGES_AT, self.changes);
+        put_rows(
+            &mut sector,
+            &[
+                (EPOCH_AT, U64(self.epoch)),
+                (NUMBER_AT, U64(self.number)),
+                (PART_AT, U16(self.part)),
+                (PARTS_AT, U16(self.parts)),
+                (CHANGES_AT, U16(self.changes)),
+            ],
+        );
         sector
     }
 }
