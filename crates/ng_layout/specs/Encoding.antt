@@ -21,6 +21,10 @@ abbrev pub half_point : Option HalfModel → Option Point
 half_point None = None
 half_point (Some half) = half.at
 
+-- the bytes of a text, followed by zeros
+abbrev pub padded_text : List ℕ → List ℕ
+padded_text text = text ++ replicate (longest_text - length text) 0
+
 -- A word that isn't kept is written as 0.
 pub record HoldsWords (kept : KeptWords) (bytes : List ℕ) : Type 0 where
   pub r : signed_at 112 bytes ≡ unwrap_or kept.r (pos 0)
@@ -34,7 +38,7 @@ pub record HoldsHalf (half : Option HalfModel) (bytes : List ℕ) : Type 0 where
   pub text_length : number_at 2 166 bytes ≡ length (half_text half)
   pub index : number_at 8 168 bytes ≡ half_index half
   pub point : point_at 176 bytes ≡ Some (unwrap_or (half_point half) zero_point)
-  pub text : bytes_at longest_text 200 bytes ≡ half_text half ++ replicate (longest_text - length (half_text half)) 0
+  pub text : bytes_at longest_text 200 bytes ≡ padded_text (half_text half)
 
 -- The bytes are written with the state field of this state: it is what they say for a program of this length, and what
 -- isn't looked at is 0.

@@ -1,9 +1,10 @@
 //! The bytes of a state field for what is stored.
-ghost use Rattle.std.specs.Prelude.{◌≡◌, ◌≤◌, ◌≤ℤ◌, ◌==◌, ◌/◌, ◌%◌, ◌++◌, ◌-◌, ℕ, pos, true, List, length, replicate, unwrap_or, is_some, IfSome, Some, None};
+ghost use Rattle.std.specs.Prelude.{◌≡◌, ◌≤◌, ◌≤ℤ◌, ◌==◌, ◌/◌, ◌%◌, ℕ, pos, true, List, length};
+ghost use Rattle.std.specs.Prelude.{replicate, unwrap_or, is_some, IfSome, Some, None};
 ghost use Rattle.std.specs.Option.{option_copied};
 ghost use Rattle.ng_num.specs.Range.{IsCount};
 ghost use Rattle.ng_layout.specs.Decoding.{count_of, rate_of, word_of, modal_state_in, half_in};
-ghost use Rattle.ng_layout.specs.Encoding.{half_text, HoldsWords, HoldsHalf, HoldsDecodedState};
+ghost use Rattle.ng_layout.specs.Encoding.{half_text, padded_text, HoldsWords, HoldsHalf, HoldsDecodedState};
 ghost use Rattle.ng_layout.specs.Fields.{bytes_at, SameFrom};
 ghost use Rattle.ng_layout.specs.Limits.{field_size, greatest_count, longest_text};
 ghost use Rattle.ng_layout.specs.Rows.{AreAt, are_joined};
@@ -150,7 +151,7 @@ fn modal_rows(modal: &ModalState) -> [Row; 32]
 /// The bytes of a text, followed by zeros.
 fn text_field(text: &[u8]) -> [u8; LONGEST_TEXT]
     requires { length text.now ≤ longest_text }
-    ensures { result ≡ text.now ++ replicate (longest_text - length text.now) 0 }
+    ensures { result ≡ padded_text text.now }
 {
     let mut field = [0; LONGEST_TEXT];
     field[..text.len()].copy_from_slice(text);
@@ -162,7 +163,7 @@ fn block_rows(half: &Half) -> [Row; 9]
     requires { IsStorableHalf half.now }
     ensures joined { are_joined 162 result 200 ≡ true }
     ensures means { (bytes : List ℕ) → AreAt result bytes
-        → bytes_at longest_text 200 bytes ≡ half.now.text ++ replicate (longest_text - length half.now.text) 0
+        → bytes_at longest_text 200 bytes ≡ padded_text half.now.text
         → (half_in bytes ≡ Some (Some half.now)) × HoldsHalf (Some half.now) bytes }
 {
     let at = coordinates(half.at.unwrap_or(Point::zero()));
@@ -205,7 +206,7 @@ fn half_rows(half: Option<&Half>) -> [Row; 9]
     requires { IfSome half (λ h. IsStorableHalf h.now) }
     ensures joined { are_joined 162 result 200 ≡ true }
     ensures means { (bytes : List ℕ) → AreAt result bytes
-        → bytes_at longest_text 200 bytes ≡ half_text (option_copied half.entry) ++ replicate (longest_text - length (half_text (option_copied half.entry))) 0
+        → bytes_at longest_text 200 bytes ≡ padded_text (half_text (option_copied half.entry))
         → (half_in bytes ≡ Some (option_copied half.entry)) × HoldsHalf (option_copied half.entry) bytes }
 {
     match half {
@@ -216,7 +217,7 @@ fn half_rows(half: Option<&Half>) -> [Row; 9]
 
 fn half_text(half: Option<&Half>) -> [u8; LONGEST_TEXT]
     requires { IfSome half (λ h. IsStorableHalf h.now) }
-    ensures { result ≡ half_text (option_copied half.entry) ++ replicate (longest_text - length (half_text (option_copied half.entry))) 0 }
+    ensures { result ≡ padded_text (half_text (option_copied half.entry)) }
 {
     match half {
         Some(half) => text_field(half.text.as_slice()),

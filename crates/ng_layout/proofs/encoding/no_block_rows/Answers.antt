@@ -18,7 +18,8 @@ returns-clause-means c = λ bytes are text.
         unused = are 3 none (lit≤ tt);
         text_length = are 4 none (lit≤ tt);
         index = are 5 none (lit≤ tt);
-        point = point-back 176 bytes zero_point (pos 0) (pos 0) (pos 0) (are 6 none (lit≤ tt)) (are 7 none (lit≤ tt)) (are 8 none (lit≤ tt)) refl refl refl;
+        point = point-back 176 bytes zero_point (pos 0) (pos 0) (pos 0) (are 6 none (lit≤ tt))
+            (are 7 none (lit≤ tt)) (are 8 none (lit≤ tt)) refl refl refl;
         text = text;
       },
     )

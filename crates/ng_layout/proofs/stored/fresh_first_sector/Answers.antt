@@ -11,7 +11,9 @@ returns c = λ room.
     let s1 = c.encode.new.bytes in
     let e = c.encode.ensures in
     record {
-      state = λ first. subst (λ (m : ModalState). HoldsDecodedState 0 (record { entries = 0; place = 0; modal = m; half = None }) s1) c.fresh.ensures (e.holds 0 (lit≤ tt));
+      state = λ first. subst
+          (λ (m : ModalState). HoldsDecodedState 0 (record { entries = 0; place = 0; modal = m; half = None }) s1)
+          c.fresh.ensures (e.holds 0 (lit≤ tt));
       slots = λ first. number-from 2 456 456 s0 s1 e.beyond (lit≤ tt) ∙ number-zeros 2 456 512;
       rest = λ first. bytes-from 54 456 458 s0 s1 e.beyond (lit≤ tt) ∙ bytes-zeros 54 458 512 (lit≤ tt);
       values = λ i later. absurd (omega arith);

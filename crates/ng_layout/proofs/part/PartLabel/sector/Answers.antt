@@ -10,7 +10,8 @@ use Rattle.ng_layout.proofs.part.PartLabel.sector.Goals as goal
 pub put_rows-requires : goal.put_rows-requires
 put_rows-requires c =
     let l = c.args.self in
-    let rows : List Row = (0, U64 l.epoch) ∷ (8, U64 l.number) ∷ (16, U16 l.part) ∷ (18, U16 l.parts) ∷ (20, U16 l.changes) ∷ [] in
+    let rows : List Row = (0, U64 l.epoch) ∷ (8, U64 l.number) ∷ (16, U16 l.part) ∷ (18, U16 l.parts) ∷
+    (20, U16 l.changes) ∷ [] in
     λ i d lt. omega (arith, row-room rows 22 i d refl lt)
 
 pub returns-clause-rest : goal.returns-clause-rest
@@ -22,6 +23,8 @@ returns-clause-label c =
     let sector = c.put_rows.new.bytes in
     let are = c.put_rows.ensures.are 0 22 refl in
     record {
-      is = labelled (label_of c.args.self) sector (are 0 none (lit≤ tt)) (are 1 none (lit≤ tt)) (are 2 none (lit≤ tt)) (are 3 none (lit≤ tt)) (are 4 none (lit≤ tt));
-      gap = bytes-from 10 22 22 (replicate 512 0) sector (returns-clause-rest c) (lit≤ tt) ∙ bytes-zeros 10 22 512 (lit≤ tt);
+      is = labelled (label_of c.args.self) sector (are 0 none (lit≤ tt)) (are 1 none (lit≤ tt))
+          (are 2 none (lit≤ tt)) (are 3 none (lit≤ tt)) (are 4 none (lit≤ tt));
+      gap = bytes-from 10 22 22 (replicate 512 0) sector (returns-clause-rest c) (lit≤ tt)
+          ∙ bytes-zeros 10 22 512 (lit≤ tt);
     }

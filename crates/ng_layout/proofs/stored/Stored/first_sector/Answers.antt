@@ -12,7 +12,9 @@ returns g c =
     let e = c.encode.ensures in
     record {
       state = λ first. e.holds;
-      slots = λ first. number-from 2 456 456 s1 s2 e.beyond (lit≤ tt) ∙ c.put_u16.ensures.written ∙ c.slots.ensures.value ∙ ap (λ (s : StoredModel). length s.tools) c.self.view_is;
-      rest = λ first. bytes-from 54 456 458 s1 s2 e.beyond (lit≤ tt) ∙ bytes-from 54 458 458 s0 s1 c.put_u16.ensures.beyond (lit≤ tt) ∙ bytes-zeros 54 458 512 (lit≤ tt);
+      slots = λ first. number-from 2 456 456 s1 s2 e.beyond (lit≤ tt) ∙ c.put_u16.ensures.written
+          ∙ c.slots.ensures.value ∙ ap (λ (s : StoredModel). length s.tools) c.self.view_is;
+      rest = λ first. bytes-from 54 456 458 s1 s2 e.beyond (lit≤ tt)
+          ∙ bytes-from 54 458 458 s0 s1 c.put_u16.ensures.beyond (lit≤ tt) ∙ bytes-zeros 54 458 512 (lit≤ tt);
       values = λ i later. absurd (omega arith);
     }
