@@ -218,7 +218,8 @@ NAMES = {
 }
 table = re.findall(r"const (\w+)_AT: usize = (\d+);", (layout / "src/places.rt").read_text())
 table = {int(byte): name.lower() for name, byte in table}
-same("kept words", ("this script", ["kept_z", "kept_p", "kept_q"]), ("code", [table.pop(byte) for byte in (120, 128, 136)]))
+kept = [table.pop(byte) for byte in (120, 128, 136)]
+same("kept words", ("this script", ["kept_z", "kept_p", "kept_q"]), ("code", kept))
 same("unused byte", ("this script", "unused"), ("code", table.pop(unused[0])))
 same("names", ("this script", {byte: names[0] for byte, names in NAMES.items()}), ("code", table))
 words = {numbers(row[0])[0]: row[2] for row in fields}
