@@ -47,7 +47,7 @@ def places(table):
 def wide(kind, byte):
     """The same for a word of the code or of the definitions."""
     sizes = {"u64": 8, "u32": 4, "u16": 2, "u8": 1, "text": 256}
-    if kind == "triple":
+    if kind == "point":
         return [(byte + 8 * k, 8, True) for k in range(3)]
     return [(byte, 8, True)] if kind == "i64" else [(byte, sizes[kind], False)]
 
@@ -58,27 +58,34 @@ def plain(path):
     text = (layout / path).read_text()
     known = re.findall(
         r"const (\w+): \w+ = ([\d_]+);",
-        "".join((layout / name).read_text() for name in ("src/tools.rt", "src/field_places.rt")) + text,
+        "".join((layout / name).read_text() for name in ("src/tools.rt", "src/places.rt")) + text,
     )
     known += re.findall(r"\n(\w+) = ([\d_]+)\n", (layout / "specs/Limits.antt").read_text())
     known = {name: number.replace("_", "") for name, number in known}
-    return re.sub(r"(?:field_places::)?\b(\w+)\b", lambda word: known.get(word[1], word[0]), text)
+    return re.sub(r"(?:places::)?\b(\w+)\b", lambda word: known.get(word[1], word[0]), text)
 
 
 def defined(path):
     """The places that a file of definitions names."""
     found = []
-    for word, first, second in re.findall(r"(number_at|signed_at|triple_at|bytes_at) (\d+) (\d+)?", plain(path)):
+    for word, first, second in re.findall(r"(number_at|signed_at|point_at|bytes_at) (\d+) (\d+)?", plain(path)):
         if word in ("number_at", "bytes_at"):
             found += [(int(second), int(first), False)] if second else []
         else:
-            found += wide("triple" if word == "triple_at" else "i64", int(first))
+            found += wide("point" if word == "point_at" else "i64", int(first))
     return sorted(set(found))
 
 
 def coded(path, verb):
     """The places that the code gets or puts."""
-    calls = re.findall(rf"{verb}_(\w+)\((?:&mut )?\w+, (\d+)[,)]", plain(path))
+    text = plain(path)
+    calls = re.findall(rf"{verb}_(\w+)\((?:&mut )?\w+, (\d+)[,)]", text)
+    if verb == "get":
+        calls += [("point", byte) for byte in re.findall(r"point_at\(\w+, (\d+)\)", text)]
+        calls += [("text", byte) for byte in re.findall(r"text_from\(&\w+\[(\d+)\.\.", text)]
+    else:
+        rows = re.findall(r"\(\s*(\d+)(?: \+ (\d+))?,\s*([UI]\d+)\(", text)
+        calls += [(kind.lower(), int(byte) + int(more or 0)) for byte, more, kind in rows]
     return sorted(set(place for kind, byte in calls for place in wide(kind, int(byte))))
 
 
@@ -128,6 +135,7 @@ def extremes(limits):
 
 header = [row + [""] * (4 - len(row)) for row in rows("Header")]
 fields = rows("State field")
+unused = (165, 1, False)
 same(
     "header",
     ("docs", places(header)),
@@ -138,9 +146,9 @@ same(
 same(
     "state field",
     ("docs", places(fields)),
-    ("definition", defined("specs/StateField.antt")),
-    ("reader", coded("src/field.rt", "get")),
-    ("writer", coded("src/field.rt", "put")),
+    ("definition", sorted({*defined("specs/Decoding.antt"), *defined("specs/Encoding.antt")} - {unused})),
+    ("reader", coded("src/decoding.rt", "get")),
+    ("writer", [place for place in coded("src/encoding.rt", "put") if place != unused]),
     ("tools", tooled()),
 )
 labels = [(byte, width, False) for byte, width, _ in places(rows("Log")) if byte < 32]
@@ -173,7 +181,7 @@ same(
 )
 (slot_at, _, _), (length_at, _, _) = places_of_slot
 
-# The name of each number in the definitions, and the word for it in the document and the tools.
+# The name of each number in the code's table, and the word for it in the document and the tools.
 NAMES = {
     0: ("entries", "entry count"),
     8: ("place", "place"),
@@ -183,7 +191,7 @@ NAMES = {
     56: ("g92", "G92 offset"),
     80: ("origin", "origin in force"),
     104: ("tool_length", "tool length in force"),
-    112: ("r", "kept R, Z, P, Q"),
+    112: ("kept_r", "kept R, Z, P, Q"),
     144: ("motion", "motion mode"),
     145: ("plane", "plane"),
     146: ("distance", "distance mode"),
@@ -197,27 +205,23 @@ NAMES = {
     154: ("flood", "flood"),
     155: ("overrides", "overrides allowed"),
     156: ("point_known", "machine point"),
-    157: ("kept", "which of R, Z, P, Q are kept"),
+    157: ("kept_words", "which of R, Z, P, Q are kept"),
     158: ("selected_slot", "selected slot"),
     160: ("spindle_slot", "slot in the spindle"),
     162: ("source", "half-done block"),
     163: ("opened", "what of it is open"),
-    164: ("at_known", "point"),
-    166: ("length", "bytes of"),
+    164: ("half_point_known", "point"),
+    166: ("text_length", "bytes of"),
     168: ("index", "segment"),
-    176: ("at", "where the machine stands"),
+    176: ("half_point", "where the machine stands"),
     200: ("text", "text"),
 }
-defined_names = {}
-for name, first, second in re.findall(r"(\w+) = \w+_at (\d+) ?(\d*)", plain("specs/StateField.antt")):
-    defined_names[int(second or first)] = name
-defined_names = {byte: defined_names[byte] for byte in sorted(defined_names) if byte not in (120, 128, 136)}
-same("names", ("this script", {byte: names[0] for byte, names in NAMES.items()}), ("definition", defined_names))
-same(
-    "kept words",
-    ("this script", ["z", "p", "q"]),
-    ("definition", re.findall(r"(\w) = signed_at 1(?:20|28|36) ", plain("specs/StateField.antt"))),
-)
+table = re.findall(r"const (\w+)_AT: usize = (\d+);", (layout / "src/places.rt").read_text())
+table = {int(byte): name.lower() for name, byte in table}
+kept = [table.pop(byte) for byte in (120, 128, 136)]
+same("kept words", ("this script", ["kept_z", "kept_p", "kept_q"]), ("code", kept))
+same("unused byte", ("this script", "unused"), ("code", table.pop(unused[0])))
+same("names", ("this script", {byte: names[0] for byte, names in NAMES.items()}), ("code", table))
 words = {numbers(row[0])[0]: row[2] for row in fields}
 tool_words = {field.byte: field.label for field in tool.STATE.values()}
 for byte, (_, word) in NAMES.items():

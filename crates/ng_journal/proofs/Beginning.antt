@@ -10,7 +10,7 @@ use Rattle.ng_rig.proofs.Running.{is_synced}
 use Rattle.ng_rig.proofs.Writes_only.{only_more, only_write, only_synced}
 use Rattle.ng_layout.specs.Fields.{number_at}
 use Rattle.ng_layout.specs.Codes.{format_of}
-use Rattle.ng_layout.specs.Report.{and_then, up_to}
+use Rattle.ng_layout.specs.Decoding.{and_then, up_to}
 use Rattle.ng_layout.specs.Tools.{tools_in, lengths_in}
 use Rattle.ng_layout.specs.declared.header.Format.{Format}
 use Rattle.ng_layout.specs.declared.header.Format.TheVariants.{Two}
@@ -22,7 +22,7 @@ use Rattle.ng_layout.specs.Snapshot.{HoldsPart}
 use Rattle.ng_layout.specs.Spare.{IsAmong}
 use Rattle.ng_layout.specs.Stands.{is_large, stretch, newer, in_force, snapshot, IsWritten}
 use Rattle.ng_layout.specs.Stored.{StoredModel}
-use Rattle.ng_layout.proofs.Rows.{number-zeros}
+use Rattle.ng_layout.proofs.SectorLemmas.{number-zeros}
 use Rattle.ng_layout.proofs.Images.{stretch-at}
 use Rattle.ng_layout.proofs.Snapshots.{snapshot-new}
 use Rattle.ng_journal.specs.Area.{BelongsIn}

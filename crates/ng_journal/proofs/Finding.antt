@@ -7,7 +7,7 @@ use Rattle.ng_layout.specs.Areas.{log_size_of, log_first, program_first, program
 use Rattle.ng_layout.specs.declared.header.Format.{Format}
 use Rattle.ng_layout.proofs.Images.{under}
 use Rattle.ng_layout.specs.Log.{LogPosition, after_step, next, run, with_record}
-use Rattle.ng_layout.specs.Report.{and_then}
+use Rattle.ng_layout.specs.Decoding.{and_then}
 use Rattle.ng_layout.specs.Sectors.{program_text}
 use Rattle.ng_layout.specs.Header.{program_room}
 use Rattle.ng_layout.specs.Stands.{is_large, by_header, in_force, snapshot, standing, durable_state_under, stands, stretch}

@@ -15,7 +15,7 @@ use Rattle.ng_layout.specs.Header.{longest_in, HoldsHeader}
 use Rattle.ng_layout.specs.Areas.{shortest_log, snapshot_first, snapshot_size, tools_first, tools_size, program_first, program_size, log_first}
 use Rattle.ng_layout.specs.Sectors.{HoldsText}
 use Rattle.ng_layout.proofs.Images.{area-where}
-use Rattle.ng_layout.proofs.Rows.{bytes-zeros}
+use Rattle.ng_layout.proofs.SectorLemmas.{bytes-zeros}
 use Rattle.ng_layout.specs.Snapshot.{HoldsPart, HoldsLengths, HoldsToolPart}
 use Rattle.ng_layout.specs.declared.header.Format.TheVariants.{One, Two}
 use Rattle.ng_layout.specs.Spare.{IsAmong}

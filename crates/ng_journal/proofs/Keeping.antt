@@ -35,7 +35,7 @@ with_room room saved = record saved { room = room }
 -- ---- the areas of a header
 
 holds_part : (room : ℕ) (saved : StoredModel) (j : ℕ) (bytes : List ℕ) → HoldsPart saved j bytes → HoldsPart (with_room room saved) j bytes
-holds_part room saved j bytes h = record { field = h.field; slots = h.slots; rest = h.rest; report = h.report; values = h.values }
+holds_part room saved j bytes h = record { state = h.state; slots = h.slots; rest = h.rest; values = h.values }
 
 to_areas : (room : ℕ) (header : Header) (saved : StoredModel) (n : ℕ) (bytes : List ℕ) → BelongsToAreas header saved n bytes → BelongsToAreas header (with_room room saved) n bytes
 to_areas room header saved n bytes (inl own) = inl (record { place = own.place; within = own.within; is = own.is; right = holds_part room saved own.place bytes own.right })
@@ -91,7 +91,7 @@ load_kept {T = T} {E = E} room result area header saved text old new s = record 
 holds_record_part : (room : ℕ) (l : PartHeader) (saved : StoredModel) (all : List Change) (slot : Option SlotChange) (bytes : List ℕ) → HoldsRecordPart l saved all slot bytes → HoldsRecordPart l (with_room room saved) all slot bytes
 holds_record_part room l saved all slot bytes h = record {
   label = h.label;
-  state = λ first. let s = h.state first in record { field = s.field; report = s.report; slot = s.slot; tool = s.tool; between = s.between; rest = s.rest };
+  state = λ first. let s = h.state first in record { state = s.state; slot = s.slot; tool = s.tool; between = s.between; rest = s.rest };
   changes = h.changes;
 }
 

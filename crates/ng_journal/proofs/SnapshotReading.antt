@@ -1,11 +1,10 @@
 -- Reading a snapshot: its state field, then its parameters.
 use Rattle.std.proofs.Common.{◌≡◌, ℕ, ◌+◌, List, [], ℤ, Bool, true, false, Option, Some, None, sym, ◌∙◌, ap, subst, arith}
 use Rattle.ng_rig.specs.Trace.{Trace, Image, reads}
-use Rattle.ng_layout.specs.Report.{and_then, decoded_state_of}
+use Rattle.ng_layout.specs.Decoding.{and_then, decoded_state_of}
 use Rattle.ng_layout.specs.Log.{ReplayState}
 use Rattle.ng_layout.specs.Sectors.{values}
 use Rattle.ng_layout.specs.Snapshot.{decoded_state_in}
-use Rattle.ng_layout.specs.StateField.{field_at}
 use Rattle.ng_layout.specs.Areas.{snapshot_first, snapshot_size, tools_first, tools_size}
 use Rattle.ng_layout.specs.Tools.{tools_in}
 use Rattle.ng_layout.specs.declared.header.Header.{Header}
@@ -26,28 +25,28 @@ row-first first image bytes is =
     let place : first + 0 ≡ first = omega arith in
     stretch-at first snapshot_size image 0 (omega arith) ∙ ap image place ∙ sym is
 
-module _ (header : Header) (image : Image) (bytes : List ℕ) (o : Option DecodedStateModel) (there : bytes ≡ image (snapshot_first header.epoch)) (is : o ≡ decoded_state_of header.length (field_at bytes)) where
+module _ (header : Header) (image : Image) (bytes : List ℕ) (o : Option DecodedStateModel) (there : bytes ≡ image (snapshot_first header.epoch)) (is : o ≡ decoded_state_of header.length bytes) where
   abbrev row : ℕ → List ℕ
   row = stretch (snapshot_first header.epoch) snapshot_size image
 
   abbrev area : ℕ → List ℕ
   area = stretch (tools_first header.epoch) tools_size image
 
-  report-at : (v : Option DecodedStateModel) → o ≡ v → decoded_state_of header.length (field_at (row 0)) ≡ v
-  report-at v o_is = ap (λ (s : List ℕ). decoded_state_of header.length (field_at s)) (row-first (snapshot_first header.epoch) image bytes there) ∙ sym is ∙ o_is
+  decoded-at : (v : Option DecodedStateModel) → o ≡ v → decoded_state_of header.length (row 0) ≡ v
+  decoded-at v o_is = ap (λ (s : List ℕ). decoded_state_of header.length s) (row-first (snapshot_first header.epoch) image bytes there) ∙ sym is ∙ o_is
 
-  pub no_report : (saved : StoredModel) → o ≡ None → IsSnapshotOf header saved image false
+  pub no_state : (saved : StoredModel) → o ≡ None → IsSnapshotOf header saved image false
   unfolding snapshot
-  no_report saved none =
-      let e = report-at None none in
-      λ i. and_then (e i) (λ report. and_then (all_counts (values 5399 row)) (λ params. and_then (tools_in header.format (row 0) area) (λ tools. Some (record { report = report; params = params; tools = tools }))))
+  no_state saved none =
+      let e = decoded-at None none in
+      λ i. and_then (e i) (λ decoded. and_then (all_counts (values 5399 row)) (λ params. and_then (tools_in header.format (row 0) area) (λ tools. Some (record { decoded = decoded; params = params; tools = tools }))))
 
   module _ (r : DecodedStateModel) (some : o ≡ Some r) where
     pub no_table : (table : List ℤ) (saved : StoredModel) → IsTableOf (snapshot_first header.epoch) table image false → IsSnapshotOf header saved image false
     unfolding snapshot
     no_table table saved none =
-        let e = report-at (Some r) some in
-        λ i. and_then (e i) (λ report. and_then (none i) (λ params. and_then (tools_in header.format (row 0) area) (λ tools. Some (record { report = report; params = params; tools = tools }))))
+        let e = decoded-at (Some r) some in
+        λ i. and_then (e i) (λ decoded. and_then (none i) (λ params. and_then (tools_in header.format (row 0) area) (λ tools. Some (record { decoded = decoded; params = params; tools = tools }))))
 
     tools-at : (v : Option (List ℤ)) → tools_in header.format bytes area ≡ v → tools_in header.format (row 0) area ≡ v
     tools-at v t = ap (λ (s : List ℕ). tools_in header.format s area) (row-first (snapshot_first header.epoch) image bytes there) ∙ t
@@ -59,17 +58,17 @@ module _ (header : Header) (image : Image) (bytes : List ℕ) (o : Option Decode
       pub no_tools : (saved : StoredModel) → IsToolsOf header bytes tools image false → IsSnapshotOf header saved image false
       unfolding snapshot
       no_tools saved none =
-          let e = report-at (Some r) some in
+          let e = decoded-at (Some r) some in
           let n = tools-at None none in
-          λ i. and_then (e i) (λ report. and_then (counted i) (λ params. and_then (n i) (λ tools. Some (record { report = report; params = params; tools = tools }))))
+          λ i. and_then (e i) (λ decoded. and_then (counted i) (λ params. and_then (n i) (λ tools. Some (record { decoded = decoded; params = params; tools = tools }))))
 
       pub whole_snapshot : (new : StoredModel) (room : ℕ) → IsToolsOf header bytes tools image true → new ≡ taken table tools r header.length room → IsSnapshotOf header new image true
       unfolding snapshot
       whole_snapshot new room found after =
-          let e = report-at (Some r) some in
+          let e = decoded-at (Some r) some in
           let t = tools-at (Some tools) found in
-          let made : snapshot header.format header.length row area ≡ Some (record { report = r; params = table; tools = tools }) = λ i. and_then (e i) (λ report. and_then (counted i) (λ params. and_then (t i) (λ tools. Some (record { report = report; params = params; tools = tools })))) in
-          let same : ◌≡◌ {A = ReplayState} (record { report = r; params = table; tools = tools }) (record { report = decoded_state_in new; params = new.setup.params; tools = new.tools }) = λ i. let s = sym after i in record { report = decoded_state_in s; params = s.setup.params; tools = s.tools } in
+          let made : snapshot header.format header.length row area ≡ Some (record { decoded = r; params = table; tools = tools }) = λ i. and_then (e i) (λ decoded. and_then (counted i) (λ params. and_then (t i) (λ tools. Some (record { decoded = decoded; params = params; tools = tools })))) in
+          let same : ◌≡◌ {A = ReplayState} (record { decoded = r; params = table; tools = tools }) (record { decoded = decoded_state_in new; params = new.setup.params; tools = new.tools }) = λ i. let s = sym after i in record { decoded = decoded_state_in s; params = s.setup.params; tools = s.tools } in
           (made ∙ ap (λ (f : ReplayState). Some f) same, ap (λ (s : StoredModel). s.length) after)
 
 -- what was read, with its result, if the device has not changed

@@ -6,8 +6,7 @@ ghost use Rattle.ng_rig.specs.Calls.{IfHonest, IsCall};
 ghost use Rattle.ng_layout.specs.Limits.{greatest_count, longest_program};
 ghost use Rattle.ng_params.specs.Numbers.{parameter_count};
 ghost use Rattle.ng_layout.specs.Header.{header_in, IsValidHeader};
-ghost use Rattle.ng_layout.specs.Report.{decoded_state_of};
-ghost use Rattle.ng_layout.specs.StateField.{field_at};
+ghost use Rattle.ng_layout.specs.Decoding.{decoded_state_of};
 ghost use Rattle.ng_layout.specs.Sound.{IsSound};
 ghost use Rattle.ng_layout.specs.Areas.{least_size, snapshot_size};
 ghost use Rattle.ng_rig.specs.Trace.{reads};
@@ -17,7 +16,7 @@ ghost use Rattle.ng_log.specs.Reading.{ReadSpec};
 ghost use Rattle.ng_journal.specs.Private.SnapshotRead.{IsTableOf, IsToolsOf, IsSnapshotOf};
 
 use ng_layout::{
-    DecodedState, Format, Header, SECTOR_BYTES, SNAPSHOT_SIZE, StateField, Stored, VALUES,
+    DecodedState, Format, Header, SECTOR_BYTES, SNAPSHOT_SIZE, Stored, VALUES, decode,
     snapshot_first, take_area, take_values, tools_first,
 };
 use ng_log::read_sector;
@@ -69,10 +68,10 @@ pub(crate) fn header_in_force<R: Rig>(rig: &mut R, large: bool) -> Result<Option
 
 /// What the state field in the first sector of a snapshot says.
 fn decoded_state_of_snapshot(sector: &[u8; SECTOR_BYTES], length: u64) -> Option<DecodedState>
-    ensures value { result ≡ decoded_state_of length (field_at sector.now) }
+    ensures value { result ≡ decoded_state_of length sector.now }
     ensures sound { IfSome result (IsSound length) }
 {
-    StateField::read(sector).report(length)
+    decode(sector, length)
 }
 
 /// Reads the tool table of a header, given the first sector of its snapshot. False if it is damaged. In format 1 there
@@ -152,14 +151,14 @@ pub(crate) fn read_snapshot<R: Rig, A: Allocator + Copy + Drop>(
     let bytes = read_sector(rig, first)?;
     match decoded_state_of_snapshot(&bytes, header.length) {
         None => Ok(false),
-        Some(report) => {
+        Some(decoded) => {
             let is_whole = read_table(rig, first, &mut stored.state.params)?;
             if !is_whole {
                 return Ok(false);
             }
             let has_tools = read_tools(rig, header, &bytes, &mut stored.tools)?;
             if has_tools {
-                stored.take_decoded_state(report, header.length);
+                stored.take_decoded_state(decoded, header.length);
             }
             Ok(has_tools)
         }

@@ -5,15 +5,14 @@ use Rattle.std.proofs.lemmas.Bool.Decides.{nat_tests}
 use Rattle.ng_layout.specs.Fields.{number_at}
 use Rattle.ng_layout.specs.Limits.{greatest_count, longest_program}
 use Rattle.ng_layout.specs.Codes.{format_of}
-use Rattle.ng_layout.specs.Tools.{tools_in}
 use Rattle.ng_layout.specs.declared.header.Format.{Format}
 use Rattle.ng_layout.specs.declared.header.Format.TheVariants.{One, Two}
 use Rattle.ng_layout.specs.declared.header.Header.{Header}
 use Rattle.ng_layout.specs.Header.{header_at, is_marked, header_by, header_in, longest_in, program_room}
 use Rattle.ng_layout.specs.Areas.{log_size, log_size_of, shortest_log, tools_first, tools_size, log_first, snapshot_first, snapshot_size, program_first, program_size, greatest_area}
 use Rattle.ng_layout.specs.Log.{PartHeader, LogPosition, is_part, parts_stand, parts_for, with_record, next, after_step, run}
-use Rattle.ng_layout.proofs.Spares.{IsOfOther, IsSpare, SameButSpare, IsInTail, SameButTail}
-use Rattle.ng_layout.specs.Report.{and_then}
+use Rattle.ng_layout.proofs.Spares.{IsOfOther, IsSpare, SameButSpare, SameButTail}
+use Rattle.ng_layout.specs.Decoding.{and_then}
 use Rattle.ng_layout.specs.Sectors.{program_text}
 use Rattle.ng_layout.specs.Stands.{is_large, stretch, newer, in_force, snapshot, standing, durable_state_under, by_header, stands, stands_beside, beside_header, epoch_in_force, IsModern, IsWritten}
 use Rattle.ng_layout.specs.Stored.{DurableState}
@@ -188,15 +187,6 @@ areas-apart a (suc (suc (suc (suc n)))) i j most few other lt less same = absurd
 pub area-most : (large : Bool) → greatest_area large ≤ 3
 area-most true = omega arith
 area-most false = omega arith
-
-pub longest-most : (area : ℕ) → longest_in area ≤ longest_program
-longest-most area = elim (cases area) [
-  | inl many ↦ let e : longest_in area ≡ 1_048_576 = grind (arith, nat_tests) in omega arith
-  | inr few ↦ let e : longest_in area ≡ 131_072 = grind (arith, nat_tests) in omega arith
-]
-  where
-    cases : (area : ℕ) → (2 ≤ area) ⊎ (area < 2)
-    cases area = grind arith
 
 -- a sector of another program area
 pub other-where : (area n : ℕ) → IsOfOther area n → ((174 ≤ n) × (n < 686)) ⊎ ((1710 ≤ n) × (n < 5806))

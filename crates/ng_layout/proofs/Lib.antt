@@ -1,11 +1,11 @@
+pub mod ByteLemmas
+pub mod CodecLemmas
+pub mod EncodingLemmas
 pub mod Images
 pub mod Parts
-pub mod Places
-pub mod Rows
-pub mod SaysAgain
-pub mod Sizes
+pub mod RowLemmas
+pub mod SectorLemmas
 pub mod Snapshots
-pub mod Soundness
 pub mod Spares
 pub mod Tables
 pub mod ToolTables

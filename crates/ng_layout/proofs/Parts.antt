@@ -10,10 +10,10 @@ use Rattle.ng_params.specs.declared.change.Change.{Change}
 use Rattle.ng_layout.specs.Fields.{number_at, signed_at, AreZero, SameBelow, SameFrom, Puts}
 use Rattle.ng_layout.specs.Log.{PartHeader, is_part, change_at}
 use Rattle.ng_layout.specs.Part.{changes_in, HoldsLabel, HoldsChanges, Makes}
-use Rattle.ng_layout.specs.Report.{and_then, count_of}
-use Rattle.ng_layout.proofs.Places.{number-below, signed-below, bytes-below, from-further}
-use Rattle.ng_layout.proofs.Rows.{zeros-from}
-use Rattle.ng_layout.proofs.SaysAgain.{count-back}
+use Rattle.ng_layout.specs.Decoding.{and_then, count_of}
+use Rattle.ng_layout.proofs.ByteLemmas.{number-below, signed-below, bytes-below, from-further}
+use Rattle.ng_layout.proofs.SectorLemmas.{zeros-from}
+use Rattle.ng_layout.proofs.CodecLemmas.{count-back}
 
 five : (a b c d e p q r s t : ℕ) → a ≡ p → b ≡ q → c ≡ r → d ≡ s → e ≡ t → ((a == p) && (b == q) && (c == r) && (d == s) && (e == t)) ≡ true
 five a b c d e p q r s t v w x y z = grind (arith, nat_tests)
@@ -38,10 +38,6 @@ label-below l at old new s le h = record {
   is = is_part-below l at old new s (omega arith) ∙ h.is;
   gap = bytes-below 10 22 at old new s (omega arith) ∙ h.gap;
 }
-
--- the content of a sector that is zero after its label
-pub no_content : (sector : List ℕ) → SameFrom 22 (replicate 512 0) sector → drop 32 sector ≡ replicate 480 0
-no_content sector s = (from-further 22 32 (replicate 512 0) sector s (lit≤ tt)).same ∙ drop-replicate 32 512 0
 
 pub change-below : (o at : ℕ) (old new : List ℕ) → SameBelow at old new → o + 10 ≤ at → change_at new o ≡ change_at old o
 change-below o at old new s le =

@@ -6,7 +6,7 @@ use Rattle.std.proofs.lemmas.List.FromFn.{fill_by_all}
 use Rattle.ng_num.specs.Range.{IsCount, greatest}
 use Rattle.ng_layout.specs.Fields.{signed_at}
 use Rattle.ng_layout.specs.Fields.{number_at}
-use Rattle.ng_layout.specs.Report.{and_then, up_to}
+use Rattle.ng_layout.specs.Decoding.{and_then, up_to}
 use Rattle.ng_offsets.specs.Tools.{IsToolLength}
 use Rattle.ng_layout.specs.Tools.{tool_length_of, lengths_in, tools_in}
 use Rattle.ng_layout.specs.declared.header.Format.{Format}
@@ -64,9 +64,6 @@ one_false test f a (suc n) p from to is = elim (at_or_after a p from) [
     no_right : (b : Bool) → (b && false) ≡ false
     no_right true = refl
     no_right false = refl
-
-pub table-start : (table : List ℤ) (row : Row) → length table ≡ 5399 → TableTo table 0 row
-table-start table row long = record { here = λ p lt within. absurd (omega arith); counts = λ p lt within. absurd (omega arith); long = long }
 
 earlier : (n p : ℕ) → p < 64 * (n + 1) → (p < 64 * n) ⊎ ((p / 64 ≡ n) × (64 * n + p % 64 ≡ p))
 earlier n p lt = elim (lt_cases p (64 * n)) [ inl before ↦ inl before | inr here ↦ inr (omega arith, omega arith) ]
@@ -130,13 +127,13 @@ values-whole table row long each = table-whole table row (record {
 
 -- If sectors hold the parts of a snapshot and of a tool area, they read as that snapshot.
 pub snapshot-new : (format : Format) (saved : StoredModel) (row area : Row) → length saved.setup.params ≡ 5399 → ((part : ℕ) → part < 86 → HoldsPart saved part (row part)) → tools_in format (row 0) area ≡ Some saved.tools
-    → snapshot format saved.length row area ≡ Some (record { report = decoded_state_in saved; params = saved.setup.params; tools = saved.tools })
+    → snapshot format saved.length row area ≡ Some (record { decoded = decoded_state_in saved; params = saved.setup.params; tools = saved.tools })
 unfolding snapshot
 snapshot-new format saved row area long each table_is =
-    let report = (each 0 (omega arith)).report refl in
+    let decoded = ((each 0 (omega arith)).state refl).read in
     let table = values-whole saved.setup.params row long (λ i lt. (each (1 + i) (omega arith)).values i refl) in
     let counted : all_counts (values 5399 row) ≡ Some saved.setup.params = table.counted ∙ ap (λ (xs : List ℤ). Some xs) (sym table.is) in
-    λ i. and_then (report i) (λ r. and_then (counted i) (λ xs. and_then (table_is i) (λ tools. Some (record { report = r; params = xs; tools = tools }))))
+    λ i. and_then (decoded i) (λ r. and_then (counted i) (λ xs. and_then (table_is i) (λ tools. Some (record { decoded = r; params = xs; tools = tools }))))
 
 -- If a tool area holds a table, it reads as that table.
 module _ (tools : List ℤ) (area : Row) (each : (part : ℕ) → part < 2 → HoldsLengths tools (64 * part) (area part)) (long : All IsToolLength tools) (few : length tools ≤ 128) where

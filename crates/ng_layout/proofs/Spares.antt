@@ -1,9 +1,8 @@
 -- The sectors on which the meaning of an image doesn't depend.
 use Rattle.std.specs.Prelude.{◌≡◌, ◌≢◌, ◌≤◌, ◌⊎◌, ℕ, ◌+◌, List}
-use Rattle.ng_layout.specs.declared.header.Format.{Format}
 use Rattle.ng_layout.specs.declared.header.Format.TheVariants.{Two}
 use Rattle.ng_layout.specs.declared.header.Header.{Header}
-use Rattle.ng_layout.specs.Areas.{snapshot_first, snapshot_size, program_first, program_size, log_first, shortest_log, longest_log, tools_first, tools_size}
+use Rattle.ng_layout.specs.Areas.{snapshot_first, snapshot_size, program_first, program_size, log_first, shortest_log, tools_first, tools_size}
 use Rattle.ng_layout.specs.Spare.{IsAmong}
 use Rattle.ng_layout.specs.Stands.{is_large}
 

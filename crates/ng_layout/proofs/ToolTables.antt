@@ -2,8 +2,8 @@
 use Rattle.std.proofs.Common.{◌≡◌, ◌≤◌, ◌<◌, ◌⊎◌, inl, inr, ℕ, zero, suc, ◌+◌, ◌-◌, ◌*◌, ◌/◌, ◌%◌, ◌==◌, ◌&&◌, nat_le, if◌then◌else◌, Bool, true, false, List, [], ◌∷◌, ◌++◌, length, get_or, replicate, set, ℤ, pos, Option, Some, None, refl, sym, ◌∙◌, ap, subst, arith, length-append, add-one}
 use Rattle.std.proofs.lemmas.Bool.{cases_eq, cases_lt}
 use Rattle.std.proofs.lemmas.List.{get_or_append_left, get_or-append_right}
-use Rattle.ng_layout.proofs.Places.{signed-below, from-more, from-further}
-use Rattle.ng_layout.proofs.Rows.{zeros-from}
+use Rattle.ng_layout.proofs.ByteLemmas.{signed-below, from-more, from-further}
+use Rattle.ng_layout.proofs.SectorLemmas.{zeros-from}
 use Rattle.std.specs.Prelude.{MatchBool, IfSome, negsuc, int_le}
 use Rattle.std.proofs.lemmas.Bool.Decides.{nat_tests, Decides-int_eq}
 use Rattle.std.specs.Ordering.{int_eq}
@@ -11,7 +11,7 @@ use Rattle.ng_offsets.specs.Tools.{length_of_slot, with_slot, with_change, chang
 use Rattle.ng_offsets.specs.declared.tools.SlotChange.{SlotChange}
 use Rattle.ng_layout.specs.Fields.{number_at, signed_at, AreZero, SameFrom, Puts}
 use Rattle.ng_layout.specs.Part.{slot_number, slot_length}
-use Rattle.ng_layout.specs.Report.{and_then, up_to}
+use Rattle.ng_layout.specs.Decoding.{and_then, up_to}
 use Rattle.ng_layout.specs.Storable.{IsStorableChange, IsStorableTools}
 use Rattle.ng_layout.specs.Tools.{tools_in, tool_length_of, lengths_in, slot_change_by, slot_change_in, tools_after}
 use Rattle.ng_layout.specs.declared.header.Format.{Format}
@@ -39,20 +39,6 @@ tools-made Two sector tools change is slot tool valid =
     λ i. and_then (back i) (λ c. Some (with_change c tools))
 
 -- ---- what is read from a tool area
-
-pub length-small : (n m : ℤ) → tool_length_of n ≡ Some m → IsToolLength m
-length-small n m is = go (int_le (pos 0) n && int_le n (pos 1_000_000_000)) refl is
-  where
-    inside : (n : ℤ) → (int_le (pos 0) n && int_le n (pos 1_000_000_000)) ≡ true → IsToolLength n
-    inside (pos n) is = record { least = grind (arith, nat_tests); most = grind (arith, nat_tests) }
-    inside (negsuc n) is = absurd (cc)
-
-    go : (b : Bool) → (int_le (pos 0) n && int_le n (pos 1_000_000_000)) ≡ b → (if b then Some n else None) ≡ Some m → IsToolLength m
-    go true test is = subst IsToolLength (some is) (inside n test)
-      where
-        some : Some n ≡ Some m → n ≡ m
-        some e = cc
-    go false test is = absurd (cc)
 
 module _ (area : ℕ → List ℕ) where
   abbrev one_at : ℕ → Option ℤ

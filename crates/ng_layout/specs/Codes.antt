@@ -39,92 +39,35 @@ code_of_format Two = 2
 abbrev pub motion_of : ℕ → Option Motion
 motion_of code = among ((0, Traverse) ∷ (1, Feed) ∷ (2, ClockwiseArc) ∷ (3, CounterclockwiseArc) ∷ (80, Off) ∷ (81, Drilling) ∷ (82, DrillingWithDwell) ∷ (83, PeckDrilling) ∷ (85, Boring) ∷ (86, BoringWithStop) ∷ (89, BoringWithDwell) ∷ []) code
 
-abbrev pub code_of_motion : Motion → ℕ
-code_of_motion Traverse = 0
-code_of_motion Feed = 1
-code_of_motion ClockwiseArc = 2
-code_of_motion CounterclockwiseArc = 3
-code_of_motion Off = 80
-code_of_motion Drilling = 81
-code_of_motion DrillingWithDwell = 82
-code_of_motion PeckDrilling = 83
-code_of_motion Boring = 85
-code_of_motion BoringWithStop = 86
-code_of_motion BoringWithDwell = 89
-
 abbrev pub plane_of : ℕ → Option Plane
 plane_of code = among ((17, Xy) ∷ (18, Xz) ∷ (19, Yz) ∷ []) code
-
-abbrev pub code_of_plane : Plane → ℕ
-code_of_plane Xy = 17
-code_of_plane Xz = 18
-code_of_plane Yz = 19
 
 abbrev pub distance_of : ℕ → Option Distance
 distance_of code = among ((90, Absolute) ∷ (91, Incremental) ∷ []) code
 
-abbrev pub code_of_distance : Distance → ℕ
-code_of_distance Absolute = 90
-code_of_distance Incremental = 91
-
 abbrev pub feed_mode_of : ℕ → Option FeedMode
 feed_mode_of code = among ((93, InverseTime) ∷ (94, PerMinute) ∷ []) code
-
-abbrev pub code_of_feed_mode : FeedMode → ℕ
-code_of_feed_mode InverseTime = 93
-code_of_feed_mode PerMinute = 94
 
 abbrev pub unit_of : ℕ → Option LengthUnit
 unit_of code = among ((20, Inches) ∷ (21, Millimetres) ∷ []) code
 
-abbrev pub code_of_unit : LengthUnit → ℕ
-code_of_unit Inches = 20
-code_of_unit Millimetres = 21
-
 abbrev pub retract_of : ℕ → Option Retract
 retract_of code = among ((98, OldZ) ∷ (99, ToR) ∷ []) code
-
-abbrev pub code_of_retract : Retract → ℕ
-code_of_retract OldZ = 98
-code_of_retract ToR = 99
 
 -- 0 for G61, 1 for G61.1, 2 for G64
 abbrev pub path_of : ℕ → Option PathMode
 path_of code = among ((0, Exact) ∷ (1, ExactStop) ∷ (2, Continuous) ∷ []) code
 
-abbrev pub code_of_path : PathMode → ℕ
-code_of_path Exact = 0
-code_of_path ExactStop = 1
-code_of_path Continuous = 2
-
 abbrev pub spindle_of : ℕ → Option Spindle
 spindle_of code = among ((0, Stopped) ∷ (1, Clockwise) ∷ (2, Counterclockwise) ∷ []) code
 
-abbrev pub code_of_spindle : Spindle → ℕ
-code_of_spindle Stopped = 0
-code_of_spindle Clockwise = 1
-code_of_spindle Counterclockwise = 2
-
 abbrev pub truth_of : ℕ → Option Bool
 truth_of code = among ((0, false) ∷ (1, true) ∷ []) code
-
-abbrev pub code_of_truth : Bool → ℕ
-code_of_truth false = 0
-code_of_truth true = 1
 
 -- the source of a half-done block's line; 0 for no block
 abbrev pub source_of : ℕ → Option (Option Source)
 source_of code = among ((0, None) ∷ (1, Some Program) ∷ (2, Some Mdi) ∷ []) code
 
-abbrev pub code_of_source : Source → ℕ
-code_of_source Program = 1
-code_of_source Mdi = 2
-
 -- what part of it is open; 0 for nothing
 abbrev pub opened_of : ℕ → Option (Option Opened)
 opened_of code = among ((0, None) ∷ (1, Some Segment) ∷ (2, Some Approach) ∷ []) code
-
-abbrev pub code_of_opened : Option Opened → ℕ
-code_of_opened None = 0
-code_of_opened (Some Segment) = 1
-code_of_opened (Some Approach) = 2

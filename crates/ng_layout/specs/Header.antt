@@ -2,7 +2,7 @@
 use Rattle.std.specs.Prelude.{◌≡◌, ℕ, ◌≤◌, ◌*◌, ◌%◌, ◌==◌, ◌&&◌, Bool, true, nat_le, List, Option, Some, None, if◌then◌else◌, codes}
 use Rattle.ng_layout.specs.Areas.{greatest_area, program_size}
 use Rattle.ng_layout.specs.Codes.{format_of, code_of_format}
-use Rattle.ng_layout.specs.Report.{and_then}
+use Rattle.ng_layout.specs.Decoding.{and_then}
 use Rattle.ng_layout.specs.declared.header.Format.{Format}
 use Rattle.ng_layout.specs.Fields.{number_at, AreZero}
 use Rattle.ng_layout.specs.declared.header.Header.{Header}

@@ -32,6 +32,10 @@ slot_length_at = 496
 abbrev pub longest_text : ℕ
 longest_text = 256
 
+-- how many bytes a state field has
+abbrev pub field_size : ℕ
+field_size = 456
+
 -- how many bytes a sector has
 abbrev pub sector_size : ℕ
 sector_size = 512

@@ -8,8 +8,7 @@ use Rattle.ng_layout.specs.Limits.{content_first, change_size, part_changes}
 use Rattle.ng_layout.specs.Tools.{tools_after}
 use Rattle.ng_layout.specs.declared.header.Format.{Format}
 use Rattle.ng_layout.specs.Fields.{number_at, signed_at}
-use Rattle.ng_layout.specs.StateField.{field_at}
-use Rattle.ng_layout.specs.Report.{and_then, count_of, decoded_state_of}
+use Rattle.ng_layout.specs.Decoding.{and_then, count_of, decoded_state_of}
 use Rattle.ng_layout.specs.Stored.{DecodedStateModel}
 
 -- the label of a part
@@ -39,7 +38,7 @@ changes_of row at (suc n) = and_then (changes_of row at n) (λ earlier. and_then
 
 -- the state so far, with the parameters and the tools
 pub record ReplayState : Type 0 where
-  pub report : DecodedStateModel
+  pub decoded : DecodedStateModel
   pub params : List ℤ
   pub tools : List ℤ
 
@@ -52,8 +51,8 @@ pub record LogPosition : Type 0 where
 -- the state with a record: its state field, and the parameters and the tools with its changes
 abbrev pub with_record : Format → ℕ → (ℕ → List ℕ) → ℕ → ℕ → ReplayState → Option ReplayState
 with_record format length row at changes before =
-    and_then (decoded_state_of length (field_at (drop content_first (row at)))) (λ report. and_then (changes_of row at changes) (λ made. and_then (tools_after format (row at) before.tools) (λ tools.
-    Some (record { report = report; params = with_changes before.params made; tools = tools }))))
+    and_then (decoded_state_of length (drop content_first (row at))) (λ decoded. and_then (changes_of row at changes) (λ made. and_then (tools_after format (row at) before.tools) (λ tools.
+    Some (record { decoded = decoded; params = with_changes before.params made; tools = tools }))))
 
 -- how many parts a record with this many changes has
 abbrev pub parts_for : ℕ → ℕ

@@ -5,10 +5,10 @@ use Rattle.ng_params.specs.declared.change.Change.{Change}
 use Rattle.ng_offsets.specs.declared.tools.SlotChange.{SlotChange}
 use Rattle.ng_layout.specs.Limits.{sector_size, label_size, content_first, content_size, change_size, part_changes, slot_at, slot_length_at}
 use Rattle.ng_layout.specs.Fields.{number_at, signed_at, AreZero}
-use Rattle.ng_layout.specs.StateField.{field_at}
-use Rattle.ng_layout.specs.Report.{and_then, decoded_state_of}
+use Rattle.ng_layout.specs.Decoding.{and_then}
 use Rattle.ng_layout.specs.Log.{PartHeader, is_part, change_at}
-use Rattle.ng_layout.specs.Snapshot.{decoded_state_in, HoldsDecodedState}
+use Rattle.ng_layout.specs.Encoding.{HoldsDecodedState}
+use Rattle.ng_layout.specs.Snapshot.{decoded_state_in}
 use Rattle.ng_layout.specs.Stored.{StoredModel}
 use Rattle.ng_layout.specs.declared.part.PartLabel.{PartLabel}
 
@@ -43,11 +43,9 @@ abbrev pub slot_length : Option SlotChange → ℤ
 slot_length None = pos 0
 slot_length (Some change) = change.length
 
--- The content is the state field of what is stored, which reads back as that, and the slot that changes, with 0 in all
--- other bytes.
+-- The content is the state field of what is stored, and the slot that changes, with 0 in all other bytes.
 pub record HoldsState (saved : StoredModel) (change : Option SlotChange) (sector : List ℕ) : Type 0 where
-  pub field : HoldsDecodedState (decoded_state_in saved) (drop content_first sector)
-  pub report : decoded_state_of saved.length (field_at (drop content_first sector)) ≡ Some (decoded_state_in saved)
+  pub state : HoldsDecodedState saved.length (decoded_state_in saved) (drop content_first sector)
   pub slot : number_at 2 slot_at sector ≡ slot_number change
   pub tool : signed_at slot_length_at sector ≡ slot_length change
   pub between : AreZero (slot_length_at - (slot_at + 2)) (slot_at + 2) sector

@@ -1,29 +1,21 @@
 -- What the sectors of a snapshot hold (own).
-use Rattle.std.specs.Prelude.{◌≡◌, ◌+◌, ◌-◌, ◌*◌, ◌<◌, ◌≤◌, ℕ, ℤ, pos, List, length, get_or, Some}
+use Rattle.std.specs.Prelude.{◌≡◌, ◌+◌, ◌-◌, ◌*◌, ◌<◌, ◌≤◌, ℕ, ℤ, pos, List, length, get_or}
 use Rattle.ng_layout.specs.Limits.{sector_size, sector_values, sector_lengths, slots_at}
 use Rattle.ng_layout.specs.Fields.{number_at, signed_at, AreZero}
-use Rattle.ng_layout.specs.StateField.{free_byte, field_at}
-use Rattle.ng_layout.specs.Report.{decoded_state_of}
+use Rattle.ng_layout.specs.Encoding.{HoldsDecodedState}
 use Rattle.ng_layout.specs.Sectors.{HoldsValues}
 use Rattle.ng_layout.specs.Stored.{DecodedStateModel, StoredModel}
-use Rattle.ng_layout.specs.Writing.{field_of}
 
 -- what the state field says
 abbrev pub decoded_state_in : StoredModel → DecodedStateModel
 decoded_state_in s = record { entries = s.entries; place = s.place; modal = s.setup.modal; half = s.half }
 
--- These bytes are written with the state field of this state: its numbers, and 0 in the unused byte.
-pub record HoldsDecodedState (report : DecodedStateModel) (bytes : List ℕ) : Type 0 where
-  pub numbers : field_at bytes ≡ field_of report
-  pub gap : AreZero 1 free_byte bytes
-
 -- The sector is written with this part of the snapshot: the state field and the number of slots first, then the
 -- parameters.
 pub record HoldsPart (saved : StoredModel) (part : ℕ) (sector : List ℕ) : Type 0 where
-  pub field : part ≡ 0 → HoldsDecodedState (decoded_state_in saved) sector
+  pub state : part ≡ 0 → HoldsDecodedState saved.length (decoded_state_in saved) sector
   pub slots : part ≡ 0 → number_at 2 slots_at sector ≡ length saved.tools
   pub rest : part ≡ 0 → AreZero (sector_size - (slots_at + 2)) (slots_at + 2) sector
-  pub report : part ≡ 0 → decoded_state_of saved.length (field_at sector) ≡ Some (decoded_state_in saved)
   pub values : (i : ℕ) → part ≡ 1 + i → HoldsValues saved.setup.params (sector_values * i) sector
 
 -- The sector is written with these tool lengths from this index on; past the last one all its bytes are 0.

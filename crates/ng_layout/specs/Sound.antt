@@ -5,8 +5,8 @@ use Rattle.ng_layout.specs.Storable.{IsStorableModalState, IsStorableHalf}
 use Rattle.ng_layout.specs.Stored.{DecodedStateModel}
 
 -- it can be stored again, for a program of this length
-pub record IsSound (length : ℕ) (report : DecodedStateModel) : Type 0 where
-  pub entries : report.entries ≤ greatest_count
-  pub place : report.place ≤ length
-  pub modal : IsStorableModalState report.modal
-  pub half : IfSome report.half IsStorableHalf
+pub record IsSound (length : ℕ) (decoded : DecodedStateModel) : Type 0 where
+  pub entries : decoded.entries ≤ greatest_count
+  pub place : decoded.place ≤ length
+  pub modal : IsStorableModalState decoded.modal
+  pub half : IfSome decoded.half IsStorableHalf

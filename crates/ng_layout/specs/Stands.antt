@@ -7,10 +7,9 @@ use Rattle.ng_num.specs.declared.fault.Fault.{Fault}
 use Rattle.ng_num.specs.declared.fault.Fault.TheVariants.{NotFormatted, Damaged}
 use Rattle.ng_params.specs.Numbers.{parameter_count}
 use Rattle.ng_layout.specs.Fields.{number_at}
-use Rattle.ng_layout.specs.StateField.{field_at}
 use Rattle.ng_layout.specs.declared.header.Header.{Header}
 use Rattle.ng_layout.specs.Header.{header_in, program_room}
-use Rattle.ng_layout.specs.Report.{and_then, decoded_state_of}
+use Rattle.ng_layout.specs.Decoding.{and_then, decoded_state_of}
 use Rattle.ng_layout.specs.Sectors.{values, program_text}
 use Rattle.ng_layout.specs.Areas.{large_size, snapshot_size, snapshot_first, tools_size, tools_first, program_size, program_first, log_first, log_size_of, shortest_log}
 use Rattle.ng_layout.specs.Tools.{tools_in}
@@ -48,14 +47,14 @@ all_counts params = if list_all (λ n. nat_le (unsigned_abs n) greatest) params 
 -- what a snapshot and its tool area say
 unfoldable pub snapshot : Format → ℕ → (ℕ → List ℕ) → (ℕ → List ℕ) → Option ReplayState
 snapshot format length row area =
-    and_then (decoded_state_of length (field_at (row 0))) (λ report. and_then (all_counts (values parameter_count row)) (λ params. and_then (tools_in format (row 0) area) (λ tools.
-    Some (record { report = report; params = params; tools = tools }))))
+    and_then (decoded_state_of length (row 0)) (λ decoded. and_then (all_counts (values parameter_count row)) (λ params. and_then (tools_in format (row 0) area) (λ tools.
+    Some (record { decoded = decoded; params = params; tools = tools }))))
 
 -- the state that was found, with the program and the room for one
 abbrev pub standing : ℕ → Option ReplayState → List ℕ → ℕ → Result DurableState Fault
 standing room None program length = Err Damaged
 standing room (Some f) program length = Ok (record {
-  saved = record { entries = f.report.entries; setup = record { params = f.params; modal = f.report.modal }; tools = f.tools; place = f.report.place; length = length; room = room; half = f.report.half };
+  saved = record { entries = f.decoded.entries; setup = record { params = f.params; modal = f.decoded.modal }; tools = f.tools; place = f.decoded.place; length = length; room = room; half = f.decoded.half };
   program = program;
 })
 

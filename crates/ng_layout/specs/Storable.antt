@@ -1,6 +1,5 @@
 -- What can be stored: the states that an interpreter reaches (own).
 use Rattle.std.specs.Prelude.{◌≡◌, ◌≤◌, ◌≤ℤ◌, ℤ, pos, List, length, IsSome, IsNone, IfSome}
-use Rattle.std.specs.List.{All}
 use Rattle.ng_state.specs.declared.modal_state.ModalState.{ModalState}
 use Rattle.ng_layout.specs.Limits.{greatest_slot, longest_text, longest_program}
 use Rattle.ng_params.specs.Numbers.{parameter_count}

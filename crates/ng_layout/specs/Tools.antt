@@ -1,11 +1,10 @@
 -- The tool table on a device of format 2: a snapshot's table, and its changes by records (own). Format 1 has none.
-use Rattle.std.specs.Prelude.{◌≡◌, ◌≤ℤ◌, ℕ, zero, suc, ◌+◌, ◌*◌, ◌/◌, ◌%◌, ◌==◌, ◌&&◌, Bool, nat_le, int_le, List, [], ◌∷◌, ◌++◌, length, ℤ, pos, Option, Some, None, if◌then◌else◌}
-use Rattle.std.specs.List.{All}
+use Rattle.std.specs.Prelude.{ℕ, zero, suc, ◌+◌, ◌*◌, ◌/◌, ◌%◌, ◌==◌, ◌&&◌, Bool, nat_le, List, [], ◌∷◌, ◌++◌, length, ℤ, Option, Some, None, if◌then◌else◌}
 use Rattle.ng_offsets.specs.Tools.{is_tool_length, with_change}
 use Rattle.ng_offsets.specs.declared.tools.SlotChange.{SlotChange}
 use Rattle.ng_layout.specs.Fields.{number_at, signed_at}
 use Rattle.ng_layout.specs.Limits.{greatest_slot, sector_lengths, slots_at, slot_at, slot_length_at}
-use Rattle.ng_layout.specs.Report.{and_then, up_to}
+use Rattle.ng_layout.specs.Decoding.{and_then, up_to}
 use Rattle.ng_layout.specs.declared.header.Format.{Format}
 use Rattle.ng_layout.specs.declared.header.Format.TheVariants.{One, Two}
 

@@ -82,17 +82,6 @@ pub(crate) fn put_i64(bytes: &mut [u8], at: usize, x: i64)
     put_u64(bytes, at, x.cast_unsigned());
 }
 
-/// The bytes of a text from a position on.
-#[tactic(auto, unfolding(crate::specs::Fields::bytes_at))]
-pub(crate) fn get_text(bytes: &[u8], at: usize) -> [u8; LONGEST_TEXT]
-    requires { at + longest_text ≤ length bytes.now }
-    ensures { result ≡ bytes_at longest_text at bytes.now }
-{
-    let mut text = [0; LONGEST_TEXT];
-    text.copy_from_slice(&bytes[at..at + LONGEST_TEXT]);
-    text
-}
-
 pub(crate) fn put_text(bytes: &mut [u8], at: usize, text: &[u8; LONGEST_TEXT])
     requires { at + longest_text ≤ length bytes.old }
     ensures { Puts (bytes_at longest_text at) at (at + longest_text) text.now bytes.old bytes.new }

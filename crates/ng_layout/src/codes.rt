@@ -1,10 +1,7 @@
 //! The bytes that stand for modes and outputs in a state field.
-ghost use Rattle.std.specs.Prelude.{◌≡◌};
+ghost use Rattle.std.specs.Prelude.{◌≡◌, Some};
 ghost use Rattle.ng_layout.specs.Codes.{motion_of, plane_of, distance_of, feed_mode_of, unit_of, retract_of, path_of};
 ghost use Rattle.ng_layout.specs.Codes.{spindle_of, truth_of, source_of, opened_of};
-ghost use Rattle.ng_layout.specs.Codes.{code_of_motion, code_of_plane, code_of_distance, code_of_feed_mode};
-ghost use Rattle.ng_layout.specs.Codes.{code_of_unit, code_of_retract, code_of_path, code_of_spindle};
-ghost use Rattle.ng_layout.specs.Codes.{code_of_truth, code_of_source, code_of_opened};
 
 use crate::half::{Opened, Source};
 use ng_canon::{Plane, Spindle};
@@ -31,7 +28,7 @@ pub(crate) fn motion_of(code: u8) -> Option<Motion>
 }
 
 pub(crate) fn code_of_motion(motion: Motion) -> u8
-    ensures { result ≡ code_of_motion motion }
+    ensures { motion_of result ≡ Some motion }
 {
     match motion {
         Motion::Traverse => 0,
@@ -60,7 +57,7 @@ pub(crate) fn plane_of(code: u8) -> Option<Plane>
 }
 
 pub(crate) fn code_of_plane(plane: Plane) -> u8
-    ensures { result ≡ code_of_plane plane }
+    ensures { plane_of result ≡ Some plane }
 {
     match plane {
         Plane::Xy => 17,
@@ -80,7 +77,7 @@ pub(crate) fn distance_of(code: u8) -> Option<Distance>
 }
 
 pub(crate) fn code_of_distance(distance: Distance) -> u8
-    ensures { result ≡ code_of_distance distance }
+    ensures { distance_of result ≡ Some distance }
 {
     match distance {
         Distance::Absolute => 90,
@@ -99,7 +96,7 @@ pub(crate) fn feed_mode_of(code: u8) -> Option<FeedMode>
 }
 
 pub(crate) fn code_of_feed_mode(feed_mode: FeedMode) -> u8
-    ensures { result ≡ code_of_feed_mode feed_mode }
+    ensures { feed_mode_of result ≡ Some feed_mode }
 {
     match feed_mode {
         FeedMode::InverseTime => 93,
@@ -118,7 +115,7 @@ pub(crate) fn unit_of(code: u8) -> Option<Unit>
 }
 
 pub(crate) fn code_of_unit(unit: Unit) -> u8
-    ensures { result ≡ code_of_unit unit }
+    ensures { unit_of result ≡ Some unit }
 {
     match unit {
         Unit::Inches => 20,
@@ -137,7 +134,7 @@ pub(crate) fn retract_of(code: u8) -> Option<Retract>
 }
 
 pub(crate) fn code_of_retract(retract: Retract) -> u8
-    ensures { result ≡ code_of_retract retract }
+    ensures { retract_of result ≡ Some retract }
 {
     match retract {
         Retract::OldZ => 98,
@@ -157,7 +154,7 @@ pub(crate) fn path_of(code: u8) -> Option<PathMode>
 }
 
 pub(crate) fn code_of_path(path: PathMode) -> u8
-    ensures { result ≡ code_of_path path }
+    ensures { path_of result ≡ Some path }
 {
     match path {
         PathMode::Exact => 0,
@@ -178,7 +175,7 @@ pub(crate) fn spindle_of(code: u8) -> Option<Spindle>
 }
 
 pub(crate) fn code_of_spindle(spindle: Spindle) -> u8
-    ensures { result ≡ code_of_spindle spindle }
+    ensures { spindle_of result ≡ Some spindle }
 {
     match spindle {
         Spindle::Stopped => 0,
@@ -198,7 +195,7 @@ pub(crate) fn truth_of(code: u8) -> Option<bool>
 }
 
 pub(crate) fn code_of_truth(truth: bool) -> u8
-    ensures { result ≡ code_of_truth truth }
+    ensures { truth_of result ≡ Some truth }
 {
     if truth { 1 } else { 0 }
 }
@@ -215,7 +212,7 @@ pub(crate) fn source_of(code: u8) -> Option<Option<Source>>
 }
 
 pub(crate) fn code_of_source(source: Source) -> u8
-    ensures { result ≡ code_of_source source }
+    ensures { source_of result ≡ Some (Some source) }
 {
     match source {
         Source::Program => 1,
@@ -235,7 +232,7 @@ pub(crate) fn opened_of(code: u8) -> Option<Option<Opened>>
 }
 
 pub(crate) fn code_of_opened(opened: Option<Opened>) -> u8
-    ensures { result ≡ code_of_opened opened }
+    ensures { opened_of result ≡ Some opened }
 {
     match opened {
         None => 0,

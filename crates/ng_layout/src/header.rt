@@ -3,7 +3,7 @@ ghost use Rattle.std.specs.Prelude.{◌≡◌, ◌≤◌, IfSome};
 
 use crate::areas::{LONGEST_LOG, SHORTEST_LOG, greatest_area, longest_in};
 use crate::bytes::{get_u32, get_u64, put_u32, put_u64};
-use crate::report::GREATEST_COUNT;
+use crate::decoding::GREATEST_COUNT;
 use crate::sectors::SECTOR_BYTES;
 
 /// The text that a header begins with.

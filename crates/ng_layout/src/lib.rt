@@ -1,6 +1,6 @@
 //! How the journal's data is laid out in the sectors of a device, and what such sectors mean (own; docs/DEVICE.md).
 //!
-//! What is written is read back, or refused as damaged exactly if a field is out of its range: `Header`, `StateField`,
+//! What is written is read back, or refused as damaged exactly if a field is out of its range: `Header`, `decode`,
 //! `Stored::sector`, `text_sector`, `first_part`, `changes_part`. specs/Stands.antt says what an image of a device
 //! stands for, and specs/Areas.antt which sectors are used for what. No device is called here.
 #![tactic(auto)]
@@ -8,29 +8,28 @@
 mod areas;
 mod bytes;
 mod codes;
-mod field;
-mod field_places;
+mod decoding;
+mod encoding;
 mod half;
 mod header;
 mod part;
-mod report;
+mod places;
+mod rows;
 mod sectors;
 mod stored;
 mod tools;
-mod writing;
 
 pub use areas::{
     HEADERS, LARGE_SIZE, LEAST_SIZE, LOG_FIRST, LONGEST_LOG, SHORTEST_LOG, SNAPSHOT_SIZE,
     TOOLS_SIZE, program_first, program_room, snapshot_first, spare_area, tools_first,
 };
-pub use field::{CodeField, HalfField, KeptField, StateField, Triple};
+pub use decoding::{DecodedState, GREATEST_COUNT, decode};
 pub use half::{Half, LONGEST_TEXT, Opened, Source, text_from};
 pub use header::{Format, Header};
 pub use part::{
     PART_CHANGES, PartLabel, changes_part, decoded_state_of_part, first_part, parts_for,
     take_changes,
 };
-pub use report::{DecodedState, GREATEST_COUNT};
 pub use sectors::{SECTOR_BYTES, VALUES, take_values, text_sector};
 pub use stored::{Stored, fresh_sector};
 pub use tools::{take_area, take_slot};

@@ -4,18 +4,20 @@
 //! each but the last is full. All parts begin with the same label, except for the number of the part.
 ghost use Rattle.std.specs.Prelude.{◌≡◌, ◌≤◌, ◌+◌, ◌-◌, length, drop, replicate, IfSome};
 ghost use Rattle.ng_num.specs.Range.{IsCount};
-ghost use Rattle.ng_layout.specs.Limits.{greatest_count, sector_size, label_size, content_first, change_size, part_changes, record_changes, record_parts, slot_at, slot_length_at};
-ghost use Rattle.ng_layout.specs.Fields.{number_at, signed_at, bytes_at, SameBelow, SameFrom, Puts};
+ghost use Rattle.ng_layout.specs.Limits.{field_size, greatest_count, sector_size, label_size, content_first, change_size, part_changes, record_changes, record_parts, slot_at, slot_length_at};
+ghost use Rattle.ng_layout.specs.Fields.{number_at, signed_at, bytes_at, SameBelow, SameFrom};
 ghost use Rattle.ng_layout.specs.Log.{is_part, change_at, parts_for};
 ghost use Rattle.ng_layout.specs.Part.{label_of, label_at, slot_number, slot_length, HoldsLabel, HoldsState, HoldsChanges, MakesOrDamaged};
-ghost use Rattle.ng_layout.specs.Report.{decoded_state_of};
+ghost use Rattle.ng_layout.specs.Decoding.{decoded_state_of};
+ghost use Rattle.ng_layout.specs.Encoding.{HoldsDecodedState};
+ghost use Rattle.ng_layout.specs.Snapshot.{decoded_state_in};
 ghost use Rattle.ng_layout.specs.Sound.{IsSound};
-ghost use Rattle.ng_layout.specs.StateField.{free_byte, field_size, field_at};
 ghost use Rattle.ng_layout.specs.Storable.{IsStorable};
 
-use crate::bytes::{get_i64, get_u16, get_u64, put_i64, put_u16, put_u64};
-use crate::field::StateField;
-use crate::report::DecodedState;
+use crate::bytes::{get_i64, get_u16, get_u64, put_i64, put_u16};
+use crate::decoding::{DecodedState, decode};
+use crate::rows::Number::{U16, U64};
+use crate::rows::put_rows;
 use crate::sectors::SECTOR_BYTES;
 use crate::stored::Stored;
 use crate::tools::{SLOT_AT, SLOT_LENGTH_AT};
@@ -95,11 +97,16 @@ impl PartLabel {
         ensures rest { SameFrom label_size (replicate sector_size 0) result }
     {
         let mut sector = [0; SECTOR_BYTES];
-        put_u64(&mut sector, EPOCH_AT, self.epoch);
-        put_u64(&mut sector, NUMBER_AT, self.number);
-        put_u16(&mut sector, PART_AT, self.part);
-        put_u16(&mut sector, PARTS_AT, self.parts);
-        put_u16(&mut sector, CHANGES_AT, self.changes);
+        put_rows(
+            &mut sector,
+            &[
+                (EPOCH_AT, U64(self.epoch)),
+                (NUMBER_AT, U64(self.number)),
+                (PART_AT, U16(self.part)),
+                (PARTS_AT, U16(self.parts)),
+                (CHANGES_AT, U16(self.changes)),
+            ],
+        );
         sector
     }
 }
@@ -126,8 +133,8 @@ pub fn first_part<A: Allocator + Copy + Drop>(
     ensures state { HoldsState stored.now change result }
 {
     let mut sector = label.sector();
-    put_content(&mut sector, &stored.field());
     put_change(&mut sector, change);
+    put_state(&mut sector, stored);
     sector
 }
 
@@ -157,22 +164,24 @@ fn change_numbers(change: Option<SlotChange>) -> (u16, i64)
     }
 }
 
-/// Writes a state field after a label. The content's unused byte and all bytes after the field stay.
-fn put_content(sector: &mut [u8; SECTOR_BYTES], field: &StateField)
+/// Writes the state field of what is stored after a label. All other bytes stay.
+fn put_state<A: Allocator + Copy + Drop>(sector: &mut [u8; SECTOR_BYTES], stored: &Stored<A>)
+    requires count { stored.now.entries ≤ greatest_count }
+    requires storable { IsStorable stored.now }
+    ensures state { HoldsDecodedState stored.now.length (decoded_state_in stored.now) (drop content_first sector.new) }
     ensures label { SameBelow content_first sector.old sector.new }
-    ensures put { Puts field_at 0 field_size field.now (drop content_first sector.old) (drop content_first sector.new) }
-    ensures gap { bytes_at 1 free_byte (drop content_first sector.new) ≡ bytes_at 1 free_byte (drop content_first sector.old) }
+    ensures beyond { SameFrom (content_first + field_size) sector.old sector.new }
 {
-    field.write(&mut sector[CONTENT..]);
+    stored.encode(&mut sector[CONTENT..]);
 }
 
 /// What the state field in a record's first part says, for a program of this length in bytes. `None` if one of its
 /// numbers is out of range.
 pub fn decoded_state_of_part(sector: &[u8; SECTOR_BYTES], length: u64) -> Option<DecodedState>
-    ensures value { result ≡ decoded_state_of length (field_at (drop content_first sector.now)) }
+    ensures value { result ≡ decoded_state_of length (drop content_first sector.now) }
     ensures sound { IfSome result (IsSound length) }
 {
-    StateField::read(&sector[CONTENT..]).report(length)
+    decode(&sector[CONTENT..], length)
 }
 
 /// A later part of a record, with these changes. All other bytes are 0. It doesn't allocate.

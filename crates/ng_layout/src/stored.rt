@@ -1,21 +1,19 @@
 //! What is stored of a controller.
 ghost use Rattle.std.specs.Prelude.{◌≡◌, ◌≤◌, ◌<◌, ◌+◌, ◌-◌, ℕ, length, Some, IfOk};
 ghost use Rattle.std.specs.Option.{option_map};
-ghost use Rattle.ng_layout.specs.Limits.{greatest_count, greatest_slot, sector_size, slots_at};
+ghost use Rattle.ng_layout.specs.Limits.{field_size, greatest_count};
 ghost use Rattle.ng_params.specs.Numbers.{parameter_count};
 ghost use Rattle.ng_layout.specs.Areas.{snapshot_size, tools_size};
-ghost use Rattle.ng_layout.specs.Fields.{number_at, AreZero};
-ghost use Rattle.ng_layout.specs.StateField.{free_byte, field_at};
+ghost use Rattle.ng_layout.specs.Fields.{SameFrom};
 ghost use Rattle.ng_layout.specs.Storable.{IsStorable};
-ghost use Rattle.ng_layout.specs.Report.{decoded_state_of};
+ghost use Rattle.ng_layout.specs.Encoding.{HoldsDecodedState};
 ghost use Rattle.ng_layout.specs.Snapshot.{decoded_state_in, HoldsPart, HoldsToolPart};
 ghost use Rattle.ng_layout.specs.Stored.{fresh_stored};
-ghost use Rattle.ng_layout.specs.Writing.{field_of};
 
 use crate::bytes::put_u16;
-use crate::field::StateField;
+use crate::decoding::DecodedState;
+use crate::encoding::encode;
 use crate::half::Half;
-use crate::report::DecodedState;
 use crate::sectors::{SECTOR_BYTES, VALUES, copy_table, fresh_values_sector, values_sector};
 use crate::tools::{LENGTHS, SLOTS_AT, lengths_sector};
 use ng_offsets::Tools;
@@ -78,14 +76,14 @@ impl<A: Allocator + Copy + Drop> Stored<A> {
     }
 
     /// Takes over what a state field says, for a program of this length. The parameters, the tools and the room stay.
-    pub fn take_decoded_state(&mut self, report: DecodedState, length: u64)
-        ensures { self.new ≡ with_decoded_state self.old report length }
+    pub fn take_decoded_state(&mut self, decoded: DecodedState, length: u64)
+        ensures { self.new ≡ with_decoded_state self.old decoded length }
     {
-        self.entries = report.entries;
-        self.state.modal = report.modal;
-        self.place = report.place;
+        self.entries = decoded.entries;
+        self.state.modal = decoded.modal;
+        self.place = decoded.place;
         self.length = length;
-        self.half = report.half;
+        self.half = decoded.half;
     }
 
     /// Closes what is open. If something was open, the machine's position isn't known any more.
@@ -142,19 +140,28 @@ impl<A: Allocator + Copy + Drop> Stored<A> {
         };
     }
 
-    /// The state field.
-    pub(crate) fn field(&self) -> StateField
+    /// Writes the state field to the start of these bytes. All bytes after it stay.
+    pub(crate) fn encode(&self, bytes: &mut [u8])
+        requires room { field_size ≤ length bytes.old }
         requires count { self.now.entries ≤ greatest_count }
         requires storable { IsStorable self.now }
-        ensures is { result ≡ field_of (decoded_state_in self.now) }
-        ensures means { decoded_state_of self.now.length result ≡ Some (decoded_state_in self.now) }
+        ensures holds { HoldsDecodedState self.now.length (decoded_state_in self.now) bytes.new }
+        ensures beyond { SameFrom field_size bytes.old bytes.new }
     {
-        StateField::of(
-            self.entries,
-            self.place,
-            &self.state.modal,
-            self.half.as_ref(),
-        )
+        let half = self.half.as_ref();
+        encode(bytes, self.entries, self.place, &self.state.modal, half);
+    }
+
+    /// The first sector of a snapshot: the state field, and the number of slots. All other bytes are 0.
+    fn first_sector(&self) -> [u8; SECTOR_BYTES]
+        requires count { self.now.entries ≤ greatest_count }
+        requires storable { IsStorable self.now }
+        ensures { HoldsPart self.now 0 result }
+    {
+        let mut sector = [0; SECTOR_BYTES];
+        put_u16(&mut sector, SLOTS_AT, self.tools.slots() as u16);
+        self.encode(&mut sector);
+        sector
     }
 
     /// The sector of a snapshot that holds this part of it: the state field first, then the parameters. Bytes that no
@@ -166,7 +173,7 @@ impl<A: Allocator + Copy + Drop> Stored<A> {
         ensures { HoldsPart self.now part result }
     {
         if part == 0 {
-            first_sector(&self.field(), self.tools.slots())
+            self.first_sector()
         } else {
             values_sector(&self.state.params, VALUES * (part - 1))
         }
@@ -187,22 +194,16 @@ pub fn fresh_sector(part: usize) -> [u8; SECTOR_BYTES]
     ensures { (room : ℕ) → HoldsPart (fresh_stored room) part result }
 {
     if part == 0 {
-        first_sector(&StateField::of(0, 0, &ModalState::fresh(), None), 0)
+        fresh_first_sector()
     } else {
         fresh_values_sector(VALUES * (part - 1))
     }
 }
 
-/// The sector that holds a state field and a number of slots. All other bytes are 0.
-fn first_sector(field: &StateField, slots: usize) -> [u8; SECTOR_BYTES]
-    requires { slots ≤ greatest_slot }
-    ensures field { field_at result ≡ field.now }
-    ensures gap { AreZero 1 free_byte result }
-    ensures slots { number_at 2 slots_at result ≡ slots }
-    ensures rest { AreZero (sector_size - (slots_at + 2)) (slots_at + 2) result }
+fn fresh_first_sector() -> [u8; SECTOR_BYTES]
+    ensures { (room : ℕ) → HoldsPart (fresh_stored room) 0 result }
 {
     let mut sector = [0; SECTOR_BYTES];
-    field.write(&mut sector);
-    put_u16(&mut sector, SLOTS_AT, slots as u16);
+    encode(&mut sector, 0, 0, &ModalState::fresh(), None);
     sector
 }

@@ -4,7 +4,7 @@ ghost use Rattle.std.specs.Bool.{OnTrue};
 ghost use Rattle.ng_layout.specs.Fields.{number_at};
 ghost use Rattle.ng_layout.specs.declared.header.Format.TheVariants.{One, Two};
 ghost use Rattle.ng_layout.specs.Limits.{sector_lengths, greatest_slot, slots_at};
-ghost use Rattle.ng_layout.specs.Report.{up_to};
+ghost use Rattle.ng_layout.specs.Decoding.{up_to};
 ghost use Rattle.ng_layout.specs.Snapshot.{HoldsLengths};
 ghost use Rattle.ng_layout.specs.Storable.{IsStorableTools};
 ghost use Rattle.ng_offsets.specs.Tools.{IsToolLength};

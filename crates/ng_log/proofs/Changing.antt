@@ -7,7 +7,7 @@ use Rattle.ng_params.specs.declared.change.Change.{Change}
 use Rattle.ng_rig.specs.Trace.{Image}
 use Rattle.ng_layout.specs.Log.{change_at, changes_of}
 use Rattle.ng_layout.specs.Part.{changes_in, piece}
-use Rattle.ng_layout.specs.Report.{and_then}
+use Rattle.ng_layout.specs.Decoding.{and_then}
 use Rattle.ng_layout.proofs.Parts.{no_changes}
 
 abbrev Changes : Type 0

@@ -108,7 +108,7 @@ module _ (base image : Image) (header : Header) (before : DurableState) (end : L
   mixture = record { ends = was_at; room = n.room; two = n.two; valid = n.valid; each = in_log }
 
   after_is : position_after_record e (replay_state_in before.saved) ≡ position_of (end_after end (length changes)) saved
-  after_is = let restored = n.restored in let slot_is = n.slot_is in λ i. record { at = end.sector + size_of e; number = end.number + 1; found = Some (record { report = (replay_state_in saved).report; params = restored i; tools = slot_is i }) }
+  after_is = let restored = n.restored in let slot_is = n.slot_is in λ i. record { at = end.sector + size_of e; number = end.number + 1; found = Some (record { decoded = (replay_state_in saved).decoded; params = restored i; tools = slot_is i }) }
 
   -- an image with some of the record's parts but not others stands for the old or for the new state
   pub blend-stands : (stands image ≡ Ok before) ⊎ (stands image ≡ Ok (record before { saved = saved }))

@@ -13,7 +13,7 @@ use Rattle.ng_layout.specs.declared.header.Format.{Format}
 use Rattle.ng_layout.specs.declared.header.Format.TheVariants.{Two}
 use Rattle.ng_layout.proofs.ToolTables.{tools-made}
 use Rattle.ng_offsets.specs.Tools.{with_change}
-use Rattle.ng_layout.specs.Report.{and_then}
+use Rattle.ng_layout.specs.Decoding.{and_then}
 use Rattle.ng_layout.specs.Snapshot.{decoded_state_in}
 use Rattle.ng_log.specs.Runs.{Reaches, IsLongest, EndsAt}
 use Rattle.ng_log.specs.Records.{LogRecord, size_of, label, IsPartOf}
@@ -22,7 +22,7 @@ use Rattle.ng_log.proofs.Runs.{step-to, reaches-frame, reaches-step, parts-all, 
 
 -- what is found with it, given what was found before
 abbrev pub found_with : LogRecord → ReplayState → ReplayState
-found_with e before = record { report = decoded_state_in e.saved; params = with_changes before.params e.changes; tools = with_change e.slot before.tools }
+found_with e before = record { decoded = decoded_state_in e.saved; params = with_changes before.params e.changes; tools = with_change e.slot before.tools }
 
 -- the position where it begins, with what was found before
 abbrev pub place_before : LogRecord → ReplayState → LogPosition
@@ -89,7 +89,7 @@ module _ (format : Format) (base log : Image) (first : LogPosition) (e : LogReco
 
     whole : next format e.saved.length log e.epoch (place_before e before) ≡ Some (position_after_record e before)
     whole =
-        let report = (head.state refl).report in
+        let decoded = (head.state refl).state.read in
         let table = tools-made format (log e.at) before.tools e.slot m.two (head.state refl).slot (head.state refl).tool m.valid in
         step-to format e.saved.length log e.epoch (place_before e before) (position_after_record e before) (record {
           parts = size_of e;
@@ -99,7 +99,7 @@ module _ (format : Format) (base log : Image) (first : LogPosition) (e : LogReco
           counted = refl;
           room = m.room;
           stand = parts-all log e.at (label e 0) (size_of e) (λ j lt. (holds j lt).label.is);
-          is = sym (λ i. record { at = e.at + size_of e; number = e.number + 1; found = and_then (report i) (λ r. and_then (made i) (λ made_are. and_then (table i) (λ tools. Some (record { report = r; params = with_changes before.params made_are; tools = tools })))) });
+          is = sym (λ i. record { at = e.at + size_of e; number = e.number + 1; found = and_then (decoded i) (λ r. and_then (made i) (λ made_are. and_then (table i) (λ tools. Some (record { decoded = r; params = with_changes before.params made_are; tools = tools })))) });
         })
 
     -- the log ends after it

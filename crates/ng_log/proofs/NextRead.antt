@@ -10,7 +10,7 @@ use Rattle.ng_layout.specs.Fields.{number_at}
 use Rattle.ng_layout.specs.Areas.{log_size, log_size_of, log_first}
 use Rattle.ng_layout.specs.Log.{PartHeader, is_part, LogPosition, after_step, parts_stand, parts_for, with_record, next, run}
 use Rattle.ng_layout.specs.Part.{label_of, label_at}
-use Rattle.ng_layout.specs.Report.{and_then}
+use Rattle.ng_layout.specs.Decoding.{and_then}
 use Rattle.ng_layout.specs.Stored.{StoredModel}
 use Rattle.ng_layout.proofs.Images.{stretch-at}
 use Rattle.ng_log.specs.declared.log_end.LogEnd.{LogEnd}

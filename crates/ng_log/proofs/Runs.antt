@@ -9,8 +9,7 @@ use Rattle.ng_layout.specs.Log.{PartHeader, is_part, parts_stand, change_at, cha
 use Rattle.ng_layout.specs.Areas.{log_size}
 use Rattle.ng_layout.specs.Tools.{tools_after}
 use Rattle.ng_layout.specs.declared.header.Format.{Format}
-use Rattle.ng_layout.specs.Report.{and_then, decoded_state_of}
-use Rattle.ng_layout.specs.StateField.{field_at}
+use Rattle.ng_layout.specs.Decoding.{and_then, decoded_state_of}
 use Rattle.ng_log.specs.Runs.{Reaches, IsClean, IsLongest, EndsAt}
 
 if_some : {A : Type 0} (b : Bool) (x y : A) → (if b then Some x else None) ≡ Some y → (b ≡ true) × (x ≡ y)
@@ -99,7 +98,7 @@ record-frame format length log base at changes before same =
     let zero_is : at + 0 ≡ at = omega arith in
     let head : log at ≡ base at = subst (λ (n : ℕ). log n ≡ base n) zero_is (same 0 (omega arith)) in
     let tail : changes_of log at changes ≡ changes_of base at changes = changes-frame log base at changes (λ j lt. let e : at + 1 + j ≡ at + (1 + j) = omega arith in subst (λ (n : ℕ). log n ≡ base n) (sym e) (same (1 + j) (omega arith))) in
-    λ i. and_then (decoded_state_of length (field_at (drop 32 (head i)))) (λ report. and_then (tail i) (λ made. and_then (tools_after format (head i) before.tools) (λ tools. Some (record { report = report; params = with_changes before.params made; tools = tools }))))
+    λ i. and_then (decoded_state_of length (drop 32 (head i))) (λ decoded. and_then (tail i) (λ made. and_then (tools_after format (head i) before.tools) (λ tools. Some (record { decoded = decoded; params = with_changes before.params made; tools = tools }))))
 
 -- the position after a record with this many parts and changes
 abbrev pub position_after : Format → ℕ → Image → LogPosition → ℕ → ℕ → LogPosition

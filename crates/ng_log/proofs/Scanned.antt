@@ -6,11 +6,10 @@ use Rattle.ng_params.specs.declared.change.Change.{Change}
 use Rattle.ng_rig.specs.Trace.{Trace, Image, reads}
 use Rattle.ng_layout.specs.Log.{PartHeader, is_part, parts_stand, changes_of, ReplayState}
 use Rattle.ng_layout.specs.Part.{changes_in, Makes}
-use Rattle.ng_layout.specs.Report.{and_then, decoded_state_of}
+use Rattle.ng_layout.specs.Decoding.{and_then, decoded_state_of}
 use Rattle.ng_layout.specs.Tools.{tools_after}
 use Rattle.ng_layout.specs.declared.header.Format.{Format}
 use Rattle.std.specs.Prelude.{MatchBool}
-use Rattle.ng_layout.specs.StateField.{field_at}
 use Rattle.ng_layout.specs.Areas.{log_first}
 use Rattle.ng_layout.specs.Stored.{DecodedStateModel, StoredModel}
 use Rattle.std.proofs.lemmas.Bool.{cases_eq}
@@ -86,38 +85,38 @@ abbrev pub taken : List ℤ → List ℤ → DecodedStateModel → ℕ → ℕ �
 taken table tools r length room = record { entries = r.entries; setup = record { params = table; modal = r.modal }; tools = tools; place = r.place; length = length; room = room; half = r.half }
 
 -- what the state field in a record's first part says, if it was read
-module _ (format : Format) (length at changes : ℕ) (old new : StoredModel) (image : Image) (sector : List ℕ) (o : Option DecodedStateModel) (there : sector ≡ from_log image at) (is : o ≡ decoded_state_of length (field_at (drop 32 sector))) where
-  reported : (v : Option DecodedStateModel) → o ≡ v → decoded_state_of length (field_at (drop 32 (from_log image at))) ≡ v
-  reported v o_is = ap (λ (s : List ℕ). decoded_state_of length (field_at (drop 32 s))) (sym there) ∙ sym is ∙ o_is
+module _ (format : Format) (length at changes : ℕ) (old new : StoredModel) (image : Image) (sector : List ℕ) (o : Option DecodedStateModel) (there : sector ≡ from_log image at) (is : o ≡ decoded_state_of length (drop 32 sector)) where
+  decodes : (v : Option DecodedStateModel) → o ≡ v → decoded_state_of length (drop 32 (from_log image at)) ≡ v
+  decodes v o_is = ap (λ (s : List ℕ). decoded_state_of length (drop 32 s)) (sym there) ∙ sym is ∙ o_is
 
-  pub no_report : o ≡ None → FindsRecord format length at changes old new image false
-  no_report none =
-      let e = reported None none in
-      λ i. and_then (e i) (λ report. and_then (changes_of (from_log image) at changes) (λ made. and_then (tools_after format (from_log image at) old.tools) (λ tools. Some (record { report = report; params = with_changes old.setup.params made; tools = tools }))))
+  pub no_state : o ≡ None → FindsRecord format length at changes old new image false
+  no_state none =
+      let e = decodes None none in
+      λ i. and_then (e i) (λ decoded. and_then (changes_of (from_log image) at changes) (λ made. and_then (tools_after format (from_log image at) old.tools) (λ tools. Some (record { decoded = decoded; params = with_changes old.setup.params made; tools = tools }))))
 
   module _ (r : DecodedStateModel) (some : o ≡ Some r) where
     -- the slot that changes is out of range
     pub no_slot : (tools : List ℤ) (was : List ℤ) (b : Bool) → b ≡ false → was ≡ old.tools → MatchBool b (tools_after format sector was ≡ Some tools) (tools_after format sector was ≡ None) → FindsRecord format length at changes old new image false
     no_slot tools was b off was_is made =
-        let e = reported (Some r) some in
+        let e = decodes (Some r) some in
         let none : tools_after format sector was ≡ None = subst (λ (x : Bool). MatchBool x (tools_after format sector was ≡ Some tools) (tools_after format sector was ≡ None)) off made in
         let t : tools_after format (from_log image at) old.tools ≡ None = (λ i. tools_after format (sym there i) (sym was_is i)) ∙ none in
-        (λ i. and_then (e i) (λ report. and_then (changes_of (from_log image) at changes) (λ made. and_then (t i) (λ tools. Some (record { report = report; params = with_changes old.setup.params made; tools = tools }))))) ∙ never (changes_of (from_log image) at changes)
+        (λ i. and_then (e i) (λ decoded. and_then (changes_of (from_log image) at changes) (λ made. and_then (t i) (λ tools. Some (record { decoded = decoded; params = with_changes old.setup.params made; tools = tools }))))) ∙ never (changes_of (from_log image) at changes)
       where
-        never : (o : Option (List Change)) → and_then o (λ made. and_then {B = ReplayState} None (λ (tools : List ℤ). Some (record { report = r; params = with_changes old.setup.params made; tools = tools }))) ≡ None
+        never : (o : Option (List Change)) → and_then o (λ made. and_then {B = ReplayState} None (λ (tools : List ℤ). Some (record { decoded = r; params = with_changes old.setup.params made; tools = tools }))) ≡ None
         never None = refl
         never (Some x) = refl
 
     no_changes_made : changes_of (from_log image) at changes ≡ None → FindsRecord format length at changes old new image false
     no_changes_made none =
-        let e = reported (Some r) some in
-        λ i. and_then (e i) (λ report. and_then (none i) (λ made. and_then (tools_after format (from_log image at) old.tools) (λ tools. Some (record { report = report; params = with_changes old.setup.params made; tools = tools }))))
+        let e = decodes (Some r) some in
+        λ i. and_then (e i) (λ decoded. and_then (none i) (λ made. and_then (tools_after format (from_log image at) old.tools) (λ tools. Some (record { decoded = decoded; params = with_changes old.setup.params made; tools = tools }))))
 
     all_taken : (table tools : List ℤ) (room : ℕ) → MakesAll (from_log image) at changes old.setup.params table → tools_after format (from_log image at) old.tools ≡ Some tools → new ≡ taken table tools r length room → FindsRecord format length at changes old new image true
     all_taken table tools room m t after =
-        let e = reported (Some r) some in
-        let same : ◌≡◌ {A = ReplayState} (record { report = r; params = with_changes old.setup.params m.changes; tools = tools }) (replay_state_in new) = (λ i. record { report = r; params = (sym m.is) i; tools = tools }) ∙ ap replay_state_in (sym after) in (
-          (λ i. and_then (e i) (λ report. and_then (m.there i) (λ made. and_then (t i) (λ tools. Some (record { report = report; params = with_changes old.setup.params made; tools = tools }))))) ∙ ap (λ (f : ReplayState). Some f) same,
+        let e = decodes (Some r) some in
+        let same : ◌≡◌ {A = ReplayState} (record { decoded = r; params = with_changes old.setup.params m.changes; tools = tools }) (replay_state_in new) = (λ i. record { decoded = r; params = (sym m.is) i; tools = tools }) ∙ ap replay_state_in (sym after) in (
+          (λ i. and_then (e i) (λ decoded. and_then (m.there i) (λ made. and_then (t i) (λ tools. Some (record { decoded = decoded; params = with_changes old.setup.params made; tools = tools }))))) ∙ ap (λ (f : ReplayState). Some f) same,
           ap (λ (s : StoredModel). s.length) after,
         )
 

@@ -17,7 +17,7 @@ use Rattle.ng_log.specs.Runs.{log_of, beginning, EndsAt}
 
 -- what a run of records finds if it leads to this
 abbrev pub replay_state_in : StoredModel → ReplayState
-replay_state_in s = record { report = decoded_state_in s; params = s.setup.params; tools = s.tools }
+replay_state_in s = record { decoded = decoded_state_in s; params = s.setup.params; tools = s.tools }
 
 abbrev pub position_of : LogEnd → StoredModel → LogPosition
 position_of end saved = record { at = end.sector; number = end.number; found = Some (replay_state_in saved) }

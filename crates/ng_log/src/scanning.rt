@@ -124,13 +124,13 @@ fn take_record<R: Rig, A: Allocator + Copy + Drop>(
 {
     match decoded_state_of_part(first, header.length) {
         None => Ok(false),
-        Some(report) => {
+        Some(decoded) => {
             if !take_slot(header.format, &mut stored.tools, first) {
                 return Ok(false);
             }
             let is_whole = take_all_changes(rig, at, changes, &mut stored.state.params)?;
             if is_whole {
-                stored.take_decoded_state(report, header.length);
+                stored.take_decoded_state(decoded, header.length);
             }
             Ok(is_whole)
         }

@@ -20,7 +20,7 @@ IsTableOf first table image is_whole =
 abbrev pub IsSnapshotOf : Header → StoredModel → Image → Bool → Type 0
 IsSnapshotOf header saved image is_whole =
     let found = snapshot header.format header.length (stretch (snapshot_first header.epoch) snapshot_size image) (stretch (tools_first header.epoch) tools_size image) in
-    MatchBool is_whole ((found ≡ Some (record { report = decoded_state_in saved; params = saved.setup.params; tools = saved.tools })) × (saved.length ≡ header.length)) (found ≡ None)
+    MatchBool is_whole ((found ≡ Some (record { decoded = decoded_state_in saved; params = saved.setup.params; tools = saved.tools })) × (saved.length ≡ header.length)) (found ≡ None)
 
 -- the table is that of the tool area of a header, given the first sector of its snapshot, or the area is damaged
 abbrev pub IsToolsOf : Header → List ℕ → List ℤ → Image → Bool → Type 0

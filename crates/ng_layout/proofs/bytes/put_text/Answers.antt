@@ -1,4 +1,4 @@
-use Rattle.ng_layout.proofs.Places.{put-bytes}
+use Rattle.ng_layout.proofs.ByteLemmas.{put-bytes}
 use Rattle.ng_layout.proofs.bytes.put_text.Goals as goal
 
 pub returns : goal.returns

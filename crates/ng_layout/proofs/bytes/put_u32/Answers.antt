@@ -1,5 +1,5 @@
 use Rattle.std.proofs.Common.{refl, arith}
-use Rattle.ng_layout.proofs.Places.{put}
+use Rattle.ng_layout.proofs.ByteLemmas.{put}
 use Rattle.ng_layout.proofs.bytes.put_u32.Goals as goal
 
 pub returns : goal.returns

@@ -1,5 +1,5 @@
 use Rattle.std.proofs.Common.{◌∙◌, lit≤}
-use Rattle.ng_layout.proofs.Places.{number-below, bytes-below, bytes-from, below-more, from-more}
+use Rattle.ng_layout.proofs.ByteLemmas.{number-below, bytes-below, bytes-from, below-more, from-more}
 use Rattle.ng_layout.proofs.part.put_change.Goals as goal
 
 pub returns-clause-below : goal.returns-clause-below

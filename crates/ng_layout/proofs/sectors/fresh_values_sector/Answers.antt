@@ -1,5 +1,5 @@
 use Rattle.std.proofs.Common.{inl, inr, pos, lit≤}
-use Rattle.ng_layout.proofs.Rows.{zeros_hold, one_holds}
+use Rattle.ng_layout.proofs.SectorLemmas.{zeros_hold, one_holds}
 use Rattle.ng_layout.proofs.sectors.fresh_values_sector.Goals.{else-first-le-SYSTEM_INDEX-via-then-first-le-SYSTEM_INDEX+else-first-gt-SYSTEM_INDEX, else-first-le-SYSTEM_INDEX-via-else-first-le-SYSTEM_INDEX}
 use Rattle.ng_layout.proofs.sectors.fresh_values_sector.Goals as goal
 

@@ -1,4 +1,4 @@
-use Rattle.ng_layout.proofs.Rows.{TakenTo}
+use Rattle.ng_layout.proofs.SectorLemmas.{TakenTo}
 use Rattle.ng_layout.proofs.sectors.take_values.Given as goal
 
 abbrev pub invariant-loop-k : goal.invariant-loop-k

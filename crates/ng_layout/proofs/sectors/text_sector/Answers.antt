@@ -1,4 +1,4 @@
-use Rattle.ng_layout.proofs.Rows.{holds_text}
+use Rattle.ng_layout.proofs.SectorLemmas.{holds_text}
 use Rattle.ng_layout.proofs.sectors.text_sector.Goals as goal
 
 pub returns : goal.returns

@@ -2,7 +2,7 @@ use Rattle.std.proofs.Common.{◌≡◌, ◌+◌, ◌-◌, ◌∙◌, ℕ, pos, 
 use Rattle.std.specs.Int.{w64, cast_signed, cast_unsigned}
 use Rattle.std.proofs.lemmas.Int.{to_z-of_z}
 use Rattle.ng_num.specs.Range.{IsCount}
-use Rattle.ng_layout.proofs.Rows.{values-more, values-past}
+use Rattle.ng_layout.proofs.SectorLemmas.{values-more, values-past}
 use Rattle.ng_layout.proofs.sectors.values_sector.Goals as goal
 use Rattle.ng_layout.proofs.sectors.values_sector.Goals.{then-first-k-lt-PARAMETER_COUNT, else-first-k-lt-PARAMETER_COUNT}
 

@@ -1,4 +1,4 @@
-use Rattle.ng_layout.proofs.Rows.{ValuesTo}
+use Rattle.ng_layout.proofs.SectorLemmas.{ValuesTo}
 use Rattle.ng_layout.proofs.sectors.values_sector.Given as goal
 
 abbrev pub invariant-loop-k : goal.invariant-loop-k

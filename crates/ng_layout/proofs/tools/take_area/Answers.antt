@@ -1,4 +1,4 @@
-use Rattle.std.proofs.Common.{◌≡◌, ◌<◌, ◌+◌, ◌-◌, ◌*◌, ℕ, arith}
+use Rattle.std.proofs.Common.{◌≡◌, ◌+◌, ◌-◌, ◌*◌, arith}
 use Rattle.ng_layout.proofs.ToolTables.{as-table, at-length, lengths-begin, whole-part, no-part}
 use Rattle.ng_layout.proofs.tools.take_area.Goals as goal
 

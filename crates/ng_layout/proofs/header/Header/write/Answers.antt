@@ -1,8 +1,8 @@
-use Rattle.std.proofs.Common.{◌≡◌, ◌==◌, ◌&&◌, ℕ, true, replicate, ◌∙◌, lit≤, arith}
+use Rattle.std.proofs.Common.{◌≡◌, ◌==◌, ℕ, true, replicate, ◌∙◌, lit≤, arith}
 use Rattle.std.proofs.lemmas.Bool.Decides.{nat_tests}
 use Rattle.ng_layout.specs.Header.{header_at, is_marked}
-use Rattle.ng_layout.proofs.Places.{number-below, bytes-below, bytes-from, below-more, below-none, from-more}
-use Rattle.ng_layout.proofs.Rows.{bytes-zeros}
+use Rattle.ng_layout.proofs.ByteLemmas.{number-below, bytes-below, bytes-from, below-more, below-none, from-more}
+use Rattle.ng_layout.proofs.SectorLemmas.{bytes-zeros}
 use Rattle.ng_layout.proofs.header.Header.write.Goals as goal
 
 equals : (x y : ℕ) → x ≡ y → (x == y) ≡ true
