@@ -33,6 +33,7 @@ use Rattle.ng_core.proofs.Acting.{acts_unread}
 use Rattle.ng_core.proofs.Calling.{calls_none, calls_quiet, quiet_calls, ledger_quiet}
 use Rattle.ng_core.proofs.Beginning.{FindingBoth, does_begin, begun_line, by_running}
 use Rattle.ng_core.proofs.AnyLines.{has_kind}
+use Rattle.ng_core.proofs.InForce.{FindingInForce, keeps_same, keeps_unwritten, reads_lost, reads_begin}
 use Rattle.ng_core.proofs.Hindering.{unused_begin}
 use Rattle.ng_core.proofs.Quiet.{still_begin}
 
@@ -67,6 +68,9 @@ module _ {R : Type 0} (seen : R → Device) where
         let a = f program (rests.0, still program rests.1) in
         record { comes = answered_from answer (out program) old new known a.comes; stops = a.stops; leaves = a.leaves; untouched = a.untouched });
     calls = c.calls;
+    reads = λ h program has.
+        let a = c.reads h program (has.0, still program has.1) in
+        (answered_from answer (out program) old new known a.0, a.1);
     comes = anyway_from reads answer out old new known c.comes;
     line = λ read. line_from answer out old new known (c.line read);
     ledger = c.ledger;
@@ -99,6 +103,13 @@ module _ {R : Type 0} (seen : R → Device) where
         record { same = refl; at = rests; first_is = line.kind; line_is = sym line.line };
   }
 
+  -- it is a line of the program in force
+  ahead_in_force : (old new : KnownModel) (p : PlannedModel) (journal : JournalModel R) → old.ahead ≡ p ∷ new.ahead
+      → FindingInForce seen p.first (Some (record { text = p.prepared.block.text; next = p.next })) old p.place journal
+  ahead_in_force old new p journal front = λ h program held known.
+      let line = first_line program old new p front known in
+      (line.kind, sym line.line)
+
   pub carried_ahead : (told : Reply) (old new : ControllerModel R) → old.journal.broken ≡ false → is_running old.session.activity ≡ true → new.journal ≡ old.journal → new.geometry ≡ old.geometry
       → IsBegunAhead old.geometry told old.session new.session old.lines new.lines
       → CarriesOut seen needs_line (λ program. begin old.geometry program old.session (program_line_at program old.session.stored.place)) (Ok told) old new
@@ -111,6 +122,10 @@ module _ {R : Type 0} (seen : R → Device) where
         does = does_begin seen told p.first (Some line) p.place old new b.place found (λ program known at kind. still_lines program old.lines new.lines p b.front b.before known) b.told_is b.next;
         calls = calls_quiet seen told (λ program. begin old.geometry program old.session (program_line_at program old.session.stored.place)) old new
             (λ program. still_begin old.geometry program old.session (program_line_at program old.session.stored.place)) (λ h. ap (λ (j : JournalModel R). (seen j.rig).trace) same);
+        reads = reads_begin seen told p.first (Some line) p.place old new b.place
+            (ahead_in_force old.lines new.lines p old.journal b.front) (keeps_same seen old.journal new.journal same)
+            (λ program known at kind. still_lines program old.lines new.lines p b.front b.before known)
+            b.told_is b.next;
         comes = λ none. absurd (none tt);
         line = λ read. begun_line told (λ (program : List ℕ). begin old.geometry program old.session (program_line_at program old.session.stored.place)) p.first (Some line) p.place old new runs b.place b.beginning b.told_is b.next
             (ap (λ (j : JournalModel R). ledger_of j) same);
@@ -128,6 +143,7 @@ module _ {R : Type 0} (seen : R → Device) where
   pub plans_none : (c : ControllerModel R) → c.journal.broken ≡ false → PlansAhead seen (Ok tt) c c
   plans_none c whole = record {
     does = record { keeps = λ h. h; back = λ h. h; holds = λ h program rests. rests };
+    reads = λ h program has. has;
     unwritten = λ h. refl;
     session = refl;
     ledger = refl;
@@ -140,10 +156,15 @@ module _ {R : Type 0} (seen : R → Device) where
 
   -- both reads succeeded
   pub plans_found : (first : LineKind) (line : Option ProgramLineModel) (place : ℕ) (old new : ControllerModel R) → FindingBoth seen first line old.lines place old.journal new.journal
+      → FindingInForce seen first line old.lines place old.journal
       → ((program : List ℕ) → IsKnownOf program old.lines → line ≡ program_line_at program place → first ≡ first_kind (lines_before program place) → IsKnownOf program new.lines)
       → ((seen old.journal.rig).honest → (seen new.journal.rig).trace ≡ (seen old.journal.rig).trace) → new.session ≡ old.session → new.geometry ≡ old.geometry → ledger_of new.journal ≡ ledger_of old.journal → new.journal.broken ≡ false
       → (seen new.journal.rig).sectors ≡ (seen old.journal.rig).sectors → (seen new.journal.rig).failed ≡ (seen old.journal.rig).failed → PlansAhead seen (Ok tt) old new
-  plans_found first line place old new p known unwritten same geometry ledger whole size failures = record {
+  plans_found first line place old new p finding known unwritten same geometry ledger whole size failures = record {
+    reads = λ h program has.
+        let found = finding h program has.0 has.1 in
+        let keeps = keeps_unwritten seen old.journal new.journal unwritten ledger in
+        (keeps h program has.0, known program has.1 found.1 found.0);
     unwritten = unwritten;
     does = record {
       keeps = p.keeps;
@@ -169,6 +190,7 @@ module _ {R : Type 0} (seen : R → Device) where
   plans_lost fault e old new is p lost same geometry ledger broken size failures =
       subst (λ (f : Fault). PlansAhead seen (Err f) old new) (sym is) (record {
         does = meaning p (λ still program rests. tt);
+        reads = λ h program has. tt;
         unwritten = p.holds;
         session = same;
         ledger = ledger;
@@ -199,6 +221,9 @@ module _ {R : Type 0} (seen : R → Device) where
           };
     };
     calls = λ h program. subst (λ (t : Trace). CallsFor (Ok told) (out program) (seen old.journal.rig).sectors (ledger_of old.journal) (seen old.journal.rig).trace t) (sym (p.unwritten (c.does.keeps h))) (c.calls h program);
+    reads = λ h program has.
+        let a = c.reads h program has in
+        ((a.0.0, p.session ∙ a.0.1), p.reads (c.does.keeps h) (out program).program a.1);
     comes = λ none program. let x = c.comes none program in (x.0, p.session ∙ x.1);
     line = λ read. let l = c.line read in record { program = l.program; line = l.line; comes = (l.comes.0, p.session ∙ l.comes.1); ledger = p.ledger ∙ l.ledger };
     ledger = λ program. subst (λ (l : Ledger). IsKeptAfter (stored_for (out program) (out program).reply) (seen old.journal.rig).sectors (ledger_of old.journal) l) (sym p.ledger) (c.ledger program);
@@ -242,6 +267,7 @@ module _ {R : Type 0} (seen : R → Device) where
         calls = calls_none seen fault begins old new (λ h. p.unwritten (c.does.keeps h)
             ∙ quiet_calls reply.Begun [] old.session.stored (begins []) (seen old.journal.rig).sectors (ledger_of old.journal) (seen old.journal.rig).trace (seen mid.journal.rig).trace
             (still_begin old.geometry [] old.session (program_line_at [] old.session.stored.place)) (c.calls h []));
+        reads = reads_lost seen fault begins old new lost status;
         comes = record { status = status; session = λ other. absurd (other lost); ledger = λ other. absurd (other lost); journal = λ other. absurd (other lost) };
         line = λ read. tt;
         ledger = tt;

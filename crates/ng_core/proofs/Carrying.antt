@@ -20,6 +20,7 @@ use Rattle.ng_core.proofs.Anyway.{stays_same, unless_lost, comes_by, comes_to, c
 use Rattle.ng_core.proofs.Calling.{MakesIfHonest, calls_none, calls_on, calls_quiet, ledger_on, ledger_quiet}
 use Rattle.ng_core.proofs.Choosing.{with_session, does_item}
 use Rattle.ng_core.proofs.Doing.{does_still, does_aside}
+use Rattle.ng_core.proofs.InForce.{keeps_same, keeps_unwritten, reads_on, reads_still, reads_aside, reads_lost, reads_unstored, reads_item}
 use Rattle.ng_core.proofs.Hindering.{hindered_as, busy_block, busy_unread}
 use Rattle.ng_core.proofs.Quiet.{IsStill, still}
 use Rattle.ng_core.proofs.Ticks.{does_on, does_held, tick_held, tick_item, tick_none}
@@ -45,6 +46,7 @@ module _ {R : Type 0} (seen : R → Device) where
   carried_to memory m device d reads e out wanted answer old new f g h back equal c = record {
     does = does_on seen answer out wanted old old new refl equal c.does;
     calls = calls_on seen answer out wanted old new equal c.calls;
+    reads = reads_on seen answer out wanted old new equal c.reads;
     comes = comes_to reads e answer out wanted old new h equal c.comes;
     line = λ read. subst (λ (f : List ℕ → Transition). IfOk answer (λ r. IsAnsweredByLine r f old new)) (λ i program. equal program i) (c.line (back read));
     ledger = ledger_on seen answer out wanted old new equal c.ledger;
@@ -67,6 +69,7 @@ module _ {R : Type 0} (seen : R → Device) where
   carried_still memory device reads r out old new whole unread quiet same lines geometry replied next = record {
     does = does_still seen r out old new quiet same lines replied next;
     calls = calls_quiet seen r out old new quiet (λ h. ap (λ (j : JournalModel R). (seen j.rig).trace) same);
+    reads = reads_still seen r out old new quiet same lines replied next;
     comes = comes_by reads r out old new replied next;
     line = λ read. absurd (unread read);
     ledger = ledger_quiet seen out old new quiet (ap (λ (j : JournalModel R). ledger_of j) same);
@@ -94,6 +97,8 @@ module _ {R : Type 0} (seen : R → Device) where
       let short : CarriesOut seen (needs memory device reads) out (Err OutOfMemory) old new = record {
         does = does_aside seen OutOfMemory out old new (inl refl) same lines kept;
         calls = calls_none seen OutOfMemory out old new (λ h. ap (λ (j : JournalModel R). (seen j.rig).trace) same);
+        reads = reads_aside seen OutOfMemory out old new (inl refl) kept lines
+            (keeps_same seen old.journal new.journal same);
         comes = stays_same reads OutOfMemory old new kept (λ other. same);
         line = λ read. tt;
         ledger = tt;
@@ -112,6 +117,7 @@ module _ {R : Type 0} (seen : R → Device) where
   carried_used memory device reads out c whole hindered = record {
     does = does_aside seen CountersUsed out c c (inr refl) refl refl refl;
     calls = calls_none seen CountersUsed out c c (λ h. refl);
+    reads = reads_aside seen CountersUsed out c c (inr refl) refl refl (keeps_same seen c.journal c.journal refl);
     comes = stays_same reads CountersUsed c c refl (λ other. refl);
     line = λ read. tt;
     ledger = tt;
@@ -127,16 +133,18 @@ module _ {R : Type 0} (seen : R → Device) where
   -- to store something: a counter is used up, or the device failed
   pub carried_failed : (memory device reads : Type 0) (fault e : Fault) (out : List ℕ → Transition) (old new : ControllerModel R)
       → fault ≡ e → IsCarriedOutIfHonest seen (Err e) out old new → MakesIfHonest seen (Err e) out old new → (e ≡ CountersUsed) ⊎ (e ≡ DeviceFailed) → (e ≡ CountersUsed → new.journal ≡ old.journal)
-      → new.geometry ≡ old.geometry → new.session ≡ old.session → IsCausedBy memory device (ledger_of old.journal) out e
+      → new.geometry ≡ old.geometry → new.session ≡ old.session → new.lines ≡ old.lines
+      → IsCausedBy memory device (ledger_of old.journal) out e
       → IsBrokenBy {T = Reply} (Err e) new.journal.broken → (seen new.journal.rig).sectors ≡ (seen old.journal.rig).sectors → CountsFailure {T = Reply} (Err e) (seen old.journal.rig).failed (seen new.journal.rig).failed
       → CarriesOut seen (needs memory device reads) out (Err fault) old new
-  carried_failed memory device reads fault e out old new is does made which unchanged geometry kept hindered broken size failures =
+  carried_failed memory device reads fault e out old new is does made which unchanged geometry kept lines hindered broken size failures =
       let there : CarriesOut seen (needs memory device reads) out (Err e) old new = record {
         does = does;
         calls = λ h program. record {
           calls = made h program;
           unchanged = λ other. ap (λ (j : JournalModel R). (seen j.rig).trace) (unless_lost e old.journal new.journal which unchanged other);
         };
+        reads = reads_unstored seen e out old new which unchanged kept lines;
         comes = stays_same reads e old new kept (unless_lost e old.journal new.journal which unchanged);
         line = λ read. tt;
         ledger = tt;
@@ -158,6 +166,7 @@ module _ {R : Type 0} (seen : R → Device) where
       let there : CarriesOut seen (needs memory device reads) out (Err e) old new = record {
         does = does;
         calls = calls;
+        reads = reads_lost seen e out old new lost (ap session_status kept);
         comes = stays_same reads e old new kept (λ other. absurd (other lost));
         line = λ read. tt;
         ledger = tt;
@@ -172,12 +181,15 @@ module _ {R : Type 0} (seen : R → Device) where
   -- for a line of the program, and then there was no memory
   pub carried_read : (memory device reads : Type 0) (fault : Fault) (out : List ℕ → Transition) (old new : ControllerModel R)
       → fault ≡ OutOfMemory → memory → IsCarriedOutIfHonest seen (Err fault) out old new → ((seen old.journal.rig).honest → (seen new.journal.rig).trace ≡ (seen old.journal.rig).trace)
-      → new.geometry ≡ old.geometry → new.session ≡ old.session → ledger_of new.journal ≡ ledger_of old.journal → ((reads → ⊥) → new.journal ≡ old.journal)
+      → new.geometry ≡ old.geometry → new.session ≡ old.session → new.lines ≡ old.lines
+      → ledger_of new.journal ≡ ledger_of old.journal → ((reads → ⊥) → new.journal ≡ old.journal)
       → new.journal.broken ≡ false → (seen new.journal.rig).sectors ≡ (seen old.journal.rig).sectors → (seen new.journal.rig).failed ≡ (seen old.journal.rig).failed
       → CarriesOut seen (needs memory device reads) out (Err fault) old new
-  carried_read memory device reads fault out old new is taken does unwritten geometry kept ledger unread whole size failures = record {
+  carried_read memory device reads fault out old new is taken does unwritten geometry kept lines ledger unread whole size failures = record {
     does = does;
     calls = calls_none seen fault out old new unwritten;
+    reads = reads_aside seen fault out old new (inl is) kept lines
+        (keeps_unwritten seen old.journal new.journal unwritten ledger);
     comes = record { status = ap session_status kept; session = λ other. kept; ledger = λ other. ledger; journal = λ other none. unread none };
     line = λ read. tt;
     ledger = tt;
@@ -196,6 +208,11 @@ module _ {R : Type 0} (seen : R → Device) where
     does = does_held seen c held;
     calls = calls_on seen (Ok reply.Held) (λ program. answers program reply.Held c.session) (λ program. tick c.geometry program c.session) c c (λ program. sym (tick_held c.geometry program c.session held))
         (calls_quiet seen reply.Held (λ program. answers program reply.Held c.session) c c (λ program. still refl refl refl refl) (λ h. refl));
+    reads = reads_on seen (Ok reply.Held) (λ program. answers program reply.Held c.session)
+        (λ program. tick c.geometry program c.session) c c
+        (λ program. sym (tick_held c.geometry program c.session held))
+        (reads_still seen reply.Held (λ program. answers program reply.Held c.session) c c
+        (λ program. still refl refl refl refl) refl refl (λ program. refl) (λ program. refl));
     comes = comes_held reads c held;
     line = λ read. absurd (unread read);
     ledger = ledger_on seen (Ok reply.Held) (λ program. answers program reply.Held c.session) (λ program. tick c.geometry program c.session) c c (λ program. sym (tick_held c.geometry program c.session held)) (λ program. refl);
@@ -224,11 +241,16 @@ module _ {R : Type 0} (seen : R → Device) where
       let ledger = ledger_of old.journal in
       let errors : IfErr answer (λ e. e ≡ DeviceFailed) =
       IfErr-weaker answer (IsCausedBy ⊥ (Unit {0}) ledger (λ program. handing item program taken)) (λ e. e ≡ DeviceFailed) (lost_alone ledger item taken) c.hindered in
+      let comes =
+      comes_item ((old.session.held ≡ false) × IsBetweenLines old.session) answer item old new taken held is next errors
+      c.comes in
       record {
         does = does_item seen answer item old new taken held is next errors c.does;
+        reads = reads_item seen ((old.session.held ≡ false) × IsBetweenLines old.session) answer item old new taken
+            held is next errors comes c.reads;
         calls = calls_on seen answer (λ program. handing item program taken) (λ program. tick old.geometry program old.session) old new
             (λ program. ap (handing item program) next ∙ sym (tick_item old.geometry program old.session item held (sym is))) c.calls;
-        comes = comes_item ((old.session.held ≡ false) × IsBetweenLines old.session) answer item old new taken held is next errors c.comes;
+        comes = comes;
         line = λ read. absurd (busy_unread old.session (some_item old.session.current item is) read.1);
         ledger = ledger_on seen answer (λ program. handing item program taken) (λ program. tick old.geometry program old.session) old new
             (λ program. ap (handing item program) next ∙ sym (tick_item old.geometry program old.session item held (sym is))) c.ledger;

@@ -20,6 +20,7 @@ pub mod Failing
 pub mod Anyway
 pub mod Hindering
 pub mod Calling
+pub mod InForce
 pub mod Carrying
 pub mod Answering
 pub mod Powering

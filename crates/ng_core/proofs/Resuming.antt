@@ -14,7 +14,7 @@ use Rattle.ng_block.specs.Effects.{Done}
 use Rattle.ng_text.specs.Programs.{ProgramLineModel, next_line_start, program_line_at}
 use Rattle.ng_layout.specs.Stored.{HalfModel, DurableState}
 use Rattle.ng_layout.specs.declared.half.Source.{Source}
-use Rattle.ng_journal.specs.Journal.{JournalModel, IsDurablyAt}
+use Rattle.ng_journal.specs.Journal.{JournalModel, IsDurablyAt, HoldsProgram}
 use Rattle.ng_journal.specs.Storing.{ledger_of}
 use Rattle.ng_canon.specs.declared.geometry.Geometry.{Geometry}
 use Rattle.ng_session.specs.Entries.{done_again}
@@ -22,8 +22,9 @@ use Rattle.ng_session.specs.Session.{SessionModel, Transition, refuses, resume, 
 use Rattle.ng_session.specs.declared.reply.Reply.{Reply}
 use Rattle.ng_session.specs.declared.reply.Reply.TheVariants as reply
 use Rattle.ng_session.proofs.Refusing.{refused_again}
-use Rattle.ng_core.specs.Model.{ControllerModel, durable_state_of}
+use Rattle.ng_core.specs.Model.{ControllerModel, HasInForce, durable_state_of}
 use Rattle.ng_core.specs.Events.{IsAnsweredAnyway, IsAnsweredBy, IsAnsweredByLine, by_line, IsCarriedOutIfHonest}
+use Rattle.ng_core.specs.Events.{ReadsProgram}
 use Rattle.ng_core.specs.Private.NextLines.{IsNextLineAt, NextLineSpec}
 use Rattle.ng_core.proofs.Acting.{known_as, acts_read, acts_aside, acts_unread}
 use Rattle.ng_core.proofs.AnyLines.{has_next}
@@ -33,6 +34,7 @@ use Rattle.ng_core.proofs.Doing.{does_still}
 use Rattle.ng_core.proofs.Ticks.{does_on}
 use Rattle.ng_core.proofs.Choosing.{with_session}
 use Rattle.ng_core.proofs.Anyway.{comes_by, comes_to}
+use Rattle.ng_core.proofs.InForce.{KeepsProgram, ReadingInForce, reads_on, reads_still}
 
 next_by : (program : List ℕ) (half : Option HalfModel) (place next : ℕ) → IsProgramsLine half → next ≡ next_line_start program place → IfSome half (λ h. next ≡ next_place_after program place h.source)
 next_by program None place next line is = absurd line
@@ -51,6 +53,18 @@ finds_next seen line next s old new half later p =
     meaning p (λ f standing rests.
     let r = f standing rests in
     record { same = r.same; at = r.at; next = next_by standing.program s.stored.half s.stored.place next half (later standing.program r.line) })
+
+-- that line is of the program in force
+pub next_in_force : {R E : Type 0} (seen : R → Device) (line : Option ProgramLineModel) (next : ℕ) (s : SessionModel)
+    (old new : JournalModel R) → IsProgramsLine s.stored.half
+    → ((program : List ℕ) → line ≡ program_line_at program s.stored.place
+    → next ≡ next_line_start program s.stored.place)
+    → ReadingInForce {E = E} seen (Ok line) s.stored.place old new
+    → (seen old.rig).honest → (program : List ℕ) → HoldsProgram (seen old.rig).trace old program
+    → IsNextLineAt program s next
+next_in_force seen line next s old new half later read h program held =
+    next_by program s.stored.half s.stored.place next half
+    (later program ((read.holds h).right ∙ ap (λ (p : List ℕ). program_line_at p s.stored.place) held.program_is))
 
 -- ---- nothing is stored
 
@@ -82,6 +96,17 @@ does_not_resume seen fault old new is journal lines same =
     does_on seen (Ok (reply.Refused fault)) (λ program. refuses program fault old.session) (λ program. resume old.geometry program old.session) old old new refl
     (λ program. sym (refused_again old.geometry program old.session fault is))
     (does_still seen (reply.Refused fault) (λ program. refuses program fault old.session) old new (λ program. still refl refl refl refl) journal lines (λ program. refl) (λ program. same))
+
+pub reads_not_resumed : {R : Type 0} (seen : R → Device) (fault : Fault) (old new : ControllerModel R)
+    → Some fault ≡ resume_refusal old.geometry old.session → new.journal ≡ old.journal → new.lines ≡ old.lines
+    → new.session ≡ old.session
+    → ReadsProgram seen (Ok (reply.Refused fault)) (λ program. resume old.geometry program old.session) old new
+reads_not_resumed seen fault old new is journal lines same =
+    reads_on seen (Ok (reply.Refused fault)) (λ program. refuses program fault old.session)
+    (λ program. resume old.geometry program old.session) old new
+    (λ program. sym (refused_again old.geometry program old.session fault is))
+    (reads_still seen (reply.Refused fault) (λ program. refuses program fault old.session) old new
+    (λ program. still refl refl refl refl) journal lines (λ program. refl) (λ program. same))
 
 pub comes_not_resumed : {R : Type 0} (reads : Type 0) (fault : Fault) (old new : ControllerModel R) → Some fault ≡ resume_refusal old.geometry old.session → new.session ≡ old.session
     → IsAnsweredAnyway reads (Ok (reply.Refused fault)) (λ program. resume old.geometry program old.session) old new
@@ -116,6 +141,23 @@ pub does_resume : {R E : Type 0} (seen : R → Device) (r : Reply) (place : ℕ)
 does_resume {R} {E} seen r place old new s same p lines goes =
     subst (λ (x : SessionModel). IsCarriedOutIfHonest seen (Ok r) (λ program. resume old.geometry program x) (with_session old x) new) same
     (does_go {E = E} seen r place (with_session old s) new p lines goes)
+
+pub reads_resume : {R : Type 0} (seen : R → Device) (r : Reply) (place : ℕ) (old new : ControllerModel R)
+    (s : SessionModel) → s ≡ old.session
+    → ((seen old.journal.rig).honest → (program : List ℕ)
+    → HoldsProgram (seen old.journal.rig).trace old.journal program → IsNextLineAt program s place)
+    → KeepsProgram seen old.journal new.journal → new.lines ≡ old.lines → GoesOn r new.session old s place
+    → ReadsProgram seen (Ok r) (λ program. resume old.geometry program old.session) old new
+reads_resume seen r place old new s same finding keeps lines goes = λ h program has.
+    let quiet = still_resume old.geometry program old.session in
+    let there : GoesOn r new.session old old.session place =
+    subst (λ (x : SessionModel). GoesOn r new.session old x place) same goes in
+    let next = subst (λ (x : SessionModel). IsNextLineAt program x place) same (finding h program has.0) in
+    let here : HasInForce (seen new.journal.rig).trace new program =
+    (keeps h program has.0, known_as program program old.lines new.lines refl lines has.1) in (
+      there program next,
+      subst (λ (p : List ℕ). HasInForce (seen new.journal.rig).trace new p) (sym quiet.program_is) here,
+    )
 
 pub comes_resume : {R : Type 0} (r : Reply) (place : ℕ) (old new : ControllerModel R) (s : SessionModel)
     → s ≡ old.session → None ≡ resume_refusal old.geometry old.session → ((IsProgramsLine s.stored.half → ⊥) → (program : List ℕ) → IsNextLineAt program s place) → GoesOn r new.session old s place

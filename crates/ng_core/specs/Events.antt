@@ -21,7 +21,7 @@ use Rattle.ng_session.specs.declared.reply.Reply.TheVariants as reply
 use Rattle.ng_session.specs.declared.reply.Status.{Status}
 use Rattle.ng_session.specs.declared.reply.Condition.TheVariants as condition
 use Rattle.ng_core.specs.Causes.{IsCausedBy, stored_for, transition_of}
-use Rattle.ng_core.specs.Model.{ControllerModel, IsAtRestWith}
+use Rattle.ng_core.specs.Model.{ControllerModel, IsAtRestWith, HasInForce}
 use Rattle.ng_core.specs.Needs.{Needs, needs_of}
 
 -- the reply to an event that the session answered, or why it didn't
@@ -150,17 +150,33 @@ abbrev pub KeepsLedger : {R : Type 0} → (R → Device) → (List ℕ → Trans
 KeepsLedger seen out old new = (program : List ℕ)
     → IsKeptAfter (stored_for (out program) (out program).reply) (seen old.journal.rig).sectors (ledger_of old.journal) (ledger_of new.journal)
 
+-- The program in force after an event: that of its outcome or, without memory or a counter for it, the one before.
+abbrev pub LeavesProgram : {R : Type 0} → Result Reply Fault → Transition → List ℕ → ControllerModel R → Trace → Type 0
+LeavesProgram (Ok r) out program new trace = HasInForce trace new out.program
+LeavesProgram (Err DeviceFailed) out program new trace = Unit {0}
+LeavesProgram (Err fault) out program new trace = HasInForce trace new program
+
+-- Whatever an honest device stands for, a line that is read is of the program in force: the event is answered as it is
+-- for that program. What is known afterwards is true of the program then in force.
+abbrev pub ReadsProgram : {R : Type 0} → (R → Device) → Result Reply Fault → (List ℕ → Transition) → ControllerModel R
+    → ControllerModel R → Type 0
+ReadsProgram seen answer out old new =
+    (seen old.journal.rig).honest → (program : List ℕ) → HasInForce (seen old.journal.rig).trace old program
+    → IsAnsweredBy answer (out program) old new
+    × LeavesProgram answer (out program) program new (seen new.journal.rig).trace
+
 -- an item of the open segment is handed out, which this session took from it
 abbrev pub handing : Item → List ℕ → SessionModel → Transition
 handing item program s = record { reply = reply.Moved; items = item ∷ []; entries = []; program = program; next = s }
 
--- The answer to an outcome and what it leaves, of an honest device and of any; what an honest device is called for, and
--- what the journal keeps then. If a line is read for it, it is that line's. An error has its cause, depending on what the
--- answer needs. The journal is broken, and the device counted a failure, exactly if the device failed. The device keeps
--- its size.
+-- The answer to an outcome and what it leaves, of an honest device and of any; what an honest device is called for, of
+-- which program its lines are, and what the journal keeps then. If a line is read for it, it is that line's. An error
+-- has its cause, depending on what the answer needs. The journal is broken, and the device counted a failure, exactly
+-- if the device failed. The device keeps its size.
 pub record CarriesOut {R : Type 0} (seen : R → Device) (needs : Needs) (out : List ℕ → Transition) (answer : Result Reply Fault) (old new : ControllerModel R) : Type 0 where
   pub does : IsCarriedOutIfHonest seen answer out old new
   pub calls : CallsIfHonest seen answer out old new
+  pub reads : ReadsProgram seen answer out old new
   pub comes : IsAnsweredAnyway needs.reads answer out old new
   pub line : needs.reads → IfOk answer (λ r. IsAnsweredByLine r out old new)
   pub ledger : IfOk answer (λ r. KeepsLedger seen out old new)

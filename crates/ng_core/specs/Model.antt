@@ -2,7 +2,7 @@
 use Rattle.std.specs.Prelude.{◌≡◌, ℕ, false, List}
 use Rattle.ng_rig.specs.Trace.{Trace}
 use Rattle.ng_layout.specs.Stored.{DurableState}
-use Rattle.ng_journal.specs.Journal.{JournalModel, IsDurablyAt}
+use Rattle.ng_journal.specs.Journal.{JournalModel, IsDurablyAt, HoldsProgram}
 use Rattle.ng_canon.specs.declared.geometry.Geometry.{Geometry}
 use Rattle.ng_session.specs.Planned.{KnownModel, IsKnownOf, base_of, IsPlan}
 use Rattle.ng_session.specs.Session.{SessionModel}
@@ -23,6 +23,10 @@ durable_state_of program s = record { saved = s.stored; program = program }
 -- true.
 abbrev pub IsAtRestWith : {R : Type 0} → Trace → ControllerModel R → List ℕ → Type 0
 IsAtRestWith trace c program = IsDurablyAt trace c.journal (durable_state_of program c.session) × IsKnownOf program c.lines
+
+-- Whatever the device stands for, this is the program in force, and what is known of its lines is true.
+abbrev pub HasInForce : {R : Type 0} → Trace → ControllerModel R → List ℕ → Type 0
+HasInForce trace c program = HoldsProgram trace c.journal program × IsKnownOf program c.lines
 
 -- What holds of each controller: unless the device failed, its session has what the journal has stored; and the lines
 -- that were read ahead are planned on what will be stored after the current block.

@@ -7,13 +7,13 @@ use Rattle.ng_rig.specs.Calls.{IfHonest}
 use Rattle.ng_rig.specs.Trace.{Trace, reads}
 use Rattle.ng_settings.specs.declared.standard.Settings.{Settings}
 use Rattle.ng_layout.specs.Areas.{least_size}
-use Rattle.ng_layout.specs.Stands.{stands_beside, IsWritten}
+use Rattle.ng_layout.specs.Stands.{program_under, stands_beside, IsWritten}
 use Rattle.ng_layout.specs.Storable.{IsStorable}
 use Rattle.ng_journal.specs.Journal.{CountsFailure}
 use Rattle.ng_journal.specs.Recover.{RecoverResult, RecoverSpec, IsRecoveryFault, recover_rig, recover_fault}
 use Rattle.ng_journal.specs.Recovery.{recovered_of, IsTableOver}
 use Rattle.ng_session.specs.Session.{resting}
-use Rattle.ng_core.specs.Model.{ControllerModel, IsAtRestWith}
+use Rattle.ng_core.specs.Model.{ControllerModel, IsAtRestWith, HasInForce}
 
 -- a controller; or a fault, and the device
 abbrev pub PowerOnResult : Type 0 → Type 0
@@ -39,10 +39,12 @@ pub record IsControllerRecovered {R : Type 0} (tools : List ℤ) (c : Controller
 
 -- The journal recovers the state that an image stands for, or reports why not, for any image; one of format 1 is read
 -- with this tool table. If only such a controller wrote the image, the device is then at rest with the recovered state,
--- and the session has that state too.
+-- and the session has that state too. Of any image, all is synced then, and what is known of the program in force is
+-- true.
 pub record PowerOnSpecIfHonest {R : Type 0} (tools : List ℤ) (result : PowerOnResult R) (old new : Trace) : Type 0 where
   pub recovers : RecoverSpec tools (journal_result result) old new
   pub rests : IsWritten (reads old) → IfOk result (λ c. IsControllerRecovered tools c old new)
+  pub force : IfOk result (λ c. HasInForce new c (program_under c.journal.header (reads new)))
 
 -- What power on returns, with any device: a whole controller at rest with the stored state, or a fault and the device.
 -- A device of format 1 gets the tools of the settings; with format 2 these aren't used.

@@ -5,7 +5,7 @@ ghost use Rattle.ng_rig.specs.Calls.{IfHonest};
 ghost use Rattle.ng_layout.specs.Limits.{greatest_count};
 ghost use Rattle.ng_layout.specs.Storable.{IsStorable};
 ghost use Rattle.ng_layout.specs.Stored.{DurableState, with_decoded_state};
-ghost use Rattle.ng_journal.specs.Journal.{IsDurablyAt, CountsFailure, IsBrokenBy};
+ghost use Rattle.ng_journal.specs.Journal.{IsDurablyAt, HoldsProgram, CountsFailure, IsBrokenBy};
 ghost use Rattle.ng_journal.specs.Storing.{ledger_of};
 ghost use Rattle.ng_session.specs.Session.{IsProgramsLine};
 ghost use Rattle.ng_core.specs.Private.NextLines.{IsNextLineAt, NextLineSpec};
@@ -30,6 +30,9 @@ fn next_line<R: Rig, A: Allocator + Copy + Drop>(
     ensures next { IfHonest (R.seen journal.old.rig) (R.seen journal.new.rig) ((standing : DurableState)
         → IsDurablyAt (R.seen journal.old.rig).trace journal.old standing
         → NextLineSpec result journal.new standing session.now (R.seen journal.old.rig).trace (R.seen journal.new.rig).trace) }
+    ensures reads { (R.seen journal.old.rig).honest → (program : List ℕ)
+        → HoldsProgram (R.seen journal.old.rig).trace journal.old program
+        → IfOk result (λ next. IsNextLineAt program session.now next) }
     ensures unwritten { IfHonest (R.seen journal.old.rig) (R.seen journal.new.rig)
         ((R.seen journal.new.rig).trace ≡ (R.seen journal.old.rig).trace) }
     ensures within { IfOk result (λ next. next ≤ session.now.stored.length) }

@@ -5,7 +5,7 @@ ghost use Rattle.ng_num.specs.declared.fault.Fault.TheVariants.{DeviceFailed};
 ghost use Rattle.ng_rig.specs.Calls.{IfHonest};
 ghost use Rattle.ng_layout.specs.Storable.{IsStorableHalf};
 ghost use Rattle.ng_layout.specs.Stored.{DurableState};
-ghost use Rattle.ng_journal.specs.Journal.{IsDurablyAt, CountsFailure, IsBrokenBy};
+ghost use Rattle.ng_journal.specs.Journal.{IsDurablyAt, HoldsProgram, CountsFailure, IsBrokenBy};
 ghost use Rattle.ng_journal.specs.ProgramLines.{FirstKindSpec};
 ghost use Rattle.ng_journal.specs.Storing.{ledger_of};
 ghost use Rattle.ng_text.specs.LinesBefore.{IsTrueOf, IsLineBetween};
@@ -46,6 +46,9 @@ fn first_kind_before<R: Rig, A: Allocator + Copy + Drop>(
     ensures kind { IfHonest (R.seen journal.old.rig) (R.seen journal.new.rig) ((standing : DurableState)
         → IsDurablyAt (R.seen journal.old.rig).trace journal.old standing → IsTrueOf standing.program known.now.before
         → FirstKindSpec result journal.new standing place (R.seen journal.old.rig).trace (R.seen journal.new.rig).trace) }
+    ensures reads { (R.seen journal.old.rig).honest → (program : List ℕ)
+        → HoldsProgram (R.seen journal.old.rig).trace journal.old program → IsTrueOf program known.now.before
+        → IfOk result (λ kind. kind ≡ first_kind (lines_before program place)) }
     ensures unwritten { IfHonest (R.seen journal.old.rig) (R.seen journal.new.rig)
         ((R.seen journal.new.rig).trace ≡ (R.seen journal.old.rig).trace) }
     // Also for a device that isn't honest.

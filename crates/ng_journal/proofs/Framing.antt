@@ -203,21 +203,22 @@ pub load_state : (area : ℕ) (header : Header) (loaded : DurableState) (old mid
 load_state area header loaded old mid new w last =
     only_more (MayLoad area header loaded) old mid new w (only_wider (May (next_header header area loaded.saved.length) loaded.saved) (MayLoad area header loaded) mid new (λ n c own. inr own) last)
 
+-- no epoch has a sector where program areas are
+pub not_of_epoch : (header : Header) (n : ℕ) → ((174 ≤ n) × (n < 686)) ⊎ ((1710 ≤ n) × (n < 5806)) → IsOfEpoch header n → ⊥
+not_of_epoch header n (inl low) (inl (inl among)) = let to = among.to in let from = low.0 in omega arith
+not_of_epoch header n (inl low) (inl (inr among)) = let from = among.1.from in let to = low.1 in omega arith
+not_of_epoch header n (inl low) (inr is) = let from = low.0 in omega arith
+not_of_epoch header n (inr high) (inl (inl among)) = let to = among.to in let from = high.0 in omega arith
+not_of_epoch header n (inr high) (inl (inr among)) = let to = among.1.to in let from = high.0 in omega arith
+not_of_epoch header n (inr high) (inr is) = let from = high.0 in omega arith
+
 -- the text stays where it is
 text_stays_at : (area : ℕ) (header : Header) (loaded : DurableState) (mid new : Trace) → area ≤ 3 → WritesOnly (May (next_header header area loaded.saved.length) loaded.saved) (Synced mid) new → (j : ℕ) → j < program_size area → reads new (program_first area + j) ≡ reads mid (program_first area + j)
 text_stays_at area header loaded mid new most on j lt =
-    ⊎_elim (λ was. was) (λ own. absurd (apart (program_first area + j) (area-where area j most lt) (of_epoch next loaded.saved (program_first area + j) (reads new (program_first area + j)) own))) ((reads_blend (May next loaded.saved) (Synced mid) new on).each (program_first area + j))
+    ⊎_elim (λ was. was) (λ own. absurd (not_of_epoch next (program_first area + j) (area-where area j most lt) (of_epoch next loaded.saved (program_first area + j) (reads new (program_first area + j)) own))) ((reads_blend (May next loaded.saved) (Synced mid) new on).each (program_first area + j))
   where
     next : Header
     next = next_header header area loaded.saved.length
-
-    apart : (n : ℕ) → ((174 ≤ n) × (n < 686)) ⊎ ((1710 ≤ n) × (n < 5806)) → IsOfEpoch next n → ⊥
-    apart n (inl low) (inl (inl among)) = let to = among.to in let from = low.0 in omega arith
-    apart n (inl low) (inl (inr among)) = let from = among.1.from in let to = low.1 in omega arith
-    apart n (inl low) (inr is) = let from = low.0 in omega arith
-    apart n (inr high) (inl (inl among)) = let to = among.to in let from = high.0 in omega arith
-    apart n (inr high) (inl (inr among)) = let to = among.1.to in let from = high.0 in omega arith
-    apart n (inr high) (inr is) = let from = high.0 in omega arith
 
 pub text_stays : {T E U F : Type 0} (result : Result T E) (u : U) (area : ℕ) (header : Header) (loaded : DurableState) (old mid synced new : Trace) → length loaded.program ≤ longest_in area → area ≤ 3 → WritesText {E = F} (Ok u) area loaded.program old mid → synced ≡ Synced mid → WritesState (next_header header area loaded.saved.length) loaded.saved synced new
     → OnOk result (IsTextAt area loaded.program (reads new))

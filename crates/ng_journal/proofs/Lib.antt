@@ -8,6 +8,7 @@ pub mod LinesRead
 pub mod Modern
 pub mod Moving
 pub mod Overwriting
+pub mod ProgramsHeld
 pub mod Recording
 pub mod Recovering
 pub mod Renewing

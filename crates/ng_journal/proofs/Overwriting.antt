@@ -100,7 +100,7 @@ fits_again old mid synced area header next saved at free w is next_is fits =
     record { valid = subst (λ (b : Bool). IsValidHeader b next) (sym large) (subst (λ (h : Header). IsValidHeader (is_large (reads old)) h) (sym next_is) fits.valid); limit = fits.limit ∙ ap program_room (sym large) }
 
 -- the text is in that area
-text_is : (area : ℕ) (text : List ℕ) (image : Image) → length text ≤ longest_in area → ((j : ℕ) → 512 * j < length text → HoldsText text (512 * j) (image (program_first area + j))) → program_text (length text) (stretch (program_first area) (program_size area) image) ≡ text
+pub text_is : (area : ℕ) (text : List ℕ) (image : Image) → length text ≤ longest_in area → ((j : ℕ) → 512 * j < length text → HoldsText text (512 * j) (image (program_first area + j))) → program_text (length text) (stretch (program_first area) (program_size area) image) ≡ text
 text_is area text image short parts = text-whole text (stretch (program_first area) (program_size area) image) (λ j lt. subst (HoldsText text (512 * j)) (sym (stretch-at (program_first area) (program_size area) image j (omega arith))) (parts j lt))
 
 beside_is : (saved : StoredModel) (area : ℕ) (text : List ℕ) (image : Image) → saved.length ≡ length text → length text ≤ longest_in area → ((j : ℕ) → 512 * j < length text → HoldsText text (512 * j) (image (program_first area + j))) → beside saved area image ≡ record { saved = saved; program = text }

@@ -2,14 +2,14 @@
 use Rattle.std.specs.Prelude.{◌≡◌, ◌⊎◌, ◌≤◌, ◌+◌, ◌%◌, ◌^◌, ℕ, ℤ, Bool, if◌then◌else◌, false, List, [], ◌∷◌, ◌++◌, Result, Ok, Err, OnOk}
 use Rattle.ng_num.specs.declared.fault.Fault.{Fault}
 use Rattle.ng_canon.specs.declared.item.Item.{Item}
-use Rattle.ng_rig.specs.Trace.{Image, Trace, items}
-use Rattle.ng_rig.specs.Continuation.{IsContinuation}
+use Rattle.ng_rig.specs.Trace.{Image, Trace, reads, items}
+use Rattle.ng_rig.specs.Continuation.{IsContinuation, IsSynced}
 use Rattle.ng_layout.specs.declared.header.Header.{Header}
 use Rattle.ng_layout.specs.Header.{program_room, IsValidHeader}
 use Rattle.ng_layout.specs.declared.header.Format.TheVariants.{Two}
 use Rattle.ng_layout.specs.Limits.{greatest_count}
 use Rattle.ng_layout.specs.Areas.{is_large_size, log_size_of, least_size}
-use Rattle.ng_layout.specs.Stands.{stands, stands_beside, IsModern, IsWritten}
+use Rattle.ng_layout.specs.Stands.{program_under, stands, stands_beside, IsModern, IsWritten}
 use Rattle.ng_layout.specs.Storable.{IsStorable}
 use Rattle.ng_layout.specs.Stored.{StoredModel, DurableState}
 use Rattle.ng_log.specs.declared.log_end.LogEnd.{LogEnd}
@@ -51,6 +51,11 @@ pub record IsSteady (sectors : ℕ) (header : Header) (end : LogEnd) (saved : St
 pub record IsDurablyAt {R : Type 0} (trace : Trace) (journal : JournalModel R) (standing : DurableState) : Type 0 where
   pub at : IsAtEnd trace journal.header standing journal.end
   pub saved_is : standing.saved ≡ journal.saved
+
+-- Whatever the device stands for, all of it is synced, and this is the program in force: the header names its bytes.
+pub record HoldsProgram {R : Type 0} (trace : Trace) (journal : JournalModel R) (program : List ℕ) : Type 0 where
+  pub synced : IsSynced trace
+  pub program_is : program_under journal.header (reads trace) ≡ program
 
 -- Each stop since stands for the state before or for the state after, and after Ok only for the latter; nothing is
 -- handed out.

@@ -1,5 +1,5 @@
 //! The journal of a device.
-ghost use Rattle.std.specs.Prelude.{◌≡◌, ◌≤◌, ◌<◌, ◌⊎◌, ◌↔◌, ℤ, List, false, true, [], Some, length, OnOk, IfOk, IfErr, IsSome, IsErrOf, IsErrAnd};
+ghost use Rattle.std.specs.Prelude.{◌≡◌, ◌≤◌, ◌<◌, ◌⊎◌, ◌↔◌, ℕ, ℤ, List, false, true, [], Some, length, OnOk, IfOk, IfErr, IsSome, IsErrOf, IsErrAnd};
 ghost use Rattle.ng_num.specs.declared.fault.Fault.TheVariants.{DeviceFailed, NotFormatted, CountersUsed, ProgramTooLong, OutOfMemory};
 ghost use Rattle.ng_rig.specs.Calls.{IfHonest, HandOutSpec};
 ghost use Rattle.ng_layout.specs.Areas.{is_large_size, least_size, spare_area};
@@ -116,7 +116,7 @@ fn two_fresh<A: Allocator + Copy + Drop>(
 }
 
 impl<R: Rig, A: Allocator + Copy + Drop> Journal<R, A> {
-    ghost use Rattle.ng_journal.specs.Journal.{JournalModel, IsDurablyAt, CommitSpec, JournalHandOutSpec, IsBrokenBy, kept_by};
+    ghost use Rattle.ng_journal.specs.Journal.{JournalModel, IsDurablyAt, HoldsProgram, CommitSpec, JournalHandOutSpec, IsBrokenBy, kept_by};
 
     /// The device as it is, without a call to it.
     pub fn into_rig(self) -> R
@@ -158,6 +158,9 @@ impl<R: Rig, A: Allocator + Copy + Drop> Journal<R, A> {
         ensures stores { IfHonest (R.seen self.old.rig) (R.seen self.new.rig)
             (StoresRecord result (ledger_of self.old) (kept_by self.old stored.now)
             (R.seen self.old.rig).trace (R.seen self.new.rig).trace) }
+        ensures holds { (R.seen self.old.rig).honest → (program : List ℕ)
+            → HoldsProgram (R.seen self.old.rig).trace self.old program
+            → OnOk result (HoldsProgram (R.seen self.new.rig).trace self.new program) }
         ensures saved { OnOk result (self.new.saved ≡ kept_by self.old stored.now) }
         ensures ledger { OnOk result (IsLedgerAfter (ledger_of self.old) (kept_by self.old stored.now) (ledger_of self.new)) }
         ensures broken { IsBrokenBy result self.new.broken }
@@ -203,6 +206,9 @@ impl<R: Rig, A: Allocator + Copy + Drop> Journal<R, A> {
         ensures stores { IfHonest (R.seen self.old.rig) (R.seen self.new.rig)
             (StoresRecord result (ledger_of self.old) (record self.old.saved { half = Some half.now })
             (R.seen self.old.rig).trace (R.seen self.new.rig).trace) }
+        ensures holds { (R.seen self.old.rig).honest → (program : List ℕ)
+            → HoldsProgram (R.seen self.old.rig).trace self.old program
+            → OnOk result (HoldsProgram (R.seen self.new.rig).trace self.new program) }
         ensures saved { OnOk result (self.new.saved ≡ record self.old.saved { half = Some half.now }) }
         ensures ledger { let saved = record self.old.saved { half = Some half.now } in
             OnOk result (IsLedgerAfter (ledger_of self.old) saved (ledger_of self.new)) }
@@ -251,6 +257,8 @@ impl<R: Rig, A: Allocator + Copy + Drop> Journal<R, A> {
             (let area = spare_area (is_large_size (R.seen self.old.rig).sectors) self.old.header.area in
             StoresLoad result area self.old.header (record { saved = kept_by self.old stored.now; program = text.now })
             (R.seen self.old.rig).trace (R.seen self.new.rig).trace) }
+        ensures holds { (R.seen self.old.rig).honest
+            → OnOk result (HoldsProgram (R.seen self.new.rig).trace self.new text.now) }
         ensures saved { OnOk result (self.new.saved ≡ kept_by self.old stored.now) }
         ensures end { OnOk result (self.new.end ≡ no_records) }
         ensures ledger { let area = spare_area (is_large_size (R.seen self.old.rig).sectors) self.old.header.area in

@@ -4,7 +4,8 @@ use Rattle.ng_num.specs.declared.fault.Fault.{Fault}
 use Rattle.ng_rig.proofs.Promise.{meaning}
 use Rattle.ng_text.specs.Programs.{ProgramLineModel}
 use Rattle.ng_core.proofs.Beginning.{Reading}
-use Rattle.ng_core.proofs.Resuming.{finds_next}
+use Rattle.ng_core.proofs.InForce.{ReadingInForce}
+use Rattle.ng_core.proofs.Resuming.{finds_next, next_in_force}
 use Rattle.ng_text.proofs.PlaceLemmas.{line_next, after_end}
 use Rattle.ng_core.proofs.half_done.next_line.Goals as goal
 
@@ -41,3 +42,30 @@ returns-in-None-clause-unwritten g c = meaning c.in_ok-line.ensures.reads (λ re
 
 pub returns-in_err-line-clause-unwritten : goal.returns-in_err-line-clause-unwritten
 returns-in_err-line-clause-unwritten g c = meaning c.in_err-line.ensures.reads (λ read. read.same)
+
+pub returns-in-Some-clause-reads : goal.returns-in-Some-clause-reads
+returns-in-Some-clause-reads g c =
+    let place = c.place-place.result in
+    let at : place ≡ c.args.session.now.stored.place = c.place-place.ensures.value in
+    let journal = c.args.journal.now in
+    let new = c.program_line.new.self in
+    let reading = subst (λ (l : Option ProgramLineModel). ReadingInForce {E = Fault} g.R.Rig.seen (Ok l) place journal new)
+    c.in-Some.is c.in_ok-line.ensures.reads in
+    next_in_force {E = Fault} g.R.Rig.seen (Some c.in-Some.line) c.line.inside.next c.args.session.now journal new
+    (c.is_programs_line.ensures.yes c.if-not-is_programs_line.false)
+    (λ program found. ap (λ (l : ProgramLineModel). l.next) c.line.view_is
+    ∙ line_next program c.args.session.now.stored.place c.in-Some.line (sym found))
+    (subst (λ (n : ℕ). ReadingInForce {E = Fault} g.R.Rig.seen (Ok (Some c.in-Some.line)) n journal new) at reading)
+
+pub returns-in-None-clause-reads : goal.returns-in-None-clause-reads
+returns-in-None-clause-reads g c =
+    let place = c.place-place.result in
+    let at : place ≡ c.args.session.now.stored.place = c.place-place.ensures.value in
+    let journal = c.args.journal.now in
+    let new = c.program_line.new.self in
+    let reading = subst (λ (l : Option ProgramLineModel). ReadingInForce {E = Fault} g.R.Rig.seen (Ok l) place journal new)
+    c.in-None.is c.in_ok-line.ensures.reads in
+    next_in_force {E = Fault} g.R.Rig.seen None place c.args.session.now journal new
+    (c.is_programs_line.ensures.yes c.if-not-is_programs_line.false)
+    (λ program end. at ∙ after_end program c.args.session.now.stored.place end)
+    (subst (λ (n : ℕ). ReadingInForce {E = Fault} g.R.Rig.seen (Ok None) n journal new) at reading)

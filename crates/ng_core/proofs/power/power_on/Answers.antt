@@ -35,7 +35,7 @@ returns-clause-gives g c =
 -- without memory the device isn't called
 pub returns-in-Err-clause-gives : goal.returns-in-Err-clause-gives
 returns-in-Err-clause-gives g c = record {
-  powers = λ room tools table. promised (record { recovers = recovered_nothing tools c.args.rig (g.R.Rig.seen c.args.rig).trace; rests = λ written. tt });
+  powers = λ room tools table. promised (record { recovers = recovered_nothing tools c.args.rig (g.R.Rig.seen c.args.rig).trace; rests = λ written. tt; force = tt });
   rests = tt;
   geometry = tt;
   small = λ few. absurd (omega (arith, few, c.size.ensures.value, c.if-size-lt-LEAST_SIZE.false));
@@ -56,7 +56,7 @@ pub returns-in_err-journal-clause-gives : goal.returns-in_err-journal-clause-giv
 returns-in_err-journal-clause-gives g c =
     let told = c.in_err-journal.ensures in
     gave g.R.Rig.seen c.args.settings c.args.rig c.in_err-journal.field-0.0 c.from_residual.result c.from_residual.ensures.1 (record {
-      powers = λ room tools table. meaning (told.recovers room tools table) (λ r. record { recovers = r; rests = λ written. tt });
+      powers = λ room tools table. meaning (told.recovers room tools table) (λ r. record { recovers = r; rests = λ written. tt; force = tt });
       rests = tt;
       geometry = tt;
       small = told.small;

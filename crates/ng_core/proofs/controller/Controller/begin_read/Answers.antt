@@ -12,6 +12,7 @@ use Rattle.ng_session.specs.declared.reply.Reply.{Reply}
 use Rattle.ng_core.specs.Model.{ControllerModel}
 use Rattle.ng_core.proofs.Beginning.{Reading, finding_both, does_begin, does_begin_short, does_begin_unfound, does_begin_unread, begun_line, known_after}
 use Rattle.ng_core.proofs.Carrying.{carried_as, carried_lost, carried_read}
+use Rattle.ng_core.proofs.InForce.{keeps_unwritten, finds_in_force, reads_begin}
 use Rattle.ng_core.proofs.Calling.{calls_none, calls_quiet, ledger_quiet}
 use Rattle.ng_core.proofs.Quiet.{still_begin}
 use Rattle.ng_core.proofs.Hindering.{unused_begin}
@@ -77,7 +78,7 @@ returns-in_err-reply-in-Some g c =
     (finding_both {E = Fault} {F = Fault} g.R.Rig.seen c.in_ok-first.first c.in_ok-line.field-0 c.self.inside.lines c.place-place.result c.self.inside.journal c.first_kind_before.new.journal c.program_line.new.self
     c.in_ok-first.ensures.kind c.in_ok-line.ensures.line) p.2 c.in_err-reply-in-Some.ensures.err refl)
     (λ h. (c.in_ok-line.ensures.reads.holds (c.in_ok-first.ensures.kind.keeps h)).same ∙ c.in_ok-first.ensures.unwritten.holds h)
-    refl c.in_err-reply-in-Some.ensures.err (c.in_ok-line.ensures.ledger ∙ c.in_ok-first.ensures.ledger) (λ none. absurd (none tt))
+    refl c.in_err-reply-in-Some.ensures.err refl (c.in_ok-line.ensures.ledger ∙ c.in_ok-first.ensures.ledger) (λ none. absurd (none tt))
     c.in_ok-line.ensures.broken (c.in_ok-line.ensures.size ∙ c.in_ok-first.ensures.size) (c.in_ok-line.ensures.failures ∙ c.in_ok-first.ensures.failures)))
 
 pub returns-in_ok-reply-in-Some : goal.returns-in_ok-reply-in-Some
@@ -98,6 +99,19 @@ returns-in_ok-reply-in-Some g c =
       calls = calls_quiet g.R.Rig.seen c.in_ok-reply-in-Some.reply (λ (program : List ℕ). begin geometry program old.session (program_line_at program old.session.stored.place)) old new
           (λ program. still_begin geometry program old.session (program_line_at program old.session.stored.place))
           (λ h. (c.in_ok-line.ensures.reads.holds (c.in_ok-first.ensures.kind.keeps h)).same ∙ c.in_ok-first.ensures.unwritten.holds h);
+      reads = reads_begin g.R.Rig.seen c.in_ok-reply-in-Some.reply c.in_ok-first.first (Some line) c.place-place.result
+          old new c.place-place.ensures.value
+          (finds_in_force {E = Fault} g.R.Rig.seen c.in_ok-first.first c.in_ok-line.field-0 (Some line) old.lines c.place-place.result
+          old.journal c.first_kind_before.new.journal new.journal c.in_ok-first.ensures.reads
+          c.in_ok-first.ensures.kind.keeps c.in_ok-first.ensures.unwritten.holds c.in_ok-first.ensures.ledger
+          (c.in-Some.is ∙ ap (λ (l : ProgramLineModel). Some l) (sym read)) c.in_ok-line.ensures.reads)
+          (keeps_unwritten g.R.Rig.seen old.journal new.journal
+          (λ h. (c.in_ok-line.ensures.reads.holds (c.in_ok-first.ensures.kind.keeps h)).same ∙ c.in_ok-first.ensures.unwritten.holds h)
+          (c.in_ok-line.ensures.ledger ∙ c.in_ok-first.ensures.ledger))
+          (λ program known at kind. subst (λ (k : KnownModel). IsKnownOf program k) (sym c.set_before.ensures)
+          (known_after old.lines c.lines_after-before.result c.place-place.result c.in_ok-first.first line
+          c.lines_after-before.ensures program known at kind))
+          c.in_ok-reply-in-Some.ensures.reply c.in_ok-reply-in-Some.ensures.next;
       comes = λ none. absurd (none tt);
       line = λ read. begun_line c.in_ok-reply-in-Some.reply (λ (program : List ℕ). begin geometry program old.session (program_line_at program old.session.stored.place)) c.in_ok-first.first (Some line) c.place-place.result old new (ap (λ (x : ControllerModel g.row.R.Denot). is_running x.session.activity) c.self.view_is ∙ c.requires.runs) c.place-place.ensures.value
           c.in_ok-first.ensures.beginning c.in_ok-reply-in-Some.ensures.reply c.in_ok-reply-in-Some.ensures.next (c.in_ok-line.ensures.ledger ∙ c.in_ok-first.ensures.ledger);
@@ -123,6 +137,16 @@ returns-in-None g c =
       calls = calls_quiet g.R.Rig.seen c.break_off.result (λ (program : List ℕ). begin geometry program old.session (program_line_at program old.session.stored.place)) old new
           (λ program. still_begin geometry program old.session (program_line_at program old.session.stored.place))
           (λ h. (c.in_ok-line.ensures.reads.holds (c.in_ok-first.ensures.kind.keeps h)).same ∙ c.in_ok-first.ensures.unwritten.holds h);
+      reads = reads_begin g.R.Rig.seen c.break_off.result c.in_ok-first.first None c.place-place.result
+          old new c.place-place.ensures.value
+          (finds_in_force {E = Fault} g.R.Rig.seen c.in_ok-first.first c.in_ok-line.field-0 None old.lines c.place-place.result
+          old.journal c.first_kind_before.new.journal new.journal c.in_ok-first.ensures.reads
+          c.in_ok-first.ensures.kind.keeps c.in_ok-first.ensures.unwritten.holds c.in_ok-first.ensures.ledger
+          c.in-None.is c.in_ok-line.ensures.reads)
+          (keeps_unwritten g.R.Rig.seen old.journal new.journal
+          (λ h. (c.in_ok-line.ensures.reads.holds (c.in_ok-first.ensures.kind.keeps h)).same ∙ c.in_ok-first.ensures.unwritten.holds h)
+          (c.in_ok-line.ensures.ledger ∙ c.in_ok-first.ensures.ledger))
+          (λ program true_of _ _. true_of) c.break_off.ensures.reply (λ program _. c.break_off.ensures.next program);
       comes = λ none. absurd (none tt);
       line = λ read. begun_line c.break_off.result (λ (program : List ℕ). begin geometry program old.session (program_line_at program old.session.stored.place)) c.in_ok-first.first None c.place-place.result old new (ap (λ (x : ControllerModel g.row.R.Denot). is_running x.session.activity) c.self.view_is ∙ c.requires.runs) c.place-place.ensures.value
           c.in_ok-first.ensures.beginning c.break_off.ensures.reply (λ program kind. c.break_off.ensures.next program) (c.in_ok-line.ensures.ledger ∙ c.in_ok-first.ensures.ledger);

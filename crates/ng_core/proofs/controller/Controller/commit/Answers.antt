@@ -12,6 +12,7 @@ use Rattle.ng_session.specs.declared.reply.Reply.TheVariants as reply
 use Rattle.ng_core.specs.Model.{ControllerModel}
 use Rattle.ng_core.proofs.Anyway.{comes_commit}
 use Rattle.ng_core.proofs.Carrying.{carried_as, carried_failed}
+use Rattle.ng_core.proofs.InForce.{reads_commit}
 use Rattle.ng_core.proofs.Calling.{calls_made, makes_entry, ledger_entry}
 use Rattle.ng_core.proofs.Hindering.{hindered_entry, stored_end}
 use Rattle.ng_core.proofs.Storing.{kept_whole}
@@ -48,7 +49,7 @@ returns-in_err-commit g c =
     (does_not_commit g.R.Rig.seen e e (kept_by old.journal c.in-Some.after.now) old new due_kept refl c.in_err-commit.ensures.errors unchanged c.in_err-commit.ensures.stops refl)
     (makes_entry {T = Unit {0}} g.R.Rig.seen (Err e) reply.Idle (kept_by old.journal c.in-Some.after.now) (kept_by old.journal c.in-Some.after.now) (λ (program : List ℕ). end geometry program old.session old.session.current) old new refl
     (λ program. stored_end geometry program old.session (kept_by old.journal c.in-Some.after.now) due_kept) c.in_err-commit.ensures.stores)
-    c.in_err-commit.ensures.errors unchanged refl refl
+    c.in_err-commit.ensures.errors unchanged refl refl refl
     (hindered_entry (Unit {0}) e geometry old.session (ledger_of old.journal) c.in-Some.after.now due c.in_err-commit.ensures.errors c.in_err-commit.ensures.used_up)
     c.in_err-commit.ensures.broken c.in_err-commit.ensures.size c.in_err-commit.ensures.failures))
 
@@ -68,6 +69,9 @@ returns g c =
       calls = calls_made g.R.Rig.seen c.commit-2.result (λ (program : List ℕ). end geometry program old.session old.session.current) old new
           (makes_entry g.R.Rig.seen (Ok c.in_ok-commit.field-0) c.commit-2.result (kept_by old.journal c.in-Some.after.now) (kept_by old.journal c.in-Some.after.now) (λ (program : List ℕ). end geometry program old.session old.session.current) old new refl
           (λ program. stored_end geometry program old.session (kept_by old.journal c.in-Some.after.now) due_kept) c.in_ok-commit.ensures.stores);
+      reads = reads_commit g.R.Rig.seen c.commit-2.result c.in-Some.after.now old new due
+          (c.commit-2.ensures.reply block.0 block.1) (c.commit-2.ensures.next block.0 block.1)
+          c.in_ok-commit.ensures.holds refl;
       comes = comes_commit ⊥ c.commit-2.result c.in-Some.after.now old new due (c.commit-2.ensures.reply block.0 block.1) (c.commit-2.ensures.next block.0 block.1);
       line = λ none. absurd none;
       ledger = ledger_entry g.R.Rig.seen (kept_by old.journal c.in-Some.after.now) (kept_by old.journal c.in-Some.after.now) (λ (program : List ℕ). end geometry program old.session old.session.current) old new refl

@@ -11,6 +11,7 @@ use Rattle.ng_core.proofs.Carrying.{carried_to, by_some}
 use Rattle.ng_core.proofs.Choosing.{begins_there, by_none}
 use Rattle.ng_core.proofs.Hindering.{busy_block, busy_unread, busy_running}
 use Rattle.ng_core.proofs.Calling.{calls_on, calls_quiet, ledger_on, ledger_quiet}
+use Rattle.ng_core.proofs.InForce.{reads_on, reads_still}
 use Rattle.ng_core.proofs.Quiet.{still_rest}
 use Rattle.ng_core.proofs.Ticks.{does_rest, rests_there}
 use Rattle.ng_core.proofs.controller.Controller.end.Goals as goal
@@ -45,6 +46,11 @@ returns g c =
       calls = calls_on g.R.Rig.seen (Ok c.rest.result) (λ (program : List ℕ). rest program old.session) (λ (program : List ℕ). end geometry program old.session old.session.current) old old
           (λ program. sym (rests_there geometry program old.session none (sym c.if-is_running.ensures)))
           (calls_quiet g.R.Rig.seen c.rest.result (λ (program : List ℕ). rest program old.session) old old (λ program. still_rest program old.session) (λ h. refl));
+      reads = reads_on g.R.Rig.seen (Ok c.rest.result) (λ (program : List ℕ). rest program old.session)
+          (λ (program : List ℕ). end geometry program old.session old.session.current) old old
+          (λ program. sym (rests_there geometry program old.session none (sym c.if-is_running.ensures)))
+          (reads_still g.R.Rig.seen c.rest.result (λ (program : List ℕ). rest program old.session) old old
+          (λ program. still_rest program old.session) refl refl c.rest.ensures (λ program. refl));
       comes = comes_rest (IsBetweenLines old.session) c.rest.result old none (sym c.if-is_running.ensures) c.rest.ensures;
       line = λ read. absurd (let z : false ≡ true = c.if-is_running.ensures ∙ read.1 in cc);
       ledger = ledger_on g.R.Rig.seen (Ok c.rest.result) (λ (program : List ℕ). rest program old.session) (λ (program : List ℕ). end geometry program old.session old.session.current) old old

@@ -6,6 +6,7 @@ use Rattle.ng_core.specs.Events.{handing}
 use Rattle.ng_core.specs.Model.{ControllerModel}
 use Rattle.ng_core.proofs.Anyway.{comes_by}
 use Rattle.ng_core.proofs.Carrying.{carried_as, carried_lost}
+use Rattle.ng_core.proofs.InForce.{keeps_handed, reads_answered}
 use Rattle.ng_core.proofs.Ticks.{hands_item, hands_none}
 use Rattle.ng_core.proofs.controller.Controller.hand_out.Goals as goal
 
@@ -30,6 +31,11 @@ returns g c =
     carried_as g.R.Rig.seen (λ (x : ControllerModel g.row.R.Denot). ⊥) (λ (x : ControllerModel g.row.R.Denot). Unit {0}) (λ (x : ControllerModel g.row.R.Denot). ⊥) (λ (x : ControllerModel g.row.R.Denot) (program : List ℕ). handing c.args.item program x.session) (Ok reply.Moved) c.args.self.now old new c.self.view_is (record {
       does = hands_item g.R.Rig.seen c.in_ok-hand_out.field-0 c.args.item old new refl c.in_ok-hand_out.ensures.stops refl;
       calls = λ h program. record { calls = c.in_ok-hand_out.ensures.hands.holds h; unchanged = tt };
+      reads = reads_answered g.R.Rig.seen reply.Moved
+          (λ (program : List ℕ). handing c.args.item program old.session) old new
+          (keeps_handed g.R.Rig.seen c.args.item old.journal new.journal
+          c.in_ok-hand_out.ensures.hands.holds c.in_ok-hand_out.ensures.ledger)
+          (λ program. refl) (λ program known. known) (λ program. refl) (λ program. refl);
       comes = comes_by ⊥ reply.Moved (λ program. handing c.args.item program old.session) old new (λ program. refl) (λ program. refl);
       line = λ none. absurd none;
       ledger = λ program. c.in_ok-hand_out.ensures.ledger;

@@ -11,6 +11,7 @@ use Rattle.ng_session.specs.declared.reply.Reply.TheVariants as reply
 use Rattle.ng_core.specs.Model.{ControllerModel}
 use Rattle.ng_core.proofs.Anyway.{comes_by}
 use Rattle.ng_core.proofs.Carrying.{carried_as, carried_failed}
+use Rattle.ng_core.proofs.InForce.{reads_answered}
 use Rattle.ng_core.proofs.Calling.{calls_made, makes_entry, ledger_entry}
 use Rattle.ng_core.proofs.Hindering.{hindered_storing}
 use Rattle.ng_core.proofs.Reporting.{keeps, keeps_none}
@@ -44,6 +45,9 @@ returns-in-Ok g c = λ entry committed.
       calls = calls_made g.R.Rig.seen (reply.Done c.behind-self.inside.entries) (λ (program : List ℕ). commits program entry next) old new
           (makes_entry g.R.Rig.seen (Ok c.in-Ok.field-0) (reply.Done c.behind-self.inside.entries) (kept_by old.journal c.stored-2.result.now) next.stored (λ (program : List ℕ). commits program entry next) old new (kept ∙ stored)
           (λ program. ap (λ (x : Storing). Some x) (committed next.stored)) c.in-Ok.ensures.stores);
+      reads = reads_answered g.R.Rig.seen (reply.Done c.behind-self.inside.entries)
+          (λ (program : List ℕ). commits program entry next) old new c.in-Ok.ensures.holds
+          (λ program. refl) (λ program known. known) (λ program. counted) (λ program. c.exchange-before.ensures.next);
       comes = comes_by ⊥ (reply.Done c.behind-self.inside.entries) (λ program. commits program entry next) old new (λ program. counted) (λ program. c.exchange-before.ensures.next);
       line = λ none. absurd none;
       ledger = ledger_entry g.R.Rig.seen (kept_by old.journal c.stored-2.result.now) next.stored (λ (program : List ℕ). commits program entry next) old new (kept ∙ stored)
@@ -72,7 +76,7 @@ returns-in-Err g c = λ entry committed.
     (keeps_none g.R.Rig.seen c.in-Err.fault (kept_by old.journal c.stored-2.result.now) entry next old new (kept ∙ stored) same c.in-Err.ensures.errors unchanged c.in-Err.ensures.stops refl)
     (makes_entry {T = Unit {0}} g.R.Rig.seen (Err c.in-Err.fault) reply.Idle (kept_by old.journal c.stored-2.result.now) next.stored (λ (program : List ℕ). commits program entry next) old new (kept ∙ stored)
     (λ program. ap (λ (x : Storing). Some x) (committed next.stored)) c.in-Err.ensures.stores)
-    c.in-Err.ensures.errors unchanged refl same
+    c.in-Err.ensures.errors unchanged refl same refl
     (hindered_storing (Unit {0}) c.in-Err.fault (ledger_of old.journal) (λ (program : List ℕ). commits program entry next) (Commit c.stored-2.result.now) c.in-Err.ensures.errors c.in-Err.ensures.used_up
     (λ program. ap (λ (x : Storing). Some x) (committed next.stored) ∙ ap (λ (x : StoredModel). Some (Commit x)) (sym stored)))
     c.in-Err.ensures.broken c.in-Err.ensures.size c.in-Err.ensures.failures)

@@ -17,6 +17,7 @@ use Rattle.ng_core.proofs.Hindering.{hindered_load}
 use Rattle.ng_core.proofs.Storing.{kept_whole, kept_failed}
 use Rattle.ng_core.proofs.Anyway.{comes_load}
 use Rattle.ng_core.proofs.Carrying.{carried_as, carried_refused, carried_short, carried_failed}
+use Rattle.ng_core.proofs.InForce.{reads_load}
 use Rattle.ng_core.proofs.controller.Controller.load.Goals as goal
 
 pub invariant_of-self : goal.invariant_of-self
@@ -71,7 +72,7 @@ returns-in_err-load_program g c =
     (λ (program : List ℕ). load program old.session c.args.text.now) old new p.2
     (does_not_load g.R.Rig.seen e e (kept_by old.journal c.in_ok-stored.stored) c.args.text.now old new free (kept ∙ c.in_ok-stored.ensures.value) refl which unchanged c.in_err-load_program.ensures.stops refl)
     (makes_load {T = Unit {0}} g.R.Rig.seen (Err e) reply.Idle (kept_by old.journal c.in_ok-stored.stored) c.args.text.now old new free (kept ∙ c.in_ok-stored.ensures.value) c.in_err-load_program.ensures.stores)
-    which unchanged refl refl
+    which unchanged refl refl refl
     (hindered_load (Unit {0}) e c.self.inside.journal.saved.room old.session c.in_ok-stored.stored c.args.text.now (ledger_of old.journal) free small c.in_ok-stored.ensures.value which c.in_err-load_program.ensures.used_up)
     c.in_err-load_program.ensures.broken c.in_err-load_program.ensures.size c.in_err-load_program.ensures.failures))
 
@@ -88,6 +89,11 @@ returns g c =
           c.load.ensures.reply (c.load.ensures.next ∙ ap (loaded old.session) (sym kept)) c.in_ok-load_program.ensures.stops (c.forget.ensures.holds c.args.text.now);
       calls = calls_made g.R.Rig.seen c.load.result (λ (program : List ℕ). load program old.session c.args.text.now) old new
           (makes_load g.R.Rig.seen (Ok c.in_ok-load_program.field-0) c.load.result (kept_by old.journal c.in_ok-stored.stored) c.args.text.now old new free (kept ∙ c.in_ok-stored.ensures.value) c.in_ok-load_program.ensures.stores);
+      reads = reads_load g.R.Rig.seen c.load.result (kept_by old.journal c.in_ok-stored.stored) c.args.text.now old new
+          free (kept ∙ c.in_ok-stored.ensures.value)
+          (c.load.ensures.reply ∙ ap (λ (x : StoredModel). reply.Done x.entries) (sym kept))
+          (c.load.ensures.next ∙ ap (loaded old.session) (sym kept))
+          c.in_ok-load_program.ensures.holds (c.forget.ensures.holds c.args.text.now);
       comes = comes_load ⊥ c.load.result c.in_ok-stored.stored c.args.text.now old new free c.in_ok-stored.ensures.value c.load.ensures.reply c.load.ensures.next;
       line = λ none. absurd none;
       ledger = ledger_load g.R.Rig.seen (kept_by old.journal c.in_ok-stored.stored) c.args.text.now old new free (kept ∙ c.in_ok-stored.ensures.value) c.in_ok-load_program.ensures.ledger;

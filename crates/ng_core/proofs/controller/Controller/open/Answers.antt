@@ -14,6 +14,7 @@ use Rattle.ng_session.specs.declared.reply.Reply.TheVariants as reply
 use Rattle.ng_core.specs.Model.{ControllerModel}
 use Rattle.ng_core.proofs.Anyway.{comes_by}
 use Rattle.ng_core.proofs.Carrying.{carried_as, carried_failed}
+use Rattle.ng_core.proofs.InForce.{reads_answered}
 use Rattle.ng_core.proofs.Calling.{calls_made, makes_opening, ledger_opening}
 use Rattle.ng_core.proofs.Hindering.{hindered_opening, stored_opening}
 use Rattle.ng_core.proofs.Ticks.{opening, opens, opens_none}
@@ -33,7 +34,7 @@ returns-in_err-open_segment g c =
     (opens_none g.R.Rig.seen e e c.args.half old new refl (c.self.invariant.saved whole) c.in_err-open_segment.ensures.errors unchanged c.in_err-open_segment.ensures.stops refl)
     (makes_opening {T = Unit {0}} g.R.Rig.seen (Err e) reply.Idle c.args.half (λ (program : List ℕ). opening c.args.half program geometry old.session) old new
     (λ program. stored_opening (opening c.args.half program geometry old.session) c.args.half.index c.args.half.opened) c.in_err-open_segment.ensures.stores)
-    c.in_err-open_segment.ensures.errors unchanged refl refl
+    c.in_err-open_segment.ensures.errors unchanged refl refl refl
     (hindered_opening (Unit {0}) e geometry old.session (ledger_of old.journal) c.args.half c.in_err-open_segment.ensures.errors c.in_err-open_segment.ensures.used_up)
     c.in_err-open_segment.ensures.broken c.in_err-open_segment.ensures.size c.in_err-open_segment.ensures.failures))
 
@@ -48,6 +49,10 @@ returns g c =
       calls = calls_made g.R.Rig.seen c.open.result (λ (program : List ℕ). opening c.args.half program geometry old.session) old new
           (makes_opening g.R.Rig.seen (Ok c.in_ok-open_segment.field-0) c.open.result c.args.half (λ (program : List ℕ). opening c.args.half program geometry old.session) old new
           (λ program. stored_opening (opening c.args.half program geometry old.session) c.args.half.index c.args.half.opened) c.in_ok-open_segment.ensures.stores);
+      reads = reads_answered g.R.Rig.seen c.open.result
+          (λ (program : List ℕ). opening c.args.half program geometry old.session) old new
+          c.in_ok-open_segment.ensures.holds
+          (λ program. refl) (λ program known. known) (λ program. c.open.ensures.reply) (λ program. c.open.ensures.next);
       comes = comes_by ⊥ c.open.result (λ program. opening c.args.half program geometry old.session) old new (λ program. c.open.ensures.reply) (λ program. c.open.ensures.next);
       line = λ none. absurd none;
       ledger = ledger_opening g.R.Rig.seen c.args.half (λ (program : List ℕ). opening c.args.half program geometry old.session) old new

@@ -9,9 +9,10 @@ use Rattle.ng_core.specs.Model.{ControllerModel}
 use Rattle.ng_core.proofs.Carrying.{carried_as, carried_lost, carried_read}
 use Rattle.ng_session.proofs.Refusing.{refused_again}
 use Rattle.ng_core.proofs.Calling.{calls_none, calls_on, calls_quiet, ledger_on, ledger_quiet}
+use Rattle.ng_core.proofs.InForce.{keeps_unwritten}
 use Rattle.ng_core.proofs.Quiet.{still}
 use Rattle.ng_core.proofs.Hindering.{unused_resume}
-use Rattle.ng_core.proofs.Resuming.{still_resume, does_not_resume, comes_not_resumed, does_resume, comes_resume, refused_unread, resumed_line, does_resume_short, does_resume_unread}
+use Rattle.ng_core.proofs.Resuming.{still_resume, does_not_resume, reads_not_resumed, comes_not_resumed, does_resume, reads_resume, comes_resume, refused_unread, resumed_line, does_resume_short, does_resume_unread}
 use Rattle.ng_core.proofs.controller.Controller.resume.Goals as goal
 
 pub returns-in-Some : goal.returns-in-Some
@@ -25,6 +26,8 @@ returns-in-Some g c =
       calls = calls_on g.R.Rig.seen (Ok (reply.Refused c.in-Some.fault)) (λ (program : List ℕ). refuses program c.in-Some.fault old.session) (λ (program : List ℕ). resume geometry program old.session) old new
           (λ program. sym (refused_again geometry program old.session c.in-Some.fault c.in-Some.ensures.refusal))
           (calls_quiet g.R.Rig.seen (reply.Refused c.in-Some.fault) (λ (program : List ℕ). refuses program c.in-Some.fault old.session) old new (λ program. still refl refl refl refl) (λ h. refl));
+      reads = reads_not_resumed g.R.Rig.seen c.in-Some.fault old new c.in-Some.ensures.refusal refl refl
+          c.in-Some.ensures.same;
       comes = comes_not_resumed ((resume_refusal geometry old.session ≡ None) × IsProgramsLine old.session.stored.half) c.in-Some.fault old new c.in-Some.ensures.refusal c.in-Some.ensures.same;
       line = λ read. absurd (refused_unread (resume_refusal geometry old.session) c.in-Some.fault c.in-Some.ensures.refusal read.0);
       ledger = ledger_on g.R.Rig.seen (Ok (reply.Refused c.in-Some.fault)) (λ (program : List ℕ). refuses program c.in-Some.fault old.session) (λ (program : List ℕ). resume geometry program old.session) old new
@@ -62,7 +65,7 @@ returns-in_err-resume g c =
     (carried_read g.R.Rig.seen (resume_refusal geometry old.session ≡ None) ((resume_refusal geometry old.session ≡ None) × IsProgramsLine old.session.stored.half) ((resume_refusal geometry old.session ≡ None) × IsProgramsLine old.session.stored.half) p.0 (λ (program : List ℕ). resume geometry program old.session) old new p.2 (sym c.in_default.ensures.refusal)
     (does_resume_short {E = Fault} g.R.Rig.seen p.0 c.in_ok-next.next c.resume_refusal.new.self (λ (program : List ℕ). resume geometry program old.session) old new c.in_ok-next.ensures.next p.2 same refl)
     c.in_ok-next.ensures.unwritten.holds
-    refl same c.in_ok-next.ensures.ledger
+    refl same refl c.in_ok-next.ensures.ledger
     (λ none. (c.in_ok-next.ensures.unread (λ line. none (sym c.in_default.ensures.refusal, subst (λ (s : SessionModel). IsProgramsLine s.stored.half) c.in_default.ensures.same line))).0)
     c.in_ok-next.ensures.broken c.in_ok-next.ensures.size c.in_ok-next.ensures.failures))
 
@@ -75,6 +78,11 @@ returns g c =
       does = does_resume {E = Fault} g.R.Rig.seen c.in_ok-resume.field-0 c.in_ok-next.next old new c.resume_refusal.new.self c.in_default.ensures.same c.in_ok-next.ensures.next refl
           (λ program is. (c.in_ok-resume.ensures.reply program is, c.in_ok-resume.ensures.next program is));
       calls = calls_quiet g.R.Rig.seen c.in_ok-resume.field-0 (λ (program : List ℕ). resume geometry program old.session) old new (λ program. still_resume geometry program old.session) c.in_ok-next.ensures.unwritten.holds;
+      reads = reads_resume g.R.Rig.seen c.in_ok-resume.field-0 c.in_ok-next.next old new c.resume_refusal.new.self
+          c.in_default.ensures.same c.in_ok-next.ensures.reads
+          (keeps_unwritten g.R.Rig.seen old.journal new.journal c.in_ok-next.ensures.unwritten.holds
+          c.in_ok-next.ensures.ledger) refl
+          (λ program is. (c.in_ok-resume.ensures.reply program is, c.in_ok-resume.ensures.next program is));
       comes = comes_resume c.in_ok-resume.field-0 c.in_ok-next.next old new c.resume_refusal.new.self c.in_default.ensures.same c.in_default.ensures.refusal (λ other. (c.in_ok-next.ensures.unread other).1)
           (λ program is. (c.in_ok-resume.ensures.reply program is, c.in_ok-resume.ensures.next program is));
       line = λ read. resumed_line c.in_ok-resume.field-0 c.in_ok-next.next old new c.resume_refusal.new.self c.in_default.ensures.same read.0 read.1 c.in_ok-next.ensures.beyond

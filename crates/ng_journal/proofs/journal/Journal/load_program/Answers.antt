@@ -1,4 +1,4 @@
-use Rattle.std.proofs.Common.{◌≡◌, ◌⊎◌, ◌<◌, ◌≤◌, ◌↔◌, ℕ, true, refl, sym, ap, subst, ◌∙◌, arith}
+use Rattle.std.proofs.Common.{◌≡◌, ◌⊎◌, ◌<◌, ◌≤◌, ◌↔◌, ℕ, true, length, refl, sym, ap, subst, ◌∙◌, arith}
 use Rattle.ng_rig.proofs.Promise.{meaning}
 use Rattle.ng_layout.specs.Limits.{greatest_count}
 use Rattle.ng_layout.specs.Areas.{greatest_area, is_large_size, spare_area}
@@ -13,6 +13,7 @@ use Rattle.ng_journal.specs.Private.Records.{ledger}
 use Rattle.ng_journal.specs.Storing.{Ledger, with_program}
 use Rattle.ng_journal.proofs.Keeping.{with_room, load_kept}
 use Rattle.ng_journal.proofs.Moving.{loaded, not_loaded, loaded_as, not_loaded_as}
+use Rattle.ng_journal.proofs.ProgramsHeld.{holds_load}
 use Rattle.ng_journal.proofs.Recording.{own}
 use Rattle.ng_journal.proofs.Steadying.{fits_load, more_epochs, steady_loaded, storable_kept}
 use Rattle.ng_journal.proofs.journal.Journal.load_program.Goals as goal
@@ -67,6 +68,18 @@ returns-in-Err-clause-stores g c =
     let area = c.spare_area-area.result in
     let area_is : area ≡ spare_area (is_large_size (g.R.Rig.seen inside.rig).sectors) header.area = c.spare_area-area.ensures.is ∙ ap (λ (n : ℕ). spare_area (is_large_size n) header.area) c.size.ensures.value in
     rw (← c.self.view_is) (meaning c.load.ensures.stores (λ s. not_loaded_as area _ _ c.load.result header _ _ _ area_is (load_kept inside.stored.room c.load.result area header c.args.stored.now c.args.text.now _ _ s)))
+
+pub returns-in-Ok-clause-holds : goal.returns-in-Ok-clause-holds
+returns-in-Ok-clause-holds g c =
+    let inside = c.self.inside in
+    let header = inside.tip.header in
+    let area = c.spare_area-area.result in
+    let next_is = c.next_header-next.ensures ∙ (λ i. next_header header area (c.stored.view_is i).length) in
+    let room_is = ap (λ s. s.stored.room) c.self-inside.view_is in
+    let longest = subst (λ (n : ℕ). longest_in area ≡ program_room (is_large_size n)) c.size.ensures.value c.spare_area-area.ensures.room in
+    let short : length c.args.text.now ≤ longest_in area = omega (arith, c.if-text-self.false, room_is, c.self.invariant.limit, longest) in
+    rw (← c.self.view_is) (λ h.
+    holds_load _ area header _ (record { saved = c.args.stored.now; program = c.args.text.now }) _ _ c.requires.long short (c.in-Ok.ensures.stores.holds h) (ap (λ (t : Tip). t.header) c.beginning-self-inside.ensures ∙ next_is))
 
 pub returns-in-Ok-clause-ledger : goal.returns-in-Ok-clause-ledger
 returns-in-Ok-clause-ledger g c =

@@ -1,8 +1,11 @@
-use Rattle.std.proofs.Common.{◌≡◌, ◌≤◌, ◌↔◌, true, refl, sym, subst}
+use Rattle.std.proofs.Common.{◌≡◌, ◌≤◌, ◌↔◌, true, length, refl, sym, subst, arith}
 use Rattle.ng_layout.specs.Limits.{greatest_count}
 use Rattle.ng_journal.specs.Journal.{JournalModel}
 use Rattle.ng_journal.specs.Storing.{IsFullFor}
 use Rattle.ng_rig.proofs.Promise.{meaning}
+use Rattle.ng_params.specs.Differences.{differences}
+use Rattle.ng_journal.proofs.ProgramsHeld.{area_few, holds_record}
+use Rattle.ng_journal.proofs.Recording.{none_changed}
 use Rattle.ng_journal.proofs.Moving.{moved, not_moved, ledger_moved, stored_as, not_stored_as}
 use Rattle.ng_journal.proofs.Steadying.{steady_opened, steady_still}
 use Rattle.ng_journal.proofs.journal.Journal.open_segment.Goals as goal
@@ -23,6 +26,12 @@ returns-in-Err-clause-stops g c =
 
 pub returns-in-Err-clause-stores : goal.returns-in-Err-clause-stores
 returns-in-Err-clause-stores g c = rw (← c.self.view_is) (meaning c.store_half.ensures.stores (λ s. not_stored_as _ c.store_half.result _ _ _ _ s))
+
+pub returns-in-Ok-clause-holds : goal.returns-in-Ok-clause-holds
+returns-in-Ok-clause-holds g c =
+    let few : length (differences c.self.inside.stored.setup.params c.self.inside.stored.setup.params) ≤ 5399 = omega (arith, none_changed c.self.inside.stored) in
+    rw (← c.self.view_is) (λ h program holds.
+    holds_record c.in-Ok.tip _ _ _ program _ _ (area_few _ _ c.self.invariant.valid.area) few (c.in-Ok.ensures.stores.holds h) (ledger_moved c.in-Ok.tip _ _ _ c.in-Ok.ensures.saved c.in-Ok.ensures.ledger) holds)
 
 pub invariant_of-self : goal.invariant_of-self
 invariant_of-self g c =
