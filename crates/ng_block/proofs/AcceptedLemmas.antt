@@ -18,15 +18,13 @@ use Rattle.ng_modal.specs.declared.block.Block.{Block}
 use Rattle.ng_state.specs.declared.kept_words.KeptWords.{KeptWords}
 use Rattle.ng_block.specs.declared.path.Path.{Path}
 use Rattle.ng_block.specs.Asked.{Move, move_by}
-use Rattle.ng_block.specs.Blocks.{feed_of, feed_mode_after}
+use Rattle.ng_block.specs.Blocks.{feed_of}
 use Rattle.ng_block.specs.Cycles.{kept_of}
-use Rattle.ng_block.specs.Effects.{Done, unless_refused, plan_of, block_done, executed_values, executed_pieces, executed}
+use Rattle.ng_block.specs.Effects.{Done, unless_refused, block_done, executed_values, executed_pieces, executed}
 use Rattle.ng_block.specs.Faults.{path_faults}
 use Rattle.ng_block.specs.Goals.{Bearings, bearings_of, bearings_after, Goal, goal_with, goal_of, path_of, path_after_bearings}
-use Rattle.ng_block.specs.Order.{Plan}
 use Rattle.ng_block.specs.Remarks.{remark_of}
 use Rattle.ng_state.specs.State.{StateModel}
-use Rattle.ng_block.specs.Tasks.{feed_set, tasks_of}
 use Rattle.ng_block.proofs.CauseLemmas.{path_by, path_is}
 
 -- ---- results, one after another
@@ -55,12 +53,6 @@ pub record IsAccepted (s : StateModel) (tools : List ℤ) (geometry : Geometry) 
   pub goal_is : goal_of block values.assignments s tools geometry ≡ Ok goal
   pub none : first_fault (path_faults goal.path geometry) ≡ None
   pub done_is : block_done block goal (remark_of (last_comment line.pieces)) s ≡ done
-
--- the plan of its block
-abbrev pub plan_for : Block → Goal → List CanonModel → StateModel → Plan
-plan_for b goal remark s =
-    let mode = feed_mode_after b s.modal.modes in
-    plan_of remark (feed_set b mode goal.feed_per_min) (tasks_of b mode s.modal.outputs) goal s.modal
 
 pub accepted : (s : StateModel) (tools : List ℤ) (geometry : Geometry) (text : List ℕ) (done : Done) → executed s tools geometry text ≡ Ok done → IsAccepted s tools geometry text done
 unfolding executed executed_pieces executed_values

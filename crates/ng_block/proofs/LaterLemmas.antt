@@ -5,11 +5,10 @@ use Rattle.std.proofs.Math.ListN.{drop_of_length-le}
 use Rattle.ng_canon.specs.declared.segment.Segment.{Segment}
 use Rattle.ng_block.specs.declared.block_segments.BlockSegmentsLeft.{BlockSegmentsLeft}
 use Rattle.ng_block.specs.declared.block_segments.resuming.Passing.{Passing}
-use Rattle.ng_block.specs.declared.steps.BlockStep.{BlockStep}
-use Rattle.ng_block.specs.BlockSegments.{plan_of, rest_of}
-use Rattle.ng_block.specs.Order.{outputs_through, segments_at, segments_through}
-use Rattle.ng_block.specs.Resuming.{SkipSpec, begun_step}
-use Rattle.ng_block.specs.Tasks.{tasks_in}
+use Rattle.ng_block.specs.declared.action.Action.{Action}
+use Rattle.ng_block.specs.Action.{actions_segments}
+use Rattle.ng_block.specs.BlockSegments.{actions_left, stop_segments_left, rest_of}
+use Rattle.ng_block.specs.Resuming.{Stays}
 use Rattle.ng_cycles.specs.declared.motion_state.MotionState.{MotionState}
 use Rattle.ng_cycles.specs.Segments.{after_segments, after_segment}
 
@@ -64,37 +63,64 @@ after_segments-on at (x ∷ xs) ys (suc n) =
 pub drop-all : (xs : List Segment) (n : ℕ) → 0 < n - length xs → drop n xs ≡ []
 drop-all xs n h = let past : length xs ≤ n = omega (arith, h) in drop_of_length-le xs past
 
--- ---- skipping a step
+-- ---- skipping some segments leaves unchanged what is left once all are skipped
 
--- what is left after it is unchanged
-pub record Stays (old new : Passing) : Type 0 where
-  pub moves : 0 < new.left → new.rest.moves ≡ []
-  pub rest : drop new.left (rest_of new.rest) ≡ drop old.left (rest_of old.rest)
-  pub standing : after_segments new.standing (take new.left (rest_of new.rest)) ≡ after_segments old.standing (take old.left (rest_of old.rest))
+pub Stays-trans : (p q r : Passing) → Stays p q → Stays q r → Stays p r
+Stays-trans p q r one other = record { rest = other.rest ∙ one.rest; standing = other.standing ∙ one.standing }
 
-pub passed : (p new : Passing) (r : BlockSegmentsLeft) (s : BlockStep) → rest_of p.rest ≡ p.rest.moves ++ segments_through (plan_of r) r.outputs (s ∷ r.steps.now) → p.rest.moves ≡ [] →
-    SkipSpec (segments_at (plan_of r) (begun_step (record p { rest = r }) s).rest.outputs s) (begun_step (record p { rest = r }) s) new → Stays p new
-passed p new r s split none passes =
-    let now = outputs_through (tasks_in r.tasks) r.outputs s in
-    let xs = segments_at (plan_of r) now s in
-    let ys = segments_through (plan_of r) now r.steps.now in
-    let all : rest_of p.rest ≡ xs ++ ys = split ∙ ap (λ (m : List Segment). m ++ (xs ++ ys)) none in
-    let left : rest_of new.rest ≡ drop p.left xs ++ ys = ap rest_of passes.rest in
+one_dropped_more : (x : Segment) (xs ys : List Segment) (n : ℕ) → 0 < n → ys ≡ x ∷ xs → drop (n - 1) xs ≡ drop n ys
+one_dropped_more x xs ys zero some e = absurd (omega (arith, some))
+one_dropped_more x xs ys (suc n) some e =
+    let less : suc n - 1 ≡ n = omega arith in
+    ap (λ k. drop k xs) less ∙ sym (ap (λ l. drop (suc n) l) e)
+
+one_taken_more : (at : MotionState) (x : Segment) (xs ys : List Segment) (n : ℕ) → 0 < n → ys ≡ x ∷ xs →
+    after_segments (after_segment at x) (take (n - 1) xs) ≡ after_segments at (take n ys)
+one_taken_more at x xs ys zero some e = absurd (omega (arith, some))
+one_taken_more at x xs ys (suc n) some e =
+    let less : suc n - 1 ≡ n = omega arith in
+    ap (λ k. after_segments (after_segment at x) (take k xs)) less ∙ sym (ap (λ l. after_segments at (take (suc n) l)) e)
+
+-- the next segment
+pub Stays-next : (p q : Passing) (x : Segment) → 0 < p.left → rest_of p.rest ≡ x ∷ rest_of q.rest →
+    q.left ≡ p.left - 1 → q.standing ≡ after_segment p.standing x → Stays p q
+Stays-next p q x some split left standing = record {
+  rest = ap (λ k. drop k (rest_of q.rest)) left ∙ one_dropped_more x (rest_of q.rest) (rest_of p.rest) p.left some split;
+  standing =
+      ap (λ k. after_segments q.standing (take k (rest_of q.rest))) left
+      ∙ ap (λ at. after_segments at (take (p.left - 1) (rest_of q.rest))) standing
+      ∙ one_taken_more p.standing x (rest_of q.rest) (rest_of p.rest) p.left some split;
+}
+
+-- once no action is left
+pub rest-without_actions : (c : BlockSegmentsLeft) → actions_left c ≡ [] → rest_of c ≡ c.moves ++ stop_segments_left c
+rest-without_actions c none =
+    ap (λ (actions : List Action). actions_segments c.outputs actions ++ (c.moves ++ stop_segments_left c)) none
+
+-- segments of the motion
+pub Stays-path : (p q : Passing) (xs : List Segment) → actions_left p.rest ≡ [] → p.rest.moves ≡ xs →
+    q.rest ≡ record p.rest { moves = drop p.left xs } → q.left ≡ p.left - length xs →
+    q.standing ≡ after_segments p.standing (take p.left xs) → Stays p q
+Stays-path p q xs none moves rest left standing =
+    let ys = stop_segments_left p.rest in
+    let all : rest_of p.rest ≡ xs ++ ys =
+    rest-without_actions p.rest none ∙ ap (λ (m : List Segment). m ++ ys) moves in
+    let later : rest_of q.rest ≡ drop p.left xs ++ ys =
+    ap rest_of rest ∙ rest-without_actions (record p.rest { moves = drop p.left xs }) none in
     record {
-      moves = λ some. ap (λ (c : BlockSegmentsLeft). c.moves) passes.rest ∙ drop-all xs p.left (subst (λ n. 0 < n) passes.left some);
       rest =
-          ap (λ k. drop k (rest_of new.rest)) passes.left ∙ ap (λ l. drop (p.left - length xs) l) left
+          ap (λ k. drop k (rest_of q.rest)) left ∙ ap (λ l. drop (p.left - length xs) l) later
           ∙ drop-on xs ys p.left ∙ sym (ap (λ l. drop p.left l) all);
       standing =
-          ap (λ at. after_segments at (take new.left (rest_of new.rest))) passes.standing
-          ∙ ap (λ k. after_segments (after_segments p.standing (take p.left xs)) (take k (rest_of new.rest))) passes.left
-          ∙ ap (λ l. after_segments (after_segments p.standing (take p.left xs)) (take (p.left - length xs) l)) left
+          ap (λ at. after_segments at (take q.left (rest_of q.rest))) standing
+          ∙ ap (λ k. after_segments (after_segments p.standing (take p.left xs)) (take k (rest_of q.rest))) left
+          ∙ ap (λ l. after_segments (after_segments p.standing (take p.left xs)) (take (p.left - length xs) l)) later
           ∙ after_segments-on p.standing xs ys p.left ∙ sym (ap (λ l. after_segments p.standing (take p.left l)) all);
     }
 
--- ---- if no step is left, everything is skipped
+-- if none is left to skip, all are skipped
+pub Stays-done : (p q : Passing) → Stays p q → q.left ≡ 0 → rest_of q.rest ≡ drop p.left (rest_of p.rest)
+Stays-done p q stays none = ap (λ k. drop k (rest_of q.rest)) (sym none) ∙ stays.rest
 
-pub rest-end : (p : Passing) (r : BlockSegmentsLeft) → rest_of p.rest ≡ p.rest.moves → p.rest.moves ≡ [] → r ≡ p.rest → rest_of r ≡ drop p.left (rest_of p.rest)
-rest-end p r end none e =
-    let nothing = end ∙ none in
-    ap rest_of e ∙ nothing ∙ sym (drop-nil p.left) ∙ sym (ap (λ l. drop p.left l) nothing)
+pub Stays-stands : (p q : Passing) → Stays p q → q.left ≡ 0 → q.standing ≡ after_segments p.standing (take p.left (rest_of p.rest))
+Stays-stands p q stays none = ap (λ k. after_segments q.standing (take k (rest_of q.rest))) (sym none) ∙ stays.standing

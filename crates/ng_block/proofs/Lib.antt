@@ -1,5 +1,5 @@
 pub mod LineLemmas
-pub mod TaskLemmas
+pub mod ActionLemmas
 pub mod ModeLemmas
 pub mod BearingLemmas
 pub mod LaterLemmas

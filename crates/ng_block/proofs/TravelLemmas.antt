@@ -1,5 +1,5 @@
 -- The segments of a valid block join, and stay inside the travel: those of its path do, and no others move.
-use Rattle.std.proofs.Common.{arith, ◌≡◌, ◌∙◌, ℕ, zero, suc, ℤ, Bool, true, false, not, ◌&&◌, ◌||◌, List, [], ◌∷◌, ◌++◌, Option, Some, None, Result, Ok, Err, refl, sym, ap, subst, if◌then◌else◌}
+use Rattle.std.proofs.Common.{arith, ◌≡◌, ◌∙◌, ℕ, zero, suc, ℤ, Bool, true, false, not, ◌&&◌, ◌||◌, List, [], ◌∷◌, ◌++◌, Option, Some, None, Result, Ok, Err, refl, sym, ap, subst, if◌then◌else◌, cond}
 use Rattle.std.specs.Option.{is_some}
 use Rattle.std.specs.Ordering.{int_eq}
 use Rattle.std.specs.List.{All, list_any}
@@ -23,6 +23,7 @@ use Rattle.ng_num.specs.Causes.{first_fault}
 use Rattle.ng_num.proofs.FirstFault.{none_holds, unless_ok}
 use Rattle.ng_modal.specs.ByLetter.{has_axis}
 use Rattle.ng_modal.specs.Lines.{is_straight, is_arc}
+use Rattle.ng_modal.specs.declared.asks.StopWord.{StopWord}
 use Rattle.ng_modal.specs.declared.block.Block.{Block}
 use Rattle.ng_arc.specs.Asked.{arc_of}
 use Rattle.ng_arc.specs.Check as arc
@@ -39,23 +40,23 @@ use Rattle.ng_cycles.specs.declared.words.CycleContext.{CycleContext}
 use Rattle.ng_state.specs.declared.modal_state.ModalState.{ModalState}
 use Rattle.ng_block.specs.declared.path.Path.{Path}
 use Rattle.ng_block.specs.declared.path.Path.TheVariants as path
-use Rattle.ng_block.specs.declared.steps.BlockStep.{BlockStep}
-use Rattle.ng_block.specs.declared.steps.BlockStep.TheVariants as step
-use Rattle.ng_block.specs.declared.tasks.Tasks.{Tasks}
+use Rattle.ng_block.specs.declared.action.Action.{Action}
+use Rattle.ng_block.specs.declared.action.Action.TheVariants as action
+use Rattle.ng_block.specs.Action.{action_outputs, action_segments, actions_segments, outputs_after}
 use Rattle.ng_block.specs.Arcs.{turn_of, turning_at, centre_offsets_on, asked_by}
 use Rattle.ng_block.specs.Asked.{Move, Stays, Goes, Turns, GoesHome, Drills, pace_of, straight, round, in_cycle, homeward, move_by}
 use Rattle.ng_block.specs.Blocks.{end_of, straight_end_of}
 use Rattle.ng_block.specs.Cycles.{kind_of, own_words, cycle_words, kept_for, context_of}
-use Rattle.ng_block.specs.Effects.{Done, executed}
+use Rattle.ng_block.specs.Effects.{Done, plan_of, executed}
+use Rattle.ng_block.specs.Ends.{ends, turned_off, stop_segments}
 use Rattle.ng_block.specs.Faults.{stays_inside, path_faults}
 use Rattle.ng_block.specs.Homes.{home_on}
-use Rattle.ng_block.specs.Order.{Plan, switch_where, dwell_segments, task_segments, outputs_through, segments_at, segments_through, segments_of}
 use Rattle.ng_block.specs.Paths.{moving_at, point_after, path_segments}
+use Rattle.ng_block.specs.Plan.{Plan, segments_of}
 use Rattle.ng_block.specs.Remarks.{remark_of}
 use Rattle.ng_state.specs.State.{StateModel}
-use Rattle.ng_block.specs.Steps.{before_motion}
 use Rattle.ng_block.specs.Travel.{Joins, NoneMoves, StaysInside}
-use Rattle.ng_block.proofs.AcceptedLemmas.{same_ok, then_ok, plan_for, accepted, reached}
+use Rattle.ng_block.proofs.AcceptedLemmas.{same_ok, then_ok, accepted, reached}
 use Rattle.ng_block.proofs.CauseLemmas.{path_by}
 
 -- ---- lists of segments, one after another
@@ -109,62 +110,39 @@ all_inside g [] h k d low = absurd (omega arith)
 all_inside g (x ∷ xs) h zero d low = h.0
 all_inside g (x ∷ xs) h (suc k) d low = all_inside g xs h.1 k d (omega arith)
 
--- ---- the steps of a block
+-- ---- the parts of a block
 
--- only the motion moves
-abbrev IsQuiet : BlockStep → Type 0
-IsQuiet step.Motion = ⊥
-IsQuiet _ = Unit {0}
+action_still : (a : Action) (now : Outputs) → NoneMoves (action_segments a now)
+action_still (action.SpindleSpeed speed) now = tt
+action_still (action.SelectTool slot) now = tt
+action_still (action.ChangeTool slot) now = tt
+action_still (action.Spindle spindle) now = tt
+action_still (action.Coolant coolant) now = tt
+action_still (action.Dwell seconds) now = tt
+action_still (action.SelectPlane plane) now = tt
+action_still (action.LengthUnits unit) now = tt
+action_still (action.ToolLength length) now = tt
+action_still (action.OriginOffsets offsets) now = tt
+action_still (action.InverseTime time) now = tt
 
-abbrev AreQuiet : List BlockStep → Type 0
-AreQuiet [] = Unit {0}
-AreQuiet (s ∷ steps) = IsQuiet s × AreQuiet steps
+actions_still : (o : Outputs) (actions : List Action) → NoneMoves (actions_segments o actions)
+actions_still o [] = tt
+actions_still o (a ∷ actions) =
+    let now = action_outputs o a in
+    still_on (action_segments a now) (actions_segments now actions) (action_still a now) (actions_still now actions)
 
-switch_still : (there : Bool) (now : Outputs) → NoneMoves (switch_where there now)
-switch_still true now = tt
-switch_still false now = tt
-
-dwell_still : (seconds : Option ℤ) → NoneMoves (dwell_segments seconds)
-dwell_still None = tt
-dwell_still (Some seconds) = tt
-
-task_still : (t : Tasks) (now : Outputs) (s : BlockStep) → NoneMoves (task_segments t now s)
-task_still t now step.SpindleSpeed = switch_still _ now
-task_still t now step.SelectTool = switch_still _ now
-task_still t now step.ChangeTool = switch_still _ now
-task_still t now step.Spindle = switch_still _ now
-task_still t now step.Coolant = switch_still _ now
-task_still t now step.Dwell = dwell_still t.dwell
-task_still t now step.Stop = switch_still _ now
-task_still t now _ = tt
-
-quiet_still : (p : Plan) (now : Outputs) (s : BlockStep) → IsQuiet s → NoneMoves (segments_at p now s)
-quiet_still p now step.Motion h = absurd h
-quiet_still p now step.SpindleSpeed h = task_still p.tasks now step.SpindleSpeed
-quiet_still p now step.SelectTool h = task_still p.tasks now step.SelectTool
-quiet_still p now step.ChangeTool h = task_still p.tasks now step.ChangeTool
-quiet_still p now step.Spindle h = task_still p.tasks now step.Spindle
-quiet_still p now step.Coolant h = task_still p.tasks now step.Coolant
-quiet_still p now step.Dwell h = task_still p.tasks now step.Dwell
-quiet_still p now step.Stop h = task_still p.tasks now step.Stop
-quiet_still p now _ h = tt
-
--- what holds after quiet steps holds of all
-through : (Holds : List Segment → Type 0) → ((xs ys : List Segment) → NoneMoves xs → Holds ys → Holds (xs ++ ys)) →
-    (p : Plan) (steps rest : List BlockStep) (o : Outputs) → AreQuiet steps → ((now : Outputs) → Holds (segments_through p now rest)) → Holds (segments_through p o (steps ++ rest))
-through Holds on p [] rest o quiet h = h o
-through Holds on p (s ∷ steps) rest o quiet h = on _ _ (quiet_still p _ s quiet.0) (through Holds on p steps rest (outputs_through p.tasks o s) quiet.1 h)
+stop_still : (word : Option StopWord) (o : Outputs) → NoneMoves (stop_segments word o)
+stop_still word o = by (ends word)
+  where
+    by : (t : Bool) → NoneMoves (cond t (segment.Switch (turned_off o) ∷ []) [])
+    by true = tt
+    by false = tt
 
 -- what holds of the path's segments, also before segments that don't move, holds of a block's
 of_path : (Holds : List Segment → Type 0) → ((xs ys : List Segment) → NoneMoves xs → Holds ys → Holds (xs ++ ys)) →
     (p : Plan) → ((ys : List Segment) → NoneMoves ys → Holds (path_segments p.path ++ ys)) → Holds (segments_of p)
 of_path Holds on p h =
-    through Holds on p before_motion (step.Motion ∷ step.Stop ∷ []) p.before
-    (tt, (tt, (tt, (tt, (tt, (tt, (tt, (tt, (tt, (tt, (tt, (tt, (tt, (tt, (tt, (tt, (tt, (tt, (tt, tt)))))))))))))))))))
-    (λ now.
-    let last = outputs_through p.tasks (outputs_through p.tasks now step.Motion) step.Stop in
-    let stop = task_segments p.tasks last step.Stop in
-    h (stop ++ []) (still_on stop [] (task_still p.tasks last step.Stop) tt))
+    on _ _ (actions_still p.before p.actions) (h _ (stop_still p.stop (outputs_after p.before p.actions)))
 
 -- ---- a cycle
 
@@ -276,7 +254,7 @@ joined s tools geometry text done e =
     let start = s.modal.point in
     let end = point_after a.goal.path start in
     subst (λ (d : Done). Joins start d.segments d.setup.modal.point) a.done_is
-    (of_path (λ xs. Joins start xs end) (λ xs ys still k. joins_on start start end xs ys (still_joins start xs still) k) (plan_for a.block a.goal (remark_of (last_comment a.line.pieces)) s)
+    (of_path (λ xs. Joins start xs end) (λ xs ys still k. joins_on start start end xs ys (still_joins start xs still) k) (plan_of a.block a.goal (remark_of (last_comment a.line.pieces)) s.modal)
     (λ ys still. joins_before start end (path_segments a.goal.path) ys h still))
 
 pub still : (s : StateModel) (tools : List ℤ) (geometry : Geometry) (text : List ℕ) (done : Done) → executed s tools geometry text ≡ Ok done → NoneMoves done.segments →
@@ -367,7 +345,7 @@ inside s tools geometry text done e =
     let a = accepted s tools geometry text done e in
     let g = reached a.block a.values.assignments s tools geometry a.goal a.goal_is in
     let h = path_inside geometry a.goal.path a.none (λ d is. drilled s.modal.point geometry g.move d (g.path_found_by ∙ ap {B = Result Path Fault} Ok is)) in
-    let plan = plan_for a.block a.goal (remark_of (last_comment a.line.pieces)) s in
+    let plan = plan_of a.block a.goal (remark_of (last_comment a.line.pieces)) s.modal in
     subst (λ (d : Done). All (StaysInside geometry) d.segments) a.done_is
     (all_inside geometry (segments_of plan) (of_path (AreInside geometry) (λ xs ys still k. inside_on geometry xs ys (still_inside geometry xs still) k) plan
     (λ ys still. inside_on geometry (path_segments a.goal.path) ys h (still_inside geometry ys still))))

@@ -9,14 +9,12 @@ use Rattle.ng_state.specs.declared.modes.Motion.TheVariants.{Feed}
 use Rattle.ng_state.specs.declared.modes.Distance.TheVariants.{Absolute}
 use Rattle.ng_state.specs.declared.modes.FeedMode.TheVariants.{PerMinute}
 use Rattle.ng_state.specs.declared.modal_state.ModalState.{ModalState}
-use Rattle.ng_block.specs.declared.tasks.Tasks.{Tasks}
 use Rattle.ng_block.specs.AxisData.{system_after}
 use Rattle.ng_block.specs.Blocks.{feed_mode_after}
 use Rattle.ng_block.specs.Ends.{ends}
 use Rattle.ng_block.specs.Goals.{Goal}
-use Rattle.ng_block.specs.Order.{outputs_after}
 use Rattle.ng_block.specs.Paths.{point_after}
-use Rattle.ng_block.specs.Steps.{order}
+use Rattle.ng_block.specs.Plan.{Plan, outputs_of}
 
 -- the program's end sets G1, G17, G90, G94, G54, M48; unit, retract and path mode stay
 abbrev pub modes_after : Block → Modes → Modes
@@ -38,11 +36,11 @@ keeps_modes b =
     not (is_some b.g.plane || is_some b.g.distance || is_some b.g.feed_mode || is_some b.g.unit || is_some b.g.retract || is_some b.g.path || is_some b.g.system
     || is_some b.m.overrides || is_some b.m.stop)
 
-abbrev pub modal_state_after : Block → Goal → Tasks → ModalState → ModalState
-modal_state_after b goal tasks m = record {
+abbrev pub modal_state_after : Block → Goal → Plan → ModalState → ModalState
+modal_state_after b goal plan m = record {
   modes = modes_after b m.modes;
   feed_per_min = goal.feed_per_min;
-  outputs = outputs_after tasks m.outputs order;
+  outputs = outputs_of plan;
   offsets = goal.offsets;
   kept = goal.kept;
   point = point_after goal.path m.point;

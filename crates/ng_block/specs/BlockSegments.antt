@@ -1,16 +1,21 @@
 -- What is left of a block's segments.
-use Rattle.std.specs.Prelude.{List, [], ◌++◌, None}
-use Rattle.ng_num.specs.Points.{zero_point}
-use Rattle.ng_canon.specs.Fresh.{fresh_outputs}
+use Rattle.std.specs.Prelude.{List, ◌++◌, drop}
 use Rattle.ng_canon.specs.declared.segment.Segment.{Segment}
+use Rattle.ng_block.specs.declared.action.Action.{Action}
 use Rattle.ng_block.specs.declared.block_segments.BlockSegmentsLeft.{BlockSegmentsLeft}
-use Rattle.ng_block.specs.Order.{Plan, segments_through}
-use Rattle.ng_block.specs.Shifts.{nothing_shown}
-use Rattle.ng_block.specs.Tasks.{tasks_in}
+use Rattle.ng_block.specs.Action.{actions_segments, outputs_after}
+use Rattle.ng_block.specs.Ends.{stop_segments}
 
--- the plan to which they belong, as far as it affects the segments
-abbrev pub plan_of : BlockSegmentsLeft → Plan
-plan_of c = record { remark = []; feed = None; tasks = tasks_in c.tasks; shown = nothing_shown; path = c.path; origin = zero_point; before = fresh_outputs }
+-- the actions that haven't begun, and their segments
+abbrev pub actions_left : BlockSegmentsLeft → List Action
+actions_left c = drop c.begun c.actions.items
+
+abbrev pub action_segments_left : BlockSegmentsLeft → List Segment
+action_segments_left c = actions_segments c.outputs (actions_left c)
+
+-- that of the stop, with the outputs after those actions
+abbrev pub stop_segments_left : BlockSegmentsLeft → List Segment
+stop_segments_left c = stop_segments c.stop (outputs_after c.outputs (actions_left c))
 
 abbrev pub rest_of : BlockSegmentsLeft → List Segment
-rest_of c = c.moves ++ segments_through (plan_of c) c.outputs c.steps.now
+rest_of c = action_segments_left c ++ (c.moves ++ stop_segments_left c)

@@ -26,12 +26,12 @@ use Rattle.ng_cycles.specs.declared.words.CycleContext.{CycleContext}
 use Rattle.ng_state.specs.declared.modal_state.ModalState.{ModalState}
 use Rattle.ng_block.specs.declared.path.Path.{Path}
 use Rattle.ng_block.specs.declared.path.Path.TheVariants.{Still, Cycle}
+use Rattle.ng_block.specs.Action.{outputs_after}
+use Rattle.ng_block.specs.Actions.{actions_of}
 use Rattle.ng_block.specs.AxisData.{unit_after, named_on}
 use Rattle.ng_block.specs.Blocks.{feed_mode_after, is_inverse}
 use Rattle.ng_block.specs.Ends.{ends}
-use Rattle.ng_block.specs.Order.{outputs_after}
-use Rattle.ng_block.specs.Steps.{before_motion}
-use Rattle.ng_block.specs.Tasks.{tasks_of}
+use Rattle.ng_block.specs.Shifts.{nothing_shown}
 
 -- the kind of cycle of a motion; `None` if it isn't a cycle
 abbrev pub kind_of : Option Motion → Option CycleKind
@@ -101,9 +101,9 @@ abbrev pub is_old_z : Retract → Bool
 is_old_z OldZ = true
 is_old_z ToR = false
 
--- the outputs at the motion: after the line's spindle, tool and coolant words
+-- the outputs at the motion: after the line's spindle, tool and coolant words; what it prints of offsets switches none
 abbrev pub outputs_at_motion : Block → ModalState → Outputs
-outputs_at_motion b m = outputs_after (tasks_of b (feed_mode_after b m.modes) m.outputs) m.outputs before_motion
+outputs_at_motion b m = outputs_after m.outputs (actions_of b (feed_mode_after b m.modes) m.outputs nothing_shown)
 
 -- the state in which the cycle is executed: the offsets, the feed, the modes and the outputs after the line's other
 -- words

@@ -16,17 +16,15 @@ use Rattle.ng_modal.specs.declared.block.Block.{Block}
 use Rattle.ng_block.specs.declared.effect.Effect.{Effect}
 use Rattle.ng_block.specs.declared.effect.ProgramFlow.{ProgramFlow}
 use Rattle.ng_state.specs.declared.modal_state.ModalState.{ModalState}
-use Rattle.ng_block.specs.declared.tasks.Tasks.{Tasks}
 use Rattle.ng_state.specs.State.{StateModel, changed}
 use Rattle.ng_block.specs.Remarks.{remark_of, said_by}
-use Rattle.ng_block.specs.Blocks.{feed_mode_after}
+use Rattle.ng_block.specs.Actions.{actions_of}
+use Rattle.ng_block.specs.Blocks.{feed_mode_after, feed_set}
 use Rattle.ng_block.specs.Ends.{stop_of}
 use Rattle.ng_block.specs.Goals.{Goal, goal_of}
 use Rattle.ng_block.specs.Faults.{path_faults}
-use Rattle.ng_block.specs.Tasks.{feed_set, tasks_of, tasks_in}
 use Rattle.ng_block.specs.After.{modal_state_after}
-use Rattle.ng_block.specs.Shifts.{shown_in}
-use Rattle.ng_block.specs.Order.{Plan, commands_of, segments_of}
+use Rattle.ng_block.specs.Plan.{Plan, commands_of, segments_of}
 
 -- what a line has done: the new state, the outputs that it began with, its segments and commands in their order, and
 -- how the program goes on
@@ -39,7 +37,15 @@ pub record Done : Type 0 where
 
 -- what is kept of a line
 abbrev pub plan_by : Effect → Plan
-plan_by e = record { remark = said_by e.plan.remark; feed = e.plan.feed; tasks = tasks_in e.plan.tasks; shown = shown_in e.plan.shown; path = e.plan.path; origin = e.modal.offsets.origin; before = e.plan.before }
+plan_by e = record {
+  remark = said_by e.plan.remark;
+  feed = e.plan.feed;
+  actions = e.plan.actions.items;
+  path = e.plan.path;
+  stop = e.plan.stop;
+  origin = e.modal.offsets.origin;
+  before = e.plan.before;
+}
 
 abbrev pub commands_by : Effect → List CanonModel
 commands_by e = commands_of (plan_by e)
@@ -58,16 +64,31 @@ abbrev pub unless_refused : {X : Type 0} → Option Fault → Result X Fault →
 unless_refused None answer = answer
 unless_refused (Some fault) answer = Err fault
 
-abbrev pub plan_of : List CanonModel → Option ℤ → Tasks → Goal → ModalState → Plan
-plan_of remark feed tasks goal m = record { remark = remark; feed = feed; tasks = tasks; shown = goal.shown; path = goal.path; origin = goal.offsets.origin; before = m.outputs }
+-- the plan of a valid block
+abbrev pub plan_of : Block → Goal → List CanonModel → ModalState → Plan
+plan_of b goal remark m =
+    let mode = feed_mode_after b m.modes in
+    record {
+      remark = remark;
+      feed = feed_set b mode goal.feed_per_min;
+      actions = actions_of b mode m.outputs goal.shown;
+      path = goal.path;
+      stop = b.m.stop;
+      origin = goal.offsets.origin;
+      before = m.outputs;
+    }
 
 -- what a valid block does
 abbrev pub block_done : Block → Goal → List CanonModel → StateModel → Done
 block_done b goal remark s =
-    let mode = feed_mode_after b s.modal.modes in
-    let tasks = tasks_of b mode s.modal.outputs in
-    let plan = plan_of remark (feed_set b mode goal.feed_per_min) tasks goal s.modal in
-    record { setup = changed s (modal_state_after b goal tasks s.modal) goal.changes; before = plan.before; segments = segments_of plan; commands = commands_of plan; stop = stop_of b.m.stop }
+    let plan = plan_of b goal remark s.modal in
+    record {
+      setup = changed s (modal_state_after b goal plan s.modal) goal.changes;
+      before = plan.before;
+      segments = segments_of plan;
+      commands = commands_of plan;
+      stop = stop_of b.m.stop;
+    }
 
 -- what a block with a goal does, or why its move is refused (X1, X2)
 abbrev pub finished : Block → Goal → List CanonModel → StateModel → Geometry → Result Done Fault

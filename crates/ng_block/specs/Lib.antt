@@ -8,10 +8,10 @@ pub mod Homes
 pub mod Arcs
 pub mod Faults
 pub mod Remarks
-pub mod Tasks
 pub mod PathSegments
-pub mod Steps
-pub mod Order
+pub mod Action
+pub mod Actions
+pub mod Plan
 pub mod Cycles
 pub mod Goals
 pub mod Asked

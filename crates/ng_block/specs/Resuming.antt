@@ -6,10 +6,8 @@ use Rattle.ng_cycles.specs.declared.motion_state.MotionState.{MotionState}
 use Rattle.ng_cycles.specs.Segments.{after_segments}
 use Rattle.ng_block.specs.declared.effect.Effect.{Effect}
 use Rattle.ng_block.specs.declared.block_segments.resuming.Passing.{Passing}
-use Rattle.ng_block.specs.declared.steps.BlockStep.{BlockStep}
+use Rattle.ng_block.specs.BlockSegments.{rest_of}
 use Rattle.ng_block.specs.Effects.{segments_by}
-use Rattle.ng_block.specs.Order.{outputs_through}
-use Rattle.ng_block.specs.Tasks.{tasks_in}
 
 -- the position and outputs before the block, which begins at a point
 abbrev pub standing_before : Effect → Point → MotionState
@@ -22,11 +20,10 @@ standing_at e start n = after_segments (standing_before e start) (take n (segmen
 
 -- ---- a cursor that skips segments
 
-abbrev pub begun_step : Passing → BlockStep → Passing
-begun_step p s = record p { rest = record p.rest { outputs = outputs_through (tasks_in p.rest.tasks) p.rest.outputs s } }
-
--- some segments are skipped, at most as many as are to be skipped, and the others come next
-pub record SkipSpec (segments : List Segment) (old new : Passing) : Type 0 where
-  pub rest : new.rest ≡ record old.rest { moves = drop old.left segments }
-  pub standing : new.standing ≡ after_segments old.standing (take old.left segments)
-  pub left : new.left ≡ old.left - length segments
+-- what is left of a block once all that is to be skipped is, and the position and outputs before that, are the same
+-- for two cursors
+pub record Stays (old new : Passing) : Type 0 where
+  pub rest : drop new.left (rest_of new.rest) ≡ drop old.left (rest_of old.rest)
+  pub standing :
+      after_segments new.standing (take new.left (rest_of new.rest))
+      ≡ after_segments old.standing (take old.left (rest_of old.rest))

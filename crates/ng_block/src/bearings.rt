@@ -75,7 +75,7 @@ impl Effect {
     {
         let at = shift_of(block, &state.modal, &state.params, assignments, tools)?;
         self.modal.offsets = at.offsets;
-        self.plan.shown = Some(at.shown);
+        self.shown = Some(at.shown);
         put_selection(block.g.system, &mut self.changes);
         put_stored(&at.stored, &mut self.changes);
         Ok(())
@@ -146,7 +146,7 @@ impl Effect {
             return self.find_path(terms, state, block, assignments, feed_per_min);
         }
         self.modal.offsets = state.modal.offsets;
-        clear(&mut self.plan.shown);
+        clear(&mut self.shown);
         let modal = &state.modal;
         if !is_straight(block.motion) {
             return put_path_unless_straight(

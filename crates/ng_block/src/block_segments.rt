@@ -1,33 +1,33 @@
 //! A block's segments, one at a time, kept without its effect. So a block may be worked long after the scratch space of
 //! its line is used for another line.
 ghost use Rattle.std.specs.Prelude.{◌≡◌, ◌∷◌, [], MatchOption};
-ghost use Rattle.ng_block.specs.BlockSegments.{plan_of, rest_of};
+ghost use Rattle.ng_block.specs.BlockSegments.{actions_left, action_segments_left, stop_segments_left, rest_of};
 ghost use Rattle.ng_block.specs.Effects.{segments_by};
-ghost use Rattle.ng_block.specs.Order.{outputs_through, segments_at};
-ghost use Rattle.ng_block.specs.Tasks.{tasks_in};
+ghost use Rattle.ng_block.specs.Paths.{path_segments};
 
 mod resuming;
 
+use crate::actions::{Actions, copied};
 use crate::effect::Effect;
-use crate::path::{Path, PathSegments};
-use crate::steps::{BlockStep, ORDER};
-use crate::switches::{outputs_through, segment_at};
-use crate::tasks::Tasks;
+use crate::ends::stop_segment;
+use crate::path::PathSegments;
 use ng_canon::{Outputs, Segment};
+use ng_modal::StopWord;
 pub use resuming::Resumed;
 use std::marker::Model;
 
 /// What is left of a block's segments.
 #[derive(Drop)]
 struct BlockSegmentsLeft {
-    tasks: Option<Tasks>,
-    path: Path,
-    /// The outputs after the steps that have begun.
+    actions: Actions,
+    /// How many of the actions have begun.
+    begun: usize,
+    /// The outputs after those.
     outputs: Outputs,
-    /// The segments of the motion, if that has begun.
+    /// The segments of the motion.
     moves: PathSegments,
-    /// The steps that haven't begun.
-    steps: &'static [BlockStep],
+    /// The stop, unless it has been executed.
+    stop: Option<StopWord>,
 }
 
 /// The remaining segments of a block, in order. Contracts see the list of them.
@@ -51,14 +51,14 @@ impl Effect {
     /// All of its segments, before the first.
     fn block_segments_left(&self) -> BlockSegmentsLeft
         ensures rest { rest_of result ≡ segments_by self.now }
-        ensures moves { result.moves ≡ [] }
+        ensures moves { result.moves ≡ path_segments self.now.plan.path }
     {
         BlockSegmentsLeft {
-            tasks: self.plan.tasks,
-            path: self.plan.path,
+            actions: copied(&self.plan.actions),
+            begun: 0,
             outputs: self.plan.before,
-            moves: PathSegments::none(),
-            steps: &ORDER,
+            moves: PathSegments::of(&self.plan.path),
+            stop: self.plan.stop,
         }
     }
 
@@ -73,25 +73,39 @@ impl Effect {
 }
 
 impl BlockSegmentsLeft {
-    /// Begins a step, and returns its first segment.
-    fn first_in(&mut self, step: BlockStep) -> Option<Segment>
-        requires { self.old.moves ≡ [] }
-        ensures tasks { self.new.tasks ≡ self.old.tasks }
-        ensures path { self.new.path ≡ self.old.path }
-        ensures steps { self.new.steps ≡ self.old.steps }
-        ensures outputs { self.new.outputs ≡ outputs_through (tasks_in self.old.tasks) self.old.outputs step }
+    /// The next segment of the actions.
+    fn next_of_actions(&mut self) -> Option<Segment>
+        ensures moves { self.new.moves ≡ self.old.moves }
+        ensures stop { stop_segments_left self.new ≡ stop_segments_left self.old }
         ensures next { MatchOption result
-            ((segments_at (plan_of self.old) self.new.outputs step ≡ []) × (self.new.moves ≡ []))
-            (λ segment. segments_at (plan_of self.old) self.new.outputs step ≡ segment ∷ self.new.moves) }
+            ((action_segments_left self.old ≡ []) × (actions_left self.new ≡ []))
+            (λ segment. action_segments_left self.old ≡ segment ∷ action_segments_left self.new) }
     {
-        self.outputs = outputs_through(&self.tasks, self.outputs, step);
-        match step {
-            BlockStep::Motion => {
-                self.moves = PathSegments::of(&self.path);
-                self.moves.next()
+        while self.begun < self.actions.len() {
+            let action = self.actions.as_slice()[self.begun];
+            self.begun += 1;
+            self.outputs = action.outputs_after(self.outputs);
+            match action.segment(self.outputs) {
+                Some(segment) => return Some(segment),
+                None => {}
             }
-            _ => segment_at(&self.tasks, self.outputs, step),
         }
+        None
+    }
+
+    /// The segment of the stop.
+    fn next_of_stop(&mut self) -> Option<Segment>
+        requires { actions_left self.old ≡ [] }
+        ensures actions { actions_left self.new ≡ [] }
+        ensures moves { self.new.moves ≡ self.old.moves }
+        ensures stop { stop_segments_left self.new ≡ [] }
+        ensures next { MatchOption result
+            (stop_segments_left self.old ≡ [])
+            (λ segment. stop_segments_left self.old ≡ segment ∷ []) }
+    {
+        let segment = stop_segment(self.stop, self.outputs);
+        self.stop = None;
+        segment
     }
 
     /// The next segment.
@@ -100,17 +114,13 @@ impl BlockSegmentsLeft {
             ((rest_of self.old ≡ []) × (rest_of self.new ≡ []))
             (λ segment. rest_of self.old ≡ segment ∷ rest_of self.new) }
     {
-        if let Some(segment) = self.moves.next() {
+        if let Some(segment) = self.next_of_actions() {
             return Some(segment);
         }
-        while let [step, later @ ..] = self.steps {
-            self.steps = later;
-            match self.first_in(*step) {
-                Some(segment) => return Some(segment),
-                None => {}
-            }
+        match self.moves.next() {
+            Some(segment) => Some(segment),
+            None => self.next_of_stop(),
         }
-        None
     }
 }
 

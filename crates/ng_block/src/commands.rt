@@ -1,170 +1,32 @@
 //! A block's commands, one at a time.
 ghost use Rattle.std.specs.Prelude.{◌≡◌, ◌∷◌, ◌++◌, [], map, MatchOption};
 ghost use Rattle.ng_canon.specs.Text.{canonical, numeric};
-ghost use Rattle.ng_block.specs.Commands.{begun_commands, rest_commands};
-ghost use Rattle.ng_block.specs.Effects.{plan_by, commands_by};
-ghost use Rattle.ng_block.specs.Tasks.{tasks_in};
-ghost use Rattle.ng_block.specs.Shifts.{shown_in};
-ghost use Rattle.ng_block.specs.Order.{commands_at, numeric_at, command_for, command_at, task_commands, coolant_commands, stop_commands};
+ghost use Rattle.ng_block.specs.Commands.{remark_left, action_commands_left, stop_commands_left, numeric_left, rest_commands};
+ghost use Rattle.ng_block.specs.Effects.{commands_by};
 
+use crate::action::Action;
 use crate::effect::Effect;
-use crate::path::{PathSegments, command_of, spindle_command};
-use crate::shifts::Shown;
-use crate::steps::{BlockStep, ORDER};
-use crate::tasks::Tasks;
-use arrayvec::ArrayVec;
-use ng_canon::{Canon, CanonicalCommand, Feed, Plane};
-use ng_modal::{Coolant, StopWord};
-use ng_num::Point;
+use crate::ends::{StopCommands, put_stop};
+use crate::path::{PathSegments, command_of};
+use crate::remark::Remark;
+use ng_canon::{Canon, CanonicalCommand};
 use std::marker::Model;
-
-/// The most commands of a step other than the motion.
-const MOST: usize = 8;
-
-type OfStep = ArrayVec<CanonicalCommand, MOST>;
-
-fn put_feed(feed_per_min: Option<Feed>, commands: &mut OfStep)
-    requires { commands.old.items ≡ [] }
-    ensures { commands.new.items ≡ command_for CanonicalCommand.FeedRate feed_per_min }
-{
-    if let Some(feed_per_min) = feed_per_min {
-        commands.push(CanonicalCommand::FeedRate(feed_per_min));
-    }
-}
-
-fn put_length(shown: &Option<Shown>, commands: &mut OfStep)
-    requires { commands.old.items ≡ [] }
-    ensures { commands.new.items ≡ command_for CanonicalCommand.ToolLength (shown_in shown.now).tool_length }
-{
-    let Some(shown) = shown else { return };
-    if let Some(tool_length) = shown.tool_length {
-        commands.push(CanonicalCommand::ToolLength(tool_length));
-    }
-}
-
-fn put_offsets(offsets: Option<Point>, commands: &mut OfStep)
-    requires { commands.old.items ≡ [] }
-    ensures { commands.new.items ≡ command_for CanonicalCommand.OriginOffsets offsets }
-{
-    if let Some(offsets) = offsets {
-        commands.push(CanonicalCommand::OriginOffsets(offsets));
-    }
-}
-
-fn put_system(shown: &Option<Shown>, commands: &mut OfStep)
-    requires { commands.old.items ≡ [] }
-    ensures { commands.new.items ≡ command_for CanonicalCommand.OriginOffsets (shown_in shown.now).system }
-{
-    if let Some(shown) = shown {
-        put_offsets(shown.system, commands);
-    }
-}
-
-fn put_axis_data(shown: &Option<Shown>, commands: &mut OfStep)
-    requires { commands.old.items ≡ [] }
-    ensures { commands.new.items ≡ command_for CanonicalCommand.OriginOffsets (shown_in shown.now).axis_data }
-{
-    if let Some(shown) = shown {
-        put_offsets(shown.axis_data, commands);
-    }
-}
-
-/// The command of a step that has at most one.
-fn command_at(tasks: &Tasks, step: BlockStep) -> Option<CanonicalCommand>
-    ensures { MatchOption result (command_at tasks.now step ≡ []) (λ command. command_at tasks.now step ≡ command ∷ []) }
-{
-    let command = match step {
-        BlockStep::SpindleSpeed => CanonicalCommand::SpindleSpeed(tasks.speed?),
-        BlockStep::SelectTool => CanonicalCommand::SelectTool(tasks.selected_slot?),
-        BlockStep::ChangeTool => CanonicalCommand::ChangeTool(tasks.changed_slot?),
-        BlockStep::Spindle => spindle_command(tasks.spindle?),
-        BlockStep::Dwell => CanonicalCommand::Dwell(tasks.dwell?),
-        BlockStep::Plane => CanonicalCommand::SelectPlane(tasks.plane?),
-        BlockStep::Units => CanonicalCommand::LengthUnits(tasks.unit?),
-        BlockStep::Motion => CanonicalCommand::InverseTime(tasks.time?),
-        _ => return None,
-    };
-    Some(command)
-}
-
-fn put_coolant(coolant: Option<Coolant>, commands: &mut OfStep)
-    requires { commands.old.items ≡ [] }
-    ensures { commands.new.items ≡ coolant_commands coolant }
-{
-    match coolant {
-        None => {}
-        Some(Coolant::Mist) => commands.push(CanonicalCommand::MistOn),
-        Some(Coolant::Flood) => commands.push(CanonicalCommand::FloodOn),
-        Some(Coolant::Off) => {
-            commands.push(CanonicalCommand::MistOff);
-            commands.push(CanonicalCommand::FloodOff);
-        }
-    }
-}
-
-/// The commands of the program's end, except for its shuttle and its last one.
-fn put_end(origin: Point, commands: &mut OfStep)
-    requires { commands.old.items ≡ [] }
-    ensures { commands.new.items ≡ CanonicalCommand.OriginOffsets origin ∷ CanonicalCommand.SelectPlane Plane.Xy
-        ∷ CanonicalCommand.StopSpindle ∷ CanonicalCommand.MistOff ∷ CanonicalCommand.FloodOff ∷ [] }
-{
-    commands.push(CanonicalCommand::OriginOffsets(origin));
-    commands.push(CanonicalCommand::SelectPlane(Plane::Xy));
-    commands.push(CanonicalCommand::StopSpindle);
-    commands.push(CanonicalCommand::MistOff);
-    commands.push(CanonicalCommand::FloodOff);
-}
-
-fn put_stop(word: Option<StopWord>, origin: Point, commands: &mut OfStep)
-    requires { commands.old.items ≡ [] }
-    ensures { commands.new.items ≡ stop_commands word origin }
-{
-    match word {
-        None => {}
-        Some(StopWord::Program) => commands.push(CanonicalCommand::ProgramStop),
-        Some(StopWord::Optional) => commands.push(CanonicalCommand::OptionalStop),
-        Some(StopWord::Shuttle) => {
-            commands.push(CanonicalCommand::PalletShuttle);
-            commands.push(CanonicalCommand::ProgramStop);
-        }
-        Some(StopWord::End) => {
-            put_end(origin, commands);
-            commands.push(CanonicalCommand::ProgramEnd);
-        }
-        Some(StopWord::EndWithShuttle) => {
-            put_end(origin, commands);
-            commands.push(CanonicalCommand::PalletShuttle);
-            commands.push(CanonicalCommand::ProgramEnd);
-        }
-    }
-}
-
-/// Adds the commands of a step, except for its remark and its moves.
-fn put_tasks(tasks: &Option<Tasks>, origin: Point, step: BlockStep, commands: &mut OfStep)
-    requires { commands.old.items ≡ [] }
-    ensures { commands.new.items ≡ task_commands (tasks_in tasks.now) origin step }
-{
-    let Some(tasks) = tasks else { return };
-    match step {
-        BlockStep::Coolant => put_coolant(tasks.coolant, commands),
-        BlockStep::Stop => put_stop(tasks.stop, origin, commands),
-        _ => if let Some(command) = command_at(tasks, step) {
-            commands.push(command);
-        },
-    }
-}
 
 /// What is left of a block's commands.
 #[derive(Drop)]
 struct CommandsLeft<'a> {
-    effect: &'a Effect,
-    /// The commands of the step that has begun, from `taken` on.
-    waiting: OfStep,
-    taken: usize,
-    /// The segments of the motion, if that has begun.
+    remark: &'a Remark,
+    /// Whether the remark is still to come.
+    has_remark: bool,
+    /// The command before those of `actions`: of the feed, or the second one of an action.
+    waiting: Option<CanonicalCommand>,
+    /// The actions that haven't begun.
+    actions: &'a [Action],
+    /// The segments of the motion.
     moves: PathSegments,
-    /// The steps that haven't begun.
-    steps: &'a [BlockStep],
+    /// The commands of the stop, from `taken` on.
+    stop: StopCommands,
+    taken: usize,
 }
 
 /// The remaining commands of a block, in order.
@@ -184,103 +46,81 @@ impl<'a> Model for Commands<'a> {
 }
 
 impl Effect {
-    /// Its commands, in order. A block that just sets a feed and moves, as most lines do, has no other step to begin.
+    /// Its commands, in order.
     pub fn commands(&self) -> Commands<'_>
         ensures { result ≡ commands_by self.now }
     {
         let plan = &self.plan;
-        if !plan.just_moves() {
-            return Commands {
-                rest: CommandsLeft::all(self),
-            };
-        }
-        let mut waiting = ArrayVec::new();
-        put_feed(plan.feed, &mut waiting);
+        let mut stop = StopCommands::new();
+        put_stop(plan.stop, self.modal.offsets.origin, &mut stop);
         Commands {
             rest: CommandsLeft {
-                effect: self,
-                waiting,
-                taken: 0,
+                remark: &plan.remark,
+                has_remark: true,
+                waiting: plan.feed.map(CanonicalCommand::FeedRate),
+                actions: plan.actions.as_slice(),
                 moves: PathSegments::of(&plan.path),
-                steps: &[],
+                stop,
+                taken: 0,
             },
         }
     }
 }
 
 impl<'a> CommandsLeft<'a> {
-    /// All commands of an effect: no step has begun.
-    fn all(effect: &'a Effect) -> CommandsLeft<'a>
-        ensures { rest_commands result ≡ commands_by effect.now }
+    /// The next command of the feed and the actions.
+    fn next_of_actions(&mut self) -> Option<CanonicalCommand>
+        ensures remark { remark_left self.new ≡ remark_left self.old }
+        ensures moves { self.new.moves ≡ self.old.moves }
+        ensures stop { stop_commands_left self.new ≡ stop_commands_left self.old }
+        ensures next { MatchOption result
+            ((action_commands_left self.old ≡ []) × (action_commands_left self.new ≡ []))
+            (λ command. action_commands_left self.old ≡ command ∷ action_commands_left self.new) }
     {
-        CommandsLeft {
-            effect,
-            waiting: ArrayVec::new(),
-            taken: 0,
-            moves: PathSegments::none(),
-            steps: &ORDER,
+        if let Some(command) = self.waiting {
+            self.waiting = None;
+            return Some(command);
+        }
+        let [action, later @ ..] = self.actions else {
+            return None;
+        };
+        self.actions = later;
+        let (command, second) = action.commands();
+        self.waiting = second;
+        Some(command)
+    }
+
+    /// The next command of the stop.
+    fn next_of_stop(&mut self) -> Option<CanonicalCommand>
+        ensures remark { remark_left self.new ≡ remark_left self.old }
+        ensures actions { action_commands_left self.new ≡ action_commands_left self.old }
+        ensures moves { self.new.moves ≡ self.old.moves }
+        ensures next { MatchOption result
+            ((stop_commands_left self.old ≡ []) × (stop_commands_left self.new ≡ []))
+            (λ command. stop_commands_left self.old ≡ command ∷ stop_commands_left self.new) }
+    {
+        if self.taken < self.stop.len() {
+            let command = self.stop.as_slice()[self.taken];
+            self.taken += 1;
+            Some(command)
+        } else {
+            None
         }
     }
 
-    /// The next command of the step that has begun.
-    fn next_begun(&mut self) -> Option<CanonicalCommand>
-        ensures effect { self.new.effect ≡ self.old.effect }
-        ensures steps { self.new.steps ≡ self.old.steps }
+    /// The next command but the remark.
+    fn next_numeric(&mut self) -> Option<CanonicalCommand>
+        ensures remark { remark_left self.new ≡ remark_left self.old }
         ensures next { MatchOption result
-            ((begun_commands self.old ≡ []) × (begun_commands self.new ≡ []) × (self.new.moves ≡ []))
-            (λ command. begun_commands self.old ≡ command ∷ begun_commands self.new) }
+            ((numeric_left self.old ≡ []) × (numeric_left self.new ≡ []))
+            (λ command. numeric_left self.old ≡ command ∷ numeric_left self.new) }
     {
-        if self.taken < self.waiting.len() {
-            let command = self.waiting.as_slice()[self.taken];
-            self.taken += 1;
+        if let Some(command) = self.next_of_actions() {
             return Some(command);
         }
         match self.moves.next() {
             Some(segment) => Some(command_of(&segment)),
-            None => None,
-        }
-    }
-
-    /// Begins a step, without its remark.
-    fn begin(&mut self, step: BlockStep)
-        requires { self.old.moves ≡ [] }
-        ensures effect { self.new.effect ≡ self.old.effect }
-        ensures steps { self.new.steps ≡ self.old.steps }
-        ensures begun { begun_commands self.new ≡ numeric_at (plan_by self.old.effect.now) step }
-    {
-        self.waiting.clear();
-        self.taken = 0;
-        let plan = &self.effect.plan;
-        let origin = self.effect.modal.offsets.origin;
-        match step {
-            BlockStep::Feed => put_feed(plan.feed, &mut self.waiting),
-            BlockStep::ToolLength => put_length(&plan.shown, &mut self.waiting),
-            BlockStep::CoordinateSystem => put_system(&plan.shown, &mut self.waiting),
-            BlockStep::AxisData => put_axis_data(&plan.shown, &mut self.waiting),
-            _ => put_tasks(&plan.tasks, origin, step, &mut self.waiting),
-        }
-        if let BlockStep::Motion = step {
-            self.moves = PathSegments::of(&plan.path);
-        }
-    }
-
-    /// Begins a step, and returns its first command.
-    fn first_in(&mut self, step: BlockStep) -> Option<Canon<'a>>
-        requires begun { begun_commands self.old ≡ [] }
-        requires moves { self.old.moves ≡ [] }
-        ensures effect { self.new.effect ≡ self.old.effect }
-        ensures steps { self.new.steps ≡ self.old.steps }
-        ensures next { MatchOption result
-            ((commands_at (plan_by self.old.effect.now) step ≡ []) × (begun_commands self.new ≡ []) × (self.new.moves ≡ []))
-            (λ canon. commands_at (plan_by self.old.effect.now) step ≡ canonical canon ∷ map numeric (begun_commands self.new)) }
-    {
-        if let BlockStep::Remark = step {
-            return self.effect.plan.remark.command();
-        }
-        self.begin(step);
-        match self.next_begun() {
-            Some(command) => Some(Canon::Command(command)),
-            None => None,
+            None => self.next_of_stop(),
         }
     }
 
@@ -290,17 +130,16 @@ impl<'a> CommandsLeft<'a> {
             ((rest_commands self.old ≡ []) × (rest_commands self.new ≡ []))
             (λ canon. rest_commands self.old ≡ canonical canon ∷ rest_commands self.new) }
     {
-        if let Some(command) = self.next_begun() {
-            return Some(Canon::Command(command));
-        }
-        while let [step, later @ ..] = self.steps {
-            self.steps = later;
-            match self.first_in(*step) {
-                Some(canon) => return Some(canon),
-                None => {}
+        if self.has_remark {
+            self.has_remark = false;
+            if let Some(remark) = self.remark.command() {
+                return Some(remark);
             }
         }
-        None
+        match self.next_numeric() {
+            Some(command) => Some(Canon::Command(command)),
+            None => None,
+        }
     }
 }
 

@@ -1,15 +1,14 @@
 //! G81 to G89: the canned cycle that a line asks for, and the words that it keeps (NISTIR 6556, 3.5.16).
 ghost use Rattle.std.specs.Prelude.{◌≡◌, ◌≤◌, IfOk, Ok, Err, MatchResult};
 ghost use Rattle.ng_offsets.specs.Named.{length_by};
-ghost use Rattle.ng_block.specs.Cycles.{kind_of, is_same, own_words, kept_for, kept_beside, kept_in, cycle_words, is_incremental, is_old_z, outputs_at_motion, context_of, cycle_path};
+ghost use Rattle.ng_block.specs.Cycles.{kind_of, is_same, own_words, kept_for, kept_beside, kept_in, cycle_words, is_incremental, is_old_z, context_of, cycle_path};
 
+use crate::actions::outputs_at_motion;
 use crate::axis_data::{named_on, unit_after};
 use crate::ends::ends;
 use crate::goal::{feed_mode_after, is_inverse};
 use crate::path::Path;
-use crate::switches::outputs_before_motion;
-use crate::tasks::Tasks;
-use ng_canon::{Feed, Geometry, Outputs};
+use ng_canon::{Feed, Geometry};
 use ng_cycles::{Canned, CycleContext, CycleKind, CycleWords};
 use ng_modal::Block;
 use ng_num::{Fault, Len, Num, Unit, nm_of};
@@ -173,15 +172,6 @@ fn is_old_z(retract: Retract) -> bool
     }
 }
 
-/// The outputs at a line's motion: after its spindle, tool and coolant words.
-fn outputs_at_motion(block: &Block, modal: &ModalState) -> Outputs
-    ensures { result ≡ outputs_at_motion block.now modal.now }
-{
-    let mode = feed_mode_after(block, &modal.modes);
-    let tasks = Tasks::of(block, mode, &modal.outputs);
-    outputs_before_motion(&tasks, modal.outputs)
-}
-
 /// The state in which a cycle is executed: the offsets, the feed, the modes and the outputs after the line's other
 /// words.
 fn context_of(
@@ -194,14 +184,15 @@ fn context_of(
     ensures { result ≡ context_of block.now modal.now offsets.now feed_per_min kept }
 {
     let modes = &modal.modes;
+    let feed_mode = feed_mode_after(block, modes);
     CycleContext {
         point: modal.point,
         offsets: *offsets,
         is_incremental: is_incremental(block.g.distance.unwrap_or(modes.distance)),
         keeps_old_z: is_old_z(block.g.retract.unwrap_or(modes.retract)),
-        is_inverse_time: is_inverse(feed_mode_after(block, modes)),
+        is_inverse_time: is_inverse(feed_mode),
         feed_per_min,
-        outputs: outputs_at_motion(block, modal),
+        outputs: outputs_at_motion(block, feed_mode, &modal.outputs),
         kept,
     }
 }

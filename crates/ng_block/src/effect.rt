@@ -5,23 +5,23 @@ ghost use Rattle.ng_canon.specs.Text.{numeric};
 ghost use Rattle.std.specs.Option.{option_map};
 ghost use Rattle.ng_block.specs.Goals.{goal_by};
 ghost use Rattle.ng_block.specs.Effects.{block_done, finished, segments_by, commands_by, in_state};
-ghost use Rattle.ng_block.specs.Order.{command_for};
 ghost use Rattle.ng_block.specs.Paths.{pace_command};
+ghost use Rattle.ng_block.specs.Plan.{feed_commands};
 ghost use Rattle.ng_block.specs.Remarks.{remark_of};
 ghost use Rattle.ng_block.specs.Program.{idle};
 ghost use Rattle.ng_block.specs.declared.effect.ProgramFlow.TheVariants.{GoesOn};
 
+use crate::actions::{Actions, put_actions};
 use crate::after::put_modes_after;
-use crate::ends::{ends, stop_of};
+use crate::ends::stop_of;
 use crate::faults::path_fault;
-use crate::goal::feed_mode_after;
+use crate::goal::{feed_mode_after, feed_set};
 use crate::path::Path;
-use crate::plan::Plan;
+use crate::plan::{Plan, put_outputs_after};
 use crate::remark::Remark;
-use crate::switches::put_outputs_after;
-use crate::tasks::{feed_set, put_tasks};
+use crate::shifts::Shown;
 use arrayvec::ArrayVec;
-use ng_canon::{CanonicalCommand, Feed, Geometry, StraightMove};
+use ng_canon::{Feed, Geometry, StraightMove};
 use ng_modal::Block;
 use ng_num::Fault;
 use ng_params::Change;
@@ -53,6 +53,8 @@ pub struct Effect {
     /// The parameters that it sets, in order.
     pub changes: Changes,
     pub stop: ProgramFlow,
+    /// What it prints of offsets, from which its actions are made. `None` if its words leave them unchanged.
+    pub(crate) shown: Option<Shown>,
     pub(crate) plan: Plan,
 }
 
@@ -70,12 +72,13 @@ impl Effect {
             modal,
             changes: Changes::new(),
             stop: ProgramFlow::GoesOn,
+            shown: None,
             plan: Plan {
                 remark: Remark::none(),
                 feed: None,
-                tasks: None,
-                shown: None,
+                actions: Actions::new(),
                 path: Path::Still,
+                stop: None,
                 before: modal.outputs,
             },
         }
@@ -86,7 +89,7 @@ impl Effect {
     #[inline]
     pub fn only_move(&self) -> Option<(Option<Feed>, &StraightMove)>
         ensures { IfSome result (λ x. commands_by self.now
-            ≡ map numeric (command_for CanonicalCommand.FeedRate x.0 ++ pace_command x.1.now.pace x.1.now.end ∷ [])) }
+            ≡ map numeric (feed_commands x.0 ++ pace_command x.1.now.pace x.1.now.end ∷ [])) }
     {
         let plan = &self.plan;
         if !plan.just_moves() {
@@ -111,9 +114,9 @@ impl Effect {
         self.stop = stop;
         self.plan.remark.clear();
         self.plan.feed = None;
-        self.plan.tasks = None;
-        self.plan.shown = None;
+        self.plan.actions.clear();
         self.plan.path = Path::Still;
+        self.plan.stop = None;
         self.plan.before = state.modal.outputs;
     }
 
@@ -130,8 +133,19 @@ impl Effect {
     {
         let modal = &state.modal;
         let mode = feed_mode_after(block, &modal.modes);
-        put_tasks(block, mode, &modal.outputs, &mut self.plan.tasks);
-        put_outputs_after(&self.plan.tasks, &modal.outputs, &mut self.modal.outputs);
+        put_actions(
+            block,
+            mode,
+            &modal.outputs,
+            &self.shown,
+            &mut self.plan.actions,
+        );
+        put_outputs_after(
+            &self.plan.actions,
+            block.m.stop,
+            &modal.outputs,
+            &mut self.modal.outputs,
+        );
         put_modes_after(block, &modal.modes, &mut self.modal.modes);
         self.plan
             .path
@@ -140,6 +154,7 @@ impl Effect {
         self.stop = stop_of(block.m.stop);
         self.plan.remark.take(comment);
         self.plan.feed = feed_set(block, mode, self.modal.feed_per_min);
+        self.plan.stop = block.m.stop;
         self.plan.before = modal.outputs;
     }
 

@@ -4,7 +4,7 @@ ghost use Rattle.std.specs.Prelude.{◌≡◌, ◌-ℤ◌, false, Ok, Err, Match
 ghost use Rattle.ng_params.specs.Changes.{with_changes};
 ghost use Rattle.ng_modal.specs.Causes.{is_machine};
 ghost use Rattle.ng_modal.specs.Lines.{is_straight, is_arc};
-ghost use Rattle.ng_block.specs.Blocks.{feed_mode_after, is_inverse, is_fed, feed_word, time_word, feed_of, fed_pace, pace_by, program_coordinate, coordinate, end_of, machine_end_of, straight_end_of};
+ghost use Rattle.ng_block.specs.Blocks.{feed_mode_after, is_inverse, is_fed, feed_word, feed_set, time_word, feed_of, fed_pace, pace_by, program_coordinate, coordinate, end_of, machine_end_of, straight_end_of};
 ghost use Rattle.ng_block.specs.Goals.{straight_to, path_of};
 
 use crate::arcs::path_along_arc;
@@ -64,6 +64,17 @@ pub fn feed_word(mode: FeedMode, word: Option<Num>) -> Option<Num>
     match mode {
         FeedMode::PerMinute => word,
         FeedMode::InverseTime => None,
+    }
+}
+
+/// The feed that F prints: the feed after the line.
+#[inline]
+pub fn feed_set(block: &Block, mode: FeedMode, feed_per_min: Feed) -> Option<Feed>
+    ensures { result ≡ feed_set block.now mode feed_per_min }
+{
+    match feed_word(mode, block.values.f()) {
+        Some(_) => Some(feed_per_min),
+        None => None,
     }
 }
 

@@ -12,16 +12,8 @@ ghost use Rattle.ng_block.specs.Effects.{Done, executed};
 ghost use Rattle.ng_block.specs.OffsetsAlone.{AsksFor, SetsOffsetsAlone};
 ghost use Rattle.ng_block.specs.ProgramEnd.{IsEnded};
 ghost use Rattle.ng_block.specs.SameModes.{HasSameModes};
-ghost use Rattle.ng_block.specs.Steps.{order};
 ghost use Rattle.ng_block.specs.Travel.{Joins, NoneMoves, StaysInside};
 ghost use Rattle.ng_block.specs.declared.effect.ProgramFlow.TheVariants.{Ends};
-
-use crate::steps::ORDER;
-
-/// The steps are walked in the order of the definition (NISTIR 6556, 3.8, table 8).
-pub fn order()
-    ensures { ORDER ≡ order }
-{}
 
 /// A line is refused exactly if a cause holds, with the fault of the first one that does (own).
 pub fn refusals()

@@ -12,6 +12,8 @@
 //! `ng_arc` decides which arcs are valid; and `ng_cycles` decides what a canned cycle does, and whether it is valid.
 #![tactic(auto)]
 
+mod action;
+mod actions;
 mod after;
 mod arcs;
 mod axis_data;
@@ -33,18 +35,15 @@ mod remark;
 mod scratch;
 mod segments_with_outputs;
 mod shifts;
-mod steps;
-mod switches;
-mod tasks;
 mod terms;
 
 pub use block_segments::{BlockSegments, Resumed};
 pub use commands::Commands;
 pub use effect::{CHANGES, Changes, Effect, ProgramFlow};
+pub use ends::turned_off;
 pub use ng_cycles::MotionState;
 pub use ng_offsets::{SLOTS, Tools};
 pub use percent::percent_at;
 pub use scratch::{Scratch, execute};
 pub use segments_with_outputs::BlockSegmentsWithOutputs;
-pub use steps::{BlockStep, ORDER};
 pub use terms::Terms;

@@ -27,6 +27,21 @@ pub struct Shown {
     pub axis_data: Option<Point>,
 }
 
+impl Shown {
+    ghost use Rattle.ng_block.specs.Shifts.{nothing_shown};
+
+    /// Nothing printed.
+    pub fn nothing() -> Shown
+        ensures { result ≡ nothing_shown }
+    {
+        Shown {
+            tool_length: None,
+            system: None,
+            axis_data: None,
+        }
+    }
+}
+
 /// The offsets after a line's words.
 #[derive(Clone, Copy)]
 pub struct Shifted {

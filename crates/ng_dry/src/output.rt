@@ -6,8 +6,8 @@ ghost use Rattle.ng_dry.specs.Dry.{commands_text, refusal_text};
 ghost use Rattle.ng_dry.specs.Flush.{Wrote, FlushSpec};
 ghost use Rattle.ng_dry.specs.Private.Parts.{WritesOrBeginning};
 ghost use Rattle.ng_block.specs.Effects.{commands_by};
-ghost use Rattle.ng_block.specs.Order.{command_for};
 ghost use Rattle.ng_block.specs.Paths.{pace_command};
+ghost use Rattle.ng_block.specs.Plan.{feed_commands};
 
 use crate::ending::DryFault;
 use ng_block::{Commands, Effect};
@@ -208,7 +208,7 @@ fn put_move<W: Write, A: Allocator + Copy + Drop>(
     ensures { FlushSpec (W.contents writer.old) (W.contents writer.new)
         (text.old.items ++ commands_text
         (map numeric
-        (command_for CanonicalCommand.FeedRate feed_per_min ++ pace_command line.now.pace line.now.end ∷ []))) text.new.items result }
+        (feed_commands feed_per_min ++ pace_command line.now.pace line.now.end ∷ []))) text.new.items result }
 {
     match feed_per_min {
         None => put_straight(text, writer, line),

@@ -68,7 +68,7 @@ values-keep s remark values tools geometry few done e can =
     let goal = found (goal_of b values.assignments s tools geometry) _ done block.2 in
     let is : block_done b goal.0 remark s ≡ done = same _ done (unless-refused (first_fault (path_faults goal.0.path geometry)) _ done goal.2) in
     subst (λ (d : Done). IsStorableModalState d.setup.modal) is
-    (block-stands b s.modal _ (length tools) few accepted can (feed-found b s values.assignments tools geometry goal.0 goal.1) refl)
+    (block-stands b s.modal _ (length tools) goal.0.shown few accepted can (feed-found b s values.assignments tools geometry goal.0 goal.1) refl)
 
 pieces-keep : (s : StateModel) (pieces : List Piece) (tools : List ℤ) (geometry : Geometry) → length tools ≤ greatest_slot → Keeps s (executed_pieces s pieces tools geometry)
 unfolding executed_pieces

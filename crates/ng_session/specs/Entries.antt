@@ -5,8 +5,6 @@ use Rattle.ng_num.specs.declared.fault.Fault.{Fault}
 use Rattle.ng_num.specs.declared.point.Point.{Point}
 use Rattle.ng_canon.specs.declared.geometry.Geometry.{Geometry}
 use Rattle.ng_canon.specs.declared.item.Item.{Item}
-use Rattle.ng_canon.specs.declared.outputs.Outputs.{Outputs}
-use Rattle.ng_canon.specs.declared.outputs.Spindle.TheVariants as spindle
 use Rattle.ng_canon.specs.declared.pace.Pace.TheVariants as pace
 use Rattle.ng_canon.specs.declared.segment.Segment.TheVariants as segment
 use Rattle.ng_cycles.specs.Segments.{after_segments, line_to}
@@ -15,6 +13,7 @@ use Rattle.ng_step.specs.Hands.{hand}
 use Rattle.ng_params.specs.Lasting.{cleared}
 use Rattle.ng_block.specs.Program.{TermsModel, executed_in_program, executed_unless_deleted, is_end}
 use Rattle.ng_block.specs.Effects.{Done, executed}
+use Rattle.ng_block.specs.Ends.{turned_off}
 use Rattle.ng_state.specs.State.{StateModel}
 use Rattle.ng_block.specs.declared.effect.ProgramFlow.{ProgramFlow}
 use Rattle.ng_state.specs.declared.modal_state.ModalState.{ModalState}
@@ -105,10 +104,6 @@ reached_by x (Some half) point = reached x half point
 
 abbrev pub after_approach : StoredModel → Point → StoredModel
 after_approach x point = reached_by x x.half point
-
--- spindle stopped, coolant off
-abbrev pub turned_off : Outputs → Outputs
-turned_off o = record o { spindle = spindle.Stopped; mist = false; flood = false }
 
 -- the machine after a half-done block is given up: at the point of that block's machine, if that is known
 abbrev pub given_up : ModalState → HalfModel → ModalState

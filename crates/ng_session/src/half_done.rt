@@ -4,14 +4,14 @@ ghost use Rattle.ng_block.specs.Effects.{in_state};
 ghost use Rattle.ng_layout.specs.Limits.{greatest_count};
 ghost use Rattle.ng_layout.specs.Storable.{IsStorableModalState, IsStorable};
 ghost use Rattle.ng_layout.specs.Stored.{with_decoded_state};
-ghost use Rattle.ng_session.specs.Entries.{done_again, turned_off, given_up};
+ghost use Rattle.ng_session.specs.Entries.{done_again, given_up};
 
 use crate::beginning::terms_over;
 use crate::current_block::CurrentBlock;
 use crate::reply::Reply;
 use crate::session::Session;
-use ng_block::{Effect, Scratch};
-use ng_canon::{Geometry, Outputs, Spindle};
+use ng_block::{Effect, Scratch, turned_off};
+use ng_canon::Geometry;
 use ng_layout::{DecodedState, GREATEST_COUNT, Half, Source, Stored};
 use ng_num::{Fault, Point};
 use ng_state::ModalState;
@@ -34,18 +34,6 @@ fn execute_again<'p, A: Allocator + Copy + Drop>(
     match places.execute(&terms, &stored.state, half.text.as_slice()) {
         Ok(effect) => Ok(effect),
         Err(fault) => Err(fault),
-    }
-}
-
-/// The outputs with spindle stopped and coolant off.
-fn turned_off(outputs: Outputs) -> Outputs
-    ensures { result ≡ turned_off outputs }
-{
-    Outputs {
-        spindle: Spindle::Stopped,
-        mist: false,
-        flood: false,
-        ..outputs
     }
 }
 

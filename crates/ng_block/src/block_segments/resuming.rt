@@ -1,19 +1,15 @@
 //! A block from one of its segments on, and the machine's position and outputs before that. The segments of a cycle
 //! that are skipped aren't walked, so the time doesn't grow with their number.
-ghost use Rattle.std.specs.Prelude.{◌≡◌, ◌<◌, ◌-◌, ◌∷◌, ◌++◌, [], take, drop, length, IfSome, MatchOption};
+ghost use Rattle.std.specs.Prelude.{◌≡◌, ◌<◌, ◌-◌, [], take, drop};
 ghost use Rattle.ng_cycles.specs.Segments.{after_segments};
-ghost use Rattle.ng_block.specs.BlockSegments.{plan_of, rest_of};
+ghost use Rattle.ng_block.specs.BlockSegments.{actions_left, rest_of};
 ghost use Rattle.ng_block.specs.Effects.{segments_by};
-ghost use Rattle.ng_block.specs.Order.{segments_at, segments_through, task_segments};
 ghost use Rattle.ng_block.specs.Paths.{path_segments};
-ghost use Rattle.ng_block.specs.Resuming.{SkipSpec, begun_step, standing_at};
-ghost use Rattle.ng_block.specs.Tasks.{tasks_in};
+ghost use Rattle.ng_block.specs.Resuming.{Stays, standing_at};
 
 use crate::block_segments::{BlockSegments, BlockSegmentsLeft};
 use crate::effect::Effect;
-use crate::path::{PathSegments, after_segment};
-use crate::steps::BlockStep;
-use crate::switches::{outputs_through, segment_at};
+use crate::path::{Path, PathSegments, after_segment};
 use ng_cycles::MotionState;
 use ng_num::Point;
 
@@ -46,73 +42,65 @@ fn left_after(n: u64, count: u128) -> u64
     }
 }
 
-impl BlockSegmentsLeft {
-    /// Takes the next of the steps that haven't begun.
-    fn take_step(&mut self) -> Option<BlockStep>
-        ensures next { MatchOption result
-            ((rest_of self.old ≡ self.old.moves) × (self.new ≡ self.old))
-            (λ step. rest_of self.old
-            ≡ self.old.moves ++ segments_through (plan_of self.new) self.new.outputs (step ∷ self.new.steps.now)) }
-        ensures fewer { IfSome result (λ step. length self.new.steps.now < length self.old.steps.now) }
-        ensures moves { self.new.moves ≡ self.old.moves }
-    {
-        let [step, later @ ..] = self.steps else {
-            return None;
-        };
-        self.steps = later;
-        Some(*step)
-    }
-}
-
 impl Passing {
-    /// Skips segments of the motion.
-    fn pass_moves(&mut self)
-        ensures { SkipSpec (path_segments self.old.rest.path) self.old self.new }
+    /// Skips segments of the actions.
+    fn pass_actions(&mut self)
+        ensures stays { Stays self.old self.new }
+        ensures actions { 0 < self.new.left → actions_left self.new.rest ≡ [] }
+        ensures moves { self.new.rest.moves ≡ self.old.rest.moves }
     {
-        let path = self.rest.path;
-        self.rest.moves = PathSegments::later(&path, self.left);
+        while self.left > 0 {
+            match self.rest.next_of_actions() {
+                Some(segment) => {
+                    self.standing = after_segment(self.standing, &segment);
+                    self.left -= 1;
+                }
+                None => return,
+            }
+        }
+    }
+
+    /// Skips segments of the motion, once no action is left.
+    fn pass_moves(&mut self, path: &Path)
+        requires actions { actions_left self.old.rest ≡ [] }
+        requires moves { self.old.rest.moves ≡ path_segments path.now }
+        ensures stays { Stays self.old self.new }
+        ensures actions { actions_left self.new.rest ≡ [] }
+        ensures moves { 0 < self.new.left → self.new.rest.moves ≡ [] }
+    {
+        self.rest.moves = PathSegments::later(path, self.left);
         self.standing = path.motion_state_after(self.standing, self.left);
         self.left = left_after(self.left, path.count());
     }
 
-    /// Skips the segment of a step other than the motion, if it has one.
-    fn pass_task(&mut self, step: BlockStep)
+    /// Skips the segment of the stop, once no other is left.
+    fn pass_stop(&mut self)
         requires some { 0 < self.old.left }
+        requires actions { actions_left self.old.rest ≡ [] }
         requires moves { self.old.rest.moves ≡ [] }
-        ensures { SkipSpec (task_segments (tasks_in self.old.rest.tasks) self.old.rest.outputs step) self.old self.new }
-    {
-        if let Some(segment) = segment_at(&self.rest.tasks, self.rest.outputs, step) {
-            self.standing = after_segment(self.standing, &segment);
-            self.left -= 1;
-        }
-    }
-
-    /// Begins a step, and skips segments of it.
-    fn pass(&mut self, step: BlockStep)
-        requires some { 0 < self.old.left }
-        requires moves { self.old.rest.moves ≡ [] }
-        ensures { let begun = begun_step self.old step in
-            SkipSpec (segments_at (plan_of self.old.rest) begun.rest.outputs step) begun self.new }
-    {
-        self.rest.outputs = outputs_through(&self.rest.tasks, self.rest.outputs, step);
-        match step {
-            BlockStep::Motion => self.pass_moves(),
-            _ => self.pass_task(step),
-        }
-    }
-
-    /// Skips as many segments as are to be skipped, or all.
-    fn advance(&mut self)
-        requires { self.old.rest.moves ≡ [] }
         ensures rest { rest_of self.new.rest ≡ drop self.old.left (rest_of self.old.rest) }
         ensures standing { self.new.standing ≡ after_segments self.old.standing (take self.old.left (rest_of self.old.rest)) }
     {
-        while self.left > 0 {
-            match self.rest.take_step() {
-                Some(step) => self.pass(step),
-                None => return,
-            }
+        if let Some(segment) = self.rest.next_of_stop() {
+            self.standing = after_segment(self.standing, &segment);
         }
+    }
+
+    /// Skips as many segments as are to be skipped, or all, of a block with this path that hasn't begun to move.
+    fn advance(&mut self, path: &Path)
+        requires { self.old.rest.moves ≡ path_segments path.now }
+        ensures rest { rest_of self.new.rest ≡ drop self.old.left (rest_of self.old.rest) }
+        ensures standing { self.new.standing ≡ after_segments self.old.standing (take self.old.left (rest_of self.old.rest)) }
+    {
+        self.pass_actions();
+        if self.left == 0 {
+            return;
+        }
+        self.pass_moves(path);
+        if self.left == 0 {
+            return;
+        }
+        self.pass_stop();
     }
 }
 
@@ -133,7 +121,7 @@ impl Effect {
             },
             left: n,
         };
-        passing.advance();
+        passing.advance(&self.plan.path);
         Resumed {
             block_segments: BlockSegments { rest: passing.rest },
             standing: passing.standing,

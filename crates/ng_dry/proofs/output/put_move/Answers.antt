@@ -3,13 +3,13 @@ use Rattle.ng_canon.specs.Text.{CanonModel, numeric, canonical_text, command_tex
 use Rattle.ng_canon.specs.declared.command.CanonicalCommand.{CanonicalCommand}
 use Rattle.ng_canon.specs.declared.command.CanonicalCommand.TheVariants.{FeedRate}
 use Rattle.ng_dry.specs.Dry.{commands_text}
-use Rattle.ng_block.specs.Order.{command_for}
 use Rattle.ng_block.specs.Paths.{pace_command}
+use Rattle.ng_block.specs.Plan.{feed_commands}
 use Rattle.ng_dry.proofs.FlushLemmas.{FlushSpec-from, FlushSpec-after, FlushSpec-short}
 use Rattle.ng_dry.proofs.output.put_move.Goals as goal
 
 abbrev moved : Option ℤ → CanonicalCommand → List CanonModel
-moved feed move = map numeric (command_for FeedRate feed ++ move ∷ [])
+moved feed move = map numeric (feed_commands feed ++ move ∷ [])
 
 text-None : (text : List ℕ) (feed : Option ℤ) (move : CanonicalCommand) → feed ≡ None → text ++ commands_text (moved feed move) ≡ text ++ command_text move
 unfolding canonical_text
