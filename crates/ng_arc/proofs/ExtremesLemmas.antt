@@ -4,9 +4,9 @@ use mir.Syntax.{w64}
 use Rattle.std.specs.Prelude.{not, ◌||◌}
 use Rattle.ng_canon.specs.declared.segment.Arc.{Arc}
 use Rattle.ng_canon.specs.declared.plane_point.PlanePoint.{PlanePoint}
-use Rattle.ng_canon.specs.Planes.{from_centre, square_of}
+use Rattle.ng_canon.specs.Plane.{from_centre, square_of}
 use Rattle.ng_arc.specs.Extremes.{has_room, is_passed, is_kept}
-use Rattle.ng_canon.proofs.PlanePoints.{stored}
+use Rattle.ng_canon.proofs.PlanePointLemmas.{stored}
 
 pub kept_is : (arc : Arc) (d s e : PlanePoint) (kept passed : Bool) (square : ℕ) (room way : ℤ)
     → kept ≡ (not passed || has_room square (to_z w64 (of_z w64 room)))

@@ -1,5 +1,5 @@
 pub mod RadiiLemmas
-pub mod CheckLemmas
-pub mod TurnLemmas
+pub mod ArcFaultLemmas
+pub mod RotatedQuadrantLemmas
 pub mod PassageLemmas
 pub mod ExtremesLemmas

@@ -12,12 +12,12 @@ use Rattle.ng_canon.specs.declared.plane_point.PlanePoint.{PlanePoint}
 use Rattle.ng_arc.specs.declared.span.ArcSpan.{ArcSpan}
 use Rattle.ng_canon.specs.declared.quadrant.Quadrant.{Quadrant}
 use Rattle.ng_canon.specs.declared.quadrant.Quadrant.TheVariants.{First, Second, Third, Fourth}
-use Rattle.ng_canon.specs.Planes.{cross, dot, mirror}
+use Rattle.ng_canon.specs.Plane.{cross, dot, mirror}
 use Rattle.ng_arc.specs.Extremes.{sweep_by, sweep, is_passed}
-use Rattle.ng_canon.specs.Quadrants.{quadrant, quadrant_number, same_quadrant, mirror_quadrant}
+use Rattle.ng_canon.specs.Quadrant.{quadrant, quadrant_number, same_quadrant, mirror_quadrant}
 use Rattle.ng_arc.specs.Private.Quadrants.{direction, changes, is_entered, passes_toward}
-use Rattle.ng_arc.proofs.TurnLemmas.{times_neg, passed_mirrored, cross-turned, dot-turned, passed-turned}
-use Rattle.ng_arc.proofs.TurnLemmas.{point_of_quadrant, relative, turned-place, quadrant-place}
+use Rattle.ng_arc.proofs.RotatedQuadrantLemmas.{times_neg, passed_mirrored, cross-turned, dot-turned, passed-turned}
+use Rattle.ng_arc.proofs.RotatedQuadrantLemmas.{point_of_quadrant, relative, turned-place, quadrant-place}
 
 -- ---- the turn from a point of the first quadrant
 

@@ -2,7 +2,7 @@
 use Rattle.std.specs.Prelude.{ℤ, pos, ◌+ℤ◌, Option, Some, None}
 use Rattle.ng_canon.specs.declared.segment.Arc.{Arc}
 use Rattle.ng_arc.specs.declared.asked.AskedArc.{AskedArc}
-use Rattle.ng_canon.specs.Planes.{pick_a, pick_b}
+use Rattle.ng_canon.specs.Plane.{pick_a, pick_b}
 
 -- the offset of a word; that of a missing word is 0
 abbrev pub offset_of : Option ℤ → ℤ

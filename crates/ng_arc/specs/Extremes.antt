@@ -8,7 +8,7 @@ use Rattle.ng_canon.specs.declared.plane.ArcDirection.{ArcDirection}
 use Rattle.ng_canon.specs.declared.plane.ArcDirection.TheVariants.{Clockwise, Counterclockwise}
 use Rattle.ng_canon.specs.declared.segment.Arc.{Arc}
 use Rattle.ng_canon.specs.declared.plane_point.PlanePoint.{PlanePoint}
-use Rattle.ng_canon.specs.Planes.{pick_a, pick_b, from_centre, square_of, cross, dot}
+use Rattle.ng_canon.specs.Plane.{pick_a, pick_b, from_centre, square_of, cross, dot}
 
 -- above 0 if the turn from p to q is less than half a turn, below 0 if it is more, 0 for half a turn and a whole one
 abbrev pub lead : ArcDirection → PlanePoint → PlanePoint → ℤ

@@ -1,5 +1,5 @@
 pub mod Radii
 pub mod Asked
-pub mod Check
+pub mod Checking
 pub mod Extremes
 pub mod Private

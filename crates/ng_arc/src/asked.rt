@@ -41,7 +41,7 @@ pub struct AskedArc {
 impl AskedArc {
     ghost use Rattle.ng_num.specs.Range.{in_range};
     ghost use Rattle.ng_arc.specs.Asked.{centre_a, centre_b, arc_of};
-    ghost use Rattle.ng_arc.specs.Check.{has_no_end, has_no_centre, is_centre_beyond};
+    ghost use Rattle.ng_arc.specs.Checking.{has_no_end, has_no_centre, is_centre_beyond};
 
     /// The centre's machine coordinate on the plane's axis a. E3 if it is out of the range of lengths.
     fn centre_a(&self) -> Result<Len, Fault>

@@ -3,7 +3,7 @@ ghost use Rattle.std.specs.Prelude.{◌≡◌, ◌≤◌, ◌↔◌, IsFalse, Ma
 ghost use Rattle.ng_arc.specs.Radii.{AreAlike};
 ghost use Rattle.ng_num.specs.Causes.{first_fault, NoneHolds, IsFirstFault};
 ghost use Rattle.ng_arc.specs.Asked.{arc_of};
-ghost use Rattle.ng_arc.specs.Check.{tolerance, start_square, end_square, have_radii_differing, arc_causes, causes, checked};
+ghost use Rattle.ng_arc.specs.Checking.{tolerance, start_square, end_square, have_radii_differing, arc_causes, causes, checked};
 
 use crate::asked::AskedArc;
 use crate::radii::are_alike;

@@ -1,6 +1,6 @@
 //! Which extremes of its circle an arc passes: those at the start of the quadrants that it enters.
 ghost use Rattle.std.specs.Prelude.{◌≡◌, ◌^◌, ◌<◌, ◌||◌, ◌==◌, not, unsigned_abs};
-ghost use Rattle.ng_canon.specs.Planes.{square_of, cross, dot, AreBelowInSize};
+ghost use Rattle.ng_canon.specs.Plane.{square_of, cross, dot, AreBelowInSize};
 ghost use Rattle.ng_arc.specs.Extremes.{has_room, is_passed, sweep_by};
 ghost use Rattle.ng_arc.specs.Private.Quadrants.{direction, changes, passes_toward};
 

@@ -2,27 +2,27 @@
 use Rattle.std.proofs.Common.{◌≡◌, ◌∙◌, ℕ, ℤ, List, length, Option, Some, None, Result, Ok, Err, refl, sym, ap}
 use Rattle.ng_num.specs.Results.{and_then}
 use Rattle.ng_num.specs.declared.fault.Fault.{Fault}
-use Rattle.ng_params.specs.Changes.{with_changes}
+use Rattle.ng_params.specs.Change.{with_changes}
 use Rattle.ng_params.specs.declared.change.Change.{Change}
-use Rattle.ng_canon.specs.Text.{CanonModel}
+use Rattle.ng_canon.specs.Printing.{CanonModel}
 use Rattle.ng_canon.specs.declared.geometry.Geometry.{Geometry}
 use Rattle.ng_words.specs.Reading.{read}
 use Rattle.ng_words.specs.Grammar.{ParsedLine}
-use Rattle.ng_words.specs.Lines.{last_comment}
+use Rattle.ng_words.specs.Line.{last_comment}
 use Rattle.ng_expr.specs.Settle.{Settled, settled_pieces}
-use Rattle.ng_modal.specs.Blocks.{block_of}
+use Rattle.ng_modal.specs.BlockOfWords.{block_of}
 use Rattle.ng_num.specs.Causes.{first_fault}
-use Rattle.ng_num.proofs.FirstFault.{unless_ok}
-use Rattle.ng_modal.specs.Check.{checked, faults}
+use Rattle.ng_num.proofs.FirstFaultLemmas.{unless_ok}
+use Rattle.ng_modal.specs.Checking.{checked, faults}
 use Rattle.ng_modal.specs.declared.block.Block.{Block}
 use Rattle.ng_state.specs.declared.kept_words.KeptWords.{KeptWords}
 use Rattle.ng_block.specs.declared.path.Path.{Path}
 use Rattle.ng_block.specs.Asked.{Move, move_by}
-use Rattle.ng_block.specs.Blocks.{feed_of}
+use Rattle.ng_block.specs.Motion.{feed_of}
 use Rattle.ng_block.specs.Cycles.{kept_of}
 use Rattle.ng_block.specs.Effects.{Done, unless_refused, block_done, executed_values, executed_pieces, executed}
 use Rattle.ng_block.specs.Faults.{path_faults}
-use Rattle.ng_block.specs.Goals.{Bearings, bearings_of, bearings_after, Goal, goal_with, goal_of, path_of, path_after_bearings}
+use Rattle.ng_block.specs.Goal.{Bearings, bearings_of, bearings_after, Goal, goal_with, goal_of, path_of, path_after_bearings}
 use Rattle.ng_block.specs.Remarks.{remark_of}
 use Rattle.ng_state.specs.State.{StateModel}
 use Rattle.ng_block.proofs.CauseLemmas.{path_by, path_is}

@@ -7,15 +7,15 @@ use Rattle.ng_num.specs.declared.unit.Unit.{Unit as LengthUnit}
 use Rattle.ng_canon.specs.declared.outputs.Outputs.{Outputs}
 use Rattle.ng_canon.specs.declared.outputs.Spindle.{Spindle}
 use Rattle.ng_canon.specs.declared.plane.Plane.{Plane}
-use Rattle.ng_modal.specs.declared.asks.Coolant.{Coolant}
-use Rattle.ng_modal.specs.declared.asks.NonModal.{NonModal}
+use Rattle.ng_modal.specs.declared.requests.Coolant.{Coolant}
+use Rattle.ng_modal.specs.declared.requests.NonModal.{NonModal}
 use Rattle.ng_modal.specs.declared.block.Block.{Block}
 use Rattle.ng_state.specs.declared.modes.FeedMode.{FeedMode}
 use Rattle.ng_state.specs.declared.modes.FeedMode.TheVariants.{PerMinute, InverseTime}
 use Rattle.ng_state.specs.declared.modes.Motion.{Motion}
 use Rattle.ng_block.specs.declared.action.Action.{Action}
 use Rattle.ng_block.specs.Actions.{with_value, actions_of, gives_nothing}
-use Rattle.ng_block.specs.Blocks.{is_inverse, time_word}
+use Rattle.ng_block.specs.Motion.{is_inverse, time_word}
 use Rattle.ng_block.specs.Shifts.{nothing_shown}
 
 no_time : (mode : FeedMode) (motion : Option Motion) (f : Option ℤ) → is_inverse mode ≡ false → time_word mode motion f ≡ None

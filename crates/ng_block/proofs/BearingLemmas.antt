@@ -3,13 +3,13 @@ use Rattle.std.proofs.Common.{◌≡◌, ℕ, ℤ, true, Option, Some, None, Ok,
 use Rattle.std.specs.Prelude.{not, ◌||◌}
 use Rattle.std.specs.Option.{is_some}
 use Rattle.ng_params.specs.declared.change.Change.{Change}
-use Rattle.ng_modal.specs.declared.asks.NonModal.{NonModal}
-use Rattle.ng_modal.specs.declared.asks.ToolLength.{ToolLength}
+use Rattle.ng_modal.specs.declared.requests.NonModal.{NonModal}
+use Rattle.ng_modal.specs.declared.requests.ToolLength.{ToolLength}
 use Rattle.ng_modal.specs.declared.block.Block.{Block}
 use Rattle.ng_offsets.specs.declared.offsets.Offsets.{Offsets}
 use Rattle.ng_state.specs.declared.modal_state.ModalState.{ModalState}
-use Rattle.ng_block.specs.Blocks.{end_of, straight_end_of}
-use Rattle.ng_block.specs.Goals.{bearings_of}
+use Rattle.ng_block.specs.Motion.{end_of, straight_end_of}
+use Rattle.ng_block.specs.Goal.{bearings_of}
 use Rattle.ng_state.specs.State.{StateModel}
 use Rattle.ng_block.specs.Shifts.{keeps_offsets, nothing_shown}
 

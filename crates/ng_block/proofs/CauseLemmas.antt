@@ -8,28 +8,28 @@ use Rattle.ng_num.specs.Results.{and_then}
 use Rattle.ng_num.specs.declared.fault.Fault.{Fault}
 use Rattle.ng_num.specs.declared.fault.Fault.TheVariants.{LineTooLong, Unreadable, OutOfRange, NoFeed, OutsideTravel}
 use Rattle.ng_num.specs.declared.point.Point.{Point}
-use Rattle.ng_params.specs.Changes.{with_changes}
+use Rattle.ng_params.specs.Change.{with_changes}
 use Rattle.ng_params.specs.declared.change.Change.{Change}
-use Rattle.ng_canon.specs.Text.{CanonModel}
+use Rattle.ng_canon.specs.Printing.{CanonModel}
 use Rattle.ng_canon.specs.declared.geometry.Geometry.{Geometry}
 use Rattle.ng_canon.specs.declared.pace.Pace.{Pace}
 use Rattle.ng_canon.specs.declared.plane.ArcDirection.{ArcDirection}
 use Rattle.ng_canon.specs.declared.segment.Arc.{Arc}
 use Rattle.ng_words.specs.Reading.{read, or_unreadable}
 use Rattle.ng_words.specs.Grammar.{ParsedLine, Piece, is_too_long}
-use Rattle.ng_words.specs.Lines.{last_comment}
+use Rattle.ng_words.specs.Line.{last_comment}
 use Rattle.ng_expr.specs.Settle.{Settled, nothing, followed, followed_if_ok, given, settled_pieces}
-use Rattle.ng_modal.specs.Blocks.{block_of}
+use Rattle.ng_modal.specs.BlockOfWords.{block_of}
 use Rattle.ng_modal.specs.ByLetter.{has_axis}
 use Rattle.ng_num.specs.Causes.{first_fault, unless, NoneHolds, IsFirstFault}
-use Rattle.ng_num.proofs.FirstFault.{none_holds, is_first, first_some, first_none}
-use Rattle.ng_modal.specs.Check.{faults}
-use Rattle.ng_modal.specs.Lines.{is_straight, is_arc}
+use Rattle.ng_num.proofs.FirstFaultLemmas.{none_holds, is_first, first_some, first_none}
+use Rattle.ng_modal.specs.Checking.{faults}
+use Rattle.ng_modal.specs.Block.{is_straight, is_arc}
 use Rattle.ng_modal.specs.declared.block.Block.{Block}
 use Rattle.ng_state.specs.declared.modes.Motion.{Motion}
 use Rattle.ng_state.specs.declared.modes.Motion.TheVariants as motion
 use Rattle.ng_arc.specs.Asked.{arc_of}
-use Rattle.ng_arc.specs.Check as arc
+use Rattle.ng_arc.specs.Checking as arc
 use Rattle.ng_arc.specs.declared.asked.AskedArc.{AskedArc}
 use Rattle.ng_offsets.specs.declared.offsets.Offsets.{Offsets}
 use Rattle.ng_cycles.specs.Faults as cycle
@@ -42,14 +42,14 @@ use Rattle.ng_block.specs.declared.path.Path.TheVariants as path
 use Rattle.ng_block.specs.declared.shifts.Shifted.{Shifted}
 use Rattle.ng_block.specs.Arcs.{turn_of, centre_offsets_on, asked_by, turned_where, turning_at, path_along_arc}
 use Rattle.ng_block.specs.Asked.{written_on, pieces_in, values_of, offsets_found, Move, Stays, Goes, Turns, GoesHome, Drills, straight, round, in_cycle, homeward, pace_of, move_by}
-use Rattle.ng_block.specs.Blocks.{feed_of, end_of, straight_end_of}
+use Rattle.ng_block.specs.Motion.{feed_of, end_of, straight_end_of}
 use Rattle.ng_block.specs.Causes.{value_cause, value_causes, reaches_far, computes_beyond, arc_faults, cycle_faults, has_no_feed, goes_outside, causes}
 use Rattle.ng_block.specs.Cycles.{kind_of, kept_for, kept_where, kept_of, own_words, cycle_words, context_of, cycle_where, cycle_path}
 use Rattle.ng_block.specs.Effects.{Done, unless_refused, block_done, executed_values, executed_pieces, executed}
 use Rattle.ng_block.specs.Faults.{path_faults}
-use Rattle.ng_block.specs.Goals.{Bearings, storing, selecting, Goal, goal_with, bearings_after, straight_to, path_of}
+use Rattle.ng_block.specs.Goal.{Bearings, storing, selecting, Goal, goal_with, bearings_after, straight_to, path_of}
 use Rattle.ng_block.specs.Homes.{home_on, home_path}
-use Rattle.ng_block.specs.Paths.{moving_at}
+use Rattle.ng_block.specs.Path.{moving_at}
 use Rattle.ng_block.specs.Remarks.{remark_of}
 use Rattle.ng_state.specs.State.{StateModel}
 use Rattle.ng_block.specs.Shifts.{shift_of}

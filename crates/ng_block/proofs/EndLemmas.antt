@@ -1,23 +1,23 @@
 -- Offsets move nothing; and the state after the program's end.
 use Rattle.std.proofs.Common.{arith, ◌≡◌, ◌≢◌, ◌∙◌, ℕ, ◌≤◌, ℤ, Bool, true, false, not, ◌&&◌, ◌||◌, List, [], ◌∷◌, ◌++◌, Option, Some, None, Ok, refl, sym, ap, subst, if◌then◌else◌, length}
 use Rattle.std.specs.Option.{is_some}
-use Rattle.ng_params.specs.Changes.{with_changes}
+use Rattle.ng_params.specs.Change.{with_changes}
 use Rattle.ng_params.specs.Points.{origin_of, selection}
-use Rattle.ng_params.specs.Table.{at, with_value}
+use Rattle.ng_params.specs.Params.{at, with_value}
 use Rattle.ng_params.specs.declared.change.Change.{Change}
-use Rattle.ng_params.proofs.AssignmentLaws.{at-others, last_counts}
+use Rattle.ng_params.proofs.AssignmentLemmas.{at-others, last_counts}
 use Rattle.ng_canon.specs.declared.geometry.Geometry.{Geometry}
 use Rattle.ng_words.specs.Grammar.{ParsedLine}
-use Rattle.ng_words.proofs.ReadLaws.{reads_iff}
+use Rattle.ng_words.proofs.ReadLemmas.{reads_iff}
 use Rattle.ng_expr.specs.Settle.{Settled, settled_pieces}
 use Rattle.ng_expr.specs.declared.word.Word.{Word}
-use Rattle.ng_modal.specs.Blocks.{block_of}
+use Rattle.ng_modal.specs.BlockOfWords.{block_of}
 use Rattle.ng_modal.specs.ByLetter.{has_axis}
-use Rattle.ng_modal.specs.Lines.{takes_axes, motion_by}
-use Rattle.ng_modal.specs.declared.asks.NonModal.{NonModal}
-use Rattle.ng_modal.specs.declared.asks.NonModal.TheVariants.{Dwell, SetOrigin, Home, SecondHome, MachineCoordinates, SetOffset, ClearOffset, DropOffset, RestoreOffset}
-use Rattle.ng_modal.specs.declared.asks.StopWord.{StopWord}
-use Rattle.ng_modal.specs.declared.asks.StopWord.TheVariants as word
+use Rattle.ng_modal.specs.Block.{takes_axes, motion_by}
+use Rattle.ng_modal.specs.declared.requests.NonModal.{NonModal}
+use Rattle.ng_modal.specs.declared.requests.NonModal.TheVariants.{Dwell, SetOrigin, Home, SecondHome, MachineCoordinates, SetOffset, ClearOffset, DropOffset, RestoreOffset}
+use Rattle.ng_modal.specs.declared.requests.StopWord.{StopWord}
+use Rattle.ng_modal.specs.declared.requests.StopWord.TheVariants as word
 use Rattle.ng_modal.specs.declared.block.Block.{Block}
 use Rattle.ng_state.specs.declared.modes.Modes.{Modes}
 use Rattle.ng_state.specs.declared.modes.Motion.{Motion}
@@ -32,10 +32,10 @@ use Rattle.ng_block.specs.declared.path.Path.TheVariants.{Still}
 use Rattle.ng_block.specs.Cycles.{kind_of, own_words, kept_for, kept_beside, kept_where}
 use Rattle.ng_block.specs.Effects.{Done, executed}
 use Rattle.ng_block.specs.Ends.{ends, stop_of}
-use Rattle.ng_block.specs.Goals.{Bearings, ended, bearings_after, Goal, path_of}
+use Rattle.ng_block.specs.Goal.{Bearings, ended, bearings_after, Goal, path_of}
 use Rattle.ng_block.specs.Homes.{home_on}
 use Rattle.ng_block.specs.OffsetsAlone.{AsksFor, sets_at_most, SetsOffsetsAlone}
-use Rattle.ng_block.specs.Paths.{point_after}
+use Rattle.ng_block.specs.Path.{point_after}
 use Rattle.ng_block.specs.ProgramEnd.{IsEnded}
 use Rattle.ng_state.specs.State.{StateModel}
 use Rattle.ng_block.proofs.AcceptedLemmas.{then_ok, same_ok, IsAccepted, accepted, reached}

@@ -4,8 +4,8 @@ use Rattle.std.specs.Prelude.{not, ◌||◌}
 use Rattle.std.specs.Option.{is_some}
 use Rattle.ng_num.specs.declared.unit.Unit.{Unit as LengthUnit}
 use Rattle.ng_canon.specs.declared.plane.Plane.{Plane}
-use Rattle.ng_modal.specs.Lines.{motion_after}
-use Rattle.ng_modal.specs.declared.asks.StopWord.{StopWord}
+use Rattle.ng_modal.specs.Block.{motion_after}
+use Rattle.ng_modal.specs.declared.requests.StopWord.{StopWord}
 use Rattle.ng_modal.specs.declared.block.Block.{Block}
 use Rattle.ng_state.specs.declared.modes.Modes.{Modes}
 use Rattle.ng_state.specs.declared.modes.Distance.{Distance}

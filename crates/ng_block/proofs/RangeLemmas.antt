@@ -2,7 +2,7 @@
 use Rattle.std.proofs.Common.{◌≡◌, ℕ, ℤ, ◌+ℤ◌, ◌-ℤ◌, Bool, true, false, List, [], ◌∷◌, Option, Some, None, Result, Ok, Err, refl, sym, ◌∙◌, if◌then◌else◌}
 use Rattle.std.specs.Prelude.{nat_le, ◌==◌, unsigned_abs, unwrap_or}
 use Rattle.std.specs.Option.{is_some}
-use Rattle.ng_num.specs.Lengths.{nm_of}
+use Rattle.ng_num.specs.Len.{nm_of}
 use Rattle.ng_num.specs.Range.{greatest, in_range}
 use Rattle.ng_num.specs.Results.{and_then}
 use Rattle.ng_num.specs.declared.fault.Fault.{Fault}
@@ -11,12 +11,12 @@ use Rattle.ng_num.specs.declared.point.Point.{Point}
 use Rattle.ng_num.specs.declared.unit.Unit.{Unit as LengthUnit}
 use Rattle.ng_canon.specs.declared.plane.ArcDirection.{ArcDirection}
 use Rattle.ng_params.specs.declared.change.Change.{Change}
-use Rattle.ng_modal.specs.Accepted.{system_on}
+use Rattle.ng_modal.specs.WholeNumbers.{system_on}
 use Rattle.ng_modal.specs.ByLetter.{has_axis}
 use Rattle.ng_modal.specs.Causes.{is_machine}
-use Rattle.ng_modal.specs.Lines.{is_straight, is_arc}
-use Rattle.ng_modal.specs.declared.asks.NonModal.{NonModal}
-use Rattle.ng_modal.specs.declared.asks.NonModal.TheVariants.{Dwell, SetOrigin, Home, SecondHome, MachineCoordinates, SetOffset, ClearOffset, DropOffset, RestoreOffset}
+use Rattle.ng_modal.specs.Block.{is_straight, is_arc}
+use Rattle.ng_modal.specs.declared.requests.NonModal.{NonModal}
+use Rattle.ng_modal.specs.declared.requests.NonModal.TheVariants.{Dwell, SetOrigin, Home, SecondHome, MachineCoordinates, SetOffset, ClearOffset, DropOffset, RestoreOffset}
 use Rattle.ng_modal.specs.declared.block.Block.{Block}
 use Rattle.ng_state.specs.declared.modes.Distance.{Distance}
 use Rattle.ng_state.specs.declared.modes.Distance.TheVariants.{Absolute, Incremental}
@@ -24,7 +24,7 @@ use Rattle.ng_state.specs.declared.modes.Modes.{Modes}
 use Rattle.ng_offsets.specs.Named.{length_by, named_by}
 use Rattle.ng_offsets.specs.Origins.{printed, storing, selected, origin_by, given_origin, offset_for, offsets_for, set_offset}
 use Rattle.ng_params.specs.Points.{origin_of, g92_stored, g92_changes, origin_changes, selection}
-use Rattle.ng_offsets.specs.Points.{shift_x, shift_y, shift_z, point_of}
+use Rattle.ng_offsets.specs.Offsets.{shift_x, shift_y, shift_z, point_of}
 use Rattle.ng_offsets.specs.declared.named.Named.{Named}
 use Rattle.ng_offsets.specs.declared.offsets.Offsets.{Offsets}
 use Rattle.ng_cycles.specs.declared.words.CycleKind.{CycleKind}
@@ -32,7 +32,7 @@ use Rattle.ng_state.specs.declared.modal_state.ModalState.{ModalState}
 use Rattle.ng_block.specs.Arcs.{turn_of, centre_offsets_on}
 use Rattle.ng_block.specs.Asked.{straight, round, in_cycle, homeward, move_by}
 use Rattle.ng_block.specs.AxisData.{unit_after, no_axis_data, named_on, system_after, with_system, with_origin, with_offset, axis_data_by, axis_data_of, offsets_after}
-use Rattle.ng_block.specs.Blocks.{feed_word, feed_by, feed_of, feed_mode_after, program_coordinate, coordinate, end_of, straight_end_of}
+use Rattle.ng_block.specs.Motion.{feed_word, feed_by, feed_of, feed_mode_after, program_coordinate, coordinate, end_of, straight_end_of}
 use Rattle.ng_block.specs.Cycles.{kind_of, own_words, cycle_words}
 use Rattle.ng_block.specs.Homes.{home_on}
 use Rattle.ng_block.specs.Shifts.{shift_of}

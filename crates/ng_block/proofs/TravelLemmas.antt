@@ -8,8 +8,8 @@ use Rattle.std.proofs.lemmas.List.Folds.{list_any-append}
 use Rattle.ng_num.specs.Results.{and_then}
 use Rattle.ng_num.specs.declared.fault.Fault.{Fault}
 use Rattle.ng_num.specs.declared.point.Point.{Point}
-use Rattle.ng_params.specs.Changes.{with_changes}
-use Rattle.ng_canon.specs.Inside.{is_inside}
+use Rattle.ng_params.specs.Change.{with_changes}
+use Rattle.ng_canon.specs.Geometry.{is_inside}
 use Rattle.ng_canon.specs.declared.geometry.Geometry.{Geometry}
 use Rattle.ng_canon.specs.declared.outputs.Outputs.{Outputs}
 use Rattle.ng_canon.specs.declared.pace.Pace.{Pace}
@@ -18,15 +18,15 @@ use Rattle.ng_canon.specs.declared.plane.ArcDirection.{ArcDirection}
 use Rattle.ng_canon.specs.declared.segment.Arc.{Arc}
 use Rattle.ng_canon.specs.declared.segment.Segment.{Segment}
 use Rattle.ng_canon.specs.declared.segment.Segment.TheVariants as segment
-use Rattle.ng_words.specs.Lines.{last_comment}
+use Rattle.ng_words.specs.Line.{last_comment}
 use Rattle.ng_num.specs.Causes.{first_fault}
-use Rattle.ng_num.proofs.FirstFault.{none_holds, unless_ok}
+use Rattle.ng_num.proofs.FirstFaultLemmas.{none_holds, unless_ok}
 use Rattle.ng_modal.specs.ByLetter.{has_axis}
-use Rattle.ng_modal.specs.Lines.{is_straight, is_arc}
-use Rattle.ng_modal.specs.declared.asks.StopWord.{StopWord}
+use Rattle.ng_modal.specs.Block.{is_straight, is_arc}
+use Rattle.ng_modal.specs.declared.requests.StopWord.{StopWord}
 use Rattle.ng_modal.specs.declared.block.Block.{Block}
 use Rattle.ng_arc.specs.Asked.{arc_of}
-use Rattle.ng_arc.specs.Check as arc
+use Rattle.ng_arc.specs.Checking as arc
 use Rattle.ng_arc.specs.Extremes.{extremes_inside}
 use Rattle.ng_offsets.specs.declared.offsets.Offsets.{Offsets}
 use Rattle.ng_cycles.specs.Faults as cycle
@@ -45,13 +45,13 @@ use Rattle.ng_block.specs.declared.action.Action.TheVariants as action
 use Rattle.ng_block.specs.Action.{action_outputs, action_segments, actions_segments, outputs_after}
 use Rattle.ng_block.specs.Arcs.{turn_of, turning_at, centre_offsets_on, asked_by}
 use Rattle.ng_block.specs.Asked.{Move, Stays, Goes, Turns, GoesHome, Drills, pace_of, straight, round, in_cycle, homeward, move_by}
-use Rattle.ng_block.specs.Blocks.{end_of, straight_end_of}
+use Rattle.ng_block.specs.Motion.{end_of, straight_end_of}
 use Rattle.ng_block.specs.Cycles.{kind_of, own_words, cycle_words, kept_for, context_of}
 use Rattle.ng_block.specs.Effects.{Done, plan_of, executed}
 use Rattle.ng_block.specs.Ends.{ends, turned_off, stop_segments}
 use Rattle.ng_block.specs.Faults.{stays_inside, path_faults}
 use Rattle.ng_block.specs.Homes.{home_on}
-use Rattle.ng_block.specs.Paths.{moving_at, point_after, path_segments}
+use Rattle.ng_block.specs.Path.{moving_at, point_after, path_segments}
 use Rattle.ng_block.specs.Plan.{Plan, segments_of}
 use Rattle.ng_block.specs.Remarks.{remark_of}
 use Rattle.ng_state.specs.State.{StateModel}

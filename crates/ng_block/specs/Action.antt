@@ -6,11 +6,11 @@ use Rattle.ng_canon.specs.declared.outputs.Outputs.{Outputs}
 use Rattle.ng_canon.specs.declared.outputs.Spindle.TheVariants.{Stopped}
 use Rattle.ng_canon.specs.declared.segment.Segment.{Segment}
 use Rattle.ng_canon.specs.declared.segment.Segment.TheVariants as segment
-use Rattle.ng_modal.specs.declared.asks.Coolant.{Coolant}
-use Rattle.ng_modal.specs.declared.asks.Coolant.TheVariants.{Mist, Flood, Off}
+use Rattle.ng_modal.specs.declared.requests.Coolant.{Coolant}
+use Rattle.ng_modal.specs.declared.requests.Coolant.TheVariants.{Mist, Flood, Off}
 use Rattle.ng_block.specs.declared.action.Action.{Action}
 use Rattle.ng_block.specs.declared.action.Action.TheVariants as action
-use Rattle.ng_block.specs.Paths.{spindle_command}
+use Rattle.ng_block.specs.Path.{spindle_command}
 
 abbrev pub coolant_commands : Coolant → List CanonicalCommand
 coolant_commands Mist = command.MistOn ∷ []

@@ -2,14 +2,14 @@
 use Rattle.std.specs.Prelude.{ℕ, ℤ, Bool, not, ◌||◌, List, [], ◌∷◌, flat_map, Option, Some, None, unwrap_or, if◌then◌else◌}
 use Rattle.std.specs.Option.{is_some, option_map, option_to_list}
 use Rattle.ng_canon.specs.declared.outputs.Outputs.{Outputs}
-use Rattle.ng_modal.specs.Accepted.{slot_on}
+use Rattle.ng_modal.specs.WholeNumbers.{slot_on}
 use Rattle.ng_modal.specs.Causes.{is_dwell}
 use Rattle.ng_modal.specs.declared.block.Block.{Block}
 use Rattle.ng_state.specs.declared.modes.FeedMode.{FeedMode}
 use Rattle.ng_block.specs.declared.action.Action.{Action}
 use Rattle.ng_block.specs.declared.action.Action.TheVariants as action
 use Rattle.ng_block.specs.declared.shifts.Shown.{Shown}
-use Rattle.ng_block.specs.Blocks.{is_inverse, time_word}
+use Rattle.ng_block.specs.Motion.{is_inverse, time_word}
 
 -- the steps of a block
 pub data BlockStep : Type 0 where

@@ -2,7 +2,7 @@
 use Rattle.std.specs.Prelude.{Bool, not, ◌||◌, unwrap_or, if◌then◌else◌}
 use Rattle.std.specs.Option.{is_some}
 use Rattle.ng_canon.specs.declared.plane.Plane.TheVariants.{Xy}
-use Rattle.ng_modal.specs.Lines.{motion_after, plane_after}
+use Rattle.ng_modal.specs.Block.{motion_after, plane_after}
 use Rattle.ng_modal.specs.declared.block.Block.{Block}
 use Rattle.ng_state.specs.declared.modes.Modes.{Modes}
 use Rattle.ng_state.specs.declared.modes.Motion.TheVariants.{Feed}
@@ -10,10 +10,10 @@ use Rattle.ng_state.specs.declared.modes.Distance.TheVariants.{Absolute}
 use Rattle.ng_state.specs.declared.modes.FeedMode.TheVariants.{PerMinute}
 use Rattle.ng_state.specs.declared.modal_state.ModalState.{ModalState}
 use Rattle.ng_block.specs.AxisData.{system_after}
-use Rattle.ng_block.specs.Blocks.{feed_mode_after}
+use Rattle.ng_block.specs.Motion.{feed_mode_after}
 use Rattle.ng_block.specs.Ends.{ends}
-use Rattle.ng_block.specs.Goals.{Goal}
-use Rattle.ng_block.specs.Paths.{point_after}
+use Rattle.ng_block.specs.Goal.{Goal}
+use Rattle.ng_block.specs.Path.{point_after}
 use Rattle.ng_block.specs.Plan.{Plan, outputs_of}
 
 -- the program's end sets G1, G17, G90, G94, G54, M48; unit, retract and path mode stay

@@ -9,11 +9,11 @@ use Rattle.ng_canon.specs.declared.pace.Pace.TheVariants.{Traverse}
 use Rattle.ng_canon.specs.declared.plane.ArcDirection.{ArcDirection}
 use Rattle.ng_canon.specs.declared.plane.ArcDirection.TheVariants.{Clockwise, Counterclockwise}
 use Rattle.ng_canon.specs.declared.segment.Arc.{Arc}
-use Rattle.ng_arc.specs.Check.{checked}
+use Rattle.ng_arc.specs.Checking.{checked}
 use Rattle.ng_arc.specs.declared.asked.AskedArc.{AskedArc}
 use Rattle.ng_arc.specs.declared.asked.NamedAxes.{NamedAxes}
 use Rattle.ng_arc.specs.declared.asked.CentreOffsets.{CentreOffsets}
-use Rattle.ng_modal.specs.Lines.{plane_after}
+use Rattle.ng_modal.specs.Block.{plane_after}
 use Rattle.ng_modal.specs.declared.block.Block.{Block}
 use Rattle.ng_modal.specs.declared.by_letter.ByLetter.{ByLetter}
 use Rattle.ng_state.specs.declared.modes.Modes.{Modes}
@@ -25,7 +25,7 @@ use Rattle.ng_state.specs.declared.modal_state.ModalState.{ModalState}
 use Rattle.ng_block.specs.declared.path.Path.{Path}
 use Rattle.ng_block.specs.declared.path.Path.TheVariants.{Still, WithoutFeed, Round}
 use Rattle.ng_block.specs.AxisData.{unit_after}
-use Rattle.ng_block.specs.Blocks.{feed_mode_after, pace_by, end_of}
+use Rattle.ng_block.specs.Motion.{feed_mode_after, pace_by, end_of}
 
 -- the direction in which a motion turns; `None` if it isn't an arc
 abbrev pub turn_of : Option Motion → Option ArcDirection

@@ -15,7 +15,7 @@ use Rattle.ng_words.specs.Grammar.{ParsedLine, Piece}
 use Rattle.ng_expr.specs.Settle.{Settled, nothing, followed, given}
 use Rattle.ng_arc.specs.declared.asked.AskedArc.{AskedArc}
 use Rattle.ng_modal.specs.ByLetter.{has_axis}
-use Rattle.ng_modal.specs.Lines.{is_straight, is_arc}
+use Rattle.ng_modal.specs.Block.{is_straight, is_arc}
 use Rattle.ng_modal.specs.declared.block.Block.{Block}
 use Rattle.ng_offsets.specs.declared.offsets.Offsets.{Offsets}
 use Rattle.ng_cycles.specs.declared.words.CycleWords.{CycleWords}
@@ -24,7 +24,7 @@ use Rattle.ng_cycles.specs.declared.words.CycleContext.{CycleContext}
 use Rattle.ng_state.specs.declared.modal_state.ModalState.{ModalState}
 use Rattle.ng_block.specs.declared.shifts.Shifted.{Shifted}
 use Rattle.ng_block.specs.Arcs.{turn_of, centre_offsets_on, asked_by}
-use Rattle.ng_block.specs.Blocks.{feed_of, feed_mode_after, pace_by, end_of, straight_end_of}
+use Rattle.ng_block.specs.Motion.{feed_of, feed_mode_after, pace_by, end_of, straight_end_of}
 use Rattle.ng_block.specs.Cycles.{kind_of, kept_for, own_words, cycle_words, context_of}
 use Rattle.ng_block.specs.Homes.{home_on}
 use Rattle.ng_block.specs.Shifts.{shift_of}

@@ -5,24 +5,24 @@ use Rattle.std.specs.List.{list_any}
 use Rattle.std.specs.Result.{result_unwrap_or}
 use Rattle.ng_num.specs.declared.fault.Fault.{Fault}
 use Rattle.ng_num.specs.declared.fault.Fault.TheVariants.{LineTooLong, Unreadable, OutOfRange, CycleNoAxis, NoZ, NoR, RBelowZ, InverseTime, NoFeed, OutsideTravel}
-use Rattle.ng_params.specs.Changes.{with_changes}
-use Rattle.ng_canon.specs.Rates.{above_zero}
+use Rattle.ng_params.specs.Change.{with_changes}
+use Rattle.ng_canon.specs.Pace.{above_zero}
 use Rattle.ng_canon.specs.declared.geometry.Geometry.{Geometry}
 use Rattle.ng_words.specs.Grammar.{Piece, is_too_long}
 use Rattle.ng_expr.specs.Settle.{Settled, given}
-use Rattle.ng_modal.specs.Blocks.{block_of}
-use Rattle.ng_modal.specs.Check.{faults}
+use Rattle.ng_modal.specs.BlockOfWords.{block_of}
+use Rattle.ng_modal.specs.Checking.{faults}
 use Rattle.ng_modal.specs.declared.block.Block.{Block}
 use Rattle.ng_arc.specs.Asked.{arc_of}
-use Rattle.ng_arc.specs.Check.{is_centre_beyond, arc_causes}
+use Rattle.ng_arc.specs.Checking.{is_centre_beyond, arc_causes}
 use Rattle.ng_cycles.specs.Faults.{drill_of, names_no_axis, work_causes, leaves_travel}
-use Rattle.ng_cycles.specs.Lengths.{lengths, is_far}
+use Rattle.ng_cycles.specs.Heights.{lengths, is_far}
 use Rattle.ng_state.specs.KeptWords.{in_force}
 use Rattle.ng_cycles.specs.declared.words.CycleWords.{CycleWords}
 use Rattle.ng_cycles.specs.declared.words.CycleContext.{CycleContext}
 use Rattle.ng_state.specs.declared.modal_state.ModalState.{ModalState}
 use Rattle.ng_block.specs.Asked.{written_on, pieces_in, values_of, Move, Stays, Goes, Turns, GoesHome, Drills, move_on}
-use Rattle.ng_block.specs.Blocks.{feed_of}
+use Rattle.ng_block.specs.Motion.{feed_of}
 use Rattle.ng_block.specs.Faults.{ends_outside, turns_outside, homes_outside}
 use Rattle.ng_state.specs.State.{StateModel}
 use Rattle.ng_block.specs.Shifts.{shift_of}

@@ -1,11 +1,11 @@
 -- What a cursor over a block's commands has left.
 use Rattle.std.specs.Prelude.{List, [], ◌++◌, drop, flat_map, map, if◌then◌else◌}
 use Rattle.std.specs.Option.{option_to_list}
-use Rattle.ng_canon.specs.Text.{CanonModel, numeric}
+use Rattle.ng_canon.specs.Printing.{CanonModel, numeric}
 use Rattle.ng_canon.specs.declared.command.CanonicalCommand.{CanonicalCommand}
 use Rattle.ng_block.specs.declared.commands.CommandsLeft.{CommandsLeft}
 use Rattle.ng_block.specs.Action.{action_commands}
-use Rattle.ng_block.specs.Paths.{command_of}
+use Rattle.ng_block.specs.Path.{command_of}
 use Rattle.ng_block.specs.Remarks.{said_by}
 
 -- the remark

@@ -5,7 +5,7 @@ use Rattle.ng_num.specs.Results.{and_then}
 use Rattle.ng_num.specs.declared.fault.Fault.{Fault}
 use Rattle.ng_canon.specs.declared.geometry.Geometry.{Geometry}
 use Rattle.ng_canon.specs.declared.outputs.Outputs.{Outputs}
-use Rattle.ng_modal.specs.Accepted.{repeats_on}
+use Rattle.ng_modal.specs.WholeNumbers.{repeats_on}
 use Rattle.ng_modal.specs.declared.block.Block.{Block}
 use Rattle.ng_state.specs.declared.modes.Modes.{Modes}
 use Rattle.ng_state.specs.declared.modes.Motion.{Motion}
@@ -29,7 +29,7 @@ use Rattle.ng_block.specs.declared.path.Path.TheVariants.{Still, Cycle}
 use Rattle.ng_block.specs.Action.{outputs_after}
 use Rattle.ng_block.specs.Actions.{actions_of}
 use Rattle.ng_block.specs.AxisData.{unit_after, named_on}
-use Rattle.ng_block.specs.Blocks.{feed_mode_after, is_inverse}
+use Rattle.ng_block.specs.Motion.{feed_mode_after, is_inverse}
 use Rattle.ng_block.specs.Ends.{ends}
 use Rattle.ng_block.specs.Shifts.{nothing_shown}
 

@@ -1,17 +1,17 @@
 -- What a line does in a state (NISTIR 6556, 3.8).
 use Rattle.std.specs.Prelude.{ℕ, ℤ, List, length, Option, Some, None, Result, Ok, Err}
 use Rattle.ng_num.specs.declared.fault.Fault.{Fault}
-use Rattle.ng_canon.specs.Text.{CanonModel}
+use Rattle.ng_canon.specs.Printing.{CanonModel}
 use Rattle.ng_canon.specs.declared.outputs.Outputs.{Outputs}
 use Rattle.ng_canon.specs.declared.segment.Segment.{Segment}
 use Rattle.ng_canon.specs.declared.geometry.Geometry.{Geometry}
 use Rattle.ng_words.specs.Reading.{read}
 use Rattle.ng_words.specs.Grammar.{Piece}
-use Rattle.ng_words.specs.Lines.{last_comment}
+use Rattle.ng_words.specs.Line.{last_comment}
 use Rattle.ng_num.specs.Results.{and_then}
 use Rattle.ng_expr.specs.Settle.{Settled, settled_pieces}
 use Rattle.ng_num.specs.Causes.{first_fault}
-use Rattle.ng_modal.specs.Check.{checked}
+use Rattle.ng_modal.specs.Checking.{checked}
 use Rattle.ng_modal.specs.declared.block.Block.{Block}
 use Rattle.ng_block.specs.declared.effect.Effect.{Effect}
 use Rattle.ng_block.specs.declared.effect.ProgramFlow.{ProgramFlow}
@@ -19,9 +19,9 @@ use Rattle.ng_state.specs.declared.modal_state.ModalState.{ModalState}
 use Rattle.ng_state.specs.State.{StateModel, changed}
 use Rattle.ng_block.specs.Remarks.{remark_of, said_by}
 use Rattle.ng_block.specs.Actions.{actions_of}
-use Rattle.ng_block.specs.Blocks.{feed_mode_after, feed_set}
+use Rattle.ng_block.specs.Motion.{feed_mode_after, feed_set}
 use Rattle.ng_block.specs.Ends.{stop_of}
-use Rattle.ng_block.specs.Goals.{Goal, goal_of}
+use Rattle.ng_block.specs.Goal.{Goal, goal_of}
 use Rattle.ng_block.specs.Faults.{path_faults}
 use Rattle.ng_block.specs.After.{modal_state_after}
 use Rattle.ng_block.specs.Plan.{Plan, commands_of, segments_of}

@@ -8,8 +8,8 @@ use Rattle.ng_canon.specs.declared.outputs.Spindle.TheVariants.{Stopped}
 use Rattle.ng_canon.specs.declared.plane.Plane.TheVariants.{Xy}
 use Rattle.ng_canon.specs.declared.segment.Segment.{Segment}
 use Rattle.ng_canon.specs.declared.segment.Segment.TheVariants.{Switch}
-use Rattle.ng_modal.specs.declared.asks.StopWord.{StopWord}
-use Rattle.ng_modal.specs.declared.asks.StopWord.TheVariants as word
+use Rattle.ng_modal.specs.declared.requests.StopWord.{StopWord}
+use Rattle.ng_modal.specs.declared.requests.StopWord.TheVariants as word
 use Rattle.ng_block.specs.declared.effect.ProgramFlow.{ProgramFlow}
 use Rattle.ng_block.specs.declared.effect.ProgramFlow.TheVariants.{GoesOn, Stops, StopsIfWanted, Ends}
 

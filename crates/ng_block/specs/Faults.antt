@@ -4,7 +4,7 @@ use Rattle.ng_num.specs.declared.fault.Fault.{Fault}
 use Rattle.ng_num.specs.declared.point.Point.{Point}
 use Rattle.ng_num.specs.declared.fault.Fault.TheVariants.{NoFeed, OutsideTravel}
 use Rattle.ng_arc.specs.Extremes.{extremes_inside}
-use Rattle.ng_canon.specs.Inside.{is_inside}
+use Rattle.ng_canon.specs.Geometry.{is_inside}
 use Rattle.ng_canon.specs.declared.geometry.Geometry.{Geometry}
 use Rattle.ng_canon.specs.declared.segment.Arc.{Arc}
 use Rattle.ng_block.specs.declared.path.Path.{Path}

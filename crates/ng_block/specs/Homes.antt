@@ -5,15 +5,15 @@ use Rattle.ng_num.specs.declared.point.Point.{Point}
 use Rattle.ng_num.specs.declared.fault.Fault.{Fault}
 use Rattle.ng_params.specs.Points.{home, second_home}
 use Rattle.ng_modal.specs.ByLetter.{has_axis}
-use Rattle.ng_modal.specs.declared.asks.NonModal.{NonModal}
-use Rattle.ng_modal.specs.declared.asks.NonModal.TheVariants.{Home, SecondHome}
+use Rattle.ng_modal.specs.declared.requests.NonModal.{NonModal}
+use Rattle.ng_modal.specs.declared.requests.NonModal.TheVariants.{Home, SecondHome}
 use Rattle.ng_modal.specs.declared.block.Block.{Block}
 use Rattle.ng_offsets.specs.declared.offsets.Offsets.{Offsets}
 use Rattle.ng_state.specs.declared.modal_state.ModalState.{ModalState}
 use Rattle.ng_block.specs.declared.path.Path.{Path}
 use Rattle.ng_block.specs.declared.path.Path.TheVariants.{Still, Straight, Homing}
-use Rattle.ng_block.specs.Blocks.{end_of}
-use Rattle.ng_block.specs.Paths.{traverse}
+use Rattle.ng_block.specs.Motion.{end_of}
+use Rattle.ng_block.specs.Path.{traverse}
 
 -- the home that a line goes to, in machine coordinates
 abbrev pub home_on : Option NonModal → List ℤ → Option Point

@@ -1,9 +1,9 @@
 pub mod Ends
-pub mod Paths
+pub mod Path
 pub mod ToolLength
 pub mod AxisData
 pub mod Shifts
-pub mod Blocks
+pub mod Motion
 pub mod Homes
 pub mod Arcs
 pub mod Faults
@@ -13,7 +13,7 @@ pub mod Action
 pub mod Actions
 pub mod Plan
 pub mod Cycles
-pub mod Goals
+pub mod Goal
 pub mod Asked
 pub mod Causes
 pub mod After

@@ -2,17 +2,17 @@
 use Rattle.std.specs.Prelude.{ℤ, List, ◌++◌, Option, flat_map, map}
 use Rattle.std.specs.Option.{option_map, option_to_list}
 use Rattle.ng_num.specs.declared.point.Point.{Point}
-use Rattle.ng_canon.specs.Text.{CanonModel, numeric}
+use Rattle.ng_canon.specs.Printing.{CanonModel, numeric}
 use Rattle.ng_canon.specs.declared.command.CanonicalCommand.{CanonicalCommand}
 use Rattle.ng_canon.specs.declared.command.CanonicalCommand.TheVariants.{FeedRate}
 use Rattle.ng_canon.specs.declared.outputs.Outputs.{Outputs}
 use Rattle.ng_canon.specs.declared.segment.Segment.{Segment}
-use Rattle.ng_modal.specs.declared.asks.StopWord.{StopWord}
+use Rattle.ng_modal.specs.declared.requests.StopWord.{StopWord}
 use Rattle.ng_block.specs.declared.action.Action.{Action}
 use Rattle.ng_block.specs.declared.path.Path.{Path}
 use Rattle.ng_block.specs.Action.{action_commands, actions_segments, outputs_after}
 use Rattle.ng_block.specs.Ends.{stop_commands, stop_outputs, stop_segments}
-use Rattle.ng_block.specs.Paths.{path_segments, path_commands}
+use Rattle.ng_block.specs.Path.{path_segments, path_commands}
 
 -- the plan of a block, its parts in the order in which they act: its remark (step 1), the feed that its F sets (3), its
 -- actions (4 to 19), the path of its motion (20), its stop (21); the origin after it, and the outputs before it. The

@@ -4,7 +4,7 @@ use Rattle.ng_num.specs.declared.fault.Fault.{Fault}
 use Rattle.ng_num.specs.declared.fault.Fault.TheVariants.{LineTooLong}
 use Rattle.ng_canon.specs.declared.geometry.Geometry.{Geometry}
 use Rattle.ng_words.specs.Grammar.{is_too_long}
-use Rattle.ng_words.specs.Kinds.{is_deletable}
+use Rattle.ng_words.specs.Start.{is_deletable}
 use Rattle.ng_words.specs.declared.start.LineKind.{LineKind}
 use Rattle.ng_state.specs.State.{StateModel}
 use Rattle.ng_block.specs.Effects.{Done, executed}

@@ -1,9 +1,9 @@
 -- The state after M2 and M30 (NISTIR 6556, 3.6.1).
 use Rattle.std.specs.Prelude.{◌≡◌, pos, true, false}
-use Rattle.ng_num.specs.Points.{zero_point}
+use Rattle.ng_num.specs.Point.{zero_point}
 use Rattle.ng_params.specs.Numbers.{system_in_force}
 use Rattle.ng_params.specs.Points.{origin_of}
-use Rattle.ng_params.specs.Table.{at}
+use Rattle.ng_params.specs.Params.{at}
 use Rattle.ng_canon.specs.declared.outputs.Spindle.TheVariants.{Stopped}
 use Rattle.ng_canon.specs.declared.plane.Plane.TheVariants.{Xy}
 use Rattle.ng_state.specs.declared.modes.Motion.TheVariants.{Feed}

@@ -1,9 +1,9 @@
 -- The tool length that a line puts in force: G43, G49 (NISTIR 6556, 3.5.11).
 use Rattle.std.specs.Prelude.{ℕ, ℤ, List, Option, Some, None, unwrap_or}
 use Rattle.std.specs.Option.{option_map}
-use Rattle.ng_modal.specs.Accepted.{slot_on}
-use Rattle.ng_modal.specs.declared.asks.ToolLength.{ToolLength}
-use Rattle.ng_modal.specs.declared.asks.ToolLength.TheVariants.{OfSlot, Zero}
+use Rattle.ng_modal.specs.WholeNumbers.{slot_on}
+use Rattle.ng_modal.specs.declared.requests.ToolLength.{ToolLength}
+use Rattle.ng_modal.specs.declared.requests.ToolLength.TheVariants.{OfSlot, Zero}
 use Rattle.ng_offsets.specs.Origins.{with_tool}
 use Rattle.ng_offsets.specs.declared.offsets.Offsets.{Offsets}
 

@@ -3,7 +3,7 @@
 use Rattle.std.specs.Prelude.{◌≡◌, List, [], ◌∷◌, IsTrue}
 use Rattle.ng_num.specs.declared.point.Point.{Point}
 use Rattle.ng_arc.specs.Extremes.{extremes_inside}
-use Rattle.ng_canon.specs.Inside.{is_inside}
+use Rattle.ng_canon.specs.Geometry.{is_inside}
 use Rattle.ng_canon.specs.declared.geometry.Geometry.{Geometry}
 use Rattle.ng_canon.specs.declared.segment.Segment.{Segment}
 use Rattle.ng_canon.specs.declared.segment.Segment.TheVariants as segment

@@ -6,7 +6,7 @@ ghost use Rattle.ng_block.specs.Actions.{slot_changed, dwell_on, actions_of, giv
 ghost use Rattle.ng_block.specs.Shifts.{shown_in, nothing_shown};
 
 use crate::action::{Action, outputs_after};
-use crate::goal::{is_inverse, time_word};
+use crate::motion::{is_inverse, time_word};
 use crate::shifts::Shown;
 use arrayvec::ArrayVec;
 use ng_canon::Outputs;

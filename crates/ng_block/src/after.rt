@@ -4,7 +4,7 @@ ghost use Rattle.ng_block.specs.After.{keeps_modes, modes_after};
 
 use crate::axis_data::system_after;
 use crate::ends::ends;
-use crate::goal::feed_mode_after;
+use crate::motion::feed_mode_after;
 use ng_canon::Plane;
 use ng_modal::Block;
 use ng_params::System;

@@ -3,7 +3,7 @@ ghost use Rattle.std.specs.Prelude.{◌≡◌};
 ghost use Rattle.ng_block.specs.Arcs.{turn_of, axes_on, centre_offsets_on, asked_by, turned, path_along_arc};
 
 use crate::axis_data::unit_after;
-use crate::goal::{end_of, feed_mode_after, pace_by};
+use crate::motion::{end_of, feed_mode_after, pace_by};
 use crate::path::Path;
 use ng_arc::{AskedArc, CentreOffsets, NamedAxes, check_arc};
 use ng_canon::{ArcDirection, Feed, Pace};

@@ -1,6 +1,6 @@
 //! What a line's axis data do to the offsets: G10, and G92 to G92.3 (NISTIR 6556, 3.5.5, 3.5.18).
 ghost use Rattle.std.specs.Prelude.{◌≡◌};
-ghost use Rattle.ng_params.specs.Changes.{with_changes};
+ghost use Rattle.ng_params.specs.Change.{with_changes};
 ghost use Rattle.ng_block.specs.AxisData.{unit_after, system_after, named_on, with_origin, with_offset, axis_data_of};
 
 use ng_modal::{Block, NonModal};

@@ -3,7 +3,7 @@
 ghost use Rattle.std.specs.Prelude.{◌≡◌, ◌∷◌, [], MatchOption};
 ghost use Rattle.ng_block.specs.BlockSegments.{actions_left, action_segments_left, stop_segments_left, rest_of};
 ghost use Rattle.ng_block.specs.Effects.{segments_by};
-ghost use Rattle.ng_block.specs.Paths.{path_segments};
+ghost use Rattle.ng_block.specs.Path.{path_segments};
 
 mod resuming;
 

@@ -1,6 +1,6 @@
 //! A block's commands, one at a time.
 ghost use Rattle.std.specs.Prelude.{◌≡◌, ◌∷◌, ◌++◌, [], map, MatchOption};
-ghost use Rattle.ng_canon.specs.Text.{canonical, numeric};
+ghost use Rattle.ng_canon.specs.Printing.{canonical, numeric};
 ghost use Rattle.ng_block.specs.Commands.{remark_left, action_commands_left, stop_commands_left, numeric_left, rest_commands};
 ghost use Rattle.ng_block.specs.Effects.{commands_by};
 
@@ -37,7 +37,7 @@ pub struct Commands<'a> {
 
 impl<'a> Model for Commands<'a> {
     ghost use Rattle.std.specs.Prelude.{List};
-    ghost use Rattle.ng_canon.specs.Text.{CanonModel};
+    ghost use Rattle.ng_canon.specs.Printing.{CanonModel};
     ghost use Rattle.ng_block.specs.Commands.{rest_commands};
 
     ghost Value = { List CanonModel };

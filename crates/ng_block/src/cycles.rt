@@ -6,7 +6,7 @@ ghost use Rattle.ng_block.specs.Cycles.{kind_of, is_same, own_words, kept_for, k
 use crate::actions::outputs_at_motion;
 use crate::axis_data::{named_on, unit_after};
 use crate::ends::ends;
-use crate::goal::{feed_mode_after, is_inverse};
+use crate::motion::{feed_mode_after, is_inverse};
 use crate::path::Path;
 use ng_canon::{Feed, Geometry};
 use ng_cycles::{Canned, CycleContext, CycleKind, CycleWords};

@@ -1,11 +1,11 @@
 //! The effect of a block: the modal state after it, the parameters that it changes, how the program goes on, and the
 //! plan of its commands and segments.
 ghost use Rattle.std.specs.Prelude.{◌≡◌, ◌≤◌, ◌∷◌, ◌++◌, [], map, Ok, Err, length, IfSome, MatchResult, None};
-ghost use Rattle.ng_canon.specs.Text.{numeric};
+ghost use Rattle.ng_canon.specs.Printing.{numeric};
 ghost use Rattle.std.specs.Option.{option_map};
-ghost use Rattle.ng_block.specs.Goals.{goal_by};
+ghost use Rattle.ng_block.specs.Goal.{goal_by};
 ghost use Rattle.ng_block.specs.Effects.{block_done, finished, segments_by, commands_by, in_state};
-ghost use Rattle.ng_block.specs.Paths.{pace_command};
+ghost use Rattle.ng_block.specs.Path.{pace_command};
 ghost use Rattle.ng_block.specs.Plan.{feed_commands};
 ghost use Rattle.ng_block.specs.Remarks.{remark_of};
 ghost use Rattle.ng_block.specs.Program.{idle};
@@ -15,7 +15,7 @@ use crate::actions::{Actions, put_actions};
 use crate::after::put_modes_after;
 use crate::ends::stop_of;
 use crate::faults::path_fault;
-use crate::goal::{feed_mode_after, feed_set};
+use crate::motion::{feed_mode_after, feed_set};
 use crate::path::Path;
 use crate::plan::{Plan, put_outputs_after};
 use crate::remark::Remark;

@@ -1,12 +1,12 @@
 //! G28 and G30: the way home (NISTIR 6556, 3.5.8).
 ghost use Rattle.std.specs.Prelude.{◌≡◌, ◌≤◌};
-ghost use Rattle.ng_params.specs.Changes.{with_changes};
+ghost use Rattle.ng_params.specs.Change.{with_changes};
 ghost use Rattle.ng_params.specs.Numbers.{parameter_count};
 ghost use Rattle.ng_params.specs.Points.{point_at};
-ghost use Rattle.ng_params.specs.Table.{at};
+ghost use Rattle.ng_params.specs.Params.{at};
 ghost use Rattle.ng_block.specs.Homes.{home_on, home_path};
 
-use crate::goal::end_of;
+use crate::motion::end_of;
 use crate::path::{HomePath, Path, traverse};
 use ng_modal::{Block, NonModal};
 use ng_num::{Fault, Len, Point};

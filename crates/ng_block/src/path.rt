@@ -2,7 +2,7 @@
 ghost use Rattle.std.specs.Prelude.{◌≡◌, ◌∷◌, [], MatchOption};
 ghost use Rattle.ng_cycles.specs.Segments.{begin, after_segments, cycle_segments};
 ghost use Rattle.ng_block.specs.PathSegments.{left_in};
-ghost use Rattle.ng_block.specs.Paths.{moving_at, point_after, traverse, path_segments, pace_command, spindle_command, command_of};
+ghost use Rattle.ng_block.specs.Path.{moving_at, point_after, traverse, path_segments, pace_command, spindle_command, command_of};
 
 mod later;
 

@@ -3,7 +3,7 @@ ghost use Rattle.std.specs.Prelude.{◌≡◌, MatchResult, Ok, Err};
 ghost use Rattle.ng_num.specs.Causes.{NoneHolds, IsFirstFault};
 ghost use Rattle.ng_block.specs.Causes.{causes};
 ghost use Rattle.ng_words.specs.Kept.{pieces_by};
-ghost use Rattle.ng_words.specs.Lines.{last_comment};
+ghost use Rattle.ng_words.specs.Line.{last_comment};
 ghost use Rattle.ng_expr.specs.Settle.{settled_of};
 ghost use Rattle.ng_block.specs.Effects.{executed, executed_values, in_state};
 ghost use Rattle.ng_block.specs.Remarks.{remark_of};

@@ -2,8 +2,8 @@
 //! them moves the machine.
 ghost use Rattle.std.specs.Prelude.{◌≡◌, ◌≤◌, length};
 ghost use Rattle.std.specs.Option.{option_map};
-ghost use Rattle.ng_params.specs.Changes.{with_changes};
-ghost use Rattle.ng_modal.specs.Accepted.{IsSlot};
+ghost use Rattle.ng_params.specs.Change.{with_changes};
+ghost use Rattle.ng_modal.specs.WholeNumbers.{IsSlot};
 ghost use Rattle.ng_block.specs.ToolLength.{slot_by, offsets_after_length, length_shown};
 ghost use Rattle.ng_block.specs.AxisData.{offsets_after, offsets_shown, with_system};
 ghost use Rattle.ng_block.specs.Shifts.{shift_of, keeps_offsets};

@@ -1,3 +1,3 @@
-pub mod Appending
-pub mod PlanePoints
+pub mod TextAppendLemmas
+pub mod PlanePointLemmas
 pub mod QuadrantLemmas

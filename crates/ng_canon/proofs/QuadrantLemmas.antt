@@ -3,7 +3,7 @@ use Rattle.std.proofs.Common.{◌≡◌, refl}
 use Rattle.std.specs.Prelude.{nat_eq}
 use Rattle.ng_canon.specs.declared.quadrant.Quadrant.{Quadrant}
 use Rattle.ng_canon.specs.declared.quadrant.Quadrant.TheVariants.{First, Second, Third, Fourth}
-use Rattle.ng_canon.specs.Quadrants.{quadrant_number, same_quadrant}
+use Rattle.ng_canon.specs.Quadrant.{quadrant_number, same_quadrant}
 
 pub same_numbers : (p q : Quadrant) → nat_eq (quadrant_number p) (quadrant_number q) ≡ same_quadrant p q
 same_numbers First First = refl

@@ -1,7 +1,7 @@
-pub mod Fresh
+pub mod Outputs
 pub mod Limits
-pub mod Inside
-pub mod Text
-pub mod Rates
-pub mod Planes
-pub mod Quadrants
+pub mod Geometry
+pub mod Printing
+pub mod Pace
+pub mod Plane
+pub mod Quadrant

@@ -20,7 +20,7 @@ pub struct Axis {
 }
 
 impl Axis {
-    ghost use Rattle.ng_canon.specs.Inside.{IsStandardAxis, is_on};
+    ghost use Rattle.ng_canon.specs.Geometry.{IsStandardAxis, is_on};
 
     /// An axis with a step and a travel. `None` if one of them is outside its limits.
     pub fn new(step_nm: u32, low: Len, high: Len) -> Option<Axis>
@@ -73,7 +73,7 @@ pub struct Geometry {
 }
 
 impl Geometry {
-    ghost use Rattle.ng_canon.specs.Inside.{IsStandard, is_inside};
+    ghost use Rattle.ng_canon.specs.Geometry.{IsStandard, is_inside};
 
     /// A machine with three axes. `None` if its traverse rate or its least period is outside its limits.
     pub fn new(x: Axis, y: Axis, z: Axis, traverse: Rate, least_period_us: u32) -> Option<Geometry>

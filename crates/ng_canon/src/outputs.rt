@@ -29,7 +29,7 @@ pub struct Outputs {
 
 impl Outputs {
     ghost use Rattle.std.specs.Prelude.{◌≡◌};
-    ghost use Rattle.ng_canon.specs.Fresh.{fresh_outputs};
+    ghost use Rattle.ng_canon.specs.Outputs.{fresh_outputs};
 
     /// Everything off: spindle stopped, speed 0, no coolant, no slots.
     pub fn fresh() -> Outputs

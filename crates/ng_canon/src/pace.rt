@@ -85,7 +85,7 @@ impl Model for Rate {
 
 impl Rate {
     ghost use Rattle.ng_num.specs.Range.{greatest};
-    ghost use Rattle.ng_canon.specs.Rates.{above_zero};
+    ghost use Rattle.ng_canon.specs.Pace.{above_zero};
 
     /// The rate of a feed. `None` if the feed isn't above 0.
     pub fn of(feed: Feed) -> Option<Rate>
@@ -133,7 +133,7 @@ impl Model for InverseTime {
 
 impl InverseTime {
     ghost use Rattle.ng_num.specs.Range.{greatest};
-    ghost use Rattle.ng_canon.specs.Rates.{above_zero};
+    ghost use Rattle.ng_canon.specs.Pace.{above_zero};
 
     /// The inverse time of a number. `None` if the number isn't above 0.
     pub fn of(number: Num) -> Option<InverseTime>

@@ -1,6 +1,6 @@
 //! The axes of an arc's plane, and the direction of an arc.
 ghost use Rattle.std.specs.Prelude.{◌≡◌};
-ghost use Rattle.ng_canon.specs.Planes.{pick_a, pick_b};
+ghost use Rattle.ng_canon.specs.Plane.{pick_a, pick_b};
 
 /// A plane of arcs and cycles (NISTIR 6556, 3.5.6). Its axes (a, b) are X Y, Z X and Y Z.
 #[derive(Clone, Copy, Debug, PartialEq, Eq)]

@@ -1,7 +1,7 @@
 //! Points of an arc's plane, relative to the arc's centre.
 ghost use Rattle.std.specs.Prelude.{◌≡◌, ◌^◌, ◌<◌, ◌≤◌, ◌*ℤ◌, unsigned_abs};
-ghost use Rattle.ng_canon.specs.Planes.{from_centre, square_of, cross, dot, mirror, AreBelowInSize};
-ghost use Rattle.ng_canon.specs.Quadrants.{quadrant, quadrant_changes};
+ghost use Rattle.ng_canon.specs.Plane.{from_centre, square_of, cross, dot, mirror, AreBelowInSize};
+ghost use Rattle.ng_canon.specs.Quadrant.{quadrant, quadrant_changes};
 
 use crate::plane::{ArcDirection, pick_a, pick_b};
 use crate::quadrant::Quadrant;
@@ -73,7 +73,7 @@ impl PlanePoint {
     }
 
     /// The quadrant that the point is in.
-    #[tactic(auto, unfolding(crate::specs::Quadrants::quadrant))]
+    #[tactic(auto, unfolding(crate::specs::Quadrant::quadrant))]
     pub fn quadrant(self) -> Quadrant
         ensures { result ≡ quadrant self }
     {

@@ -1,8 +1,8 @@
 //! The canonical text of commands. If the text can't grow, it is left as it was.
 ghost use Rattle.std.specs.Prelude.{◌≡◌, ◌++◌, OnOk, OnErr, codes};
 ghost use Rattle.std.specs.Fmt.{decimal};
-ghost use Rattle.ng_num.specs.Text.{number_text, point_text};
-ghost use Rattle.ng_canon.specs.Text.{canonical, canonical_text, command_text, plane_text, round_text, turn_text, unit_text, StaysWithin};
+ghost use Rattle.ng_num.specs.Printing.{number_text, point_text};
+ghost use Rattle.ng_canon.specs.Printing.{canonical, canonical_text, command_text, plane_text, round_text, turn_text, unit_text, StaysWithin};
 
 use crate::command::{ArcFeed, Canon, CanonicalCommand};
 use crate::plane::{ArcDirection, Plane};
@@ -148,7 +148,7 @@ fn push_words<A: Allocator + Copy + Drop>(
 }
 
 /// Appends a command whose arguments are numbers.
-#[tactic(auto, unfolding(crate::specs::Text::command_text))]
+#[tactic(auto, unfolding(crate::specs::Printing::command_text))]
 fn push_command<A: Allocator + Copy + Drop>(
     text: &mut Vec<u8, A>,
     command: &CanonicalCommand,
@@ -193,7 +193,7 @@ fn push_command<A: Allocator + Copy + Drop>(
 }
 
 /// Appends a command.
-#[tactic(auto, unfolding(crate::specs::Text::canonical_text))]
+#[tactic(auto, unfolding(crate::specs::Printing::canonical_text))]
 fn push_canon<A: Allocator + Copy + Drop>(
     text: &mut Vec<u8, A>,
     canon: &Canon<'_>,
@@ -268,7 +268,7 @@ fn print_at<A: Allocator + Copy + Drop>(
 
 /// Appends the canonical text of a straight traverse to a point. It does what `print_command` does, without building a
 /// command. If the text can't grow, it is left as it was.
-#[tactic(auto, unfolding(crate::specs::Text::command_text))]
+#[tactic(auto, unfolding(crate::specs::Printing::command_text))]
 pub fn print_traverse<A: Allocator + Copy + Drop>(
     text: &mut Vec<u8, A>,
     end: Point,
@@ -281,7 +281,7 @@ pub fn print_traverse<A: Allocator + Copy + Drop>(
 
 /// Appends the canonical text of a straight feed move to a point. It does what `print_command` does, without building a
 /// command. If the text can't grow, it is left as it was.
-#[tactic(auto, unfolding(crate::specs::Text::command_text))]
+#[tactic(auto, unfolding(crate::specs::Printing::command_text))]
 pub fn print_feed<A: Allocator + Copy + Drop>(
     text: &mut Vec<u8, A>,
     end: Point,

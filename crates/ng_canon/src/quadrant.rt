@@ -1,6 +1,6 @@
 //! Quadrants around an arc's centre.
 ghost use Rattle.std.specs.Prelude.{◌≡◌, ◌<◌};
-ghost use Rattle.ng_canon.specs.Quadrants.{quadrant_number, quadrant_after, same_quadrant, mirror_quadrant};
+ghost use Rattle.ng_canon.specs.Quadrant.{quadrant_number, quadrant_after, same_quadrant, mirror_quadrant};
 
 use crate::plane::ArcDirection;
 

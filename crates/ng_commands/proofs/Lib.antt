@@ -1,5 +1,5 @@
-pub mod Written
-pub mod Fixed
-pub mod Blanks
-pub mod Numbers
-pub mod Parted
+pub mod DigitSizeLemmas
+pub mod CommandStartLemmas
+pub mod BlankLemmas
+pub mod LengthTextLemmas
+pub mod FirstBlankLemmas

@@ -1,8 +1,8 @@
 -- The lines that the console writes in reply (own).
 use Rattle.std.specs.Prelude.{ℕ, Bool, true, false, Option, Some, None, List, [], ◌++◌, codes}
 use Rattle.std.specs.Fmt.{decimal}
-use Rattle.ng_num.specs.Text.{number_text}
-use Rattle.ng_num.specs.FaultText.{text as fault_text}
+use Rattle.ng_num.specs.Printing.{number_text}
+use Rattle.ng_num.specs.Fault.{text as fault_text}
 use Rattle.ng_num.specs.declared.fault.Fault.{Fault}
 use Rattle.ng_num.specs.declared.point.Point.{Point}
 use Rattle.ng_layout.specs.declared.half.Source.{Source}

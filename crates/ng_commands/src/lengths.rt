@@ -49,7 +49,7 @@ pub(crate) fn point(words: &[u8]) -> Option<Point>
 }
 
 /// The number of a slot, from its digits.
-#[tactic(auto, using(crate::proofs::Written::no_slot))]
+#[tactic(auto, using(crate::proofs::DigitSizeLemmas::no_slot))]
 fn slot(digits: &[u8]) -> Option<u16>
     ensures { MatchOption result ((n : ℕ) → AreDigitsOf digits.now n → length digits.now ≤ 3 → ⊥)
         (λ n. AreDigitsOf digits.now n × (length digits.now ≤ 3)) }

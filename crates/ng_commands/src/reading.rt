@@ -19,7 +19,7 @@ const MOST_TICKS: u32 = 1_000_000;
 
 /// The command in a line, without the line's end. `None` if the line isn't a command. Nothing is trimmed: a carriage
 /// return counts as part of the line. Source: own.
-#[tactic(auto, using(crate::proofs::Fixed::not_loaded, crate::proofs::Fixed::not_ticked, crate::proofs::Fixed::not_asked))]
+#[tactic(auto, using(crate::proofs::CommandStartLemmas::not_loaded, crate::proofs::CommandStartLemmas::not_ticked, crate::proofs::CommandStartLemmas::not_asked))]
 pub fn command_of(line: &[u8]) -> Option<ConsoleCommand<'_>>
     ensures { MatchOption result (IsNoCommand line.now) (IsCommand line.now) }
 {
@@ -57,7 +57,7 @@ pub fn command_of(line: &[u8]) -> Option<ConsoleCommand<'_>>
 }
 
 /// The length of a program, from its digits.
-#[tactic(auto, using(crate::proofs::Written::no_length))]
+#[tactic(auto, using(crate::proofs::DigitSizeLemmas::no_length))]
 fn loading(digits: &[u8]) -> Option<u32>
     ensures { MatchOption result ((n : ℕ) → AreDigitsOf digits.now n → length digits.now ≤ 7 → ⊥)
         (λ n. AreDigitsOf digits.now n × (length digits.now ≤ 7)) }
@@ -83,7 +83,7 @@ fn ticks(digits: &[u8]) -> Option<u32>
 }
 
 /// The command of these words, if it is one with fixed words.
-#[tactic(auto, using(crate::proofs::Fixed::plain_of))]
+#[tactic(auto, using(crate::proofs::CommandStartLemmas::plain_of))]
 fn plain(line: &[u8]) -> Option<ConsoleCommand<'static>>
     ensures { MatchOption result ((c : ConsoleCommand) → IsPlain c → SpellsCommand line.now c → ⊥) (λ c. SpellsCommand line.now c) }
 {

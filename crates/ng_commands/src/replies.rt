@@ -1,6 +1,6 @@
 //! The lines of replies. Each function appends to a text; after an error part of the line may have been appended.
 ghost use Rattle.std.specs.Prelude.{◌≡◌, ◌++◌, OnOk, codes};
-ghost use Rattle.ng_num.specs.Text.{number_text};
+ghost use Rattle.ng_num.specs.Printing.{number_text};
 ghost use Rattle.ng_commands.specs.Replies.{between, condition_text, counts_text, done_line, continues_ticks, half_text, known_text, point_text, refused_line, reply_line, source_text, machine_text, status_line, tick_line, ticks_line};
 
 use ng_layout::Source;

@@ -1,7 +1,7 @@
-mod Walked
-mod Entered
-mod Got
-mod JobWords
-mod Runs
-mod Headers
-mod Found
+mod CommandRowLemmas
+mod HelpWordLemmas
+mod ClapValueLemmas
+mod JobWordLemmas
+mod DryRunLemmas
+mod DeviceHeaderLemmas
+mod DeviceCopyLemmas

@@ -1,7 +1,7 @@
 -- The device in a file (own).
 use Rattle.std.specs.Prelude.{ℕ, ◌≡◌, ◌/◌, List, Option, IfSome, length}
 use Rattle.ng_rig.specs.Trace.{Began}
-use Rattle.ng_file.specs.FileRig.{failure_count, outlet, sector_count, storage}
+use Rattle.ng_file.specs.Rig.{failure_count, outlet, sector_count, storage}
 use Rattle.ng_file.specs.Promise.{Promise, IsDurable}
 use Rattle.ng_file.specs.Sectors.{AreHonest, image_of, trace_of}
 use Rattle.ng_file.specs.declared.rig.FileRig.{FileRig}

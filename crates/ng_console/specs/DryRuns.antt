@@ -15,7 +15,7 @@ use Rattle.ng_layout.specs.Areas.{large_size, least_size}
 use Rattle.ng_layout.specs.Stored.{StoredModel}
 use Rattle.ng_journal.specs.Recovery.{HasCause, IsFound}
 use Rattle.ng_session.specs.Entries.{after_load}
-use Rattle.ng_file.specs.Copies.{IsImageOf, sectors_in}
+use Rattle.ng_file.specs.Copying.{IsImageOf, sectors_in}
 use Rattle.ng_file.specs.declared.device.NoDevice.{NoDevice}
 use Rattle.ng_console.specs.Refusals.{IsRefusedWith, IsSilent, RefusesDevice}
 

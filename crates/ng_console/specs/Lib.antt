@@ -1,11 +1,11 @@
 pub mod Words
-pub mod Chosen
+pub mod SettingsFile
 pub mod Refusals
 pub mod DryRuns
-pub mod Formatting
+pub mod Format
 pub mod Operating
 pub mod Pacing
-pub mod Status
-pub mod Sizes
+pub mod Program
+pub mod Size
 pub mod Devices
-pub mod Growing
+pub mod Grow

@@ -4,14 +4,14 @@ use Rattle.std.specs.Prelude.{ℕ, ◌≡◌, ◌⊎◌, List, Option, Some, Non
 use Rattle.std.specs.declared.io.Error.{Error}
 use Rattle.std.specs.declared.alloc.Global.{Global}
 use Rattle.ng_settings.specs.declared.standard.Settings.{Settings}
-use Rattle.ng_file.specs.FileRig.{device_of}
+use Rattle.ng_file.specs.Rig.{device_of}
 use Rattle.ng_file.specs.Promise.{Promise, no_promise}
 use Rattle.ng_file.specs.declared.device.NoDevice.{NoDevice}
 use Rattle.ng_file.specs.declared.device.NoDevice.TheVariants.{Unusable}
 use Rattle.ng_file.specs.declared.opened.OpenedFile.{OpenedFile}
 use Rattle.ng_file.specs.declared.rig.FileRig.{FileRig}
 use Rattle.ng_run.specs.Consoles.{ConsoleSpec}
-use Rattle.ng_console.specs.Chosen.{GivesChoice}
+use Rattle.ng_console.specs.SettingsFile.{GivesChoice}
 use Rattle.ng_console.specs.Devices.{IsOver}
 use Rattle.ng_console.specs.Refusals.{IsSilent, RefusesDevice, RefusesSettings, RefusesStorage}
 use Rattle.ng_console.specs.declared.settings_file.NoSettings.{NoSettings}

@@ -6,8 +6,8 @@ use Rattle.std.specs.Io.KnownBytes.{Appends}
 use Rattle.ng_canon.specs.declared.geometry.Geometry.{Geometry}
 use Rattle.ng_pace.specs.declared.limits.Limits.{Limits}
 use Rattle.ng_motion.specs.declared.fault.MotionFault.{MotionFault}
-use Rattle.ng_motion.specs.Limits.{AreLimitsOf, IsRefused}
-use Rattle.ng_motion.specs.Texts.{fault_text}
+use Rattle.ng_motion.specs.Reading.{AreLimitsOf, IsRefused}
+use Rattle.ng_motion.specs.Fault.{fault_text}
 use Rattle.ng_schedule.specs.Schedule.{ScheduleSpec}
 use Rattle.ng_schedule.specs.declared.ending.Shown.{Shown}
 use Rattle.ng_schedule.specs.declared.ending.Shown.TheVariants.{Lines, Total}
@@ -15,7 +15,7 @@ use Rattle.ng_schedule.specs.declared.ending.Ended.{Ended}
 use Rattle.ng_schedule.specs.declared.ending.Ended.TheVariants.{Done, NotALine, TooLate}
 use Rattle.ng_schedule.specs.declared.ending.ScheduleFault.{ScheduleFault}
 use Rattle.ng_settings.specs.declared.standard.Settings.{Settings}
-use Rattle.ng_console.specs.Chosen.{GivesChoice}
+use Rattle.ng_console.specs.SettingsFile.{GivesChoice}
 use Rattle.ng_console.specs.Refusals.{IsSilent, RefusesSettings}
 use Rattle.ng_console.specs.declared.pacing.NoLimits.{NoLimits}
 use Rattle.ng_console.specs.declared.pacing.NoLimits.TheVariants.{Unread, Refused}

@@ -6,7 +6,7 @@ use Rattle.std.specs.declared.io.Error.{Error}
 use Rattle.std.specs.declared.io.ErrorKind.TheVariants as kind
 use Rattle.ng_num.specs.declared.fault.Fault.{Fault}
 use Rattle.ng_num.specs.declared.fault.Fault.TheVariants.{DeviceFailed, OutOfMemory}
-use Rattle.ng_num.specs.FaultText.{text as fault_text}
+use Rattle.ng_num.specs.Fault.{text as fault_text}
 use Rattle.ng_file.specs.declared.device.NoDevice.{NoDevice}
 use Rattle.ng_file.specs.declared.device.NoDevice.TheVariants.{Unopened, Unusable}
 use Rattle.ng_console.specs.declared.settings_file.NoSettings.{NoSettings}

@@ -4,11 +4,11 @@ ghost use Rattle.ng_num.specs.declared.fault.Fault.TheVariants.{DeviceFailed, No
 ghost use Rattle.ng_rig.specs.Calls.{IfHonest};
 ghost use Rattle.ng_layout.specs.Areas.{is_large_size};
 ghost use Rattle.ng_layout.specs.Header.{program_room};
-ghost use Rattle.ng_journal.specs.Formats.{FormatSpec};
+ghost use Rattle.ng_journal.specs.Formatting.{FormatSpec};
 ghost use Rattle.ng_journal.specs.Journal.{CountsFailure};
-ghost use Rattle.ng_console.specs.Formatting.{FormatsDevice, FormatsOpened, FormatsRig};
+ghost use Rattle.ng_console.specs.Format.{FormatsDevice, FormatsOpened, FormatsRig};
 ghost use Rattle.ng_console.specs.Refusals.{IsFaultOf, RefusesDevice, RefusesStorage};
-ghost use Rattle.ng_console.specs.Sizes.{wanted_size};
+ghost use Rattle.ng_console.specs.Size.{wanted_size};
 
 use crate::program::refuse;
 use crate::size::wanted_size;

@@ -2,7 +2,7 @@
 ghost use Rattle.std.specs.Prelude.{◌≡◌, ◌⊎◌, ◌≤◌, ℕ, List, IfOk, IfSome};
 ghost use Rattle.ng_num.specs.declared.fault.Fault.TheVariants.{OutOfMemory};
 ghost use Rattle.ng_layout.specs.Areas.{large_size};
-ghost use Rattle.ng_file.specs.Copies.{IsCopy};
+ghost use Rattle.ng_file.specs.Copying.{IsCopy};
 ghost use Rattle.ng_console.specs.DryRuns.{Finds, RunsFileFrom, RunsFileFromOpened, RunsFrom, RunsFromFound};
 
 use crate::format::{fault_of, refuse_device};

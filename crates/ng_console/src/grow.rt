@@ -4,7 +4,7 @@ ghost use Rattle.ng_num.specs.declared.fault.Fault.TheVariants.{DeviceFailed, No
 ghost use Rattle.ng_file.specs.Bytes.{Lengthened, LengthenedInPart, sector_of};
 ghost use Rattle.ng_layout.specs.Header.{header_in};
 ghost use Rattle.ng_layout.specs.Stands.{newer};
-ghost use Rattle.ng_console.specs.Growing.{GrowsFile, GrowsInPart, GrowsOpened, is_device, large_bytes};
+ghost use Rattle.ng_console.specs.Grow.{GrowsFile, GrowsInPart, GrowsOpened, is_device, large_bytes};
 
 use crate::format::refuse_device;
 use crate::program::refuse;

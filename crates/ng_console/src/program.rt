@@ -2,7 +2,7 @@
 ghost use Rattle.std.specs.Prelude.{ℕ, ◌≡◌, ◌⊎◌, ◌≤◌, List, IfOk, OnOk, map};
 ghost use Rattle.std.specs.Io.KnownBytes.{Appends};
 ghost use Rattle.ng_console.specs.DryRuns.{IsDryRun, status_of};
-ghost use Rattle.ng_console.specs.Status.{JobSpec, RunsChosen, RunsFile};
+ghost use Rattle.ng_console.specs.Program.{JobSpec, RunsChosen, RunsFile};
 ghost use Rattle.ng_console.specs.Refusals.{RefusesSettings, refused_text};
 ghost use Rattle.ng_console.specs.Words.{RequestsJob};
 

@@ -1,6 +1,6 @@
 //! The settings of a run.
 ghost use Rattle.std.specs.Prelude.{◌≢◌, IfSome};
-ghost use Rattle.ng_console.specs.Chosen.{GivesSettings, GivesChoice};
+ghost use Rattle.ng_console.specs.SettingsFile.{GivesSettings, GivesChoice};
 
 use ng_num::Fault;
 use ng_settings::{Settings, settings};

@@ -1,7 +1,7 @@
 //! How many sectors a device needs.
 ghost use Rattle.std.specs.Prelude.{◌≡◌, ◌≤◌};
 ghost use Rattle.ng_layout.specs.Areas.{least_size};
-ghost use Rattle.ng_console.specs.Sizes.{wanted_size};
+ghost use Rattle.ng_console.specs.Size.{wanted_size};
 
 use ng_layout::{LARGE_SIZE, LEAST_SIZE};
 

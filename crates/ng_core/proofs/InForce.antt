@@ -6,7 +6,7 @@ use Rattle.ng_num.specs.declared.fault.Fault.{Fault}
 use Rattle.ng_num.specs.declared.fault.Fault.TheVariants.{DeviceFailed, CountersUsed, OutOfMemory}
 use Rattle.ng_canon.specs.declared.item.Item.{Item}
 use Rattle.ng_words.specs.declared.start.LineKind.{LineKind}
-use Rattle.ng_rig.specs.Device.{Device}
+use Rattle.ng_rig.specs.Rig.{Device}
 use Rattle.ng_rig.specs.Trace.{Handed}
 use Rattle.ng_rig.specs.Calls.{IfHonest}
 use Rattle.ng_text.specs.LinesBefore.{IsTrueOf}
@@ -17,7 +17,7 @@ use Rattle.ng_layout.specs.Stored.{StoredModel}
 use Rattle.ng_log.specs.Reading.{ReadSpec}
 use Rattle.ng_journal.specs.Journal.{JournalModel, HoldsProgram}
 use Rattle.ng_journal.specs.Storing.{Ledger, ledger_of}
-use Rattle.ng_journal.proofs.ProgramsHeld.{holds_same, holds_handed}
+use Rattle.ng_journal.proofs.ProgramHeldLemmas.{holds_same, holds_handed}
 use Rattle.ng_session.specs.Entries.{after_load}
 use Rattle.ng_session.specs.Planned.{KnownModel, IsKnownOf}
 use Rattle.ng_session.specs.Session.{CurrentBlockModel, SessionModel, Transition, begin, end, committed, tick}
@@ -26,9 +26,9 @@ use Rattle.ng_session.specs.declared.reply.Reply.{Reply}
 use Rattle.ng_session.specs.declared.reply.Reply.TheVariants as reply
 use Rattle.ng_core.specs.Model.{ControllerModel, HasInForce}
 use Rattle.ng_core.specs.Events.{IsAnsweredBy, IsAnsweredAnyway, LeavesProgram, ReadsProgram, handing}
-use Rattle.ng_core.proofs.Choosing.{with_session}
-use Rattle.ng_core.proofs.Quiet.{IsStill, still_begin}
-use Rattle.ng_core.proofs.Ticks.{IsDue, tick_item}
+use Rattle.ng_core.proofs.TickChoiceLemmas.{with_session}
+use Rattle.ng_core.proofs.QuietEventLemmas.{IsStill, still_begin}
+use Rattle.ng_core.proofs.TickLemmas.{IsDue, tick_item}
 
 -- the program in force stays the same
 abbrev pub KeepsProgram : {R : Type 0} → (R → Device) → JournalModel R → JournalModel R → Type 0

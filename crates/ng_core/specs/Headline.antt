@@ -1,7 +1,7 @@
 -- What a power cut at any time since power on leaves, in terms of the plain interpreter alone (own).
 use Rattle.std.specs.Prelude.{◌≡◌, ◌≤◌, ◌+◌, ℕ, ℤ, suc, false, List, [], ◌++◌, length, take, drop, Ok, IfOk}
 use Rattle.ng_canon.specs.declared.item.Item.{Item}
-use Rattle.ng_rig.specs.Device.{Device}
+use Rattle.ng_rig.specs.Rig.{Device}
 use Rattle.ng_rig.specs.Calls.{IfHonest}
 use Rattle.ng_rig.specs.Trace.{Image, Trace, reads, items, moment, trace_at, IsStop}
 use Rattle.ng_layout.specs.Stands.{stands_beside, IsWritten}
@@ -17,7 +17,7 @@ use Rattle.ng_session.specs.declared.event.Event.{Event}
 use Rattle.ng_session.specs.declared.reply.Reply.{Reply}
 use Rattle.ng_core.specs.Model.{ControllerModel, IsAtRestWith}
 use Rattle.ng_core.specs.Moments.{AtEachStop, answered_by}
-use Rattle.ng_core.specs.Powers.{PowerOnResult}
+use Rattle.ng_core.specs.Power.{PowerOnResult}
 use Rattle.ng_core.specs.Runs.{PassesAsSession, IsRun, tried_events}
 use Rattle.ng_core.specs.AnsweredEvents.{AreAnsweredEvents, answered_at}
 

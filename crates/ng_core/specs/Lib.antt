@@ -3,7 +3,7 @@ pub mod Causes
 pub mod Needs
 pub mod Events
 pub mod AnsweredEvents
-pub mod Powers
+pub mod Power
 pub mod Moments
 pub mod Runs
 pub mod Headline

@@ -4,7 +4,7 @@ use Rattle.std.specs.Prelude.{◌≡◌, ◌⊎◌, ◌≤◌, ◌<◌, ℕ, ℤ
 use Rattle.ng_num.specs.declared.fault.Fault.{Fault}
 use Rattle.ng_canon.specs.declared.geometry.Geometry.{Geometry}
 use Rattle.ng_canon.specs.declared.item.Item.{Item}
-use Rattle.ng_rig.specs.Device.{Device}
+use Rattle.ng_rig.specs.Rig.{Device}
 use Rattle.ng_rig.specs.Trace.{Image, Trace, reads, items, moment, trace_at, IsStop}
 use Rattle.ng_rig.specs.Continuation.{IsSynced}
 use Rattle.ng_settings.specs.declared.standard.Settings.{Settings}
@@ -12,7 +12,7 @@ use Rattle.ng_layout.specs.Areas.{header_count, least_size}
 use Rattle.ng_layout.specs.Header.{header_in, program_room}
 use Rattle.ng_layout.specs.Stands.{is_large, in_force, stands_beside, recovered, IsWritten}
 use Rattle.ng_layout.specs.Stored.{DurableState}
-use Rattle.ng_journal.specs.Formats.{FormatSpec, fresh_standing}
+use Rattle.ng_journal.specs.Formatting.{FormatSpec, fresh_standing}
 use Rattle.ng_journal.specs.Journal.{StandsBeside}
 use Rattle.ng_journal.specs.Recovery.{IsTableOver}
 use Rattle.ng_session.specs.Runs.{session_at_power_on, entries_of, under_way, dones, lines_given}
@@ -22,7 +22,7 @@ use Rattle.ng_core.specs.Model.{ControllerModel}
 use Rattle.ng_core.specs.Moments.{answered_by}
 use Rattle.ng_core.specs.Runs.{PassesAsSession, tried_events}
 use Rattle.ng_core.specs.AnsweredEvents.{AreAnsweredEvents, answered_at}
-use Rattle.ng_core.specs.Powers.{PowerOnResult, PowerOnSpec, power_on_rig}
+use Rattle.ng_core.specs.Power.{PowerOnResult, PowerOnSpec, power_on_rig}
 use Rattle.ng_core.specs.Lives.{CutSession, CommittedSession, state_after_session, items_of_session, KeepsToFold, SessionKeepsToFold}
 
 -- ---- a device that is grown between two sessions

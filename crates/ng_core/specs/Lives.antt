@@ -3,7 +3,7 @@
 -- power on takes from the settings.
 use Rattle.std.specs.Prelude.{◌≡◌, ◌⊎◌, ◌≤◌, ◌+◌, ℕ, ℤ, suc, Option, Some, None, List, [], ◌∷◌, ◌++◌, length, take, drop, Ok}
 use Rattle.ng_canon.specs.declared.item.Item.{Item}
-use Rattle.ng_rig.specs.Device.{Device}
+use Rattle.ng_rig.specs.Rig.{Device}
 use Rattle.ng_rig.specs.Trace.{Image, Trace, reads, items, moment, IsStop}
 use Rattle.ng_rig.specs.Continuation.{IsSynced}
 use Rattle.ng_layout.specs.Stands.{stands_beside, recovered, IsWritten}
@@ -19,7 +19,7 @@ use Rattle.ng_session.specs.declared.reply.Reply.{Reply}
 use Rattle.ng_core.specs.Model.{ControllerModel}
 use Rattle.ng_core.specs.Moments.{AtEachStop, answered_by}
 use Rattle.ng_core.specs.Runs.{tried_events}
-use Rattle.ng_core.specs.Powers.{PowerOnResult, PowerOnSpecIfHonest}
+use Rattle.ng_core.specs.Power.{PowerOnResult, PowerOnSpecIfHonest}
 use Rattle.ng_core.specs.Headline.{IsAccounted, Accounts}
 
 -- ---- a session

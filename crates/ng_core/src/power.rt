@@ -5,7 +5,7 @@ ghost use Rattle.ng_rig.specs.Trace.{reads};
 ghost use Rattle.ng_layout.specs.Areas.{least_size};
 ghost use Rattle.ng_journal.specs.Recovery.{IsTableOver};
 ghost use Rattle.ng_core.specs.Headline.{BeginsPast};
-ghost use Rattle.ng_core.specs.Powers.{PowerOnSpec, power_on_rig};
+ghost use Rattle.ng_core.specs.Power.{PowerOnSpec, power_on_rig};
 
 use crate::controller::Controller;
 use ng_journal::recover;

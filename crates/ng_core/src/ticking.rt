@@ -6,7 +6,7 @@ ghost use Rattle.ng_rig.specs.Calls.{IfHonest};
 ghost use Rattle.ng_layout.specs.Storable.{IsStorableHalf};
 ghost use Rattle.ng_layout.specs.Stored.{DurableState};
 ghost use Rattle.ng_journal.specs.Journal.{IsDurablyAt, HoldsProgram, CountsFailure, IsBrokenBy};
-ghost use Rattle.ng_journal.specs.ProgramLines.{FirstKindSpec};
+ghost use Rattle.ng_journal.specs.Program.{FirstKindSpec};
 ghost use Rattle.ng_journal.specs.Storing.{ledger_of};
 ghost use Rattle.ng_text.specs.LinesBefore.{IsTrueOf, IsLineBetween};
 ghost use Rattle.ng_text.specs.Percent.{first_kind};

@@ -7,14 +7,14 @@ use Rattle.ng_num.specs.Causes.{first_fault, unless}
 use Rattle.ng_num.specs.declared.fault.Fault.{Fault}
 use Rattle.ng_num.specs.declared.fault.Fault.TheVariants.{OutOfRange, CycleNoAxis, NoZ, NoR, RBelowZ, InverseTime}
 use Rattle.ng_num.specs.declared.fault.Fault.TheVariants.{NegativeP, BadQ, SpindleStopped, NoFeed, OutsideTravel}
-use Rattle.ng_canon.specs.Inside.{is_inside}
-use Rattle.ng_canon.specs.Rates.{above_zero}
+use Rattle.ng_canon.specs.Geometry.{is_inside}
+use Rattle.ng_canon.specs.Pace.{above_zero}
 use Rattle.ng_canon.specs.declared.geometry.Geometry.{Geometry}
 use Rattle.ng_canon.specs.declared.outputs.Spindle.{Spindle}
 use Rattle.ng_canon.specs.declared.outputs.Spindle.TheVariants.{Stopped, Clockwise, Counterclockwise}
 use Rattle.ng_canon.specs.declared.segment.Segment.{Segment}
 use Rattle.ng_canon.specs.declared.segment.Segment.TheVariants as segment
-use Rattle.ng_offsets.specs.Points.{shift_x, shift_y, shift_z}
+use Rattle.ng_offsets.specs.Offsets.{shift_x, shift_y, shift_z}
 use Rattle.ng_cycles.specs.declared.drill.Drill.{Drill}
 use Rattle.ng_cycles.specs.declared.drill.Work.{Work}
 use Rattle.ng_cycles.specs.declared.drill.Work.TheVariants as work
@@ -24,7 +24,7 @@ use Rattle.ng_state.specs.declared.kept_words.KeptWords.{KeptWords}
 use Rattle.ng_cycles.specs.declared.words.CycleKind.{CycleKind}
 use Rattle.ng_cycles.specs.declared.words.CycleKind.TheVariants.{Drilling, DrillingWithDwell, PeckDrilling, Boring, BoringWithStop, BoringWithDwell}
 use Rattle.ng_cycles.specs.declared.words.CycleContext.{CycleContext}
-use Rattle.ng_cycles.specs.Lengths.{hole_axis_of, r_of, z_of, lengths, is_far}
+use Rattle.ng_cycles.specs.Heights.{hole_axis_of, r_of, z_of, lengths, is_far}
 use Rattle.ng_cycles.specs.Segments.{cycle_segments}
 use Rattle.ng_state.specs.KeptWords.{in_force}
 

@@ -2,6 +2,6 @@ pub mod Strokes
 pub mod Canned
 pub mod Segments
 pub mod Left
-pub mod Lengths
+pub mod Heights
 pub mod Faults
 pub mod Private

@@ -2,7 +2,7 @@
 ghost use Rattle.std.specs.Prelude.{◌≡◌, ◌≤◌, ◌∷◌, [], pos, int_lt, unwrap_or, IfOk, if◌then◌else◌};
 ghost use Rattle.std.specs.Int.{int_max};
 ghost use Rattle.std.specs.Option.{is_none, option_and_then};
-ghost use Rattle.ng_canon.specs.Rates.{above_zero};
+ghost use Rattle.ng_canon.specs.Pace.{above_zero};
 ghost use Rattle.ng_num.specs.Range.{IsCount};
 ghost use Rattle.ng_cycles.specs.Strokes.{coordinate};
 ghost use Rattle.ng_cycles.specs.Canned.{IsDeep, IsMade};

@@ -2,9 +2,9 @@
 ghost use Rattle.std.specs.Prelude.{◌≡◌, ◌≤◌, ◌+ℤ◌, ◌-ℤ◌, ◌*ℤ◌, ◌||◌, ◌++◌, pos, true, false, flat_map, IfOk};
 ghost use Rattle.std.specs.List.{list_any};
 ghost use Rattle.ng_num.specs.Range.{IsCount};
-ghost use Rattle.ng_cycles.specs.Lengths.{hole_axis_of, r_of, heights_of, place_lengths, r_lengths, z_lengths, height_lengths, lengths, lengths_in, optional_lengths_of, repeated, is_far, far_unless};
+ghost use Rattle.ng_cycles.specs.Heights.{hole_axis_of, r_of, heights_of, place_lengths, r_lengths, z_lengths, height_lengths, lengths, lengths_in, optional_lengths_of, repeated, is_far, far_unless};
 ghost use Rattle.ng_cycles.specs.Strokes.{numbers_from, coordinate};
-ghost use Rattle.ng_offsets.specs.Points.{shift_z};
+ghost use Rattle.ng_offsets.specs.Offsets.{shift_z};
 
 use crate::drill::HoleAxis;
 use crate::holes::times;

@@ -36,7 +36,7 @@ fn depth_of(count: u64, peck: Peck) -> i128
 
 impl HoleAxis {
     /// The coordinate at the hole of a repeat. If that of the last repeat is in range, so are all before it.
-    #[tactic(auto, using(crate::proofs::Between::between))]
+    #[tactic(auto, using(crate::proofs::CoordinateBetweenLemmas::between))]
     pub(crate) fn coordinate(&self, repeat: u32, repeats: u32) -> Len
         requires before { repeat ≤ repeats }
         requires last { IsCount (coordinate self.now repeats) }

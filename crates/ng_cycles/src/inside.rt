@@ -9,7 +9,7 @@ use ng_num::Len;
 
 impl HoleAxis {
     ghost use Rattle.std.specs.Prelude.{◌&&◌};
-    ghost use Rattle.ng_canon.specs.Inside.{is_on};
+    ghost use Rattle.ng_canon.specs.Geometry.{is_on};
     ghost use Rattle.ng_cycles.specs.Strokes.{coordinate};
 
     /// Whether its first and its last coordinate are on an axis.

@@ -11,6 +11,7 @@
 //! words that are kept, and on `ng_offsets` for the difference between program and machine coordinates.
 #![tactic(auto)]
 
+mod after_segments;
 mod canned;
 mod count;
 mod cycle;
@@ -23,7 +24,6 @@ mod motion_state;
 mod peck;
 mod phase;
 mod skip;
-mod stood;
 mod words;
 
 pub use canned::Canned;

@@ -24,7 +24,7 @@ impl Model for Peck {
 impl Peck {
     ghost use Rattle.std.specs.Prelude.{◌≡◌, ◌<◌, ◌≤◌};
     ghost use Rattle.ng_num.specs.Range.{greatest};
-    ghost use Rattle.ng_canon.specs.Rates.{above_zero};
+    ghost use Rattle.ng_canon.specs.Pace.{above_zero};
 
     /// The peck of a length. `None` if the length isn't above 0.
     pub fn of(length: Len) -> Option<Peck>

@@ -10,7 +10,7 @@ use crate::phase::{Pecking, Phase};
 use ng_num::Point;
 
 /// How often a length fits into a number, at most `most` times, and the remainder.
-#[tactic(auto, using(crate::proofs::Skips::parts_fit))]
+#[tactic(auto, using(crate::proofs::SkipLemmas::parts_fit))]
 fn parts(n: u64, length: u64, most: u64) -> (u64, u64)
     requires { 1 ≤ length }
     ensures sum { n ≡ result.0 * length + result.1 }

@@ -1,2 +1,2 @@
-pub mod Rising
-pub mod Histories
+pub mod RisingNumberLemmas
+pub mod CallHistoryLemmas

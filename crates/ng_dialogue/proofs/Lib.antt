@@ -1,4 +1,4 @@
-pub mod Ranges
-pub mod Taking
-pub mod Asked
-pub mod Sending
+pub mod BufferLemmas
+pub mod ReaderBytesLemmas
+pub mod HeardOrderLemmas
+pub mod LineWriteLemmas

@@ -1,4 +1,4 @@
 pub mod Waiting
 pub mod Reading
-pub mod Orders
+pub mod Hearing
 pub mod Telling

@@ -1,7 +1,7 @@
 -- How a reader's bytes are split into lines and the bytes of programs (own).
 use Rattle.std.specs.Prelude.{◌≡◌, ◌≢◌, ◌<◌, ◌⊎◌, ℕ, List, [], ◌∷◌, ◌++◌, Option, None, Some, take, length}
 use Rattle.std.specs.Io.KnownBytes.{Consumes, IsAtEnd}
-use Rattle.ng_text.specs.Newlines.{HasNoNewline}
+use Rattle.ng_text.specs.Split.{HasNoNewline}
 use Rattle.ng_dialogue.specs.declared.bytes.TakenBytes.{TakenBytes}
 use Rattle.ng_dialogue.specs.declared.bytes.TakenBytes.TheVariants.{Whole, NoRoom, Cut}
 

@@ -1,6 +1,6 @@
 //! What the console is asked to do, line by line.
 ghost use Rattle.std.specs.Prelude.{◌≡◌, true, IfOk};
-ghost use Rattle.ng_dialogue.specs.Orders.{AfterCommand, TakesCommand, TakesOrder};
+ghost use Rattle.ng_dialogue.specs.Hearing.{AfterCommand, TakesCommand, TakesOrder};
 ghost use Rattle.ng_dialogue.specs.Waiting.{EndHolds, text_left};
 
 use crate::bytes::{TakenBytes, take_bytes};

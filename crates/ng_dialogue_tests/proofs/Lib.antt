@@ -1,1 +1,1 @@
-mod OneWrite
+mod ByteWriteLemmas

@@ -3,7 +3,7 @@ use Rattle.std.proofs.Common.{◌≡◌, ℕ, List, [], ◌++◌, Option, Result
 use Rattle.std.specs.Io.KnownBytes.{Appends}
 use Rattle.ng_dry.specs.Flush.{FlushSpec}
 use Rattle.ng_dry.specs.declared.ending.DryFault.{DryFault}
-use Rattle.ng_text.proofs.Streams.{Appends-nil, Appends-trans}
+use Rattle.ng_text.proofs.KnownBytesLemmas.{Appends-nil, Appends-trans}
 
 -- nothing is written yet
 pub Waits : {T : Type 0} (a : Option (List ℕ)) (waiting left : List ℕ) (x : T) → left ≡ waiting → FlushSpec a a waiting left (Ok x)

@@ -1,5 +1,5 @@
 pub mod OutcomeLemmas
 pub mod RunLemmas
-pub mod StepLemmas
+pub mod RunPartLemmas
 pub mod FlushLemmas
 pub mod CloseLemmas

@@ -1,7 +1,7 @@
 -- The fold with the kind of the first line equals the fold with the lines before.
 use Rattle.std.proofs.Common.{◌≡◌, ℕ, ◌+◌, List, [], ◌∷◌, ◌++◌, length, cond, Result, Ok, Err, refl, ap, ◌∙◌, arith, length-append}
 use Rattle.ng_num.specs.declared.fault.Fault.{Fault}
-use Rattle.ng_words.specs.Kinds.{kind_of}
+use Rattle.ng_words.specs.Start.{kind_of}
 use Rattle.ng_state.specs.State.{StateModel}
 use Rattle.ng_block.specs.Effects.{Done}
 use Rattle.ng_block.specs.Program.{TermsModel, executed_after, is_end}

@@ -2,7 +2,7 @@
 use Rattle.std.proofs.Common.{◌≡◌, ℕ, ◌+◌, List, ◌∷◌, ◌++◌, Option, Bool, true, false, Result, Ok, Err, subst, refl, ap, sym, ◌∙◌, append_assoc, append-nil, []}
 use Rattle.std.specs.Io.KnownBytes.{Appends}
 use Rattle.ng_num.specs.declared.fault.Fault.{Fault}
-use Rattle.ng_words.specs.Kinds.{kind_of}
+use Rattle.ng_words.specs.Start.{kind_of}
 use Rattle.ng_block.specs.Effects.{Done}
 use Rattle.ng_block.specs.Program.{is_end, executed_after}
 use Rattle.ng_text.specs.Percent.{kind_before}
@@ -12,7 +12,7 @@ use Rattle.ng_dry.specs.Private.Parts.{DryRunModel, outcome_by, due, Goes, Break
 use Rattle.ng_dry.specs.declared.ending.Ended.{Ended}
 use Rattle.ng_dry.specs.declared.ending.Ended.TheVariants as ended
 use Rattle.ng_dry.specs.declared.ending.DryFault.{DryFault}
-use Rattle.ng_text.proofs.Streams.{Appends-trans}
+use Rattle.ng_text.proofs.KnownBytesLemmas.{Appends-trans}
 
 -- what a line does
 due-line : (here start : DryRunModel) (line : List ℕ) (r : Result Done Fault) (more : List (List ℕ)) → here ≡ start → executed_after here.terms here.first here.setup line ≡ r

@@ -4,8 +4,8 @@ use Rattle.std.specs.Fmt.{decimal}
 use Rattle.std.specs.Str.Lines.{lines}
 use Rattle.std.specs.Io.KnownBytes.{Appends}
 use Rattle.ng_num.specs.declared.fault.Fault.{Fault}
-use Rattle.ng_num.specs.FaultText.{text as fault_text}
-use Rattle.ng_canon.specs.Text.{CanonModel, canonical_text}
+use Rattle.ng_num.specs.Fault.{text as fault_text}
+use Rattle.ng_canon.specs.Printing.{CanonModel, canonical_text}
 use Rattle.ng_state.specs.State.{StateModel, fresh}
 use Rattle.ng_block.specs.Effects.{Done}
 use Rattle.ng_block.specs.Program.{TermsModel, executed_in_program, is_end}

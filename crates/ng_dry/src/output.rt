@@ -1,12 +1,12 @@
 //! Writing the text of a run.
 ghost use Rattle.std.specs.Prelude.{◌≡◌, ◌++◌, ◌∷◌, [], map, OnOk, OnErr, codes};
 ghost use Rattle.std.specs.Fmt.{decimal};
-ghost use Rattle.ng_canon.specs.Text.{StaysWithin, canonical, canonical_text, command_text, numeric};
+ghost use Rattle.ng_canon.specs.Printing.{StaysWithin, canonical, canonical_text, command_text, numeric};
 ghost use Rattle.ng_dry.specs.Dry.{commands_text, refusal_text};
 ghost use Rattle.ng_dry.specs.Flush.{Wrote, FlushSpec};
 ghost use Rattle.ng_dry.specs.Private.Parts.{WritesOrBeginning};
 ghost use Rattle.ng_block.specs.Effects.{commands_by};
-ghost use Rattle.ng_block.specs.Paths.{pace_command};
+ghost use Rattle.ng_block.specs.Path.{pace_command};
 ghost use Rattle.ng_block.specs.Plan.{feed_commands};
 
 use crate::ending::DryFault;

@@ -3,7 +3,7 @@ ghost use Rattle.std.specs.Prelude.{◌≡◌, ◌+◌, ◌<◌, ◌≤◌, ◌^
 ghost use Rattle.std.specs.Str.Lines.{strip_carriage_return};
 ghost use Rattle.ng_dry.specs.Dry.{Output, DryRunSpec, onto, refused};
 ghost use Rattle.ng_dry.specs.Private.Parts.{LineStepSpec, rest_of};
-ghost use Rattle.ng_text.specs.Newlines.{HasNoNewline};
+ghost use Rattle.ng_text.specs.Split.{HasNoNewline};
 ghost use Rattle.ng_num.specs.declared.fault.Fault.TheVariants.{LineTooLong};
 
 use crate::ending::{DryFault, Ended};

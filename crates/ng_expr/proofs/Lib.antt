@@ -1,2 +1,2 @@
-pub mod WalkLaws
-pub mod SettleLaws
+pub mod TreeWalkLemmas
+pub mod SettleLemmas

@@ -11,7 +11,7 @@ use Rattle.ng_num.specs.Whole.{fix, fup, round, whole_of}
 use Rattle.ng_num.specs.declared.fault.Fault.{Fault}
 use Rattle.ng_num.specs.declared.fault.Fault.TheVariants.{OutOfRange, BadIndex}
 use Rattle.ng_params.specs.Numbers.{index_of}
-use Rattle.ng_params.specs.Table.{at}
+use Rattle.ng_params.specs.Params.{at}
 use Rattle.ng_words.specs.Grammar.{Tree, number, parameter, bracketed, applied, joined}
 use Rattle.ng_words.specs.declared.tree.Operation.{Operation}
 use Rattle.ng_words.specs.declared.tree.Operation.TheVariants.{Power, Times, Over, Modulo, Plus, Minus, Or, Xor, And}

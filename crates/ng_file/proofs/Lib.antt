@@ -1,5 +1,5 @@
-mod Promises
+mod StoragePromiseLemmas
 pub mod SectorLemmas
-pub mod Again
-pub mod Appending
-pub mod Zeros
+pub mod RewriteLemmas
+pub mod ByteAppendLemmas
+pub mod ZeroAppendLemmas

@@ -1,5 +1,5 @@
 pub mod Bytes
-pub mod Copies
-pub mod FileRig
+pub mod Copying
+pub mod Rig
 pub mod Promise
 pub mod Sectors

@@ -1,9 +1,9 @@
 //! A copy in memory of the device in a file.
 ghost use Rattle.std.specs.Prelude.{◌≡◌, ◌≢◌, ◌+◌, ◌*◌, ◌≤◌, ◌<◌, ◌^◌, ℕ, IfOk, OnOk, IfSome};
-ghost use Rattle.ng_rig.specs.MemoryRig.{sector_count, trace_of};
+ghost use Rattle.ng_rig.specs.Memory.{sector_count, trace_of};
 ghost use Rattle.ng_rig.specs.Trace.{reads};
 ghost use Rattle.ng_file.specs.Bytes.{sector_of};
-ghost use Rattle.ng_file.specs.Copies.{IsCopy, sectors_in};
+ghost use Rattle.ng_file.specs.Copying.{IsCopy, sectors_in};
 
 use crate::storage::{SECTOR, Storage};
 use ng_rig::{Failed, MemoryRig, Rig};

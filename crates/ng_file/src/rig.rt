@@ -30,7 +30,7 @@ impl<S: Storage + Drop, W: Write + Drop, A: Allocator + Copy + Drop> FileRig<S, 
     ghost use Rattle.std.specs.Io.KnownBytes.{Appends};
     ghost use Rattle.ng_file.specs.Bytes.{AppendsBeginning, Put, PutInPart};
     ghost use Rattle.ng_rig.specs.Trace.{Began};
-    ghost use Rattle.ng_file.specs.FileRig.{failure_count, outlet, sector_count, storage};
+    ghost use Rattle.ng_file.specs.Rig.{failure_count, outlet, sector_count, storage};
     ghost use Rattle.ng_file.specs.Promise.{IsDurable};
     ghost use Rattle.ng_file.specs.Sectors.{AreHonest, image_of, trace_of};
     ghost use Rattle.ng_lines.specs.Lines.{item_line};
@@ -102,7 +102,7 @@ impl<S: Storage + Drop, W: Write + Drop, A: Allocator + Copy + Drop> Rig for Fil
     ghost use Rattle.ng_rig.specs.Calls.{HandOutSpec, IfHonest, IsCall, SyncSpec, WriteSpec};
     ghost use Rattle.ng_rig.specs.Trace.{reads};
     ghost use Rattle.ng_file.specs.Bytes.{AppendsBeginning, Put, PutInPart, sector_of};
-    ghost use Rattle.ng_file.specs.FileRig.{device_of, outlet, sector_count, storage};
+    ghost use Rattle.ng_file.specs.Rig.{device_of, outlet, sector_count, storage};
     ghost use Rattle.ng_file.specs.Sectors.{trace_of};
     ghost use Rattle.ng_lines.specs.Lines.{item_line};
 

@@ -1,10 +1,10 @@
 pub mod Area
 pub mod AtRest
 pub mod Failures
-pub mod Formats
+pub mod Formatting
 pub mod Journal
 pub mod Loads
-pub mod ProgramLines
+pub mod Program
 pub mod Recover
 pub mod Recovery
 pub mod Storing

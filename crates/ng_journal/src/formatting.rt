@@ -10,7 +10,7 @@ ghost use Rattle.ng_layout.specs.Limits.{sector_size};
 ghost use Rattle.ng_layout.specs.Snapshot.{HoldsPart};
 ghost use Rattle.ng_layout.specs.Stored.{fresh_stored};
 ghost use Rattle.ng_journal.specs.Private.Overwrites.{Overwrites};
-ghost use Rattle.ng_journal.specs.Formats.{IsEmpty, FormatSpec};
+ghost use Rattle.ng_journal.specs.Formatting.{IsEmpty, FormatSpec};
 ghost use Rattle.ng_journal.specs.Journal.{CountsFailure};
 
 use crate::checkpoint::header_sector;

@@ -6,7 +6,7 @@ ghost use Rattle.ng_layout.specs.Areas.{program_size, greatest_area, program_fir
 ghost use Rattle.ng_layout.specs.Header.{longest_in};
 ghost use Rattle.ng_layout.specs.Stands.{stretch};
 ghost use Rattle.ng_log.specs.Reading.{ReadSpec};
-ghost use Rattle.ng_text.specs.FirstLines.{kind_in};
+ghost use Rattle.ng_text.specs.FirstLine.{kind_in};
 
 use crate::line::part_of;
 use ng_layout::{SECTOR_BYTES, program_first};

@@ -6,7 +6,7 @@ ghost use Rattle.ng_params.specs.Numbers.{parameter_count};
 ghost use Rattle.ng_layout.specs.Areas.{log_size_of, least_size};
 ghost use Rattle.ng_layout.specs.Storable.{IsStorableHalf, IsStorable};
 ghost use Rattle.ng_layout.specs.Stored.{DurableState};
-ghost use Rattle.ng_log.specs.Appends.{WritesRecord};
+ghost use Rattle.ng_log.specs.Writing.{WritesRecord};
 ghost use Rattle.ng_log.specs.AtEnd.{IsAtEnd, no_records};
 ghost use Rattle.ng_offsets.specs.Tools.{first_change, IsOneSlotFrom};
 ghost use Rattle.ng_params.specs.Differences.{differences};

@@ -4,7 +4,7 @@ use Rattle.std.proofs.Common.{length, take, drop, replicate, ℤ, pos, Option, S
 use Rattle.std.proofs.Common.{unwrap_or, IsSome, IsNone, if◌then◌else◌, refl, sym, ◌∙◌, ap, subst, arith}
 use Rattle.std.proofs.lemmas.Bool.Decides.{nat_tests}
 use Rattle.std.proofs.lemmas.List.{take-take, take_at}
-use Rattle.ng_num.specs.Points.{zero_point}
+use Rattle.ng_num.specs.Point.{zero_point}
 use Rattle.ng_num.specs.declared.point.Point.{Point}
 use Rattle.ng_canon.specs.declared.outputs.Outputs.{Outputs}
 use Rattle.ng_params.specs.Numbers.{system_of}

@@ -1,11 +1,11 @@
 pub mod ByteLemmas
 pub mod CodecLemmas
 pub mod EncodingLemmas
-pub mod Images
-pub mod Parts
+pub mod ImageLemmas
+pub mod PartLemmas
 pub mod RowLemmas
 pub mod SectorLemmas
-pub mod Snapshots
-pub mod Spares
-pub mod Tables
-pub mod ToolTables
+pub mod SnapshotLemmas
+pub mod SpareLemmas
+pub mod TableLemmas
+pub mod ToolTableLemmas

@@ -1,6 +1,6 @@
 -- What the bytes of a state field are as they are written (own).
 use Rattle.std.specs.Prelude.{◌≡◌, ◌-◌, ◌++◌, ℕ, pos, List, [], length, replicate, Option, Some, None, unwrap_or}
-use Rattle.ng_num.specs.Points.{zero_point}
+use Rattle.ng_num.specs.Point.{zero_point}
 use Rattle.ng_num.specs.declared.point.Point.{Point}
 use Rattle.ng_state.specs.declared.kept_words.KeptWords.{KeptWords}
 use Rattle.ng_layout.specs.Decoding.{point_at, decoded_state_of}

@@ -1,7 +1,7 @@
 -- The log: records of several parts after a snapshot, and the longest run of complete ones (own).
 use Rattle.std.specs.Prelude.{ℕ, zero, suc, ◌+◌, ◌-◌, ◌*◌, ◌/◌, ◌%◌, ◌==◌, ◌&&◌, ◌++◌, Bool, true, nat_le, List, [], ◌∷◌, drop, ℤ, pos, Option, Some, None, if◌then◌else◌}
 use Rattle.ng_params.specs.Numbers.{index_of}
-use Rattle.ng_params.specs.Changes.{with_changes}
+use Rattle.ng_params.specs.Change.{with_changes}
 use Rattle.ng_params.specs.declared.change.Change.{Change}
 use Rattle.ng_layout.specs.Areas.{log_size}
 use Rattle.ng_layout.specs.Limits.{content_first, change_size, part_changes}

@@ -1,6 +1,6 @@
 -- What a part of a record holds, as it is written and as it is read (own).
 use Rattle.std.specs.Prelude.{◌≡◌, ◌+◌, ◌-◌, ◌*◌, ℕ, zero, suc, Bool, true, List, [], ◌∷◌, ◌++◌, length, take, drop, ℤ, pos, Option, Some, None, MatchBool}
-use Rattle.ng_params.specs.Changes.{with_changes}
+use Rattle.ng_params.specs.Change.{with_changes}
 use Rattle.ng_params.specs.declared.change.Change.{Change}
 use Rattle.ng_offsets.specs.declared.tools.SlotChange.{SlotChange}
 use Rattle.ng_layout.specs.Limits.{sector_size, label_size, content_first, content_size, change_size, part_changes, slot_at, slot_length_at}

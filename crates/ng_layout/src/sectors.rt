@@ -1,7 +1,7 @@
 //! Sectors of parameters and of a program's text.
 ghost use Rattle.std.specs.Prelude.{◌≡◌, ◌≤◌, ◌<◌, ◌+◌, ◌*◌, ◌-◌, ◌++◌, length, replicate};
 ghost use Rattle.std.specs.Bool.{OnTrue, OnFalse};
-ghost use Rattle.ng_params.specs.Table.{defaults};
+ghost use Rattle.ng_params.specs.Params.{defaults};
 ghost use Rattle.ng_layout.specs.Limits.{longest_program, sector_size};
 ghost use Rattle.ng_params.specs.Numbers.{parameter_count};
 ghost use Rattle.ng_layout.specs.Sectors.{HoldsValues, TakesValues, IsBeyond, HoldsText};

@@ -9,7 +9,7 @@ use Rattle.std.specs.Char.{is_ascii_digit}
 use Rattle.std.specs.Fmt.{decimal}
 use Rattle.std.proofs.lemmas.Str.Parse.{IsNumeralModel, numerals_by_fold}
 use Rattle.std.proofs.lemmas.Fmt.{digits_decimal, digits_value-decimal, decimal-digits_value, first_decimal, decimal_nonempty, decimal_digit}
-use Rattle.ng_lines.specs.Digits.{read_on}
+use Rattle.ng_lines.specs.Whole.{read_on}
 
 -- digits that follow make no number less
 pub read_on_grows : (n : ℕ) (cs : List ℕ) → n ≤ read_on n cs

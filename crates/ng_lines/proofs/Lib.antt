@@ -1,5 +1,5 @@
 pub mod DigitLemmas
 pub mod ByteLemmas
 pub mod MillionthLemmas
-pub mod NumberLemmas
-pub mod LineLemmas
+pub mod SignedNumberLemmas
+pub mod ItemLineLemmas

@@ -9,8 +9,8 @@ use Rattle.std.specs.Str.{all_ascii_digits}
 use Rattle.std.specs.Int.{IsInRange}
 use Rattle.std.specs.Fmt.{decimal}
 use Rattle.std.proofs.lemmas.Str.Parse.{tells_all_ascii_digits, digits_value_short}
-use Rattle.ng_num.specs.Text.{six_digits}
-use Rattle.ng_lines.specs.Digits.{read_on}
+use Rattle.ng_num.specs.Printing.{six_digits}
+use Rattle.ng_lines.specs.Whole.{read_on}
 use Rattle.ng_lines.specs.Parts.{size_text}
 use Rattle.ng_lines.proofs.DigitLemmas.{own}
 

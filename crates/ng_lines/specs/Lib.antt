@@ -1,3 +1,3 @@
-pub mod Digits
+pub mod Whole
 pub mod Lines
 pub mod Parts

@@ -2,7 +2,7 @@
 use Rattle.std.specs.Prelude.{ℕ, ◌<◌, ◌^◌, Bool, true, false, List, [], ◌∷◌, ◌++◌, codes}
 use Rattle.std.specs.Fmt.{decimal}
 use Rattle.ng_num.specs.Range.{IsCount}
-use Rattle.ng_num.specs.Text.{number_text}
+use Rattle.ng_num.specs.Printing.{number_text}
 use Rattle.ng_canon.specs.declared.item.AxisStep.{AxisStep}
 use Rattle.ng_canon.specs.declared.item.AxisStep.TheVariants.{Backward, Still, Forward}
 use Rattle.ng_canon.specs.declared.item.Pulse.{Pulse as Stepping}

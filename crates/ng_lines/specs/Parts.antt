@@ -1,7 +1,7 @@
 -- The lines of items in parts, each the beginning of what is left; only for private functions and proofs.
 use Rattle.std.specs.Prelude.{ℕ, ◌/◌, ◌≢◌, List, [], ◌∷◌, ◌++◌}
 use Rattle.std.specs.Fmt.{decimal}
-use Rattle.ng_num.specs.Text.{number_text, six_digits}
+use Rattle.ng_num.specs.Printing.{number_text, six_digits}
 use Rattle.ng_canon.specs.declared.item.Pulse.{Pulse}
 use Rattle.ng_canon.specs.declared.outputs.Outputs.{Outputs}
 use Rattle.ng_lines.specs.Lines.{step_text, spindle_text, truth_digit}

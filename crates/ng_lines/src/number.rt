@@ -2,7 +2,7 @@
 ghost use Rattle.std.specs.Prelude.{◌≡◌, ◌≤◌, ◌<◌, ◌%◌, ◌^◌, ◌*◌, ◌+◌, ◌∷◌, ℕ, ℤ, List, Some, IfSome, IfNone, pos, negsuc, suc};
 ghost use Rattle.std.specs.Option.{SomeIff};
 ghost use Rattle.ng_num.specs.Range.{IsCount, greatest};
-ghost use Rattle.ng_num.specs.Text.{number_text, six_digits};
+ghost use Rattle.ng_num.specs.Printing.{number_text, six_digits};
 ghost use Rattle.ng_lines.specs.Parts.{size_text};
 
 use crate::whole::{value_of, whole_in};

@@ -2,7 +2,7 @@
 ghost use Rattle.std.specs.Prelude.{◌≡◌, ◌<◌, ◌^◌, ◌∷◌, ◌++◌, ℕ, ℤ, List, Bool, Some, IfSome, IsSomeAnd, MatchOption, codes};
 ghost use Rattle.std.specs.Fmt.{decimal};
 ghost use Rattle.ng_num.specs.Range.{IsCount};
-ghost use Rattle.ng_num.specs.Text.{number_text};
+ghost use Rattle.ng_num.specs.Printing.{number_text};
 ghost use Rattle.ng_canon.specs.declared.item.AxisStep.{AxisStep};
 ghost use Rattle.ng_canon.specs.declared.item.Item.{Item};
 ghost use Rattle.ng_canon.specs.declared.item.Pulse.{Pulse};

@@ -3,7 +3,7 @@ ghost use Rattle.std.specs.Prelude.{◌≡◌, ◌<◌, ◌^◌, ◌+◌, ◌-�
 ghost use Rattle.std.specs.Option.{SomeIff};
 ghost use Rattle.std.specs.Int.{IsInRange};
 ghost use Rattle.std.specs.Str.{all_ascii_digits};
-ghost use Rattle.ng_lines.specs.Digits.{read_on};
+ghost use Rattle.ng_lines.specs.Whole.{read_on};
 ghost use Rattle.std.specs.Fmt.{decimal};
 
 /// The digit of a byte.

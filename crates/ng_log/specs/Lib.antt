@@ -1,4 +1,4 @@
-pub mod Appends
+pub mod Writing
 pub mod AtEnd
 pub mod Reading
 pub mod Records

@@ -4,8 +4,8 @@
 //! says which parameters changed, and which slot of the tool table. `read_log` reads the longest run of complete
 //! records back; a record with a missing part doesn't count. Both work in the memory of the state that they are given.
 //! specs/AtEnd.antt says where the log of an image ends and what each stop of a device leaves, whichever parts of the
-//! record being written are kept; specs/Runs.antt says which records count. proofs/Ending.antt and proofs/Epochs.antt
-//! are the laws of images that proofs in other crates cite.
+//! record being written are kept; specs/Runs.antt says which records count. proofs/LogEndLemmas.antt and
+//! proofs/EpochLemmas.antt are the laws of images that proofs in other crates cite.
 //!
 //! The crate depends on `ng_layout` for the bytes of a part and on `ng_rig` for the device. Whether the log has room
 //! for a record, and what happens if it has none, is up to the caller.

@@ -9,7 +9,7 @@ ghost use Rattle.ng_offsets.specs.Tools.{with_change};
 ghost use Rattle.ng_layout.specs.declared.header.Format.TheVariants.{Two};
 ghost use Rattle.ng_layout.specs.Storable.{IsStorable, IsStorableChange};
 ghost use Rattle.ng_layout.specs.Stored.{DurableState};
-ghost use Rattle.ng_log.specs.Appends.{WritesRecord, AppendSpec};
+ghost use Rattle.ng_log.specs.Writing.{WritesRecord, AppendSpec};
 ghost use Rattle.ng_log.specs.AtEnd.{end_after, IsAtEnd};
 ghost use Rattle.ng_log.specs.Private.WriteSteps.{WritesParts};
 ghost use Rattle.ng_params.specs.Differences.{differences, TakesDifferences};

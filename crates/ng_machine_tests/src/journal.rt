@@ -270,7 +270,7 @@ fn slot_change(slots: usize, slot: u8, nm: i64) -> Option<SlotChange>
 }
 
 /// Makes such a change, if there is one.
-#[tactic(auto, using(crate::proofs::Slots::one_slot))]
+#[tactic(auto, using(crate::proofs::ChangedSlotLemmas::one_slot))]
 fn change_slot(tools: &mut Tools, slot: u8, nm: i64)
     ensures one { IsOneSlotFrom tools.old tools.new }
 {

@@ -3,7 +3,7 @@ pub mod GroupLemmas
 pub mod TwiceLemmas
 pub mod LetterLemmas
 pub mod SortedLemmas
-pub mod LeastLemmas
+pub mod FirstCauseLemmas
 pub mod TestLemmas
 pub mod PlainLemmas
-pub mod AcceptedLemmas
+pub mod AcceptedWordLemmas

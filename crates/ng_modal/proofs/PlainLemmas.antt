@@ -7,15 +7,15 @@ use Rattle.ng_words.specs.declared.letter.Letter.TheVariants.{M}
 use Rattle.ng_expr.specs.declared.word.Word.{Word}
 use Rattle.ng_modal.specs.Words.{of_letter}
 use Rattle.ng_modal.specs.ByLetter.{has_axis}
-use Rattle.ng_modal.specs.Lines.{takes_axes, moving, motion_by, motion_after, is_straight, is_cycle}
-use Rattle.ng_modal.specs.Blocks.{block_of}
+use Rattle.ng_modal.specs.Block.{takes_axes, moving, motion_by, motion_after, is_straight, is_cycle}
+use Rattle.ng_modal.specs.BlockOfWords.{block_of}
 use Rattle.ng_modal.specs.WordCauses.{is_repeated, has_unknown, has_left_out, has_group_twice, has_many_m}
 use Rattle.ng_modal.specs.Causes.{is_off, is_negative, takes_axes_twice, leaves_axis_unused, moves_no_axis}
 use Rattle.ng_modal.specs.Causes.{sets_nothing, has_bad_g53, has_radius_arc, leaves_word_unused, has_negative}
 use Rattle.ng_modal.specs.Causes.{has_bad_slot, has_bad_l, has_bad_system, has_no_dwell, has_no_h, has_cycle_plane}
 use Rattle.ng_num.specs.Causes.{first_fault, NoneHolds}
-use Rattle.ng_num.proofs.FirstFault.{none_first}
-use Rattle.ng_modal.specs.Check.{faults, faults_of}
+use Rattle.ng_num.proofs.FirstFaultLemmas.{none_first}
+use Rattle.ng_modal.specs.Checking.{faults, faults_of}
 use Rattle.ng_modal.specs.Sorted.{sorted_in, is_marked, has_others, is_plain}
 use Rattle.ng_modal.specs.declared.block.Block.{Block}
 use Rattle.ng_state.specs.declared.modes.Modes.{Modes}

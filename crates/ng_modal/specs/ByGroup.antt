@@ -10,10 +10,10 @@ use Rattle.ng_state.specs.declared.modes.FeedMode.{FeedMode}
 use Rattle.ng_state.specs.declared.modes.Retract.{Retract}
 use Rattle.ng_state.specs.declared.modes.PathMode.{PathMode}
 use Rattle.ng_modal.specs.Words.{first, of_group, of_m_group}
-use Rattle.ng_modal.specs.declared.asks.NonModal.{NonModal}
-use Rattle.ng_modal.specs.declared.asks.ToolLength.{ToolLength}
-use Rattle.ng_modal.specs.declared.asks.StopWord.{StopWord}
-use Rattle.ng_modal.specs.declared.asks.Coolant.{Coolant}
+use Rattle.ng_modal.specs.declared.requests.NonModal.{NonModal}
+use Rattle.ng_modal.specs.declared.requests.ToolLength.{ToolLength}
+use Rattle.ng_modal.specs.declared.requests.StopWord.{StopWord}
+use Rattle.ng_modal.specs.declared.requests.Coolant.{Coolant}
 use Rattle.ng_modal.specs.declared.codes.GWord.{GWord}
 use Rattle.ng_modal.specs.declared.codes.GWord.TheVariants as word
 use Rattle.ng_modal.specs.declared.codes.MWord.{MWord}

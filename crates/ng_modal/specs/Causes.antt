@@ -6,11 +6,11 @@ use Rattle.ng_num.specs.Whole.{whole_of}
 use Rattle.ng_canon.specs.declared.plane.Plane.{Plane}
 use Rattle.ng_canon.specs.declared.plane.Plane.TheVariants.{Xy, Xz, Yz}
 use Rattle.ng_modal.specs.ByLetter.{has_axis}
-use Rattle.ng_modal.specs.Lines.{takes_axes, moving, motion_after, plane_after, is_straight, is_arc, is_cycle}
-use Rattle.ng_modal.specs.declared.asks.NonModal.{NonModal}
-use Rattle.ng_modal.specs.declared.asks.NonModal.TheVariants.{Dwell, SetOrigin, MachineCoordinates, SetOffset}
-use Rattle.ng_modal.specs.declared.asks.ToolLength.{ToolLength}
-use Rattle.ng_modal.specs.declared.asks.ToolLength.TheVariants.{OfSlot}
+use Rattle.ng_modal.specs.Block.{takes_axes, moving, motion_after, plane_after, is_straight, is_arc, is_cycle}
+use Rattle.ng_modal.specs.declared.requests.NonModal.{NonModal}
+use Rattle.ng_modal.specs.declared.requests.NonModal.TheVariants.{Dwell, SetOrigin, MachineCoordinates, SetOffset}
+use Rattle.ng_modal.specs.declared.requests.ToolLength.{ToolLength}
+use Rattle.ng_modal.specs.declared.requests.ToolLength.TheVariants.{OfSlot}
 use Rattle.ng_modal.specs.declared.block.Block.{Block}
 use Rattle.ng_state.specs.declared.modes.Modes.{Modes}
 use Rattle.ng_state.specs.declared.modes.Motion.{Motion}

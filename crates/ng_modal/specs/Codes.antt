@@ -14,12 +14,12 @@ use Rattle.ng_state.specs.declared.modes.Distance.TheVariants.{Absolute, Increme
 use Rattle.ng_state.specs.declared.modes.FeedMode.TheVariants.{PerMinute, InverseTime}
 use Rattle.ng_state.specs.declared.modes.Retract.TheVariants.{OldZ, ToR}
 use Rattle.ng_state.specs.declared.modes.PathMode.TheVariants.{Exact, ExactStop, Continuous}
-use Rattle.ng_modal.specs.declared.asks.NonModal.TheVariants.{Dwell, SetOrigin, Home, SecondHome}
-use Rattle.ng_modal.specs.declared.asks.NonModal.TheVariants.{MachineCoordinates, SetOffset, ClearOffset}
-use Rattle.ng_modal.specs.declared.asks.NonModal.TheVariants.{DropOffset, RestoreOffset}
-use Rattle.ng_modal.specs.declared.asks.ToolLength.TheVariants.{OfSlot, Zero}
-use Rattle.ng_modal.specs.declared.asks.StopWord.TheVariants.{Program, Optional, End, EndWithShuttle, Shuttle}
-use Rattle.ng_modal.specs.declared.asks.Coolant.TheVariants.{Mist, Flood, Off}
+use Rattle.ng_modal.specs.declared.requests.NonModal.TheVariants.{Dwell, SetOrigin, Home, SecondHome}
+use Rattle.ng_modal.specs.declared.requests.NonModal.TheVariants.{MachineCoordinates, SetOffset, ClearOffset}
+use Rattle.ng_modal.specs.declared.requests.NonModal.TheVariants.{DropOffset, RestoreOffset}
+use Rattle.ng_modal.specs.declared.requests.ToolLength.TheVariants.{OfSlot, Zero}
+use Rattle.ng_modal.specs.declared.requests.StopWord.TheVariants.{Program, Optional, End, EndWithShuttle, Shuttle}
+use Rattle.ng_modal.specs.declared.requests.Coolant.TheVariants.{Mist, Flood, Off}
 use Rattle.ng_modal.specs.declared.codes.GWord.{GWord}
 use Rattle.ng_modal.specs.declared.codes.GWord.TheVariants.{NonModal, Motion, LeftOutMotion, Plane, Distance}
 use Rattle.ng_modal.specs.declared.codes.GWord.TheVariants.{FeedMode, Unit, NoCompensation, LeftOutCompensation}

@@ -4,10 +4,10 @@ pub mod Words
 pub mod ByLetterModel
 pub mod ByLetter
 pub mod ByGroup
-pub mod Lines
-pub mod Blocks
+pub mod Block
+pub mod BlockOfWords
 pub mod WordCauses
 pub mod Causes
 pub mod Sorted
-pub mod Check
-pub mod Accepted
+pub mod Checking
+pub mod WholeNumbers

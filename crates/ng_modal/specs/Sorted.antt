@@ -6,8 +6,8 @@ use Rattle.ng_modal.specs.Words.{g_words_of, m_words_of}
 use Rattle.ng_modal.specs.ByLetter.{by_letter, has_axis}
 use Rattle.ng_modal.specs.ByGroup.{g_words, m_words}
 use Rattle.ng_modal.specs.WordCauses.{is_repeated, has_unknown, has_left_out, has_left_out_code, is_group_twice, is_m_group_twice, count_of_m}
-use Rattle.ng_modal.specs.Lines.{is_straight}
-use Rattle.ng_modal.specs.Blocks.{block_of}
+use Rattle.ng_modal.specs.Block.{is_straight}
+use Rattle.ng_modal.specs.BlockOfWords.{block_of}
 use Rattle.ng_modal.specs.Causes.{is_negative}
 use Rattle.ng_modal.specs.declared.by_letter.ByLetter.{ByLetter}
 use Rattle.ng_state.specs.declared.modes.Modes.{Modes}

@@ -1,10 +1,10 @@
 //! What a line asks for, given the modes before it.
 ghost use Rattle.std.specs.Prelude.{◌≡◌};
-ghost use Rattle.ng_modal.specs.Lines.{takes_axes, moving, motion_by, motion_for, motion_after, plane_after, is_straight, is_arc, is_cycle};
+ghost use Rattle.ng_modal.specs.Block.{takes_axes, moving, motion_by, motion_for, motion_after, plane_after, is_straight, is_arc, is_cycle};
 
-use crate::asks::NonModal;
 use crate::by_group::{GWords, MWords};
 use crate::by_letter::ByLetter;
+use crate::requests::NonModal;
 use ng_canon::Plane;
 use ng_state::{Modes, Motion};
 

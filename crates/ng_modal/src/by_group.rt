@@ -4,9 +4,9 @@ ghost use Rattle.ng_modal.specs.declared.codes.GWord.{GWord as TheGWord};
 ghost use Rattle.ng_modal.specs.declared.codes.MWord.{MWord as TheMWord};
 ghost use Rattle.ng_modal.specs.ByGroup.{g_words, m_words, has_word, has_m_word};
 
-use crate::asks::{Coolant, NonModal, StopWord, ToolLength};
 use crate::codes::{GWord, MWord};
-use crate::place::{mark, put};
+use crate::requests::{Coolant, NonModal, StopWord, ToolLength};
+use crate::slots::{mark, put};
 use ng_canon::{Plane, Spindle};
 use ng_num::Unit;
 use ng_params::System;

@@ -3,7 +3,7 @@ ghost use Rattle.std.specs.Prelude.{◌≡◌};
 ghost use Rattle.ng_modal.specs.Causes.{takes_axes_twice, leaves_axis_unused, moves_no_axis, sets_nothing, has_bad_g53, has_radius_arc, has_unused_offset, leaves_word_unused, has_negative, has_bad_slot, has_bad_l, has_bad_system, has_no_dwell, has_no_h, has_cycle_plane};
 
 use crate::block::{Block, is_arc, is_cycle, is_straight, moving, takes_axes};
-use crate::looks::{
+use crate::predicates::{
     dwells, is_along_x, is_along_y, is_along_z, is_dwell, is_machine, is_negative, is_of_slot,
     is_off, is_positive, is_set_offset, is_set_origin, is_unused_word, is_whole_within, pecks,
 };

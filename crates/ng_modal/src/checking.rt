@@ -2,11 +2,11 @@
 ghost use Rattle.std.specs.Prelude.{◌≡◌, List, Ok, Err, MatchResult, OnOk, IfOk};
 ghost use Rattle.ng_expr.specs.declared.word.Word.{Word as TheWord};
 ghost use Rattle.ng_num.specs.Causes.{first_fault, NoneHolds, IsFirstFault};
-ghost use Rattle.ng_modal.specs.Check.{faults, checked};
-ghost use Rattle.ng_modal.specs.Accepted.{IsAccepted};
+ghost use Rattle.ng_modal.specs.Checking.{faults, checked};
+ghost use Rattle.ng_modal.specs.WholeNumbers.{IsAccepted};
 
 use crate::block::{Block, is_straight};
-use crate::looks::is_negative;
+use crate::predicates::is_negative;
 use crate::sorted::Sorted;
 use ng_expr::{Values, Word};
 use ng_num::{Fault, first_fault};

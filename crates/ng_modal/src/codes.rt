@@ -4,7 +4,7 @@ ghost use Rattle.std.specs.Option.{option_and_then};
 ghost use Rattle.ng_params.specs.Numbers.{system_of};
 ghost use Rattle.ng_modal.specs.Codes.{selecting, g_word_of, m_word_of, g_word, m_word};
 
-use crate::asks::{Coolant, NonModal, StopWord, ToolLength};
+use crate::requests::{Coolant, NonModal, StopWord, ToolLength};
 use ng_canon::{Plane, Spindle};
 use ng_num::{Num, Unit};
 use ng_params::System;

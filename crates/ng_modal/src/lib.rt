@@ -15,21 +15,21 @@
 //! arcs and cycles except their words.
 #![tactic(auto)]
 
-mod asks;
 mod block;
 mod by_group;
 mod by_letter;
 mod causes;
 mod checking;
 mod codes;
-mod looks;
-mod place;
+mod predicates;
+mod requests;
+mod slots;
 mod sorted;
-mod wholes;
+mod whole_numbers;
 
-pub use asks::{Coolant, NonModal, StopWord, ToolLength};
 pub use block::Block;
 pub use by_group::{GWords, MWords};
 pub use by_letter::ByLetter;
 pub use checking::check;
+pub use requests::{Coolant, NonModal, StopWord, ToolLength};
 pub use sorted::Sorted;

@@ -6,7 +6,7 @@ use Rattle.ng_motion.specs.declared.key.Key.TheVariants.{Accel, Rate, Start, Sla
 use Rattle.ng_motion.specs.declared.values.PerAxis.{PerAxis}
 use Rattle.ng_motion.specs.declared.given.Given.{Given}
 use Rattle.ng_motion.specs.Steps.{IsSmall, IsSmallGiven}
-use Rattle.ng_motion.specs.Table.{AxesAt, AxesOrZeros, Gives}
+use Rattle.ng_motion.specs.Given.{AxesAt, AxesOrZeros, Gives}
 use Rattle.ng_motion.specs.Values.{HasAxes, HasWhole, IsFit, IsTriple, IsWhole}
 
 pub unfit_whole : (key : Key) (d : Data) → HasWhole key → ((n : ℕ) → IsWhole key d n → ⊥) → IsFit key d → ⊥

@@ -5,7 +5,7 @@ use Rattle.std.specs.List.{find}
 use Rattle.std.specs.Map.{keys_of}
 use Rattle.toml.proofs.Views.{Entry}
 use Rattle.toml.specs.View.{members_view}
-use Rattle.ng_motion.specs.Keys.{is_key}
+use Rattle.ng_motion.specs.Key.{is_key}
 use Rattle.ng_settings.specs.Causes.{names}
 
 abbrev pub is_unknown : String Global → Bool

@@ -1,7 +1,7 @@
-pub mod Keys
-pub mod Names
-pub mod Texts
+pub mod Key
+pub mod Name
+pub mod Fault
 pub mod Values
-pub mod Table
+pub mod Given
 pub mod Steps
-pub mod Limits
+pub mod Reading

@@ -4,7 +4,7 @@ use Rattle.toml.specs.Data.{Data, array, integer, item, no_items}
 use Rattle.ng_motion.specs.declared.key.Key.{Key}
 use Rattle.ng_motion.specs.declared.key.Key.TheVariants.{Accel, Rate, Start, Slack, Most}
 use Rattle.ng_motion.specs.declared.values.PerAxis.{PerAxis}
-use Rattle.ng_motion.specs.Keys.{least, greatest}
+use Rattle.ng_motion.specs.Key.{least, greatest}
 
 abbrev pub IsInRange : Key → ℕ → Type 0
 IsInRange key n = (least key ≤ n) × (n ≤ greatest key)

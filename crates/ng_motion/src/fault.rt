@@ -1,6 +1,6 @@
 //! Why a text gives no limits of motors.
 ghost use Rattle.std.specs.Prelude.{◌≡◌};
-ghost use Rattle.ng_motion.specs.Texts.{cause_text, name_told};
+ghost use Rattle.ng_motion.specs.Fault.{cause_text, name_told};
 
 use crate::key::Key;
 use crate::name::KeyName;

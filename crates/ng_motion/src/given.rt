@@ -2,9 +2,9 @@
 ghost use Rattle.std.specs.Prelude.{◌≡◌, ◌⊎◌, MatchOption, MatchResult, Option, Some, None, option_map};
 ghost use Rattle.toml.specs.Data.{get_member};
 ghost use Rattle.toml.specs.View.{table_view, view};
-ghost use Rattle.ng_motion.specs.Keys.{is_key};
+ghost use Rattle.ng_motion.specs.Key.{is_key};
 ghost use Rattle.ng_motion.specs.Values.{HasAxes, HasWhole};
-ghost use Rattle.ng_motion.specs.Table.{AxesAt, AxesOrZeros, Gives, GivesBefore, IsTableFault, IsUnfit, WholeAt, WholeOr, unknown_key};
+ghost use Rattle.ng_motion.specs.Given.{AxesAt, AxesOrZeros, Gives, GivesBefore, IsTableFault, IsUnfit, WholeAt, WholeOr, unknown_key};
 
 use crate::fault::MotionFault;
 use crate::key::Key;
@@ -23,7 +23,7 @@ pub(crate) struct Given {
 }
 
 /// Whether a name is a key.
-#[tactic(auto, unfolding(crate::specs::Keys::is_key))]
+#[tactic(auto, unfolding(crate::specs::Key::is_key))]
 fn is_key(name: &str) -> bool
     ensures { result ≡ is_key name.now }
 {

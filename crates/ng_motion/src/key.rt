@@ -1,6 +1,6 @@
 //! The keys of the table `[motion]`.
 ghost use Rattle.std.specs.Prelude.{◌≡◌, ◌≤◌};
-ghost use Rattle.ng_motion.specs.Keys.{key_name, least, greatest};
+ghost use Rattle.ng_motion.specs.Key.{key_name, least, greatest};
 
 /// A key of the table `[motion]`.
 #[derive(Clone, Copy, Debug, PartialEq, Eq)]

@@ -1,7 +1,7 @@
 //! How a machine moves: what its motors allow, read from a text in TOML.
 //!
 //! `limits` reads the table `[motion]` of a text, in millimetres, and returns what a pacer takes, in steps; or it
-//! returns a fault, whose text names the key and its range. specs/Table.antt has the keys, their ranges and the faults,
+//! returns a fault, whose text names the key and its range. specs/Given.antt has the keys, their ranges and the faults,
 //! specs/Steps.antt how millimetres become steps. Other tables of the text are others' and aren't looked at.
 //!
 //! The crate `toml` defines what TOML is, and which table a text stands for; `ng_pace` takes the limits. Memory is

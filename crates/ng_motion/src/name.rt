@@ -1,6 +1,6 @@
 //! The name of a key, as it is told.
 ghost use Rattle.std.specs.Prelude.{◌≡◌, ◌≤◌, length, map, take};
-ghost use Rattle.ng_motion.specs.Names.{shown_byte, shown_name, told};
+ghost use Rattle.ng_motion.specs.Name.{shown_byte, shown_name, told};
 
 /// How many bytes of a name are told.
 const LONGEST: usize = 64;

@@ -2,7 +2,7 @@
 ghost use Rattle.std.specs.Prelude.{◌≡◌, IfNone, IfSome, MatchResult, Some, codes};
 ghost use Rattle.toml.specs.Data.{Members};
 ghost use Rattle.toml.specs.View.{table_view};
-ghost use Rattle.ng_motion.specs.Limits.{AreLimitsOf, GivesAtRoot, IsMotion, IsRefused, IsRootFault};
+ghost use Rattle.ng_motion.specs.Reading.{AreLimitsOf, GivesAtRoot, IsMotion, IsRefused, IsRootFault};
 
 use crate::fault::MotionFault;
 use crate::given::{read_given, value_at};

@@ -1,11 +1,11 @@
 pub mod Range
 pub mod Rounding
-pub mod Lengths
-pub mod Points
-pub mod FaultText
+pub mod Len
+pub mod Point
+pub mod Fault
 pub mod Results
 pub mod Causes
-pub mod Text
+pub mod Printing
 pub mod Arithmetic
 pub mod Extremes
 pub mod Whole

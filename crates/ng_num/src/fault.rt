@@ -129,7 +129,7 @@ pub enum Fault {
 
 impl Fault {
     ghost use Rattle.std.specs.Prelude.{◌≡◌};
-    ghost use Rattle.ng_num.specs.FaultText.{text};
+    ghost use Rattle.ng_num.specs.Fault.{text};
 
     /// The fault's number, a blank and its name, as `E1 Unreadable`. Source: own.
     pub fn text(self) -> &'static [u8]

@@ -1,7 +1,7 @@
 //! Lengths in whole nanometres.
 ghost use Rattle.std.specs.Prelude.{◌≡◌, ◌+ℤ◌, ◌-ℤ◌, neg_ℤ, pos};
 ghost use Rattle.ng_num.specs.Range.{IsOnlyAnswer, IsCount, in_range};
-ghost use Rattle.ng_num.specs.Lengths.{IsLength, nm_of};
+ghost use Rattle.ng_num.specs.Len.{IsLength, nm_of};
 
 use crate::fault::Fault;
 use crate::num::{GREATEST, Num};

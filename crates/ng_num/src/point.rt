@@ -11,7 +11,7 @@ pub struct Point {
 
 impl Point {
     ghost use Rattle.std.specs.Prelude.{◌≡◌};
-    ghost use Rattle.ng_num.specs.Points.{zero_point};
+    ghost use Rattle.ng_num.specs.Point.{zero_point};
 
     /// The point whose coordinates are all 0.
     pub fn zero() -> Point

@@ -9,7 +9,7 @@ pub(crate) const MILLION: u64 = 1_000_000;
 
 /// The quotient of sizes, rounded half up.
 #[inline(always)]
-#[tactic(auto, using(crate::proofs::Nearest::nearest_up, crate::proofs::Nearest::nearest_down))]
+#[tactic(auto, using(crate::proofs::NearestLemmas::nearest_up, crate::proofs::NearestLemmas::nearest_down))]
 pub(crate) fn nearest_size(n: u64, d: u64) -> u64
     requires room { n / d + 1 < 2 ^ 64 }
     requires divisor { 0 < d }

@@ -1,2 +1,2 @@
-pub mod Shifting
+pub mod ShiftLemmas
 pub mod WantedLemmas

@@ -1,4 +1,4 @@
 pub mod Tools
-pub mod Points
+pub mod Offsets
 pub mod Named
 pub mod Origins

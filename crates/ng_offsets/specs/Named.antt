@@ -1,6 +1,6 @@
 -- The axes that a line names, each with the length of its word (NISTIR 6556, 3.5.7).
 use Rattle.std.specs.Prelude.{ℤ, Option, Some, None, unwrap_or, Result, Ok}
-use Rattle.ng_num.specs.Lengths.{nm_of}
+use Rattle.ng_num.specs.Len.{nm_of}
 use Rattle.ng_num.specs.Range.{in_range}
 use Rattle.ng_num.specs.Results.{and_then}
 use Rattle.ng_num.specs.declared.fault.Fault.{Fault}

@@ -1,7 +1,7 @@
 -- What words do to the offsets and to the parameters that store them. None of them moves the machine (NISTIR 6556,
 -- 3.5.5, 3.5.11, 3.5.13, 3.5.18).
 use Rattle.std.specs.Prelude.{◌≡◌, ℕ, ℤ, ◌+ℤ◌, ◌-ℤ◌, ◌==◌, if◌then◌else◌, List, [], ◌∷◌, Option, Some, None, IfSome, Result, Ok}
-use Rattle.ng_num.specs.Points.{zero_point}
+use Rattle.ng_num.specs.Point.{zero_point}
 use Rattle.ng_num.specs.Range.{in_range}
 use Rattle.ng_num.specs.Results.{and_then}
 use Rattle.ng_num.specs.declared.fault.Fault.{Fault}
@@ -9,7 +9,7 @@ use Rattle.ng_num.specs.declared.point.Point.{Point}
 use Rattle.ng_params.specs.Points.{origin_of, g92_stored, g92_changes, origin_changes, selection}
 use Rattle.ng_params.specs.declared.change.Change.{Change}
 use Rattle.ng_offsets.specs.Named.{put}
-use Rattle.ng_offsets.specs.Points.{shift_x, shift_y, shift_z, point_of}
+use Rattle.ng_offsets.specs.Offsets.{shift_x, shift_y, shift_z, point_of}
 use Rattle.ng_offsets.specs.Tools.{length_of_slot}
 use Rattle.ng_offsets.specs.declared.named.Named.{Named}
 use Rattle.ng_offsets.specs.declared.new_offsets.NewOffsets.{NewOffsets}

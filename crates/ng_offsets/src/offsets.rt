@@ -15,7 +15,7 @@ pub struct Offsets {
 }
 
 impl Offsets {
-    ghost use Rattle.ng_offsets.specs.Points.{no_offsets, shift_x, shift_y, shift_z, to_machine, to_program};
+    ghost use Rattle.ng_offsets.specs.Offsets.{no_offsets, shift_x, shift_y, shift_z, to_machine, to_program};
 
     /// All 0.
     pub fn none() -> Offsets

@@ -3,10 +3,10 @@
 //! Functions that read parameters get the table as it was before the line, and the changes that the line has made so
 //! far.
 ghost use Rattle.std.specs.Prelude.{◌≡◌, ◌≤◌, length, IfOk};
-ghost use Rattle.ng_num.specs.Points.{zero_point};
-ghost use Rattle.ng_params.specs.Changes.{with_changes};
+ghost use Rattle.ng_num.specs.Point.{zero_point};
+ghost use Rattle.ng_params.specs.Change.{with_changes};
 ghost use Rattle.ng_params.specs.Numbers.{parameter_count};
-ghost use Rattle.ng_params.specs.Table.{at};
+ghost use Rattle.ng_params.specs.Params.{at};
 ghost use Rattle.ng_params.specs.Points.{g92_changes, g92_stored};
 ghost use Rattle.ng_offsets.specs.Origins.{printed, selected, given_origin, offset_for, offsets_for, set_offset, HasCoordinates, dropped, restored, with_tool};
 

@@ -9,9 +9,9 @@ use Rattle.ng_canon.specs.declared.item.AxisStep.TheVariants.{Backward, Still, F
 use Rattle.ng_pace.specs.declared.slopes.Rise.{Rise}
 use Rattle.ng_pace.specs.declared.cone.Cone.{Cone}
 use Rattle.ng_pace.specs.declared.slopes.Slopes.{Slopes}
-use Rattle.ng_pace.specs.Cones.{IsFrom, IsUpTo, IsCone, IsReached, IsRiseOf}
+use Rattle.ng_pace.specs.Cone.{IsFrom, IsUpTo, IsCone, IsReached, IsRiseOf}
 use Rattle.ng_pace.proofs.SlopeLemmas.{from_greater, up_to_smaller}
-use Rattle.ng_pace.specs.Chords.{Slope, IsSlope, IsNear, IsStraight, slope_of, forward, backward}
+use Rattle.ng_pace.specs.Chord.{Slope, IsSlope, IsNear, IsStraight, slope_of, forward, backward}
 
 pub forward-push : (steps : List AxisStep) (step : AxisStep) → forward (steps ++ step ∷ []) ≡ forward steps + forward (step ∷ [])
 forward-push [] step = omega arith

@@ -9,12 +9,12 @@ use Rattle.ng_pace.specs.declared.limits.Limits.{Limits}
 use Rattle.ng_pace.specs.declared.line.Line.{Line}
 use Rattle.ng_pace.specs.declared.slopes.Slopes.{Slopes}
 use Rattle.ng_pace.specs.Axes.{AreMostPulses, IsFarFromCorner, IsFullAlone, IsFullCorner, IsFullRate, IsQuarterRamp, SomeAxis}
-use Rattle.ng_pace.specs.Chords.{Slope, IsSlope, IsNear}
-use Rattle.ng_pace.specs.Cones.{IsReached, size_of, turn_of}
+use Rattle.ng_pace.specs.Chord.{Slope, IsSlope, IsNear}
+use Rattle.ng_pace.specs.Cone.{IsReached, size_of, turn_of}
 use Rattle.ng_pace.specs.Legs.{IsFullAtCorner, IsLongest, IsQuarterSpent, IsRateSpent, IsTooFar, IsTurnSpent, steps_along, turn_between}
 use Rattle.ng_pace.specs.Making.{HasAll}
 use Rattle.ng_pace.specs.Passing.{TurnAll}
-use Rattle.ng_pace.specs.Underway.{AreReached}
+use Rattle.ng_pace.specs.Path.{AreReached}
 use Rattle.ng_pace.proofs.ExactLemmas.{alone-spent}
 
 -- a turn that two slopes reach, but for a part of 2^20 each

@@ -9,10 +9,10 @@ use Rattle.ng_canon.specs.declared.item.Pulse.{Pulse}
 use Rattle.ng_pace.specs.declared.line.Line.{Line}
 use Rattle.ng_pace.specs.Making.{HasAll}
 use Rattle.ng_pace.specs.Passing.{AllowAlong, TakeAll, TakesCorner}
-use Rattle.ng_pace.specs.Underway.{AreReached}
+use Rattle.ng_pace.specs.Path.{AreReached}
 use Rattle.ng_pace.specs.Axes.{EachAxis, SomeAxis, IsAlong, IsCorner, IsFullAlone, IsFullRamp, IsFullRate, IsNearCorner}
-use Rattle.ng_pace.specs.Chords.{Slope, IsSlope, IsNear}
-use Rattle.ng_pace.specs.Cones.{AreBetween, IsReached, IsTurn, size_of}
+use Rattle.ng_pace.specs.Chord.{Slope, IsSlope, IsNear}
+use Rattle.ng_pace.specs.Cone.{AreBetween, IsReached, IsTurn, size_of}
 use Rattle.ng_pace.specs.Legs.{IsAccelerationSpent, IsRateSpent, IsFullOn, IsTurning, steps_along, turn_between}
 
 rate-exact : (size slope over most rate : ℕ) → slope * 1048576 ≤ size * over → size * size * most ≤ rate * rate * 1048576 * 1048576 * 65536

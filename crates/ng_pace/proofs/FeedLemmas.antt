@@ -3,8 +3,8 @@ use Rattle.std.proofs.Common.{arith, ℕ, zero, suc, ◌+◌, ◌<◌, ◌≤◌
 use Rattle.std.proofs.lemmas.List.{append_cancel_left}
 use Rattle.ng_pace.specs.declared.line.Line.{Line}
 use Rattle.ng_pace.specs.declared.chord.Waiting.{Waiting}
-use Rattle.ng_pace.specs.Motion.{Motion}
-use Rattle.ng_pace.specs.Flow.{Keeps, Timed, timed_lines, timed_waiting}
+use Rattle.ng_pace.specs.Pacer.{Motion}
+use Rattle.ng_pace.specs.Stream.{Keeps, Timed, timed_lines, timed_waiting}
 use Rattle.ng_pace.specs.Making.{Makes}
 
 -- lines that are made have the times of the items that waited

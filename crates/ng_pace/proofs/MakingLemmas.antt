@@ -8,7 +8,7 @@ use Rattle.std.proofs.lemmas.List.{length-append}
 use Rattle.std.proofs.lemmas.List.Elements.{All-append, All-push}
 use Rattle.ng_pace.specs.declared.line.Line.{Line}
 use Rattle.ng_pace.specs.declared.chord.Waiting.{Waiting}
-use Rattle.ng_pace.specs.Motion.{Motion}
+use Rattle.ng_pace.specs.Pacer.{Motion}
 use Rattle.ng_pace.specs.Making.{HasAll, IsWithin, Makes}
 
 -- none

@@ -13,13 +13,13 @@ use Rattle.ng_pace.specs.declared.limits.Limits.{Limits}
 use Rattle.ng_pace.specs.declared.line.Line.{Line}
 use Rattle.ng_pace.specs.declared.slopes.Slopes.{Slopes}
 use Rattle.ng_pace.specs.Axes.{IsCorner}
-use Rattle.ng_pace.specs.Chords.{Slope, IsSlope, IsNear}
+use Rattle.ng_pace.specs.Chord.{Slope, IsSlope, IsNear}
 use Rattle.ng_pace.specs.Legs.{Leg, IsLeg, IsChord, IsFarthest, IsFullAt, IsFullAtCorner, IsLongest, IsPaced}
 use Rattle.ng_pace.specs.Legs.{IsBehind, IsCornered, IsOnChord, IsOnCorner, IsTurning, step_of, steps_along}
 use Rattle.ng_pace.specs.Legs.{slope_along}
 use Rattle.ng_pace.specs.Making.{IsWithin}
 use Rattle.ng_pace.specs.Passing.{AllowAlong, TakesCorner}
-use Rattle.ng_pace.specs.Underway.{AreSlopes}
+use Rattle.ng_pace.specs.Path.{AreSlopes}
 use Rattle.ng_pace.proofs.CapsLemmas.{along_less}
 use Rattle.ng_pace.proofs.ConeLemmas.{slope_of-some}
 use Rattle.ng_pace.proofs.ExactLemmas.{along-corner}

@@ -6,14 +6,14 @@ use Rattle.ng_canon.specs.declared.item.Item.TheVariants.{Pulse, Dwell, Switch}
 use Rattle.ng_pace.specs.declared.limits.Limits.{Limits}
 use Rattle.ng_pace.specs.declared.line.Line.{Line}
 use Rattle.ng_pace.specs.declared.stepping.Given.{Given}
-use Rattle.ng_pace.specs.Flow.{Flow, still_line}
+use Rattle.ng_pace.specs.Stream.{Flow, still_line}
 use Rattle.ng_pace.specs.Start.{start_of}
 use Rattle.ng_pace.specs.Legs.{Leg, pulses_of, lines_of}
 use Rattle.ng_pace.specs.Putting.{IsUnderway, Goes, Rests, KeepSoFar}
 use Rattle.ng_pace.specs.Calls.{IsEmpty, IsFlowGiven}
 use Rattle.ng_pace.specs.Run.{Event, put, end, ask, IsRun, lines_given}
 use Rattle.ng_pace.specs.Paths.{Path, lines_on, AreKept, ArePathsOf, lines_out, KeepsToPaths}
-use Rattle.ng_pace.proofs.StepLemmas.{keep-so-far}
+use Rattle.ng_pace.proofs.PathStepLemmas.{keep-so-far}
 
 -- what was made since some chords were underway
 record Makes (Q : List Path → List Leg → Type 0) (limits : Limits) (start : ℕ) (old : Flow) (legs : List Leg) (givens : List Given) (new : Flow) : Type 0 where

@@ -4,7 +4,7 @@ use Rattle.std.proofs.Common.{true, false, List, [], ◌∷◌, length, drop, sl
 use Rattle.std.specs.Prelude.{if◌then◌else◌}
 use Rattle.ng_pace.specs.declared.line.Line.{Line}
 use Rattle.ng_pace.specs.declared.planning.Slot.{Slot}
-use Rattle.ng_pace.specs.Plan.{IsPlan, IsWhole, ahead, most_now, lines_of}
+use Rattle.ng_pace.specs.Planning.{IsPlan, IsWhole, ahead, most_now, lines_of}
 
 more_by : (last : Bool) (ramp most a b : ℕ) → a ≤ b
     → min (min ((if last then 0 else a) + ramp) (2 ^ 64 - 1)) most ≤ min (min ((if last then 0 else b) + ramp) (2 ^ 64 - 1)) most

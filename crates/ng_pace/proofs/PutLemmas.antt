@@ -5,12 +5,12 @@ use Rattle.ng_canon.specs.declared.item.Item.{Item}
 use Rattle.ng_canon.specs.declared.item.Item.TheVariants.{Pulse, Dwell, Switch}
 use Rattle.ng_canon.specs.declared.item.Pulse.{Pulse as OnePulse}
 use Rattle.ng_pace.specs.declared.line.Line.{Line}
-use Rattle.ng_pace.specs.Flow.{Flow, Timed, items_of, items_waiting, all_items, still_line}
+use Rattle.ng_pace.specs.Stream.{Flow, Timed, items_of, items_waiting, all_items, still_line}
 use Rattle.ng_pace.specs.Legs.{Leg, pulses_of, lines_of}
-use Rattle.ng_pace.specs.Underway.{Advances}
+use Rattle.ng_pace.specs.Path.{Advances}
 use Rattle.ng_pace.specs.Halting.{Halts, Takes}
 use Rattle.ng_pace.specs.Putting.{IsUnderway, Goes, Rests, GoesOnWith}
-use Rattle.ng_pace.proofs.FlowLemmas.{items_of-append}
+use Rattle.ng_pace.proofs.FinalLimitLemmas.{items_of-append}
 
 -- what is made of what waited, and of what came
 made-of : (known : List Line) (made : List Line) (waited waits more : List Item) → items_of (known ++ made) ++ waits ≡ (items_of known ++ waited) ++ more

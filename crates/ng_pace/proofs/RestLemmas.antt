@@ -4,8 +4,8 @@ use Rattle.std.proofs.Common.{[], ◌∷◌, ◌++◌, length, take, drop, take-
 use Rattle.std.specs.Prelude.{if◌then◌else◌, nat_le, ◌==◌, ◌&&◌}
 use Rattle.ng_pace.specs.declared.line.Line.{Line}
 use Rattle.ng_pace.specs.declared.planning.Slot.{Slot}
-use Rattle.ng_pace.specs.Plan.{IsPlan, ahead, lines_of, most_now}
-use Rattle.ng_pace.specs.Squares.{start_square}
+use Rattle.ng_pace.specs.Planning.{IsPlan, ahead, lines_of, most_now}
+use Rattle.ng_pace.specs.Stepping.{start_square}
 use Rattle.ng_pace.specs.Paced.{rest_of}
 use Rattle.ng_pace.specs.Rest.{CanRest}
 

@@ -5,8 +5,8 @@ use Rattle.std.proofs.lemmas.Bool.{cases_lt}
 use Rattle.std.specs.Int.{abs_diff}
 use Rattle.ng_pace.specs.declared.slopes.Rise.{Rise}
 use Rattle.ng_pace.specs.declared.slopes.Slopes.{Slopes}
-use Rattle.ng_pace.specs.Chords.{Slope, IsSlope}
-use Rattle.ng_pace.specs.Cones.{IsFrom, IsUpTo, IsReached, IsReachedFrom, IsReachedUpTo, size_of}
+use Rattle.ng_pace.specs.Chord.{Slope, IsSlope}
+use Rattle.ng_pace.specs.Cone.{IsFrom, IsUpTo, IsReached, IsReachedFrom, IsReachedUpTo, size_of}
 
 -- a slope from the greater of two is from the smaller
 pub from_greater : (r o r' o' over down w : ℕ) → 0 < o' → r * o' ≤ r' * o → r' * over + down * o' ≤ w * o' → r * over + down * o ≤ w * o

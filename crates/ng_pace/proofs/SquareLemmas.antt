@@ -3,9 +3,9 @@ use Rattle.std.proofs.Common.{arith, ℕ, zero, suc, ap, ◌^◌, ◌≤◌, ◌
 use Rattle.std.proofs.Common.{◌∷◌, length, take, drop, length-drop, length-take, take-append-drop, append-nil}
 use Rattle.ng_pace.specs.declared.line.Line.{Line}
 use Rattle.ng_pace.specs.declared.planning.Slot.{Slot}
-use Rattle.ng_pace.specs.Plan.{IsPlan, LooksAhead, FollowsWithin, ahead, lines_of, most_now}
+use Rattle.ng_pace.specs.Planning.{IsPlan, LooksAhead, FollowsWithin, ahead, lines_of, most_now}
 use Rattle.ng_pace.specs.Rest.{Stands}
-use Rattle.ng_pace.specs.Squares.{IsHasty, start_square}
+use Rattle.ng_pace.specs.Stepping.{IsHasty, start_square}
 use Rattle.ng_pace.proofs.PlanLemmas.{planned_within}
 use Rattle.ng_pace.proofs.RestLemmas.{length-lines_of, rest_at, rest_within, most_at, most_within, rest_still}
 

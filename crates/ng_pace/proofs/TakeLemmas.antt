@@ -3,7 +3,7 @@ use Rattle.std.proofs.Common.{arith, ℕ, zero, suc, ◌+◌, ◌-◌, ◌/◌, 
 use Rattle.std.specs.Prelude.{Option, Some, None, IfSome, IfNone, option_to_list}
 use Rattle.ng_pace.specs.declared.planning.Slot.{Slot}
 use Rattle.ng_pace.specs.Rest.{Stands}
-use Rattle.ng_pace.specs.Plan.{IsPlan, IsFresh, IsTaken, LooksAhead, ahead, lines_of, most_now}
+use Rattle.ng_pace.specs.Planning.{IsPlan, IsFresh, IsTaken, LooksAhead, ahead, lines_of, most_now}
 
 -- a plan that was made anew
 pub fresh_whole : (xs : List Slot) (n : ℕ) → n ≡ length xs → IsFresh n xs

@@ -7,7 +7,7 @@ use Rattle.ng_pace.specs.Axes.{AreLimits, IsStop}
 use Rattle.ng_pace.specs.Start.{start_of}
 use Rattle.ng_pace.specs.Rest.{CanRest, StandsBehind, IsMarked}
 use Rattle.ng_pace.specs.Paced.{IsGiven}
-use Rattle.ng_pace.specs.Flow.{Flow, Settles, StandsAt, all_items, full_of, square_behind, no_pulse}
+use Rattle.ng_pace.specs.Stream.{Flow, Settles, StandsAt, all_items, full_of, square_behind, no_pulse}
 use Rattle.ng_pace.specs.Legs.{Leg}
 use Rattle.ng_pace.specs.Putting.{IsUnderway, GoesOnWith, Rests}
 

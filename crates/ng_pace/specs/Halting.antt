@@ -4,10 +4,10 @@ use Rattle.ng_canon.specs.declared.item.Item.{Item}
 use Rattle.ng_canon.specs.declared.item.Item.TheVariants.{Pulse, Dwell, Switch}
 use Rattle.ng_pace.specs.declared.limits.Limits.{Limits}
 use Rattle.ng_pace.specs.declared.chord.Chord.{Chord}
-use Rattle.ng_pace.specs.Motion.{Motion}
-use Rattle.ng_pace.specs.Flow.{still_line}
+use Rattle.ng_pace.specs.Pacer.{Motion}
+use Rattle.ng_pace.specs.Stream.{still_line}
 use Rattle.ng_pace.specs.Legs.{Leg, pulses_of, lines_of}
-use Rattle.ng_pace.specs.Underway.{IsPath, Advances, Finishes}
+use Rattle.ng_pace.specs.Path.{IsPath, Advances, Finishes}
 
 -- the path is at its end, and then come lines of these items
 pub record Halts (limits : Limits) (stop : ℕ) (old new : Motion) (chord : Chord) (waits : ℕ) (legs : List Leg) (items : List Item) : Type 0 where

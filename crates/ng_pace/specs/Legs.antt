@@ -7,7 +7,7 @@ use Rattle.ng_canon.specs.declared.item.Pulse.{Pulse}
 use Rattle.ng_pace.specs.declared.limits.Limits.{Limits}
 use Rattle.ng_pace.specs.declared.line.Line.{Line}
 use Rattle.ng_pace.specs.Axes.{EachAxis, SomeAxis, IsAlong, IsCorner, IsNearCorner}
-use Rattle.ng_pace.specs.Chords.{Slope, IsSlope, slope_of, IsNear, IsStraight}
+use Rattle.ng_pace.specs.Chord.{Slope, IsSlope, slope_of, IsNear, IsStraight}
 
 -- the step of an axis, by its number
 abbrev pub step_of : ℕ → Pulse → AxisStep

@@ -5,7 +5,7 @@ use Rattle.ng_pace.specs.declared.line.Line.{Line}
 use Rattle.ng_pace.specs.declared.chord.Waiting.{Waiting}
 use Rattle.ng_pace.specs.declared.settling.Ending.{Ending}
 use Rattle.ng_pace.specs.declared.settling.Ending.TheVariants.{GoesOn, Stands, Ends}
-use Rattle.ng_pace.specs.Motion.{Motion}
+use Rattle.ng_pace.specs.Pacer.{Motion}
 use Rattle.ng_pace.specs.Rest.{IsMarked}
 
 -- a rate at which motors stop at once, in parts of 256 of the ramp; 0 where they go on

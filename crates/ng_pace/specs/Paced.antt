@@ -3,9 +3,9 @@ use Rattle.std.specs.Prelude.{ℕ, ◌<◌, ◌≤◌, ◌≡◌, ◌==◌, ◌&
 use Rattle.ng_pace.specs.declared.line.Line.{Line}
 use Rattle.ng_pace.specs.declared.stepping.Given.{Given}
 use Rattle.ng_pace.specs.Due.{least_ns}
-use Rattle.ng_pace.specs.Motion.{Motion}
+use Rattle.ng_pace.specs.Pacer.{Motion}
 use Rattle.ng_pace.specs.Rest.{CanRest}
-use Rattle.ng_pace.specs.Squares.{start_square, IsHasty}
+use Rattle.ng_pace.specs.Stepping.{start_square, IsHasty}
 use Rattle.ng_pace.specs.Interval.{IsTimeOf}
 
 -- what is left of a square after a line: nothing, where a rest is wanted and motors can stop at once

@@ -5,10 +5,10 @@ use Rattle.ng_pace.specs.declared.limits.Limits.{Limits}
 use Rattle.ng_pace.specs.declared.line.Line.{Line}
 use Rattle.ng_pace.specs.declared.slopes.Slopes.{Slopes}
 use Rattle.ng_pace.specs.declared.chord.Waiting.{Waiting}
-use Rattle.ng_pace.specs.Motion.{Motion}
+use Rattle.ng_pace.specs.Pacer.{Motion}
 use Rattle.ng_pace.specs.Axes.{AreMostPulses, EachAxis, IsAlong, IsFullCorner, IsFullRamp, IsFullRate, IsNearCorner, IsQuarterRamp}
-use Rattle.ng_pace.specs.Chords.{Slope, IsSlope}
-use Rattle.ng_pace.specs.Cones.{AreBetween, size_of, turn_of}
+use Rattle.ng_pace.specs.Chord.{Slope, IsSlope}
+use Rattle.ng_pace.specs.Cone.{AreBetween, size_of, turn_of}
 use Rattle.ng_pace.specs.Legs.{IsTurning, turn_between}
 use Rattle.ng_pace.specs.Making.{Makes}
 

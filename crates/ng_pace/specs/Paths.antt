@@ -6,7 +6,7 @@ use Rattle.ng_canon.specs.declared.item.Pulse.{Pulse as OnePulse}
 use Rattle.ng_pace.specs.declared.limits.Limits.{Limits}
 use Rattle.ng_pace.specs.declared.line.Line.{Line}
 use Rattle.ng_pace.specs.declared.stepping.Given.{Given}
-use Rattle.ng_pace.specs.Flow.{Flow, items_of, items_waiting, still_line}
+use Rattle.ng_pace.specs.Stream.{Flow, items_of, items_waiting, still_line}
 use Rattle.ng_pace.specs.Legs.{Leg, IsPaced, pulses_of, lines_of}
 use Rattle.ng_pace.specs.Putting.{KeepSoFar}
 use Rattle.ng_pace.specs.Run.{Event, put, end, ask, lines_given}

@@ -5,9 +5,9 @@ use Rattle.ng_canon.specs.declared.item.Item.TheVariants.{Pulse, Dwell, Switch}
 use Rattle.ng_canon.specs.declared.item.Pulse.{Pulse as OnePulse}
 use Rattle.ng_pace.specs.declared.limits.Limits.{Limits}
 use Rattle.ng_pace.specs.declared.line.Line.{Line}
-use Rattle.ng_pace.specs.Flow.{Flow, items_of, items_waiting, still_line}
+use Rattle.ng_pace.specs.Stream.{Flow, items_of, items_waiting, still_line}
 use Rattle.ng_pace.specs.Legs.{Leg, IsChord, IsPaced, pulses_of, lines_of}
-use Rattle.ng_pace.specs.Underway.{IsPath, IsBegun}
+use Rattle.ng_pace.specs.Path.{IsPath, IsBegun}
 
 -- these are the chords of the pulses that were put in since the last rest, with the lines that were made of them; the
 -- other pulses wait

@@ -4,10 +4,10 @@ use Rattle.ng_canon.specs.declared.item.Item.{Item}
 use Rattle.ng_pace.specs.declared.stepping.Given.{Given}
 use Rattle.ng_pace.specs.Due.{least_ns}
 use Rattle.ng_pace.specs.Rest.{IsRamp}
-use Rattle.ng_pace.specs.Squares.{start_square}
+use Rattle.ng_pace.specs.Stepping.{start_square}
 use Rattle.ng_pace.specs.Interval.{IsTimeOf}
 use Rattle.ng_pace.specs.Paced.{Waits}
-use Rattle.ng_pace.specs.Flow.{Flow, all_items}
+use Rattle.ng_pace.specs.Stream.{Flow, all_items}
 use Rattle.ng_pace.specs.Calls.{IsPut, IsEnded, IsFlowGiven}
 
 -- an item is put in; it is told that nothing more comes; or a line is asked for at no more than a square, and what is

@@ -28,10 +28,10 @@ pub(crate) struct Chord {
 
 impl Chord {
     ghost use Rattle.ng_pace.specs.Axes.{AreLimits, EachAxis};
-    ghost use Rattle.ng_pace.specs.Chords.{Slope, IsSlope, IsNear};
-    ghost use Rattle.ng_pace.specs.Cones.{AreBetween};
+    ghost use Rattle.ng_pace.specs.Chord.{Slope, IsSlope, IsNear};
+    ghost use Rattle.ng_pace.specs.Cone.{AreBetween};
     ghost use Rattle.ng_pace.specs.Legs.{IsChord, steps_along};
-    ghost use Rattle.ng_pace.specs.Underway.{AreCones, AreReached, AreSlopes};
+    ghost use Rattle.ng_pace.specs.Path.{AreCones, AreReached, AreSlopes};
 
     /// None.
     pub(crate) fn new() -> Chord

@@ -1,8 +1,8 @@
 //! The slopes that keep an axis near its pulses.
 ghost use Rattle.std.specs.Prelude.{ℕ, ◌≡◌, ◌<◌, ◌+◌, ◌*◌, ◌^◌, ◌∷◌, ◌++◌, [], List, length, IsTrue, IsFalse};
 ghost use Rattle.ng_canon.specs.declared.item.AxisStep.{AxisStep};
-ghost use Rattle.ng_pace.specs.Chords.{Slope, IsSlope, slope_of, IsNear, IsStraight, forward, backward};
-ghost use Rattle.ng_pace.specs.Cones.{IsBetween, IsCone, IsReached, IsRiseOf};
+ghost use Rattle.ng_pace.specs.Chord.{Slope, IsSlope, slope_of, IsNear, IsStraight, forward, backward};
+ghost use Rattle.ng_pace.specs.Cone.{IsBetween, IsCone, IsReached, IsRiseOf};
 
 use crate::slopes::{Rise, Slopes};
 use ng_canon::AxisStep;

@@ -1,7 +1,7 @@
 //! Corners between two chords.
 ghost use Rattle.std.specs.Prelude.{◌≡◌, ◌≤◌, ◌<◌, ◌+◌, ◌*◌, ◌/◌, ◌^◌, ◌⊎◌, max, slice_index, slice_index_or};
-ghost use Rattle.ng_pace.specs.Chords.{Slope, IsSlope};
-ghost use Rattle.ng_pace.specs.Cones.{AreBetween, IsBetween, IsTurn, size_of, turn_of};
+ghost use Rattle.ng_pace.specs.Chord.{Slope, IsSlope};
+ghost use Rattle.ng_pace.specs.Cone.{AreBetween, IsBetween, IsTurn, size_of, turn_of};
 ghost use Rattle.ng_pace.specs.declared.slopes.Slopes.{Slopes};
 ghost use Rattle.ng_pace.specs.Axes.{AreLimits, AreMostPulses, EachAxis, IsCorner, IsFarFromCorner};
 ghost use Rattle.ng_pace.specs.Axes.{IsFullCorner, IsNearCorner, IsQuarterRamp};

@@ -1,7 +1,7 @@
 //! What the promises of single calls say of whole streams. The calls do nothing; their contracts are the laws.
 ghost use Rattle.std.specs.Prelude.{ℕ, List, ◌≡◌, ◌≤◌, [], length};
 ghost use Rattle.ng_pace.specs.Rest.{CanRest};
-ghost use Rattle.ng_pace.specs.Flow.{Flow, all_items};
+ghost use Rattle.ng_pace.specs.Stream.{Flow, all_items};
 ghost use Rattle.ng_pace.specs.declared.limits.Limits.{Limits};
 ghost use Rattle.ng_pace.specs.Start.{start_of};
 ghost use Rattle.ng_pace.specs.Legs.{Leg};

@@ -30,8 +30,8 @@ pub struct Pacer<A: Allocator> {
 
 impl<A: Allocator> Model for Pacer<A> {
     ghost use Rattle.std.specs.VecDeque.{deque_capacity};
-    ghost use Rattle.ng_pace.specs.Motion.{Motion, IsSteady};
-    ghost use Rattle.ng_pace.specs.Plan.{lines_of};
+    ghost use Rattle.ng_pace.specs.Pacer.{Motion, IsSteady};
+    ghost use Rattle.ng_pace.specs.Planning.{lines_of};
 
     ghost Value = { Motion };
 
@@ -47,7 +47,7 @@ impl<A: Allocator> Model for Pacer<A> {
 }
 
 impl<A: Allocator> Pacer<A> {
-    ghost use Rattle.ng_pace.specs.Motion.{Motion};
+    ghost use Rattle.ng_pace.specs.Pacer.{Motion};
 
     /// At rest, with no line, and room for so many. Nothing is allocated later. Source: own.
     ///

@@ -4,13 +4,13 @@ ghost use Rattle.std.specs.Prelude.{ℕ, ◌^◌, false, List, length, slice_ind
 ghost use Rattle.std.specs.VecDeque.{deque_capacity};
 ghost use Rattle.ng_pace.specs.declared.chord.Waiting.{Waiting};
 ghost use Rattle.ng_pace.specs.Axes.{AreLimits};
-ghost use Rattle.ng_pace.specs.Few.{WaitFew, WaitSome};
-ghost use Rattle.ng_pace.specs.Flow.{Keeps};
+ghost use Rattle.ng_pace.specs.WaitingPulses.{WaitFew, WaitSome};
+ghost use Rattle.ng_pace.specs.Stream.{Keeps};
 ghost use Rattle.ng_pace.specs.Making.{Marks, stop_of};
 ghost use Rattle.ng_pace.specs.Passing.{PassesAlong, PassesCorner};
 ghost use Rattle.ng_pace.specs.Legs.{IsChord, Leg, lines_of, pulses_of};
-ghost use Rattle.ng_pace.specs.Underway.{Advances, AreReached, AreSlopes, IsBegun, IsBehindFarthest, IsClosed};
-ghost use Rattle.ng_pace.specs.Underway.{Finishes, IsPath, Reaches, Turns, kept_of};
+ghost use Rattle.ng_pace.specs.Path.{Advances, AreReached, AreSlopes, IsBegun, IsBehindFarthest, IsClosed};
+ghost use Rattle.ng_pace.specs.Path.{Finishes, IsPath, Reaches, Turns, kept_of};
 
 use crate::caps::along;
 use crate::chord::{Chord, Waiting};
@@ -61,7 +61,7 @@ fn pass_along<A: Allocator>(
 }
 
 /// Makes the lines up to the end of the corner at which the open chord begins.
-#[tactic(auto, using(crate::proofs::FlowLemmas::keeps_on))]
+#[tactic(auto, using(crate::proofs::FinalLimitLemmas::keeps_on))]
 fn pass_corner<A: Allocator>(
     pacer: &mut Pacer<A>,
     waiting: &mut VecDeque<Waiting, A>,
@@ -131,7 +131,7 @@ fn decide_at_end<A: Allocator>(
 }
 
 /// Closes the open chord. So many of its last pulses wait for the corner that it ends at.
-#[tactic(auto, using(crate::proofs::FlowLemmas::keeps_on))]
+#[tactic(auto, using(crate::proofs::FinalLimitLemmas::keeps_on))]
 fn close<A: Allocator>(
     pacer: &mut Pacer<A>,
     waiting: &mut VecDeque<Waiting, A>,
@@ -217,7 +217,7 @@ fn go_along<A: Allocator>(
 }
 
 /// Takes the last item that waits into the open chord.
-#[tactic(auto, using(crate::proofs::FlowLemmas::keeps_on))]
+#[tactic(auto, using(crate::proofs::FinalLimitLemmas::keeps_on))]
 pub(crate) fn extend<A: Allocator>(
     pacer: &mut Pacer<A>,
     waiting: &mut VecDeque<Waiting, A>,

@@ -1,7 +1,7 @@
 //! The plan: at each line the greatest square from which a rest can be reached.
 ghost use Rattle.std.specs.Prelude.{◌≡◌, ◌<◌, ◌≤◌, ◌+◌, ◌/◌, ◌∷◌, [], IfSome, IfNone, IsTrue, IsFalse};
 ghost use Rattle.std.specs.VecDeque.{deque_capacity};
-ghost use Rattle.ng_pace.specs.Plan.{IsPlan, IsWhole, IsFresh, IsTaken, StandsFirst, ahead, most_now, lines_of};
+ghost use Rattle.ng_pace.specs.Planning.{IsPlan, IsWhole, IsFresh, IsTaken, StandsFirst, ahead, most_now, lines_of};
 
 use crate::line::Line;
 use std::alloc::Allocator;

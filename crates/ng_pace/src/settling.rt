@@ -1,7 +1,7 @@
 //! Items whose limits become final.
 ghost use Rattle.std.specs.Prelude.{◌≡◌, ◌≤◌, ◌+◌, ◌↔◌, [], length, min, IsTrue, IsFalse};
 ghost use Rattle.std.specs.VecDeque.{deque_capacity};
-ghost use Rattle.ng_pace.specs.Flow.{Keeps};
+ghost use Rattle.ng_pace.specs.Stream.{Keeps};
 ghost use Rattle.ng_pace.specs.Making.{IsEnd, IsWithin, Makes, Marks, ramp_at, stop_of};
 
 use crate::chord::Waiting;
@@ -46,7 +46,7 @@ fn line_of(item: Waiting, limits: Caps, ending: Ending) -> Line
 }
 
 /// Gives the first item that waits to the pacer. False if none waits.
-#[tactic(auto, using(crate::proofs::FlowLemmas::moved))]
+#[tactic(auto, using(crate::proofs::FinalLimitLemmas::moved))]
 fn settle_one<A: Allocator>(
     pacer: &mut Pacer<A>,
     waiting: &mut VecDeque<Waiting, A>,
@@ -78,7 +78,7 @@ fn settle_one<A: Allocator>(
 }
 
 /// Gives so many items that wait to the pacer, or all.
-#[tactic(auto, using(crate::proofs::FlowLemmas::keeps_on))]
+#[tactic(auto, using(crate::proofs::FinalLimitLemmas::keeps_on))]
 pub(crate) fn settle<A: Allocator>(
     pacer: &mut Pacer<A>,
     waiting: &mut VecDeque<Waiting, A>,
@@ -101,7 +101,7 @@ pub(crate) fn settle<A: Allocator>(
 }
 
 /// Gives all items that wait to the pacer.
-#[tactic(auto, using(crate::proofs::FlowLemmas::keeps_on))]
+#[tactic(auto, using(crate::proofs::FinalLimitLemmas::keeps_on))]
 pub(crate) fn settle_all<A: Allocator>(
     pacer: &mut Pacer<A>,
     waiting: &mut VecDeque<Waiting, A>,

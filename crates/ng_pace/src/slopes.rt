@@ -1,8 +1,8 @@
 //! Slopes of an axis: steps over pulses, counted from a step back at each pulse, so that none is below 0.
 ghost use Rattle.std.specs.Prelude.{◌≡◌, ◌≤◌, ◌<◌, ◌+◌, ◌*◌, ◌⊎◌, IsTrue, IsFalse, slice_index, slice_index_or};
 ghost use Rattle.std.specs.Int.{abs_diff};
-ghost use Rattle.ng_pace.specs.Chords.{Slope, IsSlope};
-ghost use Rattle.ng_pace.specs.Cones.{AreBetween, IsFrom, IsUpTo, IsBetween, IsReached, size_of, turn_of};
+ghost use Rattle.ng_pace.specs.Chord.{Slope, IsSlope};
+ghost use Rattle.ng_pace.specs.Cone.{AreBetween, IsFrom, IsUpTo, IsBetween, IsReached, size_of, turn_of};
 ghost use Rattle.ng_pace.specs.declared.slopes.Slopes.{Slopes};
 ghost use Rattle.ng_pace.specs.Axes.{EachAxis};
 

@@ -1,8 +1,8 @@
 //! One line: the square after it, and its time.
 ghost use Rattle.std.specs.Prelude.{ℕ, ◌≡◌, ◌≤◌, ◌<◌, ◌^◌, min};
-ghost use Rattle.ng_pace.specs.Plan.{most_now, FollowsWithin};
+ghost use Rattle.ng_pace.specs.Planning.{most_now, FollowsWithin};
 ghost use Rattle.ng_pace.specs.Due.{IsPercent, least_ns};
-ghost use Rattle.ng_pace.specs.Squares.{start_square};
+ghost use Rattle.ng_pace.specs.Stepping.{start_square};
 ghost use Rattle.ng_pace.specs.Interval.{IsRoot, time_at, is_at_full_rate, IsTimeOf};
 ghost use Rattle.ng_pace.specs.Paced.{rest_of};
 

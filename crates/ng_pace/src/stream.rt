@@ -4,15 +4,15 @@ ghost use Rattle.std.specs.Prelude.{length, min, nat_le, IsTrue, IsFalse, Err, I
 ghost use Rattle.std.specs.VecDeque.{deque_capacity};
 ghost use Rattle.ng_pace.specs.Axes.{AccelerateTooLittle, AccelerateTooMuch, AreLimits, GoTooFast, HaveAxes};
 ghost use Rattle.ng_pace.specs.Due.{IsNoPercent, own_square};
-ghost use Rattle.ng_pace.specs.Few.{WaitFew, WaitSome};
-ghost use Rattle.ng_pace.specs.Flow.{Keeps, Adds, StandsAt, StandsLast, full_of};
-ghost use Rattle.ng_pace.specs.Flow.{square_behind, no_pulse, still_line, timed_waiting};
+ghost use Rattle.ng_pace.specs.WaitingPulses.{WaitFew, WaitSome};
+ghost use Rattle.ng_pace.specs.Stream.{Keeps, Adds, StandsAt, StandsLast, full_of};
+ghost use Rattle.ng_pace.specs.Stream.{square_behind, no_pulse, still_line, timed_waiting};
 ghost use Rattle.ng_pace.specs.Paced.{Waits};
 ghost use Rattle.ng_pace.specs.Rest.{StandsBehind};
 ghost use Rattle.ng_pace.specs.Making.{Marks, stop_of};
 ghost use Rattle.ng_pace.specs.Legs.{Leg, lines_of, pulses_of};
 ghost use Rattle.ng_pace.specs.Halting.{Halts, Takes};
-ghost use Rattle.ng_pace.specs.Underway.{Advances, IsBegun, Finishes, IsPath};
+ghost use Rattle.ng_pace.specs.Path.{Advances, IsBegun, Finishes, IsPath};
 ghost use Rattle.ng_pace.specs.Calls.{IsEmpty, IsPut, IsEnded, IsFlowGiven};
 
 use crate::chord::{Chord, Waiting};
@@ -49,7 +49,7 @@ pub struct Stream<A: Allocator> {
 
 impl<A: Allocator> Model for Stream<A> {
     ghost use Rattle.std.specs.VecDeque.{deque_capacity};
-    ghost use Rattle.ng_pace.specs.Flow.{Flow, IsHeld, timed_waiting};
+    ghost use Rattle.ng_pace.specs.Stream.{Flow, IsHeld, timed_waiting};
 
     ghost Value = { Flow };
 
@@ -66,7 +66,7 @@ impl<A: Allocator> Model for Stream<A> {
 }
 
 /// Makes lines of all that waits: it comes to rest at its end.
-#[tactic(auto, using(crate::proofs::FlowLemmas::keeps_on))]
+#[tactic(auto, using(crate::proofs::FinalLimitLemmas::keeps_on))]
 fn finish<A: Allocator>(
     pacer: &mut Pacer<A>,
     waiting: &mut VecDeque<Waiting, A>,
@@ -289,7 +289,7 @@ impl<A: Allocator> Stream<A> {
     /// The next line and its time. `wanted` is the greatest square that the operator wants, in pulses a second times
     /// 2^8, squared; 0 is a hold: the rate falls as fast as may be, and then everything stands still. None, with
     /// nothing changed, if the limits of no item are final, or at rest in a hold. Source: own.
-    #[tactic(auto, using(crate::proofs::FlowLemmas::given_items))]
+    #[tactic(auto, using(crate::proofs::FinalLimitLemmas::given_items))]
     pub fn next(&mut self, wanted: u64) -> Option<Given>
         ensures given { IfSome result (λ given. IsFlowGiven self.old self.new wanted given) }
         ensures waits { IfNone result (Waits self.old.motion wanted) }

@@ -9,8 +9,8 @@ use Rattle.std.proofs.lemmas.Bool.Decides.{Decides-int_eq}
 use Rattle.std.proofs.lemmas.List.{append-nil, length_push, length-take-le, set_at, drop_more, take_more, take_all}
 use Rattle.std.proofs.lemmas.List.{drop_all, get_or_append_left, get_or_push, get_or_past, get_or_read, map_push}
 use Rattle.std.proofs.lemmas.List.Elements.{Contains-push, Contains-push_cases, Contains-append_left}
-use Rattle.ng_params.specs.Table.{with_value}
-use Rattle.ng_params.specs.Changes.{with_changes, IsDifference, AreDifferences}
+use Rattle.ng_params.specs.Params.{with_value}
+use Rattle.ng_params.specs.Change.{with_changes, IsDifference, AreDifferences}
 use Rattle.ng_params.specs.declared.change.Change.{Change}
 
 -- the numbers of the changed parameters

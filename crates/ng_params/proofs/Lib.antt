@@ -1,5 +1,5 @@
 pub mod ClearLemmas
 pub mod ChangeLemmas
-pub mod AheadLemmas
-pub mod AssignmentLaws
-pub mod Differing
+pub mod OneParameterLemmas
+pub mod AssignmentLemmas
+pub mod DifferenceLemmas

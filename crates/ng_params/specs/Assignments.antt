@@ -1,8 +1,8 @@
 -- The effect of assignments on a table (NISTIR 6556, 3.3.3): the last assignment of a parameter counts, and all other
 -- parameters stay.
 use Rattle.std.specs.Prelude.{◌≡◌, ◌≢◌, ◌≤◌, ℕ, List, [], ◌∷◌, ◌++◌, ℤ, length}
-use Rattle.ng_params.specs.Changes.{with_changes}
-use Rattle.ng_params.specs.Table.{at}
+use Rattle.ng_params.specs.Change.{with_changes}
+use Rattle.ng_params.specs.Params.{at}
 use Rattle.ng_params.specs.declared.change.Change.{Change}
 
 -- none of these assignments sets parameter p

@@ -2,7 +2,7 @@
 use Rattle.std.specs.Prelude.{◌≡◌, ◌<◌, ◌≤◌, ℕ, zero, suc, if◌then◌else◌, List, [], ◌∷◌, ◌++◌, length, ℤ}
 use Rattle.std.specs.Ordering.{int_eq}
 use Rattle.ng_params.specs.Numbers.{parameter_count}
-use Rattle.ng_params.specs.Table.{at}
+use Rattle.ng_params.specs.Params.{at}
 use Rattle.ng_params.specs.declared.change.Change.{Change}
 
 -- the change of a parameter to its new value

@@ -1,7 +1,7 @@
 pub mod Numbers
-pub mod Table
+pub mod Params
 pub mod Points
 pub mod Lasting
-pub mod Changes
+pub mod Change
 pub mod Differences
 pub mod Assignments

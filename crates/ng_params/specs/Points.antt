@@ -2,7 +2,7 @@
 use Rattle.std.specs.Prelude.{ℕ, ◌+◌, ◌*◌, List, [], ◌∷◌, ℤ, pos}
 use Rattle.ng_num.specs.declared.point.Point.{Point}
 use Rattle.ng_params.specs.Numbers.{system_in_force, first_of_home, first_of_second_home, first_of_g92, first_of_origin}
-use Rattle.ng_params.specs.Table.{at}
+use Rattle.ng_params.specs.Params.{at}
 use Rattle.ng_params.specs.declared.change.Change.{Change}
 
 -- the point in three parameters

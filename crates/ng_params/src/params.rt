@@ -1,9 +1,9 @@
 //! The table of parameters.
 ghost use Rattle.std.specs.Prelude.{◌≡◌, pos, IfOk, map};
 ghost use Rattle.std.specs.List.Sorted.{IsStrictlyIncreasing};
-ghost use Rattle.ng_params.specs.Table.{at, defaults, with_value};
+ghost use Rattle.ng_params.specs.Params.{at, defaults, with_value};
 ghost use Rattle.ng_params.specs.Lasting.{cleared};
-ghost use Rattle.ng_params.specs.Changes.{with_changes, AreDifferences};
+ghost use Rattle.ng_params.specs.Change.{with_changes, AreDifferences};
 
 use crate::change::Change;
 use crate::index::{Index, PARAMETER_COUNT};

@@ -1,6 +1,6 @@
 //! The points among the parameters, as lengths: homes, the stored G92 offset and origins.
 ghost use Rattle.std.specs.Prelude.{◌≡◌, ◌≤◌};
-ghost use Rattle.ng_params.specs.Changes.{with_changes};
+ghost use Rattle.ng_params.specs.Change.{with_changes};
 ghost use Rattle.ng_params.specs.Numbers.{first_of_origin};
 ghost use Rattle.ng_params.specs.Points.{changes_to, g92_changes, g92_stored, home, origin_changes, origin_of, point_at, second_home};
 

@@ -1,1 +1,1 @@
-pub mod OneField
+pub mod OneFieldLemmas

@@ -1,7 +1,7 @@
-pub mod Traces
-pub mod Running
-pub mod Since
-pub mod Promise
-pub mod Reach
-pub mod Replaying
-pub mod Writes_only
+pub mod TraceLemmas
+pub mod ContinuationLemmas
+pub mod LaterStopLemmas
+pub mod GuaranteeLemmas
+pub mod ReachableStopLemmas
+pub mod ReplayLemmas
+pub mod WritesOnlyLemmas

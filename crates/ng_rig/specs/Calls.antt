@@ -1,7 +1,7 @@
 -- What each call of a device does to its trace (own).
 use Rattle.std.specs.Prelude.{◌≡◌, ◌⊎◌, ℕ, ◌+◌, ◌%◌, ◌^◌, List, Result, Ok, Err}
 use Rattle.ng_canon.specs.declared.item.Item.{Item}
-use Rattle.ng_rig.specs.Device.{Device}
+use Rattle.ng_rig.specs.Rig.{Device}
 use Rattle.ng_rig.specs.Trace.{Trace, Wrote, Perhaps, Synced, Handed}
 
 -- A call preserves honesty in both directions, and the fact holds if the device is honest.

@@ -1,6 +1,6 @@
 -- A device that passes a number of calls on, and then fails: one call, or all from there on (own).
 use Rattle.std.specs.Prelude.{◌≡◌, ◌+◌, ◌-◌, ◌==◌, if◌then◌else◌, ℕ, Bool, Option, Some, None, Result, IsErr}
-use Rattle.ng_rig.specs.Device.{Device}
+use Rattle.ng_rig.specs.Rig.{Device}
 use Rattle.ng_rig.specs.Calls.{FailureCountSpec}
 use Rattle.ng_rig.specs.declared.failing.FailingRig.{FailingRig}
 

@@ -1,10 +1,10 @@
 pub mod Calls
-pub mod Device
+pub mod Rig
 pub mod Extent
 pub mod Failing
 pub mod Kept
 pub mod Trace
-pub mod MemoryRig
+pub mod Memory
 pub mod Moments
 pub mod Continuation
 pub mod Only

@@ -1,7 +1,7 @@
 //! Devices of 512-byte sectors that also hand out items, and every way that a loss of power can stop them.
 //!
 //! The trait `Rig` is what a journal is proved over. Its ghost member `seen` is the device as contracts see it
-//! (specs/Device); its trace lists the writes, syncs and hand-outs so far. What a read returns, what a stop may leave
+//! (specs/Rig); its trace lists the writes, syncs and hand-outs so far. What a read returns, what a stop may leave
 //! now or since a moment, and the items handed out all follow from the trace (specs/Trace). `MemoryRig` implements the
 //! trait in memory; it can be stopped in every way that the definition allows and in no other. `FuseRig` and `FailRig`
 //! implement it over any device and fail when asked to, by one body. `laws` states facts about stops for proofs to

@@ -31,7 +31,7 @@ impl<A: Allocator + Copy + Drop> MemoryRig<A> {
     ghost use Rattle.ng_rig.specs.Trace.{Image, Began, reads, items, moment, trace_at, IsStop};
     ghost use Rattle.ng_rig.specs.Kept.{contents};
     ghost use Rattle.ng_rig.specs.Stops.{kept_image, IsReached};
-    ghost use Rattle.ng_rig.specs.MemoryRig.{trace_of, sector_count, failure_count};
+    ghost use Rattle.ng_rig.specs.Memory.{trace_of, sector_count, failure_count};
 
     /// A device of this many sectors, all zeros.
     pub fn new(alloc: A, sectors: usize) -> Result<Self, AllocError>
@@ -120,7 +120,7 @@ impl<A: Allocator + Copy + Drop> Rig for MemoryRig<A> {
     ghost use Rattle.std.specs.Prelude.{◌≡◌, ◌<◌, IsOk};
     ghost use Rattle.ng_rig.specs.Trace.{Wrote, Synced, Handed, reads};
     ghost use Rattle.ng_rig.specs.Calls.{IsCall, KeepsOrNot};
-    ghost use Rattle.ng_rig.specs.MemoryRig.{trace_of, sector_count, failure_count, device_of};
+    ghost use Rattle.ng_rig.specs.Memory.{trace_of, sector_count, failure_count, device_of};
 
     ghost seen = { device_of };
 

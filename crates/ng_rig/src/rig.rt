@@ -1,7 +1,7 @@
 //! What a device is to a journal: the trait `Rig`.
 ghost use Rattle.std.specs.Prelude.{◌≡◌, ◌<◌, OnOk};
 ghost use Rattle.ng_rig.specs.Trace.{reads};
-ghost use Rattle.ng_rig.specs.Device.{Device};
+ghost use Rattle.ng_rig.specs.Rig.{Device};
 ghost use Rattle.ng_rig.specs.Extent.{HasExtent};
 ghost use Rattle.ng_rig.specs.Calls.{IfHonest, WriteSpec, SyncSpec, HandOutSpec, IsCall};
 

@@ -1,4 +1,4 @@
-pub mod Asking
-pub mod Ticking
-pub mod Replying
-pub mod Conversing
+pub mod AskedOrderLemmas
+pub mod TickCommandLemmas
+pub mod ReplyLemmas
+pub mod ConversationLemmas

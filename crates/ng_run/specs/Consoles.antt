@@ -4,7 +4,7 @@ use Rattle.std.specs.Prelude.{IfOk, IfErr, IfSome, IsErrAnd, length, take, flat_
 use Rattle.std.specs.Io.KnownBytes.{Appends}
 use Rattle.ng_num.specs.declared.fault.Fault.{Fault}
 use Rattle.ng_num.specs.declared.fault.Fault.TheVariants.{NotFormatted, OutOfMemory}
-use Rattle.ng_rig.specs.Device.{Device}
+use Rattle.ng_rig.specs.Rig.{Device}
 use Rattle.ng_rig.specs.Calls.{IfHonest}
 use Rattle.ng_settings.specs.declared.standard.Settings.{Settings}
 use Rattle.ng_layout.specs.Storable.{IsStorable}
@@ -12,15 +12,15 @@ use Rattle.ng_journal.specs.Journal.{CountsFailure}
 use Rattle.ng_commands.specs.Replies.{refused_line, tick_line}
 use Rattle.ng_session.specs.Session.{resting}
 use Rattle.ng_session.specs.declared.reply.Reply.{Reply}
-use Rattle.ng_dialogue.specs.Orders.{EndsText}
+use Rattle.ng_dialogue.specs.Hearing.{EndsText}
 use Rattle.ng_dialogue.specs.declared.order.Order.{Order}
 use Rattle.ng_dialogue.specs.declared.order.Order.TheVariants.{Ticks}
 use Rattle.ng_dialogue.specs.declared.telling.OutputError.{OutputError}
 use Rattle.ng_core.specs.Events.{program_session_of}
-use Rattle.ng_core.specs.Powers.{PowerOnResult, PowerOnSpec}
+use Rattle.ng_core.specs.Power.{PowerOnResult, PowerOnSpec}
 use Rattle.ng_core.specs.Runs.{PassesAsSession}
 use Rattle.ng_core.specs.Model.{ControllerModel, IsAtRestWith}
-use Rattle.ng_run.specs.Endings.{ended_by, status_of}
+use Rattle.ng_run.specs.Ending.{ended_by, status_of}
 use Rattle.ng_run.specs.Talks.{AreBrokenOff, AreTicks, Exchange, Hears, IsAnswered, IsBegun, events_in, events_of, replies_in, words_in, words_of}
 use Rattle.ng_core.specs.AnsweredEvents.{AreAnsweredEvents, answered_at}
 use Rattle.ng_run.specs.declared.ending.ConsoleEnd.{ConsoleEnd}

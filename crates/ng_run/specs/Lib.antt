@@ -1,3 +1,3 @@
-pub mod Endings
+pub mod Ending
 pub mod Talks
 pub mod Consoles

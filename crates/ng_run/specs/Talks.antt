@@ -5,7 +5,7 @@ use Rattle.ng_commands.specs.Replies.{continues_ticks, refused_line, reply_line,
 use Rattle.ng_session.specs.declared.event.Event.{Event}
 use Rattle.ng_session.specs.declared.event.Event.TheVariants as event
 use Rattle.ng_session.specs.declared.reply.Reply.{Reply}
-use Rattle.ng_dialogue.specs.Orders.{BeginsWithOrder}
+use Rattle.ng_dialogue.specs.Hearing.{BeginsWithOrder}
 use Rattle.ng_dialogue.specs.declared.order.Order.{Order}
 use Rattle.ng_dialogue.specs.declared.order.Order.TheVariants.{Give, Ticks, Refuse}
 

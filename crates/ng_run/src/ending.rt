@@ -1,6 +1,6 @@
 //! How a console ends.
 ghost use Rattle.std.specs.Prelude.{◌≡◌, ◌≤◌};
-ghost use Rattle.ng_run.specs.Endings.{ended_by, status_of};
+ghost use Rattle.ng_run.specs.Ending.{ended_by, status_of};
 
 /// How a console that wasn't aborted ended (own).
 #[derive(Clone, Copy)]

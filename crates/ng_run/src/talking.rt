@@ -2,7 +2,7 @@
 ghost use Rattle.std.specs.Prelude.{◌≡◌, true};
 ghost use Rattle.ng_dialogue.specs.Waiting.{EndHolds, text_left};
 ghost use Rattle.ng_run.specs.Consoles.{Conversation};
-ghost use Rattle.ng_run.specs.Endings.{ended_by};
+ghost use Rattle.ng_run.specs.Ending.{ended_by};
 
 use crate::answering::answer;
 use crate::ending::{ConsoleAbort, ConsoleEnd, ended_by};

@@ -7,7 +7,7 @@ use Rattle.ng_canon.specs.declared.item.Item.{Item}
 use Rattle.ng_lines.specs.Lines.{item_line}
 use Rattle.ng_pace.specs.declared.limits.Limits.{Limits}
 use Rattle.ng_pace.specs.Calls.{IsEmpty}
-use Rattle.ng_pace.specs.Flow.{Timed as Waited, all_items, items_of, items_waiting}
+use Rattle.ng_pace.specs.Stream.{Timed as Waited, all_items, items_of, items_waiting}
 use Rattle.ng_pace.specs.declared.line.Line.{Line}
 use Rattle.ng_schedule.specs.Flush.{FlushSpec, Wrote}
 use Rattle.ng_schedule.specs.Schedule.{ArePaced, BeginsNoLine, ScheduleSpec, Timed, end_text, lines_of, not_a_line_text, room, span, timed_text, too_late_text}
@@ -18,7 +18,7 @@ use Rattle.ng_schedule.specs.declared.ending.Ended.TheVariants.{Done, NotALine, 
 use Rattle.ng_schedule.specs.declared.ending.ScheduleFault.{ScheduleFault}
 use Rattle.ng_schedule.specs.declared.giving.Schedule.{Schedule}
 use Rattle.ng_schedule.proofs.StreamLemmas.{begins, are_paced, come_to_rest}
-use Rattle.ng_text.proofs.Streams.{Appends-nil, Appends-trans}
+use Rattle.ng_text.proofs.KnownBytesLemmas.{Appends-nil, Appends-trans}
 
 pub ScheduleSpec-from : (limits : Limits) (shown other : Shown) (text same : List ℕ) (old new : Option (List ℕ))
     (r : Result Ended ScheduleFault) → other ≡ shown → same ≡ text

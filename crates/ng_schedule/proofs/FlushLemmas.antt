@@ -4,7 +4,7 @@ use Rattle.std.proofs.Common.{append_assoc, append-nil, take, drop, take-append-
 use Rattle.std.specs.Io.KnownBytes.{Appends}
 use Rattle.ng_schedule.specs.Flush.{FlushSpec}
 use Rattle.ng_schedule.specs.declared.ending.ScheduleFault.{ScheduleFault}
-use Rattle.ng_text.proofs.Streams.{Appends-nil, Appends-trans}
+use Rattle.ng_text.proofs.KnownBytesLemmas.{Appends-nil, Appends-trans}
 
 -- nothing is written yet
 pub Waits : {T : Type 0} (a : Option (List ℕ)) (waiting left : List ℕ) (x : T) → left ≡ waiting → FlushSpec a a waiting left (Ok x)

@@ -1,6 +1,6 @@
 pub mod FlushLemmas
 pub mod StreamLemmas
-pub mod RunLemmas
-pub mod LineLemmas
-pub mod StepLemmas
+pub mod ScheduleRunLemmas
+pub mod EndedLineLemmas
+pub mod RunStepLemmas
 pub mod FinishLemmas

@@ -7,12 +7,12 @@ use Rattle.ng_pace.specs.declared.limits.Limits.{Limits}
 use Rattle.ng_pace.specs.declared.line.Line.{Line}
 use Rattle.ng_pace.specs.declared.stepping.Given.{Given}
 use Rattle.ng_pace.specs.Calls.{IsEmpty, IsPut, IsEnded, IsFlowGiven}
-use Rattle.ng_pace.specs.Flow.{Flow, Timed as Waited, all_items, items_of, items_waiting}
+use Rattle.ng_pace.specs.Stream.{Flow, Timed as Waited, all_items, items_of, items_waiting}
 use Rattle.ng_pace.specs.Rest.{CanRest}
 use Rattle.ng_pace.specs.Run.{ArePassed, AsksOnly, Event, put, end, ask, IsRun, lines_given}
 use Rattle.ng_pace.specs.Start.{start_of}
 use Rattle.ng_pace.proofs.PathsLemmas.{keeps-to-paths}
-use Rattle.ng_pace.proofs.RunLemmas.{paced}
+use Rattle.ng_pace.proofs.WholeStreamLemmas.{paced}
 use Rattle.ng_schedule.specs.Schedule.{ArePaced, AskForMost, AskLate, AskWhereFull, Timed, room, times_of}
 use Rattle.ng_schedule.specs.Private.Parts.{AskLateSoFar, IsStreamed}
 

@@ -7,7 +7,7 @@ use Rattle.ng_canon.specs.declared.item.Item.{Item}
 use Rattle.ng_lines.specs.Lines.{IsItem, item_line}
 use Rattle.ng_pace.specs.Calls.{IsEmpty}
 use Rattle.ng_pace.specs.Due.{due_ns, least_ns}
-use Rattle.ng_pace.specs.Flow.{Flow}
+use Rattle.ng_pace.specs.Stream.{Flow}
 use Rattle.ng_pace.specs.Paths.{KeepsToPaths}
 use Rattle.ng_pace.specs.Run.{ArePassed, AsksOnly, Event, put, end, ask, IsRun, lines_given}
 use Rattle.ng_pace.specs.Start.{start_of}

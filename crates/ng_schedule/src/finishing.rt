@@ -3,7 +3,7 @@ ghost use Rattle.std.specs.Prelude.{◌≡◌, ◌≢◌, ◌++◌, [], List, On
 ghost use Rattle.ng_pace.specs.declared.limits.Limits.{Limits};
 ghost use Rattle.ng_schedule.specs.Flush.{FlushSpec};
 ghost use Rattle.ng_schedule.specs.Schedule.{BeginsNoLine, ScheduleSpec, end_text};
-ghost use Rattle.ng_text.specs.Newlines.{HasNoNewline};
+ghost use Rattle.ng_text.specs.Split.{HasNoNewline};
 ghost use Rattle.ng_schedule.specs.Private.Parts.{HaltSpec, IsUnderWay, StopSpec};
 
 use crate::ending::{Ended, Halt, ScheduleFault, Shown, Stop};

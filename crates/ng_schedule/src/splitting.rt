@@ -2,7 +2,7 @@
 ghost use Rattle.std.specs.Prelude.{◌≡◌, ◌∷◌, ◌++◌, [], List, Option, ℕ};
 ghost use Rattle.ng_lines.specs.Lines.{item_line};
 ghost use Rattle.ng_pace.specs.declared.limits.Limits.{Limits};
-ghost use Rattle.ng_text.specs.Newlines.{HasNoNewline};
+ghost use Rattle.ng_text.specs.Split.{HasNoNewline};
 ghost use Rattle.ng_schedule.specs.Private.Parts.{IsUnderWay, StopSpec, TakeSpec};
 
 use crate::ending::Stop;

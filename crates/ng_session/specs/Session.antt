@@ -4,7 +4,7 @@ use Rattle.std.specs.Option.{is_some, is_none, option_map}
 use Rattle.ng_num.specs.declared.point.Point.{Point}
 use Rattle.ng_num.specs.declared.fault.Fault.{Fault}
 use Rattle.ng_num.specs.declared.fault.Fault.TheVariants as fault
-use Rattle.ng_canon.specs.Inside.{is_inside}
+use Rattle.ng_canon.specs.Geometry.{is_inside}
 use Rattle.ng_canon.specs.declared.geometry.Geometry.{Geometry}
 use Rattle.ng_canon.specs.declared.item.Item.{Item}
 use Rattle.ng_canon.specs.declared.segment.Segment.{Segment}

@@ -99,7 +99,7 @@ impl<A: Allocator + Copy + Drop> Session<A> {
     /// block is current or half-done, or if the program runs and isn't held; K3 if the machine's point isn't known;
     /// then the line's own faults. `AllocError` if there is no memory for the state after the line. In all these cases
     /// nothing is changed.
-    #[tactic(auto, using(crate::proofs::Keeping::kept_ready))]
+    #[tactic(auto, using(crate::proofs::SessionInvariantLemmas::kept_ready))]
     pub(crate) fn mdi(&mut self, text: &[u8], geometry: &Geometry) -> Result<Reply, AllocError>
         ensures reply { IfOk result (λ reply. (program : List ℕ)
             → reply ≡ (mdi geometry.now program self.old text.now).reply) }

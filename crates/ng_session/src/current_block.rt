@@ -96,7 +96,7 @@ fn place_by(next: u64, place: u64, source: Source) -> u64
 }
 
 /// What is to be stored after a block, given its effect. `AllocError` if there is no memory for its table.
-#[tactic(auto, using(crate::proofs::Standing::next_storable))]
+#[tactic(auto, using(crate::proofs::StorableStateLemmas::next_storable))]
 fn after_block<A: Allocator + Copy + Drop>(
     next: u64,
     stored: &Stored<A>,
@@ -125,7 +125,7 @@ fn after_block<A: Allocator + Copy + Drop>(
 
 /// What is to be stored after the approach of a half-done block, given where it ends. `AllocError` if there is no
 /// memory for its table.
-#[tactic(auto, using(crate::proofs::Standing::approach_storable))]
+#[tactic(auto, using(crate::proofs::StorableStateLemmas::approach_storable))]
 fn after_approach<A: Allocator + Copy + Drop>(
     stored: &Stored<A>,
     half: &Half,
@@ -275,7 +275,7 @@ impl<A: Allocator + Copy + Drop> CurrentBlock<A> {
     }
 
     /// Takes the next item of what is open.
-    #[tactic(auto, using(crate::proofs::Firsts::first_taken, crate::proofs::Firsts::rest_taken))]
+    #[tactic(auto, using(crate::proofs::TakenItemLemmas::first_taken, crate::proofs::TakenItemLemmas::rest_taken))]
     pub fn next_item(&mut self) -> Option<Item>
         ensures item { result ≡ first_of self.old.block.items }
         ensures next { self.new ≡ record self.old { block = record self.old.block { items = rest_of self.old.block.items } } }

@@ -73,7 +73,7 @@ impl<A: Allocator + Copy + Drop> Session<A> {
 
     /// What is to be stored after a reference to a point, in nm of machine coordinates. If a block is half-done, only
     /// the point of that block's machine changes. The session stays as it is.
-    #[tactic(auto, using(crate::proofs::Standing::reference_storable))]
+    #[tactic(auto, using(crate::proofs::StorableStateLemmas::reference_storable))]
     pub fn referenced(&self, point: Point) -> DecodedState
         requires { self.now.stored.entries < greatest_count }
         ensures value { with_decoded_state self.now.stored result self.now.stored.length ≡ after_reference self.now.stored point }
@@ -123,7 +123,7 @@ impl<A: Allocator + Copy + Drop> Session<A> {
     /// What is to be stored after the half-done block is given up: spindle stopped, coolant off, and the machine at the
     /// point of that block's machine. If that isn't known, the machine's point no longer is. `None` if no block is
     /// half-done. The session stays as it is.
-    #[tactic(auto, using(crate::proofs::Standing::abandon_storable))]
+    #[tactic(auto, using(crate::proofs::StorableStateLemmas::abandon_storable))]
     pub fn abandoned(&self) -> Option<DecodedState>
         requires { self.now.stored.entries < greatest_count }
         ensures count { IfSome result (λ report. report.entries ≡ self.now.stored.entries + 1) }
@@ -193,7 +193,7 @@ impl<A: Allocator + Copy + Drop> Session<A> {
     }
 
     /// Replaces what is stored by a report, and returns what was stored. Putting that back undoes it.
-    #[tactic(auto, using(crate::proofs::Keeping::kept_report))]
+    #[tactic(auto, using(crate::proofs::SessionInvariantLemmas::kept_report))]
     pub fn exchange(&mut self, report: DecodedState) -> DecodedState
         requires free { self.old.current ≡ None }
         requires count { report.entries ≤ greatest_count }
@@ -233,7 +233,7 @@ impl<A: Allocator + Copy + Drop> Session<A> {
     /// `next`. K1 if the session isn't at rest, K4 if no block is half-done, K3 if the point of its machine isn't
     /// known, then its line's own faults. `AllocError` if there is no memory for the states after it and after its
     /// approach. In all these cases nothing is changed.
-    #[tactic(auto, using(crate::proofs::Keeping::kept_again))]
+    #[tactic(auto, using(crate::proofs::SessionInvariantLemmas::kept_again))]
     pub fn resume(&mut self, next: u64, geometry: &Geometry) -> Result<Reply, AllocError>
         requires { next ≤ self.old.stored.length }
         ensures stored { OnOk result (self.new.stored ≡ self.old.stored) }

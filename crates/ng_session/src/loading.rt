@@ -54,7 +54,7 @@ impl<A: Allocator + Copy + Drop> Session<A> {
 
     /// What is to be stored with a program of these bytes. It can be stored unless there are too many bytes. The
     /// session stays as it is. `AllocError` if there is no memory for its table.
-    #[tactic(auto, using(crate::proofs::Standing::load_storable))]
+    #[tactic(auto, using(crate::proofs::StorableStateLemmas::load_storable))]
     pub fn loading(&self, text: &[u8]) -> Result<Stored<A>, AllocError>
         ensures value { IfOk result (λ x. x ≡ after_load self.now.stored (length text.now)) }
         ensures storable { IfOk result (λ x. length text.now ≤ self.now.stored.room → IsStorable x) }
@@ -63,7 +63,7 @@ impl<A: Allocator + Copy + Drop> Session<A> {
     }
 
     /// Goes on with a program, once that is stored.
-    #[tactic(auto, using(crate::proofs::Keeping::kept_free))]
+    #[tactic(auto, using(crate::proofs::SessionInvariantLemmas::kept_free))]
     pub fn load(&mut self, stored: Stored<A>) -> Reply
         requires free { accepts_load self.old ≡ true }
         requires kept { IsSessionInvariant stored None }

@@ -61,7 +61,7 @@ impl<A: Allocator + Copy + Drop> Session<A> {
 
     /// Opens that approach or segment, after the half-done block is stored. The reply is Approaching, or Opened with
     /// the segment's number.
-    #[tactic(auto, using(crate::proofs::Keeping::kept_open))]
+    #[tactic(auto, using(crate::proofs::SessionInvariantLemmas::kept_open))]
     pub fn open(&mut self, half: Half, geometry: &Geometry) -> Reply
         requires { IsStorableHalf half }
         ensures reply { result ≡ opening_reply half.index half.opened }
@@ -129,7 +129,7 @@ impl<A: Allocator + Copy + Drop> Session<A> {
     }
 
     /// Goes on with the block that was taken from the session, after its approach, once `between` is stored.
-    #[tactic(auto, using(crate::proofs::Keeping::kept_between))]
+    #[tactic(auto, using(crate::proofs::SessionInvariantLemmas::kept_between))]
     fn go_on(&mut self, current: CurrentBlock<A>, between: Stored<A>)
         requires count { self.old.stored.entries < greatest_count }
         requires stage { current.block.stage ≡ OnBlock }

@@ -54,7 +54,7 @@ impl<A: Allocator + Copy + Drop> Session<A> {
     }
 
     /// The table with a length in a slot. The session stays as it is.
-    #[tactic(auto, using(crate::proofs::ToolSlots::slot_valid, crate::proofs::ToolSlots::slot_most, crate::proofs::ToolSlots::tool_within))]
+    #[tactic(auto, using(crate::proofs::ToolSlotLemmas::slot_valid, crate::proofs::ToolSlotLemmas::slot_most, crate::proofs::ToolSlotLemmas::tool_within))]
     pub fn tools_with(&self, slot: u16, tool_length: Len) -> Tools
         requires slot { takes_slot self.now.stored.tools slot ≡ true }
         requires tool { is_tool_length tool_length ≡ true }
@@ -71,7 +71,7 @@ impl<A: Allocator + Copy + Drop> Session<A> {
 
     /// Replaces the stored tool table and number of entries, and returns the old table. Replacing these again by the
     /// old ones undoes it. Nothing is allocated.
-    #[tactic(auto, using(crate::proofs::Keeping::kept_tools))]
+    #[tactic(auto, using(crate::proofs::SessionInvariantLemmas::kept_tools))]
     pub fn exchange_tools(&mut self, tools: Tools, entries: u64) -> Tools
         requires free { self.old.current ≡ None }
         requires count { entries ≤ greatest_count }

@@ -3,4 +3,4 @@ pub mod NumberLemmas
 pub mod LengthLemmas
 pub mod BoundLemmas
 pub mod MachineLemmas
-pub mod CheckLemmas
+pub mod SettingCauseLemmas

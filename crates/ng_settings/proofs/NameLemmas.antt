@@ -4,7 +4,7 @@ use Rattle.std.specs.List.{list_any}
 use Rattle.std.specs.Map.{keys_of}
 use Rattle.toml.proofs.Views.{Entry}
 use Rattle.toml.specs.View.{members_view}
-use Rattle.ng_settings.specs.Keys.{is_key}
+use Rattle.ng_settings.specs.KeyValues.{is_key}
 use Rattle.ng_settings.specs.Causes.{names}
 
 abbrev is_unknown : String Global → Bool

@@ -2,7 +2,7 @@
 use Rattle.std.specs.Prelude.{ℕ, Bool, false, not, ◌||◌, List, [], ◌∷◌, length, ℤ, pos, negsuc, int_lt, nat_lt, Option, Some, None, is_none}
 use Rattle.std.specs.List.{list_any}
 use Rattle.toml.specs.Data.{Data, Members, no_members, member, get_member}
-use Rattle.ng_settings.specs.Keys.{step_nm, low_nm, high_nm, traverse_nm_per_min, period_us, tools_nm, keys, is_key}
+use Rattle.ng_settings.specs.KeyValues.{step_nm, low_nm, high_nm, traverse_nm_per_min, period_us, tools_nm, keys, is_key}
 use Rattle.ng_settings.specs.Numbers.{is_whole, is_triple, is_list, Numbers}
 
 -- S2: a key is missing

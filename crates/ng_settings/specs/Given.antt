@@ -5,7 +5,7 @@ use Rattle.toml.specs.Data.{Members, get_member, as_integer}
 use Rattle.toml.specs.View.{view, array_view}
 use Rattle.ng_canon.specs.declared.geometry.Axis.{Axis}
 use Rattle.ng_canon.specs.declared.geometry.Geometry.{Geometry}
-use Rattle.ng_settings.specs.Keys.{step_nm, low_nm, high_nm, traverse_nm_per_min, period_us, tools_nm}
+use Rattle.ng_settings.specs.KeyValues.{step_nm, low_nm, high_nm, traverse_nm_per_min, period_us, tools_nm}
 use Rattle.ng_settings.specs.Numbers.{is_whole, is_triple, is_list, listed, numbers_of, Numbers}
 use Rattle.ng_settings.specs.declared.key_values.KeyValues.{KeyValues}
 use Rattle.ng_settings.specs.declared.numbers.PerAxis.{PerAxis}

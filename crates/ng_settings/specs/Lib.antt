@@ -1,6 +1,6 @@
-pub mod Keys
+pub mod KeyValues
 pub mod Numbers
 pub mod Causes
 pub mod Given
-pub mod Check
+pub mod Reading
 pub mod Standard

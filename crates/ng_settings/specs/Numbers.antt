@@ -3,7 +3,7 @@ use Rattle.std.specs.Prelude.{ℕ, Bool, false, ◌&&◌, ◌==◌, List, [], �
 use Rattle.std.specs.List.{list_all, filter_map}
 use Rattle.std.specs.Option.{option_map_or}
 use Rattle.toml.specs.Data.{Data, integer, array, Items, no_items, item, Members, as_integer, get_member}
-use Rattle.ng_settings.specs.Keys.{step_nm, low_nm, high_nm, traverse_nm_per_min, period_us, tools_nm}
+use Rattle.ng_settings.specs.KeyValues.{step_nm, low_nm, high_nm, traverse_nm_per_min, period_us, tools_nm}
 
 -- the items of an array
 abbrev pub listed : Items → List Data

@@ -1,6 +1,6 @@
 -- The default settings (own).
 use Rattle.std.specs.Prelude.{◌≡◌, [], ◌∷◌, pos}
-use Rattle.ng_canon.specs.Inside.{IsStandard}
+use Rattle.ng_canon.specs.Geometry.{IsStandard}
 use Rattle.ng_settings.specs.declared.standard.Settings.{Settings}
 
 -- the default machine, and one tool of 50 mm

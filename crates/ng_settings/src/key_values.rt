@@ -2,7 +2,7 @@
 ghost use Rattle.std.specs.Prelude.{◌≡◌, true, option_map, MatchOption};
 ghost use Rattle.toml.specs.Data.{get_member};
 ghost use Rattle.toml.specs.View.{view, table_view};
-ghost use Rattle.ng_settings.specs.Keys.{is_key};
+ghost use Rattle.ng_settings.specs.KeyValues.{is_key};
 ghost use Rattle.ng_settings.specs.Causes.{has_missing_key, has_unknown_key};
 ghost use Rattle.ng_settings.specs.Given.{AreFound};
 
@@ -42,7 +42,7 @@ pub(crate) fn find(table: &Table) -> Option<KeyValues<'_>>
 }
 
 /// Whether a name is a key.
-#[tactic(auto, unfolding(crate::specs::Keys::is_key))]
+#[tactic(auto, unfolding(crate::specs::KeyValues::is_key))]
 fn is_key(name: &str) -> bool
     ensures { result ≡ is_key name.now }
 {

@@ -1,7 +1,7 @@
 //! The settings of a machine, read from a text in TOML.
 //!
 //! `settings` returns the geometry and the tool table that a text gives, or its first fault: S1 if it isn't TOML, then
-//! S2 to S6. Each cause is checked for all keys before the next. `specs/Keys.antt` has the keys, `Causes.antt` one
+//! S2 to S6. Each cause is checked for all keys before the next. `specs/KeyValues.antt` has the keys, `Causes.antt` one
 //! sentence for each cause, and `Check.antt` their order. The crate `toml` defines what TOML is, and which table a text
 //! stands for.
 //!

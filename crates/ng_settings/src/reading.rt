@@ -4,7 +4,7 @@ ghost use Rattle.toml.specs.View.{table_view};
 ghost use Rattle.ng_settings.specs.Numbers.{numbers_in};
 ghost use Rattle.ng_settings.specs.Given.{numbers_set};
 ghost use Rattle.ng_num.specs.Causes.{NoneHolds, IsFirstFault};
-ghost use Rattle.ng_settings.specs.Check.{faults, AreSettings, IsRefused};
+ghost use Rattle.ng_settings.specs.Reading.{faults, AreSettings, IsRefused};
 
 use crate::key_values::{find, has_unknown_key};
 use crate::making::tools_of;

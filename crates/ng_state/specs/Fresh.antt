@@ -1,10 +1,10 @@
 -- The fresh state (own): G80 G17 G21 G90 G94 G40 G49 G54 G64 G98 M5 M9 M48, all else 0 or none.
 use Rattle.std.specs.Prelude.{pos, true}
-use Rattle.ng_num.specs.Points.{zero_point}
+use Rattle.ng_num.specs.Point.{zero_point}
 use Rattle.ng_num.specs.declared.unit.Unit.TheVariants.{Millimetres}
-use Rattle.ng_canon.specs.Fresh.{fresh_outputs}
+use Rattle.ng_canon.specs.Outputs.{fresh_outputs}
 use Rattle.ng_canon.specs.declared.plane.Plane.TheVariants.{Xy}
-use Rattle.ng_offsets.specs.Points.{no_offsets}
+use Rattle.ng_offsets.specs.Offsets.{no_offsets}
 use Rattle.ng_state.specs.KeptWords.{no_words}
 use Rattle.ng_state.specs.declared.modal_state.ModalState.{ModalState}
 use Rattle.ng_state.specs.declared.modes.Modes.{Modes}

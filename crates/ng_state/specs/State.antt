@@ -1,8 +1,8 @@
 -- The state of the interpreter, wherever its table is stored (own).
 use Rattle.std.specs.Prelude.{ℤ, List}
 use Rattle.ng_params.specs.declared.change.Change.{Change}
-use Rattle.ng_params.specs.Table.{defaults}
-use Rattle.ng_params.specs.Changes.{with_changes}
+use Rattle.ng_params.specs.Params.{defaults}
+use Rattle.ng_params.specs.Change.{with_changes}
 use Rattle.ng_state.specs.declared.modal_state.ModalState.{ModalState}
 use Rattle.ng_state.specs.Fresh.{fresh_modal_state}
 

@@ -8,7 +8,7 @@ use Rattle.std.specs.Prelude.{unsigned_abs, All, if◌then◌else◌}
 use Rattle.ng_canon.specs.declared.quadrant.Quadrant.{Quadrant}
 use Rattle.ng_canon.specs.declared.quadrant.Quadrant.TheVariants.{First, Second, Third, Fourth}
 use Rattle.ng_step.specs.declared.quadrant.PlaneStep.{PlaneStep}
-use Rattle.ng_canon.specs.Quadrants.{quadrant_after, same_quadrant}
+use Rattle.ng_canon.specs.Quadrant.{quadrant_after, same_quadrant}
 use Rattle.ng_step.specs.Arcs.{excess, step_at, moved, next_spot, left_after, larger, stops, IsArc}
 use Rattle.ng_step.specs.Arcs.{plane_steps_within, spots, IsAtMostInSize, IsNearCircle, reach, most_steps, HasSteps}
 use Rattle.ng_step.specs.Arcs.{IsLargeArc}
@@ -16,9 +16,9 @@ use Rattle.ng_step.specs.declared.circle.Circle.{Circle}
 use Rattle.ng_canon.specs.declared.plane_point.PlanePoint.{PlanePoint}
 use Rattle.ng_step.specs.Turned.{point_of_quadrant, in_step, out_step, norm, Sound, Roomy, room, budget}
 use Rattle.ng_step.proofs.TurnLemmas.{Below, below_outward, below_inward, below_crossing, sound_outward, sound_inward, sound_crossing}
-use Rattle.ng_step.proofs.PlaceLemmas.{quadrant-place, excess-place, moved_inward, moved_crossing, moved_outward}
-use Rattle.ng_step.proofs.PlaceLemmas.{next_outside, next_inside, in_step_le, same_quadrant-self}
-use Rattle.ng_step.proofs.PlaceLemmas.{same_quadrant-quadrant_after, placed}
+use Rattle.ng_step.proofs.QuadrantStepLemmas.{quadrant-place, excess-place, moved_inward, moved_crossing, moved_outward}
+use Rattle.ng_step.proofs.QuadrantStepLemmas.{next_outside, next_inside, in_step_le, same_quadrant-self}
+use Rattle.ng_step.proofs.QuadrantStepLemmas.{same_quadrant-quadrant_after, placed}
 
 -- where a step leads
 pub record Onward (c : Circle) (radius k : ℕ) (q : Quadrant) (i o : ℕ) : Type 0 where

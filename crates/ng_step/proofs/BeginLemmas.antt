@@ -8,14 +8,14 @@ use Rattle.ng_canon.specs.declared.quadrant.Quadrant.{Quadrant}
 use Rattle.ng_canon.specs.declared.quadrant.Quadrant.TheVariants.{First, Second, Third, Fourth}
 use Rattle.ng_canon.specs.declared.plane_point.PlanePoint.{PlanePoint}
 use Rattle.ng_step.specs.declared.quadrant.PlaneStep.{PlaneStep}
-use Rattle.ng_canon.specs.Quadrants.{quadrant}
+use Rattle.ng_canon.specs.Quadrant.{quadrant}
 use Rattle.ng_step.specs.Turned.{point_of_quadrant}
 use Rattle.ng_step.proofs.ArcLemmas.{abs_neg}
-use Rattle.ng_step.proofs.PlaceLemmas.{placed, quadrant-place}
+use Rattle.ng_step.proofs.QuadrantStepLemmas.{placed, quadrant-place}
 use Rattle.ng_canon.specs.declared.item.AxisStep.TheVariants.{Still}
 use Rattle.ng_step.specs.declared.steps.AxisSteps.{AxisSteps}
 use Rattle.ng_step.specs.declared.frame.Frame.{Frame}
-use Rattle.ng_step.specs.Frames.{pulse_with}
+use Rattle.ng_step.specs.Frame.{pulse_with}
 
 -- the sizes are those of the point
 pub record Starts (q : Quadrant) (i o : ℕ) (p : PlanePoint) : Type 0 where

@@ -11,8 +11,8 @@ use Rattle.ng_canon.specs.declared.plane_point.PlanePoint.{PlanePoint}
 use Rattle.ng_step.specs.declared.frame.Frame.{Frame}
 use Rattle.ng_step.specs.declared.steps.Distances.{Distances}
 use Rattle.ng_step.specs.declared.centred.CentredArc.{CentredArc}
-use Rattle.ng_canon.specs.Planes.{pick_a, pick_b}
-use Rattle.ng_step.specs.Frames.{of_third, at_x, at_y, at_z, mirrored}
+use Rattle.ng_canon.specs.Plane.{pick_a, pick_b}
+use Rattle.ng_step.specs.Frame.{of_third, at_x, at_y, at_z, mirrored}
 use Rattle.ng_step.specs.Hands.{from_centre, programmed, rounded_start, step_a, step_b, centred, closing_after}
 use Rattle.ng_step.specs.Private.Sizes.{AreSized}
 use Rattle.ng_step.proofs.RoundLemmas.{stored}

@@ -9,7 +9,7 @@ use Rattle.ng_step.specs.declared.walk.ArcWalk.{ArcWalk}
 use Rattle.ng_step.specs.declared.frame.Frame.{Frame}
 use Rattle.ng_step.specs.declared.centred.CentredArc.{CentredArc}
 use Rattle.ng_step.specs.Arcs.{larger, IsArc, plane_steps, quadrants_to_walk, net_a as net_a_of, net_b as net_b_of}
-use Rattle.ng_step.specs.ArcPulses.{interleaved, arc_pulses, pulses_from}
+use Rattle.ng_step.specs.Arc.{interleaved, arc_pulses, pulses_from}
 use Rattle.ng_step.specs.Turned.{spot_of}
 use Rattle.ng_step.specs.Private.Sizes.{IsWalkable}
 use Rattle.ng_step.proofs.ArcLemmas.{is_arc}
@@ -19,7 +19,7 @@ use Rattle.ng_canon.specs.declared.geometry.Geometry.{Geometry}
 use Rattle.ng_canon.specs.declared.pace.Pace.{Pace}
 use Rattle.ng_step.specs.declared.steps.AxisSteps.{AxisSteps}
 use Rattle.ng_step.specs.declared.steps.Distances.{Distances}
-use Rattle.ng_step.specs.Lines.{largest, line_pulses, line_from}
+use Rattle.ng_step.specs.Line.{largest, line_pulses, line_from}
 use Rattle.ng_step.specs.Periods.{root_up, pulse_us}
 use Rattle.ng_step.specs.Hands.{pulse_item, distances, square_between, line_items, centred, is_small, arc_path}
 use Rattle.ng_step.specs.Hands.{across, closing, closing_after, arc_total, items_over, large_arc_items, arc_items}

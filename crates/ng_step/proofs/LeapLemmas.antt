@@ -11,17 +11,17 @@ use Rattle.ng_step.specs.declared.quadrant.PlaneStep.{PlaneStep}
 use Rattle.ng_step.specs.declared.sweep.QuadrantSweep.{QuadrantSweep}
 use Rattle.ng_step.specs.declared.sweep.SweepSteps.{SweepSteps}
 use Rattle.ng_step.specs.declared.walk.ArcWalk.{ArcWalk}
-use Rattle.ng_canon.specs.Quadrants.{quadrant_after}
+use Rattle.ng_canon.specs.Quadrant.{quadrant_after}
 use Rattle.ng_step.specs.Arcs.{next_spot, left_after, larger, stops, IsArc, HasSteps}
 use Rattle.ng_step.specs.Turned.{Walks, point_of_quadrant, in_step, out_step, norm, Sound, Roomy, farthest, beyond, budget}
 use Rattle.ng_step.specs.Private.Sweeps.{inner_at, outer_at, OnWay, IsLast}
 use Rattle.ng_step.specs.Private.Leaps.{reach_a, reach_b, Leads, WalkLeads, PassesFrom, NeverStopsUntil}
 use Rattle.ng_step.proofs.TurnLemmas.{sound_outward, sound_inward, sound_crossing}
-use Rattle.ng_step.proofs.PlaceLemmas.{quadrant-place, moved_inward, moved_crossing, moved_outward, next_outside}
-use Rattle.ng_step.proofs.PlaceLemmas.{next_inside, in_step_le, same_quadrant-self, same_quadrant-quadrant_after}
+use Rattle.ng_step.proofs.QuadrantStepLemmas.{quadrant-place, moved_inward, moved_crossing, moved_outward, next_outside}
+use Rattle.ng_step.proofs.QuadrantStepLemmas.{next_inside, in_step_le, same_quadrant-self, same_quadrant-quadrant_after}
 use Rattle.ng_step.proofs.ArcLemmas.{in_step_some}
-use Rattle.ng_step.proofs.PassageLemmas.{norm_le}
-use Rattle.ng_step.proofs.CountLemmas.{arc_more, next_reach_a, next_reach_b}
+use Rattle.ng_step.proofs.SweepLemmas.{norm_le}
+use Rattle.ng_step.proofs.ArcStepCountLemmas.{arc_more, next_reach_a, next_reach_b}
 
 -- ---- the quadrants left
 

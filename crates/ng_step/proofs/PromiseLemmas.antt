@@ -7,7 +7,7 @@ use Rattle.std.proofs.lemmas.Bool.Decides.{nat_tests}
 use Rattle.std.proofs.lemmas.List.Elements.{All-nil, All-cons}
 use Rattle.std.specs.Prelude.{unsigned_abs, int_le, nat_lt, ◌≤ℤ◌, ◌&&◌, All, if◌then◌else◌}
 use Rattle.ng_num.specs.declared.point.Point.{Point}
-use Rattle.ng_canon.specs.Inside.{is_on, is_inside}
+use Rattle.ng_canon.specs.Geometry.{is_on, is_inside}
 use Rattle.ng_canon.specs.declared.geometry.Axis.{Axis}
 use Rattle.ng_canon.specs.declared.geometry.Geometry.{Geometry}
 use Rattle.ng_canon.specs.declared.pace.Pace.{Pace}
@@ -22,20 +22,20 @@ use Rattle.ng_canon.specs.declared.item.Item.{Item}
 use Rattle.ng_step.specs.declared.steps.Distances.{Distances}
 use Rattle.ng_step.specs.declared.centred.CentredArc.{CentredArc}
 use Rattle.ng_step.specs.Arcs.{larger, HasSteps, IsLargeArc, quadrants_to_walk, plane_steps}
-use Rattle.ng_step.specs.Frames.{mirrored}
-use Rattle.ng_step.specs.Lines.{in_steps, point_on_line, line_from, largest, line_pulses, IsByHalfIn}
+use Rattle.ng_step.specs.Frame.{mirrored}
+use Rattle.ng_step.specs.Line.{in_steps, point_on_line, line_from, largest, line_pulses, IsByHalfIn}
 use Rattle.ng_step.specs.Hands.{pulse_item, distances, line_items, centred, is_small, arc_path, large_arc_items, arc_items, step_a, step_b}
 use Rattle.ng_step.specs.Promises.{stands_after, on_line, FollowsLine, FollowsItsLine, StaysInTravel}
 use Rattle.ng_step.specs.Promises.{point_in_steps, stands_at, LeadsTo, EndsOnItsEnd, IsInsideByHalf, StaysInside}
 use Rattle.ng_step.specs.Promises.{IsTrueArc, KeepsToItsCircle}
-use Rattle.ng_step.proofs.LineLemmas.{in_steps_near, line_inside}
+use Rattle.ng_step.proofs.LineStepLemmas.{in_steps_near, line_inside}
 use Rattle.ng_step.proofs.RoundLemmas.{rounded_near}
-use Rattle.ng_step.proofs.LengthLemmas.{limits}
+use Rattle.ng_step.proofs.LineLengthLemmas.{limits}
 use Rattle.ng_step.proofs.StartLemmas.{start_some}
 use Rattle.ng_step.proofs.ArcLemmas.{is_arc, is_near_circle, length-plane_steps_within, larger_some}
 use Rattle.ng_step.proofs.HandLemmas.{line_none}
-use Rattle.ng_step.proofs.EndLemmas.{moved, distances_same, line_leads, over_leads, rest_of, line_point, line_moves}
-use Rattle.ng_step.proofs.EndLemmas.{line_point_none, AreAtMost, at_most_largest}
+use Rattle.ng_step.proofs.SegmentEndLemmas.{moved, distances_same, line_leads, over_leads, rest_of, line_point, line_moves}
+use Rattle.ng_step.proofs.SegmentEndLemmas.{line_point_none, AreAtMost, at_most_largest}
 
 -- ---- the end
 

@@ -16,15 +16,15 @@ use Rattle.ng_canon.specs.declared.item.AxisStep.TheVariants.{Backward, Still, F
 use Rattle.ng_step.specs.declared.arc.ArcPulses.TheInside.{Inside}
 use Rattle.ng_step.specs.Arcs.{step_at, next_spot, IsArc, left_after}
 use Rattle.ng_step.specs.Turned.{spot_of, ArcStepSpec}
-use Rattle.ng_step.specs.Lines.{axis_step, made, step_toward}
-use Rattle.ng_step.specs.Axes.{SpreadStepSpec}
+use Rattle.ng_step.specs.Line.{axis_step, made, step_toward}
+use Rattle.ng_step.specs.Spread.{SpreadStepSpec}
 use Rattle.ng_step.specs.declared.frame.Frame.{Frame}
 use Rattle.ng_canon.specs.declared.plane.Plane.{Plane}
 use Rattle.ng_canon.specs.declared.plane.Plane.TheVariants.{Xy, Xz, Yz}
-use Rattle.ng_step.specs.Frames.{pulse_of, pulse_with, pulse_without, with_third, on_a, on_b, mirrored_step}
-use Rattle.ng_step.specs.ArcPulses.{taking, taken, interleaved, arc_pulses, walking, walked, pulses_from}
+use Rattle.ng_step.specs.Frame.{pulse_of, pulse_with, pulse_without, with_third, on_a, on_b, mirrored_step}
+use Rattle.ng_step.specs.Arc.{taking, taken, interleaved, arc_pulses, walking, walked, pulses_from}
 use Rattle.ng_step.specs.ArcInvariant.{arc_left, IsArcLeft}
-use Rattle.ng_step.proofs.LineLemmas.{made_more, made_le, made_none, axis_left}
+use Rattle.ng_step.proofs.LineStepLemmas.{made_more, made_le, made_none, axis_left}
 
 pub pulses_from_more : (frame : Frame) (n count : ℕ) (forward : Bool) (d : ℕ) (c : Circle) (p : PlanePoint) (left : ℕ) → 0 < left
     → pulses_from frame n count forward d c p left ≡ walking frame (axis_step n true count (n - left)) c p (axis_step n forward d (n - left))

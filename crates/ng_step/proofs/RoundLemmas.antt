@@ -8,7 +8,7 @@ use mir.Val.{SFits}
 use Rattle.ng_num.specs.Rounding.{nearest}
 use Rattle.std.specs.Prelude.{unsigned_abs, ◌<ℤ◌, ◌≤ℤ◌}
 use Rattle.ng_num.specs.Range.{greatest}
-use Rattle.ng_step.specs.Lines.{in_steps}
+use Rattle.ng_step.specs.Line.{in_steps}
 
 -- a rounded size fits
 pub steps_small : (n s : ℕ) → 0 < s → n ≤ greatest → (2 * n + s) / (2 * s) < 2 ^ 45

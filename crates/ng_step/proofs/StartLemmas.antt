@@ -6,8 +6,8 @@ use Rattle.std.proofs.lemmas.Bool.{cases_lt}
 use Rattle.std.specs.Prelude.{unsigned_abs, int_le}
 use Rattle.ng_canon.specs.declared.plane_point.PlanePoint.{PlanePoint}
 use Rattle.ng_step.specs.Promises.{step_value}
-use Rattle.ng_step.specs.Lines.{made, toward, point_on_line, step_toward, axis_step, line_step}
-use Rattle.ng_step.proofs.LineLemmas.{made_more}
+use Rattle.ng_step.specs.Line.{made, toward, point_on_line, step_toward, axis_step, line_step}
+use Rattle.ng_step.proofs.LineStepLemmas.{made_more}
 
 half_zero : (z p : ℤ) (s : ℕ) → unsigned_abs p ≡ 0 → 2 * unsigned_abs (p -ℤ z) ≤ s → 2 * unsigned_abs z ≤ s
 half_zero z p s e h = grind (arith, ints)

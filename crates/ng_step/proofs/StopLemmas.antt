@@ -15,13 +15,13 @@ use Rattle.ng_step.specs.declared.sweep.QuadrantSweep.{QuadrantSweep}
 use Rattle.ng_step.specs.declared.sweep.QuadrantEnd.{QuadrantEnd}
 use Rattle.ng_step.specs.declared.sweep.SweepSteps.{SweepSteps}
 use Rattle.ng_step.specs.declared.walk.ArcWalk.{ArcWalk}
-use Rattle.ng_canon.specs.Planes.{cross}
+use Rattle.ng_canon.specs.Plane.{cross}
 use Rattle.ng_step.specs.Arcs.{larger, stops, IsArc, HasSteps, net_a, net_b}
 use Rattle.ng_step.specs.Turned.{spot_of, Walks, point_of_quadrant, turned, in_step, out_step, Roomy, farthest, beyond, budget}
 use Rattle.ng_step.specs.Private.Sweeps.{inner_at, outer_at, ComesInward, ComesOutward}
 use Rattle.ng_step.specs.Private.Leaps.{reach_a, reach_b, Leads, WalkLeads, EndsArc, PassesFrom, NeverStopsUntil, IsAhead, StopsAt}
 use Rattle.ng_step.proofs.WalkLemmas.{cross-place}
-use Rattle.ng_step.proofs.CountLemmas.{arc_all, drop_all, none_left}
+use Rattle.ng_step.proofs.ArcStepCountLemmas.{arc_all, drop_all, none_left}
 use Rattle.ng_step.proofs.LeapLemmas.{less_one, leads_none, leads_then, outward_leads, inward_leads, way_leads}
 
 -- ---- the end of an arc

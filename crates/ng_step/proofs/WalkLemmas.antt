@@ -11,15 +11,15 @@ use Rattle.ng_step.specs.declared.circle.Circle.{Circle}
 use Rattle.ng_canon.specs.declared.plane_point.PlanePoint.{PlanePoint}
 use Rattle.ng_step.specs.declared.walk.ArcWalk.{ArcWalk}
 use Rattle.ng_step.specs.declared.quadrant.PlaneStep.{PlaneStep}
-use Rattle.ng_canon.specs.Planes.{cross}
-use Rattle.ng_canon.specs.Quadrants.{quadrant_after}
+use Rattle.ng_canon.specs.Plane.{cross}
+use Rattle.ng_canon.specs.Quadrant.{quadrant_after}
 use Rattle.ng_step.specs.Arcs.{inward, outward, larger, moved}
 use Rattle.ng_step.specs.Turned.{turned, point_of_quadrant, in_step, out_step, norm, Sound, Walks, ArcStepSpec, farthest, beyond}
 use Rattle.ng_step.proofs.TurnLemmas.{sound_outward, sound_inward, sound_crossing}
-use Rattle.ng_step.proofs.PlaceLemmas.{moved_inward, moved_crossing, moved_outward, next_outside, next_inside, step_outside, step_inside, in_step_le}
+use Rattle.ng_step.proofs.QuadrantStepLemmas.{moved_inward, moved_crossing, moved_outward, next_outside, next_inside, step_outside, step_inside, in_step_le}
 use Rattle.ng_canon.specs.declared.item.AxisStep.TheVariants.{Still}
 use Rattle.ng_step.specs.declared.steps.AxisSteps.{AxisSteps}
-use Rattle.ng_step.specs.Frames.{pulse_with}
+use Rattle.ng_step.specs.Frame.{pulse_with}
 
 -- the differences are far from the ends of their type
 pub record Small (w : ArcWalk) : Type 0 where

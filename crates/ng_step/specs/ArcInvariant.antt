@@ -2,9 +2,9 @@
 use Rattle.std.specs.Prelude.{◌≡◌, ◌-◌, ◌*◌, ◌^◌, ◌<◌, ◌≤◌, true, List}
 use Rattle.ng_step.specs.declared.steps.AxisSteps.{AxisSteps}
 use Rattle.ng_step.specs.declared.arc.ArcPulses.TheInside.{Inside}
-use Rattle.ng_step.specs.Axes.{IsSpread}
+use Rattle.ng_step.specs.Spread.{IsSpread}
 use Rattle.ng_step.specs.Turned.{Walks, spot_of}
-use Rattle.ng_step.specs.ArcPulses.{pulses_from}
+use Rattle.ng_step.specs.Arc.{pulses_from}
 
 abbrev pub arc_left : Inside → List AxisSteps
 arc_left a = pulses_from a.walk.frame a.total a.arc.count a.third.forward a.third.count a.walk.circle (spot_of a.walk) a.left

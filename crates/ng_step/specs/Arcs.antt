@@ -2,8 +2,8 @@
 use Rattle.std.specs.Prelude.{◌≡◌, ℕ, zero, suc, ◌+◌, ◌-◌, ◌*◌, ◌%◌, ◌<◌, ◌≤◌, max, ℤ, pos, negsuc, ◌+ℤ◌, ◌-ℤ◌}
 use Rattle.std.specs.Prelude.{◌*ℤ◌, int_lt, int_le, unsigned_abs, Bool, true, false, ◌&&◌, ◌||◌, ◌==◌}
 use Rattle.std.specs.Prelude.{if◌then◌else◌, IsTrue, List, [], ◌∷◌, All}
-use Rattle.ng_canon.specs.Planes.{cross}
-use Rattle.ng_canon.specs.Quadrants.{quadrant, same_quadrant, quadrant_after, quadrant_changes}
+use Rattle.ng_canon.specs.Plane.{cross}
+use Rattle.ng_canon.specs.Quadrant.{quadrant, same_quadrant, quadrant_after, quadrant_changes}
 use Rattle.ng_canon.specs.declared.quadrant.Quadrant.{Quadrant}
 use Rattle.ng_canon.specs.declared.quadrant.Quadrant.TheVariants.{First, Second, Third, Fourth}
 use Rattle.ng_step.specs.declared.circle.Circle.{Circle}

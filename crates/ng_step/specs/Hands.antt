@@ -16,11 +16,11 @@ use Rattle.ng_step.specs.declared.frame.Frame.{Frame}
 use Rattle.ng_step.specs.declared.steps.AxisSteps.{AxisSteps}
 use Rattle.ng_step.specs.declared.steps.Distances.{Distances}
 use Rattle.ng_step.specs.declared.centred.CentredArc.{CentredArc}
-use Rattle.ng_canon.specs.Planes.{pick_a, pick_b}
-use Rattle.ng_step.specs.Frames.{of_third, at_x, at_y, at_z, mirrored}
+use Rattle.ng_canon.specs.Plane.{pick_a, pick_b}
+use Rattle.ng_step.specs.Frame.{of_third, at_x, at_y, at_z, mirrored}
 use Rattle.ng_step.specs.Arcs.{larger, plane_steps, quadrants_to_walk, net_a, net_b}
-use Rattle.ng_step.specs.Lines.{in_steps, largest, line_pulses}
-use Rattle.ng_step.specs.ArcPulses.{arc_pulses}
+use Rattle.ng_step.specs.Line.{in_steps, largest, line_pulses}
+use Rattle.ng_step.specs.Arc.{arc_pulses}
 use Rattle.ng_step.specs.Periods.{root_up, pulse_us}
 
 -- a pulse with a period

@@ -4,8 +4,8 @@ use Rattle.ng_step.specs.declared.steps.AxisSteps.{AxisSteps}
 use Rattle.ng_canon.specs.declared.item.AxisStep.{AxisStep}
 use Rattle.ng_step.specs.declared.spread.Spread.{Spread}
 use Rattle.ng_step.specs.declared.line.LinePulses.TheInside.{Inside}
-use Rattle.ng_step.specs.Lines.{axis_step}
-use Rattle.ng_step.specs.Axes.{IsSpread}
+use Rattle.ng_step.specs.Line.{axis_step}
+use Rattle.ng_step.specs.Spread.{IsSpread}
 
 abbrev pub spread_step : ℕ → Spread → ℕ → AxisStep
 spread_step n a k = axis_step n a.forward a.count k

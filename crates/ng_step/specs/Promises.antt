@@ -2,7 +2,7 @@
 use Rattle.std.specs.Prelude.{◌≡◌, ℕ, ◌+◌, ◌*◌, ◌<◌, ◌≤◌, max, take, ℤ, pos, negsuc, ◌+ℤ◌, ◌-ℤ◌, ◌*ℤ◌, unsigned_abs}
 use Rattle.std.specs.Prelude.{true, false, List, [], ◌∷◌, All, length, slice_get, Some}
 use Rattle.ng_num.specs.declared.point.Point.{Point}
-use Rattle.ng_canon.specs.Inside.{is_inside}
+use Rattle.ng_canon.specs.Geometry.{is_inside}
 use Rattle.ng_canon.specs.declared.geometry.Geometry.{Geometry}
 use Rattle.ng_canon.specs.declared.segment.Arc.{Arc}
 use Rattle.ng_canon.specs.declared.segment.Segment.{Segment}
@@ -14,10 +14,10 @@ use Rattle.ng_canon.specs.declared.item.Item.TheVariants.{Pulse as PulseItem, Dw
 use Rattle.ng_step.specs.declared.steps.Distances.{Distances}
 use Rattle.ng_step.specs.declared.centred.CentredArc.{CentredArc}
 use Rattle.ng_canon.specs.declared.plane_point.PlanePoint.{PlanePoint}
-use Rattle.ng_canon.specs.Planes.{pick_a, pick_b}
-use Rattle.ng_step.specs.Frames.{of_third}
+use Rattle.ng_canon.specs.Plane.{pick_a, pick_b}
+use Rattle.ng_step.specs.Frame.{of_third}
 use Rattle.ng_step.specs.Arcs.{IsArc, IsNearCircle, IsAtMostInSize, spots, excess, larger, quadrants_to_walk, most_steps}
-use Rattle.ng_step.specs.Lines.{in_steps, made, point_on_line, largest, IsByHalfIn}
+use Rattle.ng_step.specs.Line.{in_steps, made, point_on_line, largest, IsByHalfIn}
 use Rattle.ng_step.specs.Hands.{hand, distances, from_centre, step_a, step_b, across, centred, is_small, arc_path}
 
 -- a machine point in whole steps

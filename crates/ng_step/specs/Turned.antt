@@ -3,11 +3,11 @@
 use Rattle.std.specs.Prelude.{◌≡◌, ℕ, ◌+◌, ◌-◌, ◌*◌, ◌^◌, ◌<◌, ◌≤◌, pos, neg_ℤ, ◌+ℤ◌, ◌-ℤ◌}
 use Rattle.ng_canon.specs.declared.quadrant.Quadrant.{Quadrant}
 use Rattle.ng_canon.specs.declared.quadrant.Quadrant.TheVariants.{First, Second, Third, Fourth}
-use Rattle.ng_canon.specs.Quadrants.{quadrant_after}
+use Rattle.ng_canon.specs.Quadrant.{quadrant_after}
 use Rattle.ng_step.specs.Arcs.{inward, outward, larger, HasSteps, step_at, next_spot}
 use Rattle.ng_canon.specs.declared.item.AxisStep.TheVariants.{Still}
 use Rattle.ng_step.specs.declared.steps.AxisSteps.{AxisSteps}
-use Rattle.ng_step.specs.Frames.{pulse_with}
+use Rattle.ng_step.specs.Frame.{pulse_with}
 use Rattle.ng_step.specs.declared.walk.ArcWalk.{ArcWalk}
 use Rattle.ng_step.specs.declared.circle.Circle.{Circle}
 use Rattle.ng_canon.specs.declared.plane_point.PlanePoint.{PlanePoint}

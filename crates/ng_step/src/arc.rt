@@ -34,7 +34,7 @@ impl Model for ArcPulses {
 impl ArcPulses {
     ghost use Rattle.std.specs.Prelude.{◌≡◌, ◌∷◌, [], MatchOption, ◌^◌, ◌<◌, unsigned_abs, max, int_le, pos};
     ghost use Rattle.ng_step.specs.Turned.{Walks, spot_of};
-    ghost use Rattle.ng_step.specs.ArcPulses.{pulses_from};
+    ghost use Rattle.ng_step.specs.Arc.{pulses_from};
 
     /// The pulses of the next `count` steps of a walk, together with the steps of the third axis.
     pub(crate) fn new(walk: ArcWalk, count: u64, third: i64) -> ArcPulses

@@ -51,7 +51,7 @@ impl CentredArc {
 
 ghost use Rattle.std.specs.Prelude.{◌≡◌, ◌+◌, ◌*◌, ◌^◌, ◌<◌, ◌≤◌, ◌-ℤ◌, unsigned_abs};
 ghost use Rattle.ng_step.specs.Hands.{from_centre, programmed, rounded_start, step_a, step_b};
-ghost use Rattle.ng_canon.specs.Planes.{AreBelowInSize};
+ghost use Rattle.ng_canon.specs.Plane.{AreBelowInSize};
 
 /// A point of the plane as an offset from the arc's centre.
 fn from_centre(arc: &Arc, a: i64, b: i64) -> PlanePoint

@@ -14,7 +14,7 @@ pub(crate) struct Frame {
 
 impl Frame {
     ghost use Rattle.std.specs.Prelude.{◌≡◌, ◌<◌, ◌^◌, unsigned_abs};
-    ghost use Rattle.ng_step.specs.Frames.{pulse_with, pulse_without};
+    ghost use Rattle.ng_step.specs.Frame.{pulse_with, pulse_without};
     ghost use Rattle.ng_step.specs.Hands.{across, closing_after};
     ghost use Rattle.ng_step.specs.Private.Sizes.{AreSized};
 
@@ -62,7 +62,7 @@ impl Frame {
 }
 
 ghost use Rattle.std.specs.Prelude.{◌≡◌, ◌<◌, ◌^◌, unsigned_abs};
-ghost use Rattle.ng_step.specs.Frames.{of_third, mirrored, mirrored_step, pulse_of, with_third};
+ghost use Rattle.ng_step.specs.Frame.{of_third, mirrored, mirrored_step, pulse_of, with_third};
 
 /// Of three values for X, Y and Z: the one for the axis perpendicular to the plane.
 fn of_third<T: Copy>(plane: Plane, x: T, y: T, z: T) -> T

@@ -19,13 +19,13 @@ mod circle;
 mod distance;
 mod frame;
 mod line;
+mod periods;
 mod quadrant;
 mod rounding;
 mod spread;
 mod stepper;
 mod steps;
 mod sweep;
-mod timing;
 mod walk;
 mod wide;
 

@@ -30,7 +30,7 @@ impl Model for LinePulses {
 
 impl LinePulses {
     ghost use Rattle.std.specs.Prelude.{◌≡◌, ◌∷◌, [], MatchOption, ◌^◌, ◌<◌, unsigned_abs};
-    ghost use Rattle.ng_step.specs.Lines.{line_pulses};
+    ghost use Rattle.ng_step.specs.Line.{line_pulses};
 
     /// The pulses of a line with these distances.
     pub(crate) fn new(distance: Distances) -> LinePulses

@@ -14,7 +14,7 @@ pub(crate) enum PlaneStep {
 impl PlaneStep {
     ghost use Rattle.std.specs.Prelude.{◌≡◌};
     ghost use Rattle.ng_step.specs.Arcs.{inward, outward};
-    ghost use Rattle.ng_step.specs.Frames.{on_a, on_b};
+    ghost use Rattle.ng_step.specs.Frame.{on_a, on_b};
 
     /// The step that it makes on the plane's axis a.
     pub(crate) fn on_a(self) -> AxisStep
@@ -64,7 +64,7 @@ impl PlaneStep {
 }
 
 ghost use Rattle.std.specs.Prelude.{◌≡◌, ◌<◌, ◌≤◌, ◌^◌, unsigned_abs};
-ghost use Rattle.ng_canon.specs.Planes.{AreBelowInSize};
+ghost use Rattle.ng_canon.specs.Plane.{AreBelowInSize};
 ghost use Rattle.ng_step.specs.Arcs.{quadrants_to_walk};
 ghost use Rattle.ng_step.specs.Turned.{turned};
 

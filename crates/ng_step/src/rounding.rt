@@ -2,7 +2,7 @@
 
 ghost use Rattle.std.specs.Prelude.{◌≡◌, ◌<◌, ◌≤◌, ◌^◌, ◌*◌, ℤ, ◌-ℤ◌, ◌*ℤ◌, pos, unsigned_abs};
 ghost use Rattle.ng_num.specs.Range.{IsCount};
-ghost use Rattle.ng_step.specs.Lines.{in_steps};
+ghost use Rattle.ng_step.specs.Line.{in_steps};
 ghost use Rattle.ng_step.specs.Hands.{rounded};
 
 use ng_num::Len;

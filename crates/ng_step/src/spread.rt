@@ -13,8 +13,8 @@ pub(crate) struct Spread {
 
 impl Spread {
     ghost use Rattle.std.specs.Prelude.{◌≡◌, ℕ, ◌+◌, ◌*◌, ◌^◌, ◌<◌, ◌≤◌, ℤ, unsigned_abs, int_le, pos};
-    ghost use Rattle.ng_step.specs.Lines.{step_toward};
-    ghost use Rattle.ng_step.specs.Axes.{IsSpread, SpreadStepSpec};
+    ghost use Rattle.ng_step.specs.Line.{step_toward};
+    ghost use Rattle.ng_step.specs.Spread.{IsSpread, SpreadStepSpec};
 
     /// The axis at the start of a line of `total` pulses.
     pub(crate) fn new(distance: i64, total: u64) -> Spread

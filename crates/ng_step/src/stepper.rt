@@ -4,9 +4,9 @@ use crate::arc::ArcPulses;
 use crate::centred::CentredArc;
 use crate::distance::square_between;
 use crate::line::LinePulses;
+use crate::periods::{pulse_us, root_up};
 use crate::quadrant::quadrants_to_walk;
 use crate::steps::{AxisSteps, Distances};
-use crate::timing::{pulse_us, root_up};
 use crate::walk::ArcWalk;
 use ng_canon::{Arc, Geometry, Item, Pace, Pulse, Segment};
 use ng_num::{Num, Point};
@@ -28,7 +28,7 @@ impl Model for Stepper {
 
     ghost Value = { List Item };
 
-    ghost use Rattle.ng_step.specs.StepperInvariant.{items_left};
+    ghost use Rattle.ng_step.specs.Stepper.{items_left};
 
     ghost view = { items_left };
 }
@@ -38,7 +38,7 @@ impl Stepper {
     ghost use Rattle.ng_step.specs.Hands.{pulse_item, line_items, arc_items, large_arc_items, hand};
     ghost use Rattle.ng_step.specs.Promises.{EndsOnItsEnd, FollowsItsLine, StaysInside, KeepsToItsCircle, FollowsItsPath};
     ghost use Rattle.ng_step.specs.Private.Sizes.{AreSized, IsWalkable};
-    ghost use Rattle.ng_step.specs.StepperInvariant.{or_none};
+    ghost use Rattle.ng_step.specs.Stepper.{or_none};
 
     /// A stepper at the start of a segment, which may be any segment, inside the travel or not. It doesn't allocate and
     /// doesn't fail. It takes at most 60 square roots, even for the longest arc.

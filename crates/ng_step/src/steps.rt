@@ -23,7 +23,7 @@ pub(crate) struct Distances {
 impl Distances {
     ghost use Rattle.std.specs.Prelude.{◌≡◌, ◌^◌, ◌<◌};
     ghost use Rattle.ng_step.specs.Hands.{distances};
-    ghost use Rattle.ng_step.specs.Lines.{largest};
+    ghost use Rattle.ng_step.specs.Line.{largest};
     ghost use Rattle.ng_step.specs.Private.Sizes.{AreSized};
 
     /// The distances from one machine point to another, each rounded to whole steps.

@@ -5,7 +5,7 @@
 //! inward step leaves the quadrant.
 ghost use Rattle.std.specs.Prelude.{◌≡◌, ◌+◌, ◌*◌, ◌-◌, ◌<◌, ◌≤◌, ◌^◌};
 
-use crate::timing::ceil_div;
+use crate::periods::ceil_div;
 
 /// Where an arc enters a quadrant, in nanometres. Inward steps decrease `inner`, and outward steps increase `outer`.
 #[derive(Clone, Copy)]

@@ -33,7 +33,7 @@ pub(crate) struct ArcWalk {
 
 impl ArcWalk {
     ghost use Rattle.std.specs.Prelude.{◌^◌, int_le, unsigned_abs, ◌≡◌, ℕ, ◌+◌, ◌*◌, ◌<◌, ◌≤◌, ◌≤ℤ◌, ◌<ℤ◌, pos};
-    ghost use Rattle.ng_canon.specs.Planes.{cross};
+    ghost use Rattle.ng_canon.specs.Plane.{cross};
     ghost use Rattle.ng_step.specs.Arcs.{stops, IsLargeArc, larger};
     ghost use Rattle.ng_step.specs.Turned.{spot_of, Walks, ArcStepSpec, beyond, farthest, point_of_quadrant, in_step, out_step};
 

@@ -7,14 +7,14 @@ use Rattle.std.proofs.lemmas.List.{take_all}
 use Rattle.std.proofs.Math.Seq.{take-suc}
 use Rattle.std.specs.Str.Lines.{strip_carriage_return}
 use Rattle.ng_words.specs.Plain.{is_blank, capital, plain}
-use Rattle.ng_words.specs.Kinds.{kind, kind_of}
+use Rattle.ng_words.specs.Start.{kind, kind_of}
 use Rattle.ng_words.specs.declared.start.LineKind.{LineKind}
 use Rattle.ng_words.specs.declared.start.LineKind.TheVariants.{Percent, Other}
 use Rattle.ng_text.specs.Percent.{first_kind, kind_before}
-use Rattle.ng_text.specs.Newlines.{HasNoNewline}
-use Rattle.ng_text.proofs.LineLemmas.{lines-newline, lines-alone, split, HasNoNewline-append}
+use Rattle.ng_text.specs.Split.{HasNoNewline}
+use Rattle.ng_text.proofs.NewlineLemmas.{lines-newline, lines-alone, split, HasNoNewline-append}
 use Rattle.ng_text.proofs.PercentLemmas.{kind_before-blank}
-use Rattle.ng_text.specs.FirstLines.{kind_in, shortest, DecidesFirstLine, IsDecided}
+use Rattle.ng_text.specs.FirstLine.{kind_in, shortest, DecidesFirstLine, IsDecided}
 use Rattle.ng_text.specs.declared.first_line.FirstLine.{FirstLine}
 use Rattle.ng_text.specs.declared.first_line.FirstLine.TheVariants as seen
 

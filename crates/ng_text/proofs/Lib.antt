@@ -1,6 +1,6 @@
-pub mod Streams
-pub mod LineLemmas
+pub mod KnownBytesLemmas
+pub mod NewlineLemmas
 pub mod PercentLemmas
 pub mod FirstLineLemmas
 pub mod PlaceLemmas
-pub mod LinesAfter
+pub mod LinesBeforeLemmas

@@ -1,6 +1,6 @@
 -- The first line that isn't blank, of some lines and the line after them.
 use Rattle.std.proofs.Common.{◌≡◌, ℕ, List, [], ◌∷◌, ◌++◌, refl, ap, ◌∙◌}
-use Rattle.ng_words.specs.Kinds.{kind_of}
+use Rattle.ng_words.specs.Start.{kind_of}
 use Rattle.ng_words.specs.declared.start.LineKind.{LineKind}
 use Rattle.ng_words.specs.declared.start.LineKind.TheVariants.{Blank, Percent, Other}
 use Rattle.ng_text.specs.Percent.{first_kind, kind_before}

@@ -2,9 +2,9 @@
 use Rattle.std.proofs.Common.{◌≡◌, ℕ, ◌+◌, ◌==◌, Bool, true, false, cond, List, [], ◌∷◌, ◌++◌, length, take, drop, Some, None, refl, sym, ◌∙◌, ap, arith}
 use Rattle.std.specs.List.{onto_first}
 use Rattle.std.specs.Str.Lines.{lines, lines_of_parts}
-use Rattle.ng_text.specs.Newlines.{HasNoNewline}
+use Rattle.ng_text.specs.Split.{HasNoNewline}
 use Rattle.ng_text.specs.Programs.{ProgramLineModel, span, next_line_start, first_line, program_line_at}
-use Rattle.ng_text.proofs.LineLemmas.{parts, parts-some, not_newline, some_length}
+use Rattle.ng_text.proofs.NewlineLemmas.{parts, parts-some, not_newline, some_length}
 
 -- ---- how long the first line is
 

@@ -1,5 +1,5 @@
-pub mod Newlines
+pub mod Split
 pub mod Percent
-pub mod FirstLines
+pub mod FirstLine
 pub mod Programs
 pub mod LinesBefore

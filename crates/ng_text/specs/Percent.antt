@@ -4,7 +4,7 @@ use Rattle.std.specs.Prelude.{ℕ, List, [], ◌∷◌, Bool, true, false, not, 
 use Rattle.ng_num.specs.declared.fault.Fault.{Fault}
 use Rattle.ng_num.specs.declared.fault.Fault.TheVariants.{NoProgramEnd, MissingPercent}
 use Rattle.ng_words.specs.Grammar.{is_too_long}
-use Rattle.ng_words.specs.Kinds.{kind_of}
+use Rattle.ng_words.specs.Start.{kind_of}
 use Rattle.ng_words.specs.declared.start.LineKind.{LineKind}
 use Rattle.ng_words.specs.declared.start.LineKind.TheVariants.{Blank, Percent, Other}
 use Rattle.ng_text.specs.declared.percent.PercentLine.{PercentLine}

@@ -2,7 +2,7 @@
 ghost use Rattle.std.specs.Prelude.{◌≡◌, ◌≢◌, [], ◌∷◌, ◌++◌, MatchOption};
 ghost use Rattle.ng_words.specs.Plain.{is_blank};
 ghost use Rattle.ng_text.specs.declared.first_line.FirstLine.TheVariants.{Other};
-ghost use Rattle.ng_text.specs.FirstLines.{kind_in, shortest, DecidesFirstLine, IsDecided};
+ghost use Rattle.ng_text.specs.FirstLine.{kind_in, shortest, DecidesFirstLine, IsDecided};
 
 use ng_words::LineKind;
 

@@ -1,6 +1,6 @@
 //! What is known about the lines before a place of a program.
 ghost use Rattle.std.specs.Prelude.{◌≡◌, ◌≤◌, ℕ, List, Some, None, IfSome, length, if◌then◌else◌, ◌==◌};
-ghost use Rattle.ng_words.specs.Kinds.{kind_of};
+ghost use Rattle.ng_words.specs.Start.{kind_of};
 ghost use Rattle.ng_text.specs.Percent.{first_kind, kind_before};
 ghost use Rattle.ng_text.specs.Programs.{lines_before};
 ghost use Rattle.ng_text.specs.declared.lines_before.LinesBefore.{LinesBefore};
@@ -22,7 +22,7 @@ impl LinesBefore {
     ghost use Rattle.ng_text.specs.LinesBefore.{IsTrueOf, IsLineBetween};
 
     /// What is known about every program: there is no line before its start.
-    #[tactic(auto, using(crate::proofs::LinesAfter::none_true))]
+    #[tactic(auto, using(crate::proofs::LinesBeforeLemmas::none_true))]
     pub fn none() -> LinesBefore
         ensures value { result ≡ record { place = 0; first = Some LineKind.Blank } }
         ensures holds { (program : List ℕ) → IsTrueOf program result }

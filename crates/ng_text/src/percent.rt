@@ -1,7 +1,7 @@
 //! Percent programs: if the first line that isn't blank is a percent sign alone, the next such line ends the program
 //! (NISTIR 6556, 3.3). So what a line does depends on the kind of the first line before it that isn't blank.
 ghost use Rattle.std.specs.Prelude.{◌≡◌, ◌∷◌, ◌++◌, [], ℕ, List};
-ghost use Rattle.ng_words.specs.Kinds.{kind_of};
+ghost use Rattle.ng_words.specs.Start.{kind_of};
 ghost use Rattle.ng_text.specs.Percent.{first_kind, is_percent, kind_before, missing_end, percent_line_at, percent_line_by};
 
 use ng_num::Fault;

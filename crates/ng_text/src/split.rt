@@ -1,6 +1,6 @@
 //! Where a line ends.
 ghost use Rattle.std.specs.Prelude.{◌≡◌, ◌++◌, ◌∷◌, MatchOption};
-ghost use Rattle.ng_text.specs.Newlines.{HasNoNewline};
+ghost use Rattle.ng_text.specs.Split.{HasNoNewline};
 
 use memchr::memchr;
 

@@ -1,11 +1,11 @@
 pub mod Plain
 pub mod Grammar
 pub mod Scan
-pub mod Values
+pub mod Value
 pub mod Pieces
 pub mod Reading
 pub mod Kept
-pub mod Lines
-pub mod Kinds
-pub mod Comments
+pub mod Line
+pub mod Start
+pub mod Comment
 pub mod Private

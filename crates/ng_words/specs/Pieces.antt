@@ -4,7 +4,7 @@ use Rattle.std.specs.Prelude.{ℕ, zero, suc, List, [], ◌∷◌, codes, ◌==�
 use Rattle.std.specs.Option.{option_map, option_and_then}
 use Rattle.ng_words.specs.Grammar.{Tree, Piece, word, assignment, comment}
 use Rattle.ng_words.specs.Scan.{letter_of}
-use Rattle.ng_words.specs.Values.{strip_prefix, value_at}
+use Rattle.ng_words.specs.Value.{strip_prefix, value_at}
 
 -- a comment's bytes up to its closing parenthesis, and what comes after it
 abbrev pub comment_at : List ℕ → Option (List ℕ × List ℕ)

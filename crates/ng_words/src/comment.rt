@@ -1,6 +1,6 @@
 //! Messages: comments that are shown to the operator.
 ghost use Rattle.std.specs.Prelude.{◌≡◌, ◌≤◌, length, Some, None, MatchOption, IfSome};
-ghost use Rattle.ng_words.specs.Comments.{past, message_of};
+ghost use Rattle.ng_words.specs.Comment.{past, message_of};
 
 use crate::cursor::{capital, is_blank};
 

@@ -1,7 +1,7 @@
 //! The rest of a line, without blanks and outside comments.
 ghost use Rattle.std.specs.Prelude.{◌≡◌, ◌≢◌, ◌<◌, [], ◌∷◌, Some, None, MatchOption, MatchBool, IsTrue, ◌↔◌, drop, true, false};
 ghost use Rattle.ng_words.specs.Plain.{plain, is_blank, capital, StartsWithByte, IsOutside, AtPlain, HasNoComment};
-ghost use Rattle.ng_words.specs.Values.{strip_prefix};
+ghost use Rattle.ng_words.specs.Value.{strip_prefix};
 ghost use Rattle.ng_words.specs.Pieces.{comment_at};
 ghost use Rattle.ng_words.specs.Private.Walks.{ClosesAt};
 ghost use Rattle.ng_words.specs.Scan.{front_digits, after_digits, is_empty, sign_at};

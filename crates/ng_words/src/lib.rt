@@ -16,9 +16,9 @@ mod line;
 mod number;
 mod piece_entry;
 mod pieces;
+mod plain_number;
 mod reading;
 mod start;
-mod together;
 mod tree;
 mod value;
 

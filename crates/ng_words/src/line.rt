@@ -3,7 +3,7 @@ ghost use Rattle.std.specs.Prelude.{◌≡◌, ◌<◌, ◌≤◌, ◌↔◌, �
 ghost use Rattle.ng_words.specs.Grammar.{ParsedLine, IsLineOf, is_too_long};
 ghost use Rattle.ng_words.specs.Reading.{read};
 ghost use Rattle.ng_words.specs.Kept.{pieces_by, written_by};
-ghost use Rattle.ng_words.specs.Lines.{last_comment};
+ghost use Rattle.ng_words.specs.Line.{last_comment};
 
 use crate::comments::{BYTES, Comments};
 use crate::cursor::Cursor;
@@ -55,7 +55,7 @@ impl Model for Line {
 }
 
 impl Line {
-    ghost use Rattle.ng_words.specs.Lines.{blank};
+    ghost use Rattle.ng_words.specs.Line.{blank};
 
     /// A line with nothing on it.
     pub fn new() -> Line

@@ -7,7 +7,7 @@ ghost use Rattle.ng_words.specs.Grammar.{IsNumber, is_digit};
 ghost use Rattle.ng_words.specs.Scan.{fraction_from, front_digits, after_digits, whole_after, is_empty, unsigned_at, sign_at, number_at};
 
 use crate::cursor::{Cursor, is_blank};
-use crate::together::number_together;
+use crate::plain_number::number_together;
 use ng_num::{Fault, Num};
 
 /// From this whole part on, every number is out of range.

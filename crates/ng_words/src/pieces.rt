@@ -1,7 +1,7 @@
 //! The pieces of a line, one by one.
 ghost use Rattle.std.specs.Prelude.{◌≡◌, ◌≤◌, [], ◌∷◌, length, take, drop, MatchOption};
 ghost use Rattle.ng_words.specs.Kept.{pieces_by, IsTree};
-ghost use Rattle.ng_words.specs.Lines.{piece_of};
+ghost use Rattle.ng_words.specs.Line.{piece_of};
 
 use crate::letter::Letter;
 use crate::piece_entry::PieceEntry;

@@ -1,7 +1,7 @@
 //! Reading the pieces of a line, one by one, into the places that keep them.
 ghost use Rattle.std.specs.Prelude.{◌≡◌, ◌+◌, ◌*◌, ◌<◌, ◌≤◌, [], ◌∷◌, ◌++◌, length, drop, IsTrue, None, MatchBool, OnSome};
 ghost use Rattle.ng_words.specs.Plain.{StartsWithByte};
-ghost use Rattle.ng_words.specs.Values.{value_at};
+ghost use Rattle.ng_words.specs.Value.{value_at};
 ghost use Rattle.ng_words.specs.Pieces.{comment_at};
 ghost use Rattle.ng_words.specs.Private.Items.{last_size};
 ghost use Rattle.ng_words.specs.Private.Walks.{store_of, AddsWord, assignment_at, AddsAssignment, AddsComment, TakesPiece, TakesPieces};

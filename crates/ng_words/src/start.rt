@@ -1,6 +1,6 @@
 //! How a line begins: slash and block number.
 ghost use Rattle.std.specs.Prelude.{◌≡◌, false, Some, None, MatchOption};
-ghost use Rattle.ng_words.specs.Kinds.{is_deletable, kind_of};
+ghost use Rattle.ng_words.specs.Start.{is_deletable, kind_of};
 ghost use Rattle.ng_words.specs.Scan.{front_digits, after_digits, slash_at, numbered, block_number_at};
 
 use crate::cursor::Cursor;

@@ -1,7 +1,7 @@
 //! Values: one walk over the bytes, with a list of what waits for a value to its right.
 ghost use Rattle.std.specs.Prelude.{◌≡◌, ◌+◌, ◌<◌, ◌≤◌, ◌↔◌, [], ◌∷◌, ◌++◌, false, true, length, None, Some, IsTrue, OnSome, MatchOption};
 ghost use Rattle.ng_words.specs.Grammar.{level};
-ghost use Rattle.ng_words.specs.Values.{operations, entry_at};
+ghost use Rattle.ng_words.specs.Value.{operations, entry_at};
 ghost use Rattle.ng_words.specs.Private.Walks.{nearest, is_index, operation_within, closing, IsOpening, IsFunction, TakesValue, WalkStepSpec, Settles, Gathers, ClosesBrackets, BeginsNumber};
 
 use crate::cursor::Cursor;

@@ -4,8 +4,8 @@ use Rattle.ng_canon.specs.declared.plane_point.PlanePoint.{PlanePoint}
 use Rattle.ng_canon.specs.declared.quadrant.Quadrant.{Quadrant}
 use Rattle.ng_canon.specs.declared.quadrant.Quadrant.TheVariants.{First, Second, Third, Fourth}
 use Rattle.ng_arc.specs.declared.span.ArcSpan.{ArcSpan}
-use Rattle.ng_canon.specs.Planes.{cross, dot}
-use Rattle.ng_canon.specs.Quadrants.{quadrant_number, mirror_quadrant, quadrant_changes}
+use Rattle.ng_canon.specs.Plane.{cross, dot}
+use Rattle.ng_canon.specs.Quadrant.{quadrant_number, mirror_quadrant, quadrant_changes}
 use Rattle.ng_arc.specs.Extremes.{sweep_by}
 
 -- the direction at which a quadrant begins

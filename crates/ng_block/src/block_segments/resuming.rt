@@ -4,7 +4,7 @@ ghost use Rattle.std.specs.Prelude.{◌≡◌, ◌<◌, ◌-◌, [], take, drop}
 ghost use Rattle.ng_cycles.specs.Segments.{after_segments};
 ghost use Rattle.ng_block.specs.BlockSegments.{actions_left, rest_of};
 ghost use Rattle.ng_block.specs.Effects.{segments_by};
-ghost use Rattle.ng_block.specs.Paths.{path_segments};
+ghost use Rattle.ng_block.specs.Path.{path_segments};
 ghost use Rattle.ng_block.specs.Resuming.{Stays, standing_at};
 
 use crate::block_segments::{BlockSegments, BlockSegmentsLeft};

@@ -1,7 +1,7 @@
 //! The later segments of a path, and the machine's position and outputs before them. Those of a cycle aren't walked.
 ghost use Rattle.std.specs.Prelude.{◌≡◌, length, take, drop};
 ghost use Rattle.ng_cycles.specs.Segments.{after_segments, after_segment};
-ghost use Rattle.ng_block.specs.Paths.{path_segments};
+ghost use Rattle.ng_block.specs.Path.{path_segments};
 
 use crate::path::{Path, PathSegments, traverse};
 use ng_canon::Segment;

@@ -2,7 +2,7 @@
 -- and Y.
 use Rattle.std.specs.Prelude.{Bool, not, ◌&&◌, ◌||◌, ℤ, int_lt}
 use Rattle.std.specs.Int.{int_max}
-use Rattle.ng_canon.specs.Inside.{is_on}
+use Rattle.ng_canon.specs.Geometry.{is_on}
 use Rattle.ng_canon.specs.declared.geometry.Geometry.{Geometry}
 use Rattle.ng_cycles.specs.declared.drill.Drill.{Drill}
 use Rattle.ng_cycles.specs.Strokes.{coordinate}

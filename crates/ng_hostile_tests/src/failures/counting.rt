@@ -28,7 +28,7 @@ impl<'a> Counting<'a> {
 }
 
 impl Rig for Counting<'_> {
-    ghost use Rattle.ng_rig.specs.MemoryRig.{device_of};
+    ghost use Rattle.ng_rig.specs.Memory.{device_of};
 
     ghost seen = { λ counting. device_of counting.rig };
 

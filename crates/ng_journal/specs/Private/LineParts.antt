@@ -1,7 +1,7 @@
 -- A line of a program, part by part, as it is read from the sectors that hold it.
 use Rattle.std.specs.Prelude.{◌≡◌, ◌<◌, ◌+◌, ◌-◌, ℕ, min, List, ◌++◌, length, take, drop, slice_index, Option, Some, None}
 use Rattle.ng_layout.specs.Limits.{sector_size}
-use Rattle.ng_text.specs.Newlines.{HasNoNewline}
+use Rattle.ng_text.specs.Split.{HasNoNewline}
 
 -- The first n bytes of a text have no newline. As many of them are kept as a line may have, and one more.
 pub record KeepsLineFront (rest : List ℕ) (n : ℕ) (kept : List ℕ) : Type 0 where

@@ -8,7 +8,7 @@ ghost use Rattle.ng_log.specs.Reading.{ReadSpec};
 ghost use Rattle.ng_text.specs.Percent.{first_kind};
 ghost use Rattle.ng_text.specs.Programs.{lines_before, program_line_at};
 ghost use Rattle.ng_journal.specs.Journal.{CountsFailure};
-ghost use Rattle.ng_journal.specs.ProgramLines.{FirstKindSpec, ProgramLineSpec};
+ghost use Rattle.ng_journal.specs.Program.{FirstKindSpec, ProgramLineSpec};
 ghost use Rattle.ng_journal.specs.Storing.{ledger_of};
 
 use super::Journal;

@@ -1,6 +1,6 @@
 -- What is read from a log, step by step.
 use Rattle.std.specs.Prelude.{◌≡◌, ◌<◌, ◌≤◌, ◌+◌, ◌==◌, ◌&&◌, nat_le, ℕ, Bool, true, false, List, ℤ, Some, None, MatchBool}
-use Rattle.ng_params.specs.Changes.{with_changes}
+use Rattle.ng_params.specs.Change.{with_changes}
 use Rattle.ng_params.specs.declared.change.Change.{Change}
 use Rattle.ng_rig.specs.Trace.{Image}
 use Rattle.ng_layout.specs.declared.header.Format.{Format}

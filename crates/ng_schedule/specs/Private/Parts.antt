@@ -5,7 +5,7 @@ use Rattle.ng_canon.specs.declared.item.Item.{Item}
 use Rattle.ng_lines.specs.Lines.{item_line}
 use Rattle.ng_pace.specs.Calls.{IsEmpty}
 use Rattle.ng_pace.specs.Due.{least_ns}
-use Rattle.ng_pace.specs.Flow.{Flow, all_items}
+use Rattle.ng_pace.specs.Stream.{Flow, all_items}
 use Rattle.ng_pace.specs.Rest.{CanRest}
 use Rattle.ng_pace.specs.Run.{Event, IsRun, lines_given}
 use Rattle.ng_pace.specs.declared.limits.Limits.{Limits}

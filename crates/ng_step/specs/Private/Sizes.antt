@@ -1,7 +1,7 @@
 -- How large the numbers of an arc are (own).
 use Rattle.std.specs.Prelude.{ℕ, ◌≡◌, ◌+◌, ◌*◌, ◌^◌, ◌<◌, ◌≤◌, ◌-ℤ◌, unsigned_abs}
 use Rattle.ng_step.specs.declared.centred.CentredArc.{CentredArc}
-use Rattle.ng_canon.specs.Planes.{AreBelowInSize}
+use Rattle.ng_canon.specs.Plane.{AreBelowInSize}
 use Rattle.ng_step.specs.declared.steps.Distances.{Distances}
 use Rattle.ng_step.specs.Arcs.{larger, HasSteps, IsLargeArc}
 use Rattle.ng_step.specs.Turned.{beyond}

@@ -1,7 +1,7 @@
 use Rattle.std.proofs.Common.{arith, Ok, Err}
 use Rattle.std.proofs.lemmas.Grind.{common_steps}
 use Rattle.ng_arc.specs.Asked.{arc_of}
-use Rattle.ng_arc.proofs.CheckLemmas.{least, radii_law}
+use Rattle.ng_arc.proofs.ArcFaultLemmas.{least, radii_law}
 use Rattle.ng_arc.proofs.checking.check_arc.Goals as goal
 
 pub returns-in_err-arc-clause-least : goal.returns-in_err-arc-clause-least

@@ -1,6 +1,6 @@
 use Rattle.std.proofs.Common.{refl, [], ◌∙◌, ap, Option, ℤ}
 use Rattle.ng_block.specs.declared.action.Action.TheVariants as action
-use Rattle.ng_block.specs.Blocks.{time_word}
+use Rattle.ng_block.specs.Motion.{time_word}
 use Rattle.ng_block.proofs.ActionLemmas.{row}
 use Rattle.ng_block.proofs.actions.rows.Goals as goal
 

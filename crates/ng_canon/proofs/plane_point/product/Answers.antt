@@ -1,4 +1,4 @@
-use Rattle.ng_canon.proofs.PlanePoints.{wide_product, wide_product_size, wide_product_fits}
+use Rattle.ng_canon.proofs.PlanePointLemmas.{wide_product, wide_product_size, wide_product_fits}
 use Rattle.ng_canon.proofs.plane_point.product.Goals as goal
 
 pub overflow_mul-result : goal.overflow_mul-result

@@ -1,7 +1,7 @@
 use Rattle.std.proofs.Common.{◌++◌, codes}
-use Rattle.ng_num.specs.Text.{point_text}
-use Rattle.ng_canon.specs.Text.{round_text}
-use Rattle.ng_canon.proofs.Appending.{by_pairs, last_within}
+use Rattle.ng_num.specs.Printing.{point_text}
+use Rattle.ng_canon.specs.Printing.{round_text}
+use Rattle.ng_canon.proofs.TextAppendLemmas.{by_pairs, last_within}
 use Rattle.ng_canon.proofs.printing.push_arc.Goals as goal
 
 pub returns-clause-ok : goal.returns-clause-ok

@@ -1,5 +1,5 @@
 use Rattle.std.proofs.Common.{codes}
-use Rattle.ng_canon.proofs.Appending.{by_one, by_one_within}
+use Rattle.ng_canon.proofs.TextAppendLemmas.{by_one, by_one_within}
 use Rattle.ng_canon.proofs.printing.push_plane.Goals as goal
 
 pub returns-in-Xy-clause-ok : goal.returns-in-Xy-clause-ok

@@ -1,7 +1,7 @@
 use Rattle.std.proofs.Common.{◌++◌, codes}
-use Rattle.ng_num.specs.Text.{number_text}
-use Rattle.ng_canon.specs.Text.{turn_text}
-use Rattle.ng_canon.proofs.Appending.{by_pairs, last_within, unchanged_within}
+use Rattle.ng_num.specs.Printing.{number_text}
+use Rattle.ng_canon.specs.Printing.{turn_text}
+use Rattle.ng_canon.proofs.TextAppendLemmas.{by_pairs, last_within, unchanged_within}
 use Rattle.ng_canon.proofs.printing.push_round.Goals as goal
 
 pub returns-clause-ok : goal.returns-clause-ok

@@ -1,6 +1,6 @@
 use Rattle.std.proofs.Common.{rules, ◌≡◌, ◌*◌, ◌+◌, ◌<◌, ◌-◌, ℕ, List, ◌∷◌, subst}
 use Rattle.ng_words.specs.Grammar.{written_after}
-use Rattle.ng_commands.proofs.Written.{too_great}
+use Rattle.ng_commands.proofs.DigitSizeLemmas.{too_great}
 use Rattle.ng_commands.proofs.digits.whole.Goals as goal
 
 -- the number of the first digits is above the greatest

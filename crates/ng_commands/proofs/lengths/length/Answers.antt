@@ -1,6 +1,6 @@
 use Rattle.std.proofs.Common.{◌∙◌, ap}
 use Rattle.std.specs.Result.{result_ok}
-use Rattle.ng_commands.proofs.Numbers.{length_read, length_unread}
+use Rattle.ng_commands.proofs.LengthTextLemmas.{length_read, length_unread}
 use Rattle.ng_commands.proofs.lengths.length.Goals as goal
 
 pub returns-in-Ok : goal.returns-in-Ok

@@ -1,4 +1,4 @@
-use Rattle.ng_commands.proofs.Parted.{blank_after, first_blank, none_among}
+use Rattle.ng_commands.proofs.FirstBlankLemmas.{blank_after, first_blank, none_among}
 use Rattle.ng_commands.proofs.lengths.parted.Goals as goal
 
 pub loop-n-init : goal.loop-n-init

@@ -1,5 +1,5 @@
 use Rattle.std.proofs.Common.{◌∷◌, ◌++◌, ◌∙◌, ap}
-use Rattle.ng_commands.proofs.Parted.{one_word, placed, refused, two_words}
+use Rattle.ng_commands.proofs.FirstBlankLemmas.{one_word, placed, refused, two_words}
 use Rattle.ng_commands.proofs.lengths.point.Goals as goal
 
 pub returns-in_err-x : goal.returns-in_err-x

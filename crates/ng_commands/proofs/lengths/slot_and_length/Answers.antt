@@ -1,5 +1,5 @@
 use Rattle.std.proofs.Common.{◌∷◌, ◌++◌}
-use Rattle.ng_commands.proofs.Parted.{no_tool, refused_tool, tooled}
+use Rattle.ng_commands.proofs.FirstBlankLemmas.{no_tool, refused_tool, tooled}
 use Rattle.ng_commands.proofs.lengths.slot_and_length.Goals as goal
 
 pub returns-in_err-digits : goal.returns-in_err-digits

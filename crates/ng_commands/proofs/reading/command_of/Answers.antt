@@ -1,4 +1,4 @@
-use Rattle.ng_commands.proofs.Fixed.{not_placed, not_tooled}
+use Rattle.ng_commands.proofs.CommandStartLemmas.{not_placed, not_tooled}
 use Rattle.ng_commands.proofs.reading.command_of.Goals as goal
 
 pub returns-in-None-point : goal.returns-in-None-point

@@ -1,7 +1,7 @@
 use Rattle.std.proofs.Common.{◌∙◌, ◌-◌, ap, take, length}
 use Rattle.std.specs.Prelude.{vec_len}
-use Rattle.ng_num.specs.Text.{number_text}
-use Rattle.ng_commands.proofs.Blanks.{one_blank}
+use Rattle.ng_num.specs.Printing.{number_text}
+use Rattle.ng_commands.proofs.BlankLemmas.{one_blank}
 use Rattle.ng_commands.proofs.replies.push_length.Goals as goal
 
 pub returns : goal.returns

@@ -1,6 +1,6 @@
 use Rattle.std.proofs.Common.{codes}
 use Rattle.clap.specs.Words.{found_of}
-use Rattle.ng_console.proofs.Got.{never_none, value_is}
+use Rattle.ng_console.proofs.ClapValueLemmas.{never_none, value_is}
 use Rattle.ng_console.proofs.command_line.grow_job.Goals as goal
 
 pub unreachable-requires : goal.unreachable-requires

@@ -2,7 +2,7 @@ use Rattle.std.proofs.Common.{codes, Bool, true, false, ◌≡◌, ◌∙◌}
 use Rattle.clap.specs.Words.{found_of, rows_of}
 use Rattle.clap.proofs.WalkLemmas.{one_text-rows}
 use Rattle.ng_console.specs.Words.{SaysFlag}
-use Rattle.ng_console.proofs.Got.{never_none, value_is}
+use Rattle.ng_console.proofs.ClapValueLemmas.{never_none, value_is}
 use Rattle.ng_console.proofs.command_line.pace_job.Goals as goal
 
 pub unreachable-requires : goal.unreachable-requires

@@ -4,7 +4,7 @@ use Rattle.clap.specs.Words.{app_of, takes, found_of as found_in, rows_of, Row, 
 use Rattle.clap.proofs.TakesLemmas.{passed_up}
 use Rattle.ng_console.specs.Words.{ngc_app}
 use Rattle.clap.specs.Matches.{subcommand_name_of}
-use Rattle.ng_console.proofs.JobWords.{Subcommand, dry, format, grow, run, pace, found_of, is_asked, name_found, name_of}
+use Rattle.ng_console.proofs.JobWordLemmas.{Subcommand, dry, format, grow, run, pace, found_of, is_asked, name_found, name_of}
 use Rattle.ng_console.proofs.command_line.words.Goals as goal
 
 pub returns-in_err-matches-clause-taken : goal.returns-in_err-matches-clause-taken

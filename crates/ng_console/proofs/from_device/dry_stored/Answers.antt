@@ -1,4 +1,4 @@
-use Rattle.ng_console.proofs.Runs.{reports_taken}
+use Rattle.ng_console.proofs.DryRunLemmas.{reports_taken}
 use Rattle.ng_console.proofs.from_device.dry_stored.Goals as goal
 
 pub returns-clause-run : goal.returns-clause-run

@@ -1,4 +1,4 @@
-use Rattle.ng_console.proofs.Found.{finds_nothing, finds_otherwise, finds_stored}
+use Rattle.ng_console.proofs.DeviceCopyLemmas.{finds_nothing, finds_otherwise, finds_stored}
 use Rattle.ng_console.proofs.from_device.found_in.Goals as goal
 
 pub returns-in-Ok : goal.returns-in-Ok

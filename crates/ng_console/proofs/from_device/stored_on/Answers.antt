@@ -1,4 +1,4 @@
-use Rattle.ng_console.proofs.Found.{on_held}
+use Rattle.ng_console.proofs.DeviceCopyLemmas.{on_held}
 use Rattle.ng_console.proofs.from_device.stored_on.Goals as goal
 
 pub returns-in-Ok-clause-finds : goal.returns-in-Ok-clause-finds

@@ -2,8 +2,8 @@ use Rattle.std.proofs.Common.{◌≡◌, ◌∙◌, List, ℕ, Option, IfSome, s
 use Rattle.std.specs.Prelude.{nat_le}
 use Rattle.ng_layout.specs.Header.{header_in}
 use Rattle.ng_file.specs.Bytes.{sector_of}
-use Rattle.ng_console.specs.Growing.{large_bytes}
-use Rattle.ng_console.proofs.Headers.{by_headers}
+use Rattle.ng_console.specs.Grow.{large_bytes}
+use Rattle.ng_console.proofs.DeviceHeaderLemmas.{by_headers}
 use Rattle.ng_console.proofs.grow.is_device.Goals as goal
 
 pub returns-clause-value : goal.returns-clause-value

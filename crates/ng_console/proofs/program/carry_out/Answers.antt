@@ -1,7 +1,7 @@
 use Rattle.std.proofs.Common.{◌≡◌, ◌∙◌, ◌⊎◌, ap, inl, inr, is_some, subst, sym, ℕ, Result, Ok, Err, IfOk}
 use Rattle.std.specs.Result.{result_unwrap_or}
 use Rattle.std.proofs.lemmas.Result.{IfOk-weaker}
-use Rattle.ng_console.specs.Status.{JobSpec}
+use Rattle.ng_console.specs.Program.{JobSpec}
 use Rattle.ng_console.specs.declared.command_line.Job.TheVariants.{Dry, Format}
 use Rattle.ng_console.proofs.program.carry_out.Goals.{in-None, in-None-from, in-Some, in-Some-from}
 use Rattle.ng_console.proofs.program.carry_out.Goals as goal

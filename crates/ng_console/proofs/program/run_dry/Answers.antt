@@ -1,4 +1,4 @@
-use Rattle.ng_console.proofs.Runs.{reports}
+use Rattle.ng_console.proofs.DryRunLemmas.{reports}
 use Rattle.ng_console.proofs.program.run_dry.Goals as goal
 
 pub returns-clause-text : goal.returns-clause-text

@@ -1,11 +1,11 @@
 use Rattle.std.proofs.Common.{◌≡◌, ℕ, Option, Some, None, Ok, ◌∙◌, ap, subst, sym}
 use Rattle.std.proofs.lemmas.Result.{err_from_is_err_and}
 use Rattle.ng_num.specs.declared.fault.Fault.{Fault}
-use Rattle.ng_rig.proofs.Promise.{meaning}
+use Rattle.ng_rig.proofs.GuaranteeLemmas.{meaning}
 use Rattle.ng_text.specs.Programs.{ProgramLineModel}
-use Rattle.ng_core.proofs.Beginning.{Reading}
+use Rattle.ng_core.proofs.LineBeginLemmas.{Reading}
 use Rattle.ng_core.proofs.InForce.{ReadingInForce}
-use Rattle.ng_core.proofs.Resuming.{finds_next, next_in_force}
+use Rattle.ng_core.proofs.ResumeLemmas.{finds_next, next_in_force}
 use Rattle.ng_text.proofs.PlaceLemmas.{line_next, after_end}
 use Rattle.ng_core.proofs.half_done.next_line.Goals as goal
 

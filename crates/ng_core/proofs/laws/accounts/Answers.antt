@@ -1,5 +1,5 @@
-use Rattle.ng_core.proofs.Accounting.{accounts}
-use Rattle.ng_core.proofs.Guarding.{counts_acknowledged, none_taken_away}
+use Rattle.ng_core.proofs.AccountLemmas.{accounts}
+use Rattle.ng_core.proofs.AcknowledgedLemmas.{counts_acknowledged, none_taken_away}
 use Rattle.ng_core.proofs.laws.accounts.Goals as goal
 
 pub returns-clause-cuts : goal.returns-clause-cuts

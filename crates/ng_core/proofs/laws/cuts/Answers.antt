@@ -1,4 +1,4 @@
-use Rattle.ng_core.proofs.Living.{cuts_of_life, recovered_again}
+use Rattle.ng_core.proofs.LivesLemmas.{cuts_of_life, recovered_again}
 use Rattle.ng_core.proofs.laws.cuts.Goals as goal
 
 pub returns-clause-history : goal.returns-clause-history

@@ -1,4 +1,4 @@
-use Rattle.ng_core.proofs.InTurn.{turns_lead}
+use Rattle.ng_core.proofs.EventsInTurnLemmas.{turns_lead}
 use Rattle.ng_core.proofs.laws.histories.Goals as goal
 
 pub returns : goal.returns

@@ -1,4 +1,4 @@
-use Rattle.ng_core.proofs.Lifetimes.{kept_from_format, kept_from_image}
+use Rattle.ng_core.proofs.LifetimeLemmas.{kept_from_format, kept_from_image}
 use Rattle.ng_core.proofs.laws.lifetime.Goals as goal
 
 pub returns-clause-formatted : goal.returns-clause-formatted

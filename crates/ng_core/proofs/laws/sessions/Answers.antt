@@ -1,4 +1,4 @@
-use Rattle.ng_core.proofs.Stopping.{within_power_on, after_power_on, anew}
+use Rattle.ng_core.proofs.SessionStopLemmas.{within_power_on, after_power_on, anew}
 use Rattle.ng_core.proofs.laws.sessions.Goals as goal
 
 pub returns-clause-within : goal.returns-clause-within

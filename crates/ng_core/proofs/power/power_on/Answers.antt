@@ -1,18 +1,18 @@
 use Rattle.std.proofs.Common.{◌≡◌, inl, ℤ, List, Ok, Err, refl, sym, ◌∙◌, ap, subst, arith}
 use Rattle.std.specs.Result.{IsErrAnd}
 use Rattle.ng_num.specs.declared.fault.Fault.{Fault}
-use Rattle.ng_rig.specs.Device.{Device}
+use Rattle.ng_rig.specs.Rig.{Device}
 use Rattle.ng_rig.specs.Trace.{Trace}
 use Rattle.ng_settings.specs.declared.standard.Settings.{Settings}
 use Rattle.ng_core.specs.Headline.{BeginsPast}
-use Rattle.ng_core.specs.Powers.{PowerOnResult, PowerOnSpec}
-use Rattle.ng_rig.proofs.Promise.{promised, meaning}
+use Rattle.ng_core.specs.Power.{PowerOnResult, PowerOnSpec}
+use Rattle.ng_rig.proofs.GuaranteeLemmas.{promised, meaning}
 use Rattle.ng_layout.specs.Storable.{IsStorable}
 use Rattle.ng_canon.specs.declared.geometry.Geometry.{Geometry}
 use Rattle.ng_session.specs.Session.{SessionModel, resting}
-use Rattle.ng_journal.proofs.Recovering.{recovered_nothing}
-use Rattle.ng_core.proofs.Pasts.{begins_past}
-use Rattle.ng_core.proofs.Powering.{powered}
+use Rattle.ng_journal.proofs.RecoverLemmas.{recovered_nothing}
+use Rattle.ng_core.proofs.PastLemmas.{begins_past}
+use Rattle.ng_core.proofs.PowerOnLemmas.{powered}
 use Rattle.ng_core.proofs.power.power_on.Goals as goal
 
 pub returns-clause-gives : goal.returns-clause-gives

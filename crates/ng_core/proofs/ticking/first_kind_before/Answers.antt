@@ -1,10 +1,10 @@
 use Rattle.std.proofs.Common.{◌≡◌, ℕ, List, refl, sym, subst}
 use Rattle.std.specs.Prelude.{IfOk}
-use Rattle.ng_rig.proofs.Promise.{promised, meaning}
+use Rattle.ng_rig.proofs.GuaranteeLemmas.{promised, meaning}
 use Rattle.ng_text.specs.LinesBefore.{IsTrueOf}
 use Rattle.ng_text.specs.Percent.{first_kind}
 use Rattle.ng_text.specs.Programs.{lines_before}
-use Rattle.ng_core.proofs.Beginning.{finds_known, finds_asked}
+use Rattle.ng_core.proofs.LineBeginLemmas.{finds_known, finds_asked}
 use Rattle.ng_core.proofs.ticking.first_kind_before.Goals as goal
 
 pub returns-in-Some-clause-kind : goal.returns-in-Some-clause-kind

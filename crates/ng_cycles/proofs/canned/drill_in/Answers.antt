@@ -1,13 +1,13 @@
 use Rattle.std.proofs.Common.{arith, ◌≡◌, ◌≤ℤ◌, ◌∷◌, [], sym, ap, refl, true, false, int_lt, unwrap_or}
 use Rattle.std.specs.Option.{is_none}
 use Rattle.std.proofs.lemmas.Int.{ints}
-use Rattle.ng_num.proofs.FirstFault.{unless_err, unless_ok}
+use Rattle.ng_num.proofs.FirstFaultLemmas.{unless_err, unless_ok}
 use Rattle.ng_num.specs.declared.fault.Fault.TheVariants.{NoFeed}
-use Rattle.ng_canon.specs.Rates.{above_zero}
+use Rattle.ng_canon.specs.Pace.{above_zero}
 use Rattle.ng_num.specs.Causes.{first_fault}
 use Rattle.ng_cycles.specs.Faults.{work_of, work_causes, drill_by}
-use Rattle.ng_cycles.proofs.Causes.{hole_err, hole_unfed, hole_ok}
-use Rattle.ng_cycles.proofs.HasWords.{not_below, clear_above, clear_below}
+use Rattle.ng_cycles.proofs.CauseListLemmas.{hole_err, hole_unfed, hole_ok}
+use Rattle.ng_cycles.proofs.CycleWordLemmas.{not_below, clear_above, clear_below}
 use Rattle.ng_cycles.proofs.canned.drill_in.Goals as goal
 
 pub returns-then-nm-clause-drill : goal.returns-then-nm-clause-drill

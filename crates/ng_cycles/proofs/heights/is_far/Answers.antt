@@ -1,7 +1,7 @@
 use Rattle.std.proofs.Common.{arith, ◌∙◌, ap, pos, ◌+ℤ◌, ◌*ℤ◌, unsigned_abs}
 use Rattle.std.proofs.lemmas.Int.{ints}
-use Rattle.ng_cycles.proofs.Near.{beyond_is_far}
-use Rattle.ng_cycles.proofs.Stored.{sum_stored}
+use Rattle.ng_cycles.proofs.RangeSumLemmas.{beyond_is_far}
+use Rattle.ng_cycles.proofs.MachineIntegerLemmas.{sum_stored}
 use Rattle.ng_cycles.proofs.heights.is_far.Goals as goal
 
 pub overflow_add-nm : goal.overflow_add-nm

@@ -1,7 +1,7 @@
 use Rattle.std.proofs.Common.{◌∙◌, ◌++◌}
-use Rattle.ng_offsets.specs.Points.{shift_x, shift_y, shift_z}
-use Rattle.ng_cycles.specs.Lengths.{hole_axis_of, heights_of, place_lengths, height_lengths, optional_lengths_of}
-use Rattle.ng_cycles.proofs.Causes.{first_far, same_far, rest_far, none_far, far_ok}
+use Rattle.ng_offsets.specs.Offsets.{shift_x, shift_y, shift_z}
+use Rattle.ng_cycles.specs.Heights.{hole_axis_of, heights_of, place_lengths, height_lengths, optional_lengths_of}
+use Rattle.ng_cycles.proofs.CauseListLemmas.{first_far, same_far, rest_far, none_far, far_ok}
 use Rattle.ng_cycles.proofs.heights.optional_lengths_of.Goals as goal
 
 pub returns-in-Err-clause-found : goal.returns-in-Err-clause-found

@@ -1,5 +1,5 @@
 use Rattle.std.proofs.Common.{rules, ◌≡◌, refl, Err, ◌∙◌, ◌+ℤ◌, ◌-ℤ◌}
-use Rattle.ng_cycles.proofs.Near.{near_ok, near_err, far_alone, far_third}
+use Rattle.ng_cycles.proofs.RangeSumLemmas.{near_ok, near_err, far_alone, far_third}
 use Rattle.ng_cycles.proofs.heights.r_of.Goals as goal
 
 pub returns-in_err-current : goal.returns-in_err-current

@@ -1,5 +1,5 @@
 use Rattle.std.proofs.Common.{◌∙◌, sym, pos, ◌+ℤ◌, ◌*ℤ◌}
-use Rattle.ng_cycles.proofs.Far.{repeated_last, last_near}
+use Rattle.ng_cycles.proofs.LastHoleLemmas.{repeated_last, last_near}
 use Rattle.ng_cycles.proofs.heights.reaches_far.Goals as goal
 
 pub returns-clause-far : goal.returns-clause-far

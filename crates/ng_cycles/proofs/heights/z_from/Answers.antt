@@ -1,5 +1,5 @@
 use Rattle.std.proofs.Common.{rules, ◌≡◌, refl, Err, ◌∙◌, sym, ◌+ℤ◌, ◌-ℤ◌}
-use Rattle.ng_cycles.proofs.Near.{near_ok, near_err, far_second}
+use Rattle.ng_cycles.proofs.RangeSumLemmas.{near_ok, near_err, far_second}
 use Rattle.ng_cycles.proofs.heights.z_from.Goals as goal
 
 pub returns-in_err-add : goal.returns-in_err-add

@@ -1,5 +1,5 @@
 use Rattle.std.proofs.Common.{arith}
-use Rattle.ng_cycles.proofs.Stored.{product_stored}
+use Rattle.ng_cycles.proofs.MachineIntegerLemmas.{product_stored}
 use Rattle.ng_cycles.proofs.holes.times.Goals as goal
 
 pub overflow_mul-result : goal.overflow_mul-result

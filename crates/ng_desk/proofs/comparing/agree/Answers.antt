@@ -1,5 +1,5 @@
 use Rattle.std.proofs.Common.{◌≡◌, ◌∙◌, sym, true, false}
-use Rattle.ng_desk.proofs.Rising.{agreed, all_stand}
+use Rattle.ng_desk.proofs.RisingNumberLemmas.{agreed, all_stand}
 use Rattle.ng_desk.proofs.comparing.agree.Goals as goal
 
 pub returns-then-all_in : goal.returns-then-all_in

@@ -2,7 +2,7 @@ use Rattle.std.proofs.Common.{List, sym, ◌∙◌, subst}
 use Rattle.std.specs.Prelude.{All}
 use Rattle.ng_desk.specs.declared.call.Call.{Call}
 use Rattle.ng_desk.specs.Calls.{Seated, RiseFrom, AreApart}
-use Rattle.ng_desk.proofs.Rising.{first_rises, apart_more_seats, apart_first, apart_others}
+use Rattle.ng_desk.proofs.RisingNumberLemmas.{first_rises, apart_more_seats, apart_first, apart_others}
 use Rattle.ng_desk.proofs.comparing.all_apart.Goals as goal
 
 pub is_apart_from-requires : goal.is_apart_from-requires

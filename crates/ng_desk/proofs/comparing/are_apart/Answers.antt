@@ -1,5 +1,5 @@
 use Rattle.std.proofs.Common.{arith}
-use Rattle.ng_desk.proofs.Rising.{left_after, right_after, shared, rise_after}
+use Rattle.ng_desk.proofs.RisingNumberLemmas.{left_after, right_after, shared, rise_after}
 use Rattle.ng_desk.proofs.comparing.are_apart.Goals as goal
 
 pub loop-here-preserved-then-here-there : goal.loop-here-preserved-then-here-there

@@ -4,7 +4,7 @@ use Rattle.std.proofs.lemmas.List.{take_all, drop_all}
 use Rattle.std.proofs.lemmas.List.Elements.{All-more}
 use Rattle.ng_desk.specs.declared.call.Call.{Call}
 use Rattle.ng_desk.specs.Calls.{StandsIn, RiseFrom}
-use Rattle.ng_desk.proofs.Rising.{here}
+use Rattle.ng_desk.proofs.RisingNumberLemmas.{here}
 use Rattle.ng_desk.proofs.comparing.are_in.Goals as goal
 
 pub loop-call-preserved : goal.loop-call-preserved

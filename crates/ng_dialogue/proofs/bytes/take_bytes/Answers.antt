@@ -1,9 +1,9 @@
 use Rattle.std.proofs.Common.{rules, ◌≡◌, ◌≤◌, ◌++◌, ◌∙◌, List, ℕ, [], true, false, refl, sym, subst, ap, take, length, arith, length-append}
 use Rattle.std.specs.Io.KnownBytes.{Consumes}
-use Rattle.ng_text.proofs.Streams.{Consumes-nil}
+use Rattle.ng_text.proofs.KnownBytesLemmas.{Consumes-nil}
 use Rattle.ng_dialogue.specs.Waiting.{text_left}
-use Rattle.ng_dialogue.proofs.Ranges.{nonempty, some_taken, taken_length}
-use Rattle.ng_dialogue.proofs.Taking.{ended_for_good, ended_still, holds_on, left_bytes, left_on, step_on, taken_still, text_over}
+use Rattle.ng_dialogue.proofs.BufferLemmas.{nonempty, some_taken, taken_length}
+use Rattle.ng_dialogue.proofs.ReaderBytesLemmas.{ended_for_good, ended_still, holds_on, left_bytes, left_on, step_on, taken_still, text_over}
 use Rattle.ng_dialogue.proofs.bytes.take_bytes.Goals as goal
 
 pub loop-left-init : goal.loop-left-init

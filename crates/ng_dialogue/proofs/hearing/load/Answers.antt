@@ -5,7 +5,7 @@ use Rattle.ng_dialogue.specs.Reading.{TakesBytes}
 use Rattle.ng_dialogue.specs.declared.bytes.TakenBytes.{TakenBytes}
 use Rattle.ng_dialogue.specs.declared.bytes.TakenBytes.TheVariants.{Whole, NoRoom, Cut}
 use Rattle.ng_dialogue.specs.declared.order.Order.TheVariants.{Give}
-use Rattle.ng_dialogue.proofs.Asked.{taken_short, taken_whole}
+use Rattle.ng_dialogue.proofs.HeardOrderLemmas.{taken_short, taken_whole}
 use Rattle.ng_dialogue.proofs.hearing.load.Goals as goal
 
 pub returns-in-Whole-clause-order : goal.returns-in-Whole-clause-order

@@ -1,7 +1,7 @@
 use Rattle.std.proofs.Common.{rules, ◌≡◌, ℕ, List, true, refl, sym, subst}
 use Rattle.ng_dialogue.specs.Waiting.{text_left}
 use Rattle.ng_dialogue.specs.Reading.{TakesLine}
-use Rattle.ng_dialogue.proofs.Asked.{heard_none, heard_ok}
+use Rattle.ng_dialogue.proofs.HeardOrderLemmas.{heard_none, heard_ok}
 use Rattle.ng_dialogue.proofs.hearing.next_order.Goals as goal
 
 pub returns-in-None-clause-order : goal.returns-in-None-clause-order

@@ -1,5 +1,5 @@
 use Rattle.std.proofs.Common.{◌≡◌, ◌≤◌, ◌-◌, min, length, ◌∙◌, arith}
-use Rattle.ng_dialogue.proofs.Ranges.{kept_front}
+use Rattle.ng_dialogue.proofs.BufferLemmas.{kept_front}
 use Rattle.ng_dialogue.proofs.listening.keep.Goals as goal
 
 pub returns : goal.returns

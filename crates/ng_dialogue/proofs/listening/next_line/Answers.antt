@@ -1,8 +1,8 @@
 use Rattle.std.proofs.Common.{rules, ◌≡◌, ◌∷◌, ◌++◌, ◌+◌, ◌∙◌, true, false, refl, sym, ap, take, drop, length}
-use Rattle.ng_text.proofs.LineLemmas.{HasNoNewline-append}
+use Rattle.ng_text.proofs.NewlineLemmas.{HasNoNewline-append}
 use Rattle.ng_dialogue.specs.Waiting.{text_left}
-use Rattle.ng_dialogue.proofs.Ranges.{all_taken, after_newline, cut_on, some_passed}
-use Rattle.ng_dialogue.proofs.Taking.{ended_for_good, ended_still, holds_on, last_line, left_bytes, left_on, line_ends, step_on, text_over}
+use Rattle.ng_dialogue.proofs.BufferLemmas.{all_taken, after_newline, cut_on, some_passed}
+use Rattle.ng_dialogue.proofs.ReaderBytesLemmas.{ended_for_good, ended_still, holds_on, last_line, left_bytes, left_on, line_ends, step_on, text_over}
 use Rattle.ng_dialogue.proofs.listening.next_line.Goals as goal
 
 pub returns-then-not-branch-clause-some : goal.returns-then-not-branch-clause-some

@@ -1,6 +1,6 @@
 use Rattle.std.proofs.Common.{◌≡◌, ℕ, List, [], take, true}
 use Rattle.std.specs.Io.KnownBytes.{Consumes}
-use Rattle.ng_text.specs.Newlines.{HasNoNewline}
+use Rattle.ng_text.specs.Split.{HasNoNewline}
 use Rattle.ng_dialogue.specs.Waiting.{EndHolds, text_left}
 use Rattle.ng_dialogue.proofs.listening.next_line.Given as goal
 

@@ -1,4 +1,4 @@
-use Rattle.ng_dialogue.proofs.Sending.{appends_still, sends_unflushed}
+use Rattle.ng_dialogue.proofs.LineWriteLemmas.{appends_still, sends_unflushed}
 use Rattle.ng_dialogue.proofs.telling.send.Goals as goal
 
 pub returns-in-Ok-flush : goal.returns-in-Ok-flush

@@ -1,6 +1,6 @@
 use Rattle.std.proofs.Common.{◌++◌, ◌∙◌, ap}
 use Rattle.ng_commands.specs.Replies.{tick_line}
-use Rattle.ng_dialogue.proofs.Sending.{sends_as}
+use Rattle.ng_dialogue.proofs.LineWriteLemmas.{sends_as}
 use Rattle.ng_dialogue.proofs.telling.tell_tick.Goals as goal
 
 pub returns-in-Ok : goal.returns-in-Ok

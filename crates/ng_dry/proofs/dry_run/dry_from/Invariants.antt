@@ -2,7 +2,7 @@ use Rattle.std.proofs.Common.{ℕ, List, ◌+◌, ◌*◌, ◌≤◌, ◌++◌}
 use Rattle.std.specs.Io.KnownBytes.{Consumes}
 use Rattle.ng_dry.specs.Dry.{output_from}
 use Rattle.ng_dry.specs.Private.Parts.{Goes, rest_of}
-use Rattle.ng_text.specs.Newlines.{HasNoNewline}
+use Rattle.ng_text.specs.Split.{HasNoNewline}
 use Rattle.ng_dry.proofs.dry_run.dry_from.Given as goal
 
 abbrev pub invariant-loop-turn : goal.invariant-loop-turn

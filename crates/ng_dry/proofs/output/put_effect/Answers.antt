@@ -1,5 +1,5 @@
 use Rattle.std.proofs.Common.{List, ◌++◌, ap}
-use Rattle.ng_canon.specs.Text.{CanonModel}
+use Rattle.ng_canon.specs.Printing.{CanonModel}
 use Rattle.ng_dry.specs.Dry.{commands_text}
 use Rattle.ng_dry.proofs.FlushLemmas.{FlushSpec-from}
 use Rattle.ng_dry.proofs.output.put_effect.Goals as goal

@@ -1,9 +1,9 @@
 use Rattle.std.proofs.Common.{◌≡◌, ℕ, ℤ, List, [], ◌∷◌, ◌++◌, map, Option, Some, None, ◌∙◌, ap, sym, append-nil, append_assoc}
-use Rattle.ng_canon.specs.Text.{CanonModel, numeric, canonical_text, command_text}
+use Rattle.ng_canon.specs.Printing.{CanonModel, numeric, canonical_text, command_text}
 use Rattle.ng_canon.specs.declared.command.CanonicalCommand.{CanonicalCommand}
 use Rattle.ng_canon.specs.declared.command.CanonicalCommand.TheVariants.{FeedRate}
 use Rattle.ng_dry.specs.Dry.{commands_text}
-use Rattle.ng_block.specs.Paths.{pace_command}
+use Rattle.ng_block.specs.Path.{pace_command}
 use Rattle.ng_block.specs.Plan.{feed_commands}
 use Rattle.ng_dry.proofs.FlushLemmas.{FlushSpec-from, FlushSpec-after, FlushSpec-short}
 use Rattle.ng_dry.proofs.output.put_move.Goals as goal

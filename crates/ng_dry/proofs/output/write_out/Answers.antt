@@ -1,6 +1,6 @@
 use Rattle.std.proofs.Common.{arith, length-drop}
 use Rattle.std.proofs.Math.Seq.{take-add}
-use Rattle.ng_text.proofs.Streams.{Appends-trans, rest_is}
+use Rattle.ng_text.proofs.KnownBytesLemmas.{Appends-trans, rest_is}
 use Rattle.ng_dry.proofs.output.write_out.Goals as goal
 
 pub loop-written-preserved : goal.loop-written-preserved

@@ -1,5 +1,5 @@
 -- The walk ends with the tree's value on top, or with its fault.
-use Rattle.ng_expr.proofs.WalkLaws.{stopped, finished, never_empty}
+use Rattle.ng_expr.proofs.TreeWalkLemmas.{stopped, finished, never_empty}
 use Rattle.ng_expr.proofs.walk.walk.Goals as goal
 
 pub returns-in-Err : goal.returns-in-Err

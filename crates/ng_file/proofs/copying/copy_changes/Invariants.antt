@@ -1,5 +1,5 @@
 use Rattle.std.proofs.Common.{◌≡◌, ◌≤◌, ◌<◌, ℕ, IfSome}
-use Rattle.ng_rig.specs.MemoryRig.{sector_count, trace_of}
+use Rattle.ng_rig.specs.Memory.{sector_count, trace_of}
 use Rattle.ng_rig.specs.Trace.{reads}
 use Rattle.ng_file.specs.Bytes.{sector_of}
 use Rattle.ng_file.proofs.copying.copy_changes.Given as goal

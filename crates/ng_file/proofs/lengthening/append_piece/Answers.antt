@@ -1,5 +1,5 @@
 use Rattle.std.proofs.lemmas.Result.{on_err_weaker, on_ok_weaker}
-use Rattle.ng_file.proofs.Zeros.{zeros-begun, zeros-piece}
+use Rattle.ng_file.proofs.ZeroAppendLemmas.{zeros-begun, zeros-piece}
 use Rattle.ng_file.proofs.lengthening.append_piece.Goals as goal
 
 pub returns-clause-whole : goal.returns-clause-whole

@@ -1,5 +1,5 @@
 use Rattle.std.proofs.Common.{◌+◌, ◌≤◌, arith}
-use Rattle.ng_file.proofs.Zeros.{on_err, zeros-joined, zeros-more-begun}
+use Rattle.ng_file.proofs.ZeroAppendLemmas.{on_err, zeros-joined, zeros-more-begun}
 use Rattle.ng_file.proofs.lengthening.append_zeros.Goals as goal
 
 pub loop-appended-preserved : goal.loop-appended-preserved

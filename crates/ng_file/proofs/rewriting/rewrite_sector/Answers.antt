@@ -1,5 +1,5 @@
 use Rattle.std.proofs.Common.{◌≡◌, ◌*◌, length, arith}
-use Rattle.ng_file.proofs.Again.{kept-again}
+use Rattle.ng_file.proofs.RewriteLemmas.{kept-again}
 use Rattle.ng_file.proofs.rewriting.rewrite_sector.Goals as goal
 
 pub returns-clause-same : goal.returns-clause-same

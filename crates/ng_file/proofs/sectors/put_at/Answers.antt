@@ -1,6 +1,6 @@
 use Rattle.std.proofs.Common.{◌*◌, arith}
 use Rattle.ng_file.proofs.sectors.put_at.Goals as goal
-use Rattle.ng_file.proofs.Promises.{then_besides}
+use Rattle.ng_file.proofs.StoragePromiseLemmas.{then_besides}
 
 pub returns-clause-promised : goal.returns-clause-promised
 returns-clause-promised g c =

@@ -1,6 +1,6 @@
 use Rattle.std.proofs.Common.{arith, length-drop}
 use Rattle.std.proofs.Math.Seq.{take-add}
-use Rattle.ng_file.proofs.Appending.{Appends-trans, rest_is}
+use Rattle.ng_file.proofs.ByteAppendLemmas.{Appends-trans, rest_is}
 use Rattle.ng_file.proofs.writing.write_out.Goals as goal
 
 pub loop-written-preserved : goal.loop-written-preserved

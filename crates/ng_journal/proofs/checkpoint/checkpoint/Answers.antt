@@ -1,8 +1,8 @@
 use Rattle.std.proofs.Common.{sym}
 use Rattle.std.proofs.lemmas.Result.{err_from_is_err_and}
-use Rattle.ng_journal.proofs.Framing.{state_areas, state_sync, state_header, state_laid, synced_by}
-use Rattle.ng_journal.proofs.Keeping.{with_room, areas_kept}
-use Rattle.ng_journal.proofs.Renewing.{exit_areas, exit_sync, exit_header, ready, finished}
+use Rattle.ng_journal.proofs.WrittenSectorLemmas.{state_areas, state_sync, state_header, state_laid, synced_by}
+use Rattle.ng_journal.proofs.ProgramRoomLemmas.{with_room, areas_kept}
+use Rattle.ng_journal.proofs.CheckpointLemmas.{exit_areas, exit_sync, exit_header, ready, finished}
 use Rattle.ng_journal.proofs.checkpoint.checkpoint.Goals as goal
 
 pub returns-in_err-write_areas-clause-stops : goal.returns-in_err-write_areas-clause-stops

@@ -1,6 +1,6 @@
 use Rattle.std.proofs.lemmas.Result.{err_from_is_err_and}
-use Rattle.ng_rig.proofs.Promise.{onto, meaning}
-use Rattle.ng_journal.proofs.Framing.{areas_failed, areas_one, areas_two}
+use Rattle.ng_rig.proofs.GuaranteeLemmas.{onto, meaning}
+use Rattle.ng_journal.proofs.WrittenSectorLemmas.{areas_failed, areas_one, areas_two}
 use Rattle.ng_journal.proofs.checkpoint.write_areas.Goals as goal
 
 pub returns-in_err-write_snapshot-clause-areas : goal.returns-in_err-write_snapshot-clause-areas

@@ -1,6 +1,6 @@
 use Rattle.std.proofs.Common.{◌∙◌}
 use Rattle.std.proofs.lemmas.Result.{err_from_is_err_and}
-use Rattle.ng_journal.proofs.Framing.{area_failed, area_more}
+use Rattle.ng_journal.proofs.WrittenSectorLemmas.{area_failed, area_more}
 use Rattle.ng_journal.proofs.checkpoint.write_snapshot.Goals as goal
 
 pub returns-in_err-write-clause-area : goal.returns-in_err-write-clause-area

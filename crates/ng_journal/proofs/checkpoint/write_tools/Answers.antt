@@ -2,7 +2,7 @@ use Rattle.std.proofs.Common.{◌+◌, ◌∙◌, refl}
 use Rattle.std.proofs.lemmas.Result.{err_from_is_err_and}
 use Rattle.ng_layout.specs.Areas.{tools_size}
 use Rattle.ng_layout.specs.Snapshot.{HoldsToolPart}
-use Rattle.ng_journal.proofs.Beginning.{written, not_written}
+use Rattle.ng_journal.proofs.FormatLemmas.{written, not_written}
 use Rattle.ng_journal.proofs.checkpoint.write_tools.Goals as goal
 
 pub returns-in_err-write-clause-tools : goal.returns-in_err-write-clause-tools

@@ -1,7 +1,7 @@
 use Rattle.std.proofs.Common.{◌+◌, ◌∙◌, arith}
 use Rattle.std.proofs.lemmas.Result.{err_from_is_err_and}
-use Rattle.ng_journal.specs.Formats.{IsEmpty}
-use Rattle.ng_journal.proofs.Beginning.{written, not_written, written_on, not_synced}
+use Rattle.ng_journal.specs.Formatting.{IsEmpty}
+use Rattle.ng_journal.proofs.FormatLemmas.{written, not_written, written_on, not_synced}
 use Rattle.ng_journal.proofs.formatting.clear_headers.Goals as goal
 
 pub returns-in_err-write-clause-clears : goal.returns-in_err-write-clause-clears

@@ -1,7 +1,7 @@
 use Rattle.std.proofs.Common.{◌≡◌}
 use Rattle.ng_rig.specs.Calls.{IfHonest}
 use Rattle.ng_journal.specs.Private.Overwrites.{OverwritesTo}
-use Rattle.ng_journal.specs.Formats.{IsEmpty}
+use Rattle.ng_journal.specs.Formatting.{IsEmpty}
 use Rattle.ng_journal.proofs.formatting.clear_headers.Given as goal
 
 abbrev pub invariant-loop-k : goal.invariant-loop-k

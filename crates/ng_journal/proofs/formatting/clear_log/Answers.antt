@@ -1,8 +1,8 @@
 use Rattle.std.proofs.Common.{◌+◌, ◌∙◌, refl}
 use Rattle.std.proofs.lemmas.Result.{err_from_is_err_and}
 use Rattle.ng_layout.specs.Areas.{shortest_log, log_first}
-use Rattle.ng_journal.specs.Formats.{IsEmpty}
-use Rattle.ng_journal.proofs.Beginning.{written, not_written}
+use Rattle.ng_journal.specs.Formatting.{IsEmpty}
+use Rattle.ng_journal.proofs.FormatLemmas.{written, not_written}
 use Rattle.ng_journal.proofs.formatting.clear_log.Goals as goal
 
 pub returns-in_err-write-clause-clears : goal.returns-in_err-write-clause-clears

@@ -2,7 +2,7 @@ use Rattle.std.proofs.Common.{◌≡◌}
 use Rattle.ng_rig.specs.Calls.{IfHonest}
 use Rattle.ng_layout.specs.Areas.{shortest_log, log_first}
 use Rattle.ng_journal.specs.Private.Overwrites.{OverwritesTo}
-use Rattle.ng_journal.specs.Formats.{IsEmpty}
+use Rattle.ng_journal.specs.Formatting.{IsEmpty}
 use Rattle.ng_journal.proofs.formatting.clear_log.Given as goal
 
 abbrev pub invariant-loop-n : goal.invariant-loop-n

@@ -4,8 +4,8 @@ use Rattle.ng_rig.specs.Trace.{reads}
 use Rattle.ng_layout.specs.Header.{program_room}
 use Rattle.ng_layout.specs.Stands.{is_large}
 use Rattle.ng_layout.specs.Stored.{fresh_stored}
-use Rattle.ng_journal.proofs.Beginning.{steps, finished, table_long}
-use Rattle.ng_journal.proofs.Framing.{first_headers, first_log, first_area, first_tools, first_sync, first_write}
+use Rattle.ng_journal.proofs.FormatLemmas.{steps, finished, table_long}
+use Rattle.ng_journal.proofs.WrittenSectorLemmas.{first_headers, first_log, first_area, first_tools, first_sync, first_write}
 use Rattle.ng_journal.proofs.formatting.make_fresh.Goals as goal
 
 pub returns-in_err-clear_headers-clause-formats : goal.returns-in_err-clear_headers-clause-formats

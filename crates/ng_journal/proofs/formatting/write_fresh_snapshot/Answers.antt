@@ -1,10 +1,10 @@
 use Rattle.std.proofs.Common.{◌+◌, ◌∙◌, refl, arith}
-use Rattle.ng_rig.proofs.Promise.{meaning}
+use Rattle.ng_rig.proofs.GuaranteeLemmas.{meaning}
 use Rattle.std.proofs.lemmas.Result.{err_from_is_err_and}
 use Rattle.ng_layout.specs.Snapshot.{HoldsPart}
 use Rattle.ng_layout.specs.Areas.{snapshot_size}
 use Rattle.ng_layout.specs.Stored.{fresh_stored}
-use Rattle.ng_journal.proofs.Beginning.{written, not_written}
+use Rattle.ng_journal.proofs.FormatLemmas.{written, not_written}
 use Rattle.ng_journal.proofs.formatting.write_fresh_snapshot.Goals as goal
 
 pub returns-in_err-write-clause-writes : goal.returns-in_err-write-clause-writes

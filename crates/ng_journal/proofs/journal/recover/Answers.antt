@@ -1,5 +1,5 @@
-use Rattle.ng_rig.proofs.Promise.{promised, meaning}
-use Rattle.ng_journal.proofs.Recovering.{recovered_all, recovered_nothing, recovered_failed, recovered_refused}
+use Rattle.ng_rig.proofs.GuaranteeLemmas.{promised, meaning}
+use Rattle.ng_journal.proofs.RecoverLemmas.{recovered_all, recovered_nothing, recovered_failed, recovered_refused}
 use Rattle.ng_journal.proofs.journal.recover.Goals as goal
 
 pub returns-in-Ok-Ok-clause-recovers : goal.returns-in-Ok-Ok-clause-recovers

@@ -1,4 +1,4 @@
-use Rattle.ng_layout.proofs.Images.{modern-beside}
+use Rattle.ng_layout.proofs.ImageLemmas.{modern-beside}
 use Rattle.ng_journal.proofs.laws.modern.Goals as goal
 
 pub returns : goal.returns

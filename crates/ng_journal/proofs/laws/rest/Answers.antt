@@ -1,4 +1,4 @@
-use Rattle.ng_journal.proofs.Resting.{at_rest, rests_alone}
+use Rattle.ng_journal.proofs.AtRestLemmas.{at_rest, rests_alone}
 use Rattle.ng_journal.proofs.laws.rest.Goals as goal
 
 pub returns : goal.returns

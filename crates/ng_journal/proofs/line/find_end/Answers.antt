@@ -4,8 +4,8 @@ use Rattle.ng_rig.specs.Trace.{reads}
 use Rattle.ng_layout.specs.Sectors.{program_text}
 use Rattle.ng_layout.specs.Areas.{program_size, program_first}
 use Rattle.ng_layout.specs.Stands.{stretch}
-use Rattle.ng_rig.proofs.Promise.{onto, meaning}
-use Rattle.ng_journal.proofs.LinesRead.{sector_at, part_kept, end_found, all_kept, length-text}
+use Rattle.ng_rig.proofs.GuaranteeLemmas.{onto, meaning}
+use Rattle.ng_journal.proofs.LineReadLemmas.{sector_at, part_kept, end_found, all_kept, length-text}
 use Rattle.ng_journal.proofs.line.find_end.Goals as goal
 
 pub returns-in-Some-clause-read : goal.returns-in-Some-clause-read

@@ -1,4 +1,4 @@
-use Rattle.ng_journal.proofs.LinesRead.{kept_more}
+use Rattle.ng_journal.proofs.LineReadLemmas.{kept_more}
 use Rattle.ng_journal.proofs.line.keep.Goals as goal
 
 pub returns : goal.returns

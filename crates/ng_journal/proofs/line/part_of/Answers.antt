@@ -1,5 +1,5 @@
 use Rattle.std.proofs.Common.{arith}
-use Rattle.ng_journal.proofs.LinesRead.{part_is}
+use Rattle.ng_journal.proofs.LineReadLemmas.{part_is}
 use Rattle.ng_journal.proofs.line.part_of.Goals as goal
 
 pub returns-clause-part : goal.returns-clause-part

@@ -3,8 +3,8 @@ use Rattle.ng_rig.specs.Trace.{reads}
 use Rattle.ng_layout.specs.Sectors.{program_text}
 use Rattle.ng_layout.specs.Areas.{program_size, program_first}
 use Rattle.ng_layout.specs.Stands.{stretch}
-use Rattle.ng_rig.proofs.Promise.{promised, meaning}
-use Rattle.ng_journal.proofs.LinesRead.{end_some, end_none, short_line, long_line, last_line, no_line, length-text}
+use Rattle.ng_rig.proofs.GuaranteeLemmas.{promised, meaning}
+use Rattle.ng_journal.proofs.LineReadLemmas.{end_some, end_none, short_line, long_line, last_line, no_line, length-text}
 use Rattle.ng_journal.proofs.line.read_line.Goals.{then-end-le-KEPT_LINE, else-end-le-KEPT_LINE}
 use Rattle.ng_journal.proofs.line.read_line.Goals as goal
 

@@ -1,6 +1,6 @@
 use Rattle.std.proofs.Common.{length, sym, subst, Some}
 use Rattle.ng_journal.specs.Private.LineParts.{TakesPart}
-use Rattle.ng_journal.proofs.LinesRead.{line_taken}
+use Rattle.ng_journal.proofs.LineReadLemmas.{line_taken}
 use Rattle.ng_journal.proofs.line.take_part.Goals as goal
 
 pub returns-in-Some-clause-taken : goal.returns-in-Some-clause-taken

@@ -3,9 +3,9 @@ use Rattle.ng_rig.specs.Trace.{reads}
 use Rattle.ng_layout.specs.Sectors.{program_text}
 use Rattle.ng_layout.specs.Areas.{program_size, program_first}
 use Rattle.ng_layout.specs.Stands.{stretch}
-use Rattle.ng_rig.proofs.Promise.{promised, onto, meaning}
-use Rattle.ng_journal.proofs.LinesRead.{sector_at, length-text}
-use Rattle.ng_journal.proofs.FirstLinesRead.{decides_part}
+use Rattle.ng_rig.proofs.GuaranteeLemmas.{promised, onto, meaning}
+use Rattle.ng_journal.proofs.LineReadLemmas.{sector_at, length-text}
+use Rattle.ng_journal.proofs.FirstKindReadLemmas.{decides_part}
 use Rattle.ng_text.proofs.FirstLineLemmas.{known_in, all_in}
 use Rattle.ng_journal.proofs.lines_before.read_first_kind.Goals as goal
 

@@ -4,7 +4,7 @@ use Rattle.ng_rig.specs.Calls.{IfHonest}
 use Rattle.ng_layout.specs.Sectors.{program_text}
 use Rattle.ng_layout.specs.Areas.{program_size, program_first}
 use Rattle.ng_layout.specs.Stands.{stretch}
-use Rattle.ng_text.specs.FirstLines.{DecidesFirstLine}
+use Rattle.ng_text.specs.FirstLine.{DecidesFirstLine}
 use Rattle.ng_journal.proofs.lines_before.read_first_kind.Given as goal
 
 abbrev pub invariant-loop-n : goal.invariant-loop-n

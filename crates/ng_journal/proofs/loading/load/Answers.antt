@@ -1,11 +1,11 @@
 use Rattle.std.proofs.Common.{inl, ◌∙◌, ap}
 use Rattle.std.proofs.lemmas.Result.{err_from_is_err_and}
-use Rattle.ng_journal.proofs.Framing.{among_text, load_text, load_sync, load_state, text_stays, state_under}
+use Rattle.ng_journal.proofs.WrittenSectorLemmas.{among_text, load_text, load_sync, load_state, text_stays, state_under}
 use Rattle.ng_layout.specs.declared.header.Header.{Header}
 use Rattle.ng_layout.specs.Stored.{DurableState}
 use Rattle.ng_journal.specs.AtRest.{next_header}
-use Rattle.ng_journal.proofs.Keeping.{with_room}
-use Rattle.ng_journal.proofs.Overwriting.{free_in, own_again, fits_again, exit_text, exit_sync, loaded_all}
+use Rattle.ng_journal.proofs.ProgramRoomLemmas.{with_room}
+use Rattle.ng_journal.proofs.LoadLemmas.{free_in, own_again, fits_again, exit_text, exit_sync, loaded_all}
 use Rattle.ng_journal.proofs.loading.load.Goals as goal
 
 pub returns-in_err-write_program-clause-stops : goal.returns-in_err-write_program-clause-stops

@@ -1,7 +1,7 @@
 use Rattle.std.proofs.Common.{◌<◌, ◌∙◌, arith}
 use Rattle.std.proofs.lemmas.Result.{err_from_is_err_and}
 use Rattle.ng_layout.specs.Areas.{program_size}
-use Rattle.ng_journal.proofs.Framing.{text_failed, text_more}
+use Rattle.ng_journal.proofs.WrittenSectorLemmas.{text_failed, text_more}
 use Rattle.ng_journal.proofs.loading.write_program.Goals as goal
 
 pub returns-in_err-write-clause-text : goal.returns-in_err-write-clause-text

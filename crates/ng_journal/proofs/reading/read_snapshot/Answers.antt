@@ -1,9 +1,9 @@
 use Rattle.std.proofs.Common.{◌≡◌, ◌∙◌, ap, true, false}
-use Rattle.ng_rig.proofs.Promise.{onto, meaning}
+use Rattle.ng_rig.proofs.GuaranteeLemmas.{onto, meaning}
 use Rattle.ng_rig.specs.Trace.{reads}
 use Rattle.ng_layout.specs.Areas.{snapshot_first}
 use Rattle.ng_journal.specs.Private.SnapshotRead.{IsTableOf}
-use Rattle.ng_journal.proofs.SnapshotReading.{no_state, no_table, no_tools, whole_snapshot, table_as, tools_as, snapshot_as}
+use Rattle.ng_journal.proofs.SnapshotReadLemmas.{no_state, no_table, no_tools, whole_snapshot, table_as, tools_as, snapshot_as}
 use Rattle.ng_journal.proofs.reading.read_snapshot.Goals as goal
 
 pub returns-in-None-clause-read : goal.returns-in-None-clause-read

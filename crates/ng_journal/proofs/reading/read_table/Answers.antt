@@ -1,6 +1,6 @@
 use Rattle.std.proofs.Common.{◌∙◌, arith}
-use Rattle.ng_rig.proofs.Promise.{onto, meaning}
-use Rattle.ng_journal.proofs.TableReading.{turn, damaged, whole}
+use Rattle.ng_rig.proofs.GuaranteeLemmas.{onto, meaning}
+use Rattle.ng_journal.proofs.TableReadLemmas.{turn, damaged, whole}
 use Rattle.ng_journal.proofs.reading.read_table.Goals as goal
 
 pub returns-then-not-take_values-clause-read : goal.returns-then-not-take_values-clause-read

@@ -1,7 +1,7 @@
 use Rattle.std.proofs.Common.{◌≡◌, length}
 use Rattle.ng_rig.specs.Trace.{reads}
 use Rattle.ng_rig.specs.Calls.{IfHonest}
-use Rattle.ng_layout.proofs.Tables.{TableTo}
+use Rattle.ng_layout.proofs.TableLemmas.{TableTo}
 use Rattle.ng_layout.specs.Areas.{snapshot_size}
 use Rattle.ng_layout.specs.Stands.{stretch}
 use Rattle.ng_journal.proofs.reading.read_table.Given as goal

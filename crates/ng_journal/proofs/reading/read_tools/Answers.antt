@@ -1,7 +1,7 @@
 use Rattle.std.proofs.Common.{◌∙◌, refl}
-use Rattle.ng_rig.proofs.Promise.{promised, onto}
+use Rattle.ng_rig.proofs.GuaranteeLemmas.{promised, onto}
 use Rattle.ng_rig.specs.Trace.{reads}
-use Rattle.ng_journal.proofs.SnapshotReading.{no_table_in_one, table_in_two}
+use Rattle.ng_journal.proofs.SnapshotReadLemmas.{no_table_in_one, table_in_two}
 use Rattle.ng_journal.proofs.reading.read_tools.Goals as goal
 
 pub returns-in-One-clause-read : goal.returns-in-One-clause-read

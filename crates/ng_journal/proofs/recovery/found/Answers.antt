@@ -1,12 +1,12 @@
 use Rattle.std.proofs.Common.{◌≡◌, ◌∙◌, sym, ap, subst}
 use Rattle.ng_rig.specs.Trace.{Trace, reads}
-use Rattle.ng_rig.proofs.Promise.{onto, meaning}
+use Rattle.ng_rig.proofs.GuaranteeLemmas.{onto, meaning}
 use Rattle.ng_layout.specs.Header.{program_room}
 use Rattle.ng_rig.specs.Calls.{IfHonest}
 use Rattle.ng_layout.specs.Stands.{in_force, is_large}
 use Rattle.ng_log.specs.Reading.{IsRunOf}
 use Rattle.ng_journal.specs.Private.SnapshotRead.{IsSnapshotOf}
-use Rattle.ng_journal.proofs.Finding.{none_found, damage_found, Snapped, snapped, log_damaged, all_found}
+use Rattle.ng_journal.proofs.FoundStateLemmas.{none_found, damage_found, Snapped, snapped, log_damaged, all_found}
 use Rattle.ng_journal.proofs.recovery.found.Goals as goal
 
 pub returns-in-None-clause-read : goal.returns-in-None-clause-read

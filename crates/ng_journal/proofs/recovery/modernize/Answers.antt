@@ -2,8 +2,8 @@ use Rattle.std.proofs.Common.{ℤ, List, sym, ◌∙◌, ap}
 use Rattle.ng_layout.specs.Stands.{saved_beside}
 use Rattle.ng_layout.specs.declared.header.Format.{Format}
 use Rattle.std.proofs.lemmas.Result.{err_from_is_err_and}
-use Rattle.ng_rig.proofs.Promise.{promised, meaning}
-use Rattle.ng_journal.proofs.Modern.{modern_already, nothing_modern, modern_not_stored, modern_stored, modern_failed, modern_made, modern_over, stored_over}
+use Rattle.ng_rig.proofs.GuaranteeLemmas.{promised, meaning}
+use Rattle.ng_journal.proofs.MigrationLemmas.{modern_already, nothing_modern, modern_not_stored, modern_stored, modern_failed, modern_made, modern_over, stored_over}
 use Rattle.ng_journal.proofs.recovery.modernize.Goals as goal
 
 pub returns-in-Two-clause-stops : goal.returns-in-Two-clause-stops

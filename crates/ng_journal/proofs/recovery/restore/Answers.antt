@@ -4,8 +4,8 @@ use Rattle.ng_layout.specs.declared.header.Header.{Header}
 use Rattle.ng_layout.specs.declared.header.Format.TheVariants.{One}
 use Rattle.ng_layout.specs.Stands.{in_force}
 use Rattle.std.proofs.lemmas.Result.{err_from_is_err_and}
-use Rattle.ng_rig.proofs.Promise.{meaning}
-use Rattle.ng_journal.proofs.Restoring.{one_more, exit_unsynced, exit_failed, exit_found, exit_used, found_under, next_is, within, exit_modern, exit_restored}
+use Rattle.ng_rig.proofs.GuaranteeLemmas.{meaning}
+use Rattle.ng_journal.proofs.RestoreLemmas.{one_more, exit_unsynced, exit_failed, exit_found, exit_used, found_under, next_is, within, exit_modern, exit_restored}
 use Rattle.ng_journal.proofs.recovery.restore.Goals as goal
 
 pub returns-in_err-sync-clause-restores : goal.returns-in_err-sync-clause-restores

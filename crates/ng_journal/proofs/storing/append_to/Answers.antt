@@ -1,9 +1,9 @@
 use Rattle.std.proofs.Common.{◌∙◌, ap, refl}
 use Rattle.std.proofs.lemmas.Result.{err_from_is_err_and}
-use Rattle.ng_rig.proofs.Promise.{meaning}
+use Rattle.ng_rig.proofs.GuaranteeLemmas.{meaning}
 use Rattle.ng_layout.specs.Stored.{StoredModel}
-use Rattle.ng_journal.proofs.Keeping.{with_room, record_kept, append_kept}
-use Rattle.ng_journal.proofs.Recording.{appended, not_appended, recorded, not_recorded}
+use Rattle.ng_journal.proofs.ProgramRoomLemmas.{with_room, record_kept, append_kept}
+use Rattle.ng_journal.proofs.RecordStoreLemmas.{appended, not_appended, recorded, not_recorded}
 use Rattle.ng_journal.proofs.storing.append_to.Goals as goal
 
 pub returns-in_err-end-clause-appends : goal.returns-in_err-end-clause-appends

@@ -1,9 +1,9 @@
 use Rattle.std.proofs.Common.{refl, ap, inl, ◌∙◌}
 use Rattle.std.proofs.lemmas.Result.{err_from_is_err_and}
-use Rattle.ng_rig.proofs.Promise.{promised, meaning}
+use Rattle.ng_rig.proofs.GuaranteeLemmas.{promised, meaning}
 use Rattle.ng_layout.specs.declared.header.Header.{Header}
 use Rattle.ng_journal.specs.Private.Records.{ledger}
-use Rattle.ng_journal.proofs.Recording.{own, fits_next, room_there, room_failed, room_made, nothing_written, room_not_written, all_room_written, has_room_yet}
+use Rattle.ng_journal.proofs.RecordStoreLemmas.{own, fits_next, room_there, room_failed, room_made, nothing_written, room_not_written, all_room_written, has_room_yet}
 use Rattle.ng_journal.proofs.storing.make_room.Goals as goal
 
 pub returns-then-not-is_full_for-clause-makes : goal.returns-then-not-is_full_for-clause-makes

@@ -1,10 +1,10 @@
 use Rattle.std.proofs.Common.{ap}
 use Rattle.std.proofs.lemmas.Result.{err_from_is_err_and}
-use Rattle.ng_rig.proofs.Promise.{onto, meaning}
+use Rattle.ng_rig.proofs.GuaranteeLemmas.{onto, meaning}
 use Rattle.ng_layout.specs.Stored.{StoredModel}
 use Rattle.ng_journal.specs.Private.Records.{ledger}
-use Rattle.ng_journal.proofs.Keeping.{with_room}
-use Rattle.ng_journal.proofs.Recording.{no_room, stored_after, not_stored, stored, ledger_after, has_room, same_length}
+use Rattle.ng_journal.proofs.ProgramRoomLemmas.{with_room}
+use Rattle.ng_journal.proofs.RecordStoreLemmas.{no_room, stored_after, not_stored, stored, ledger_after, has_room, same_length}
 use Rattle.ng_journal.proofs.storing.store.Goals as goal
 
 pub append_to-requires-clause-tip : goal.append_to-requires-clause-tip

@@ -1,12 +1,12 @@
 use Rattle.std.proofs.Common.{◌≡◌, ◌∙◌, Some, sym, ap, subst, arith}
 use Rattle.std.specs.Prelude.{IfOk}
 use Rattle.std.proofs.lemmas.Result.{err_from_is_err_and}
-use Rattle.ng_rig.proofs.Promise.{onto, meaning}
+use Rattle.ng_rig.proofs.GuaranteeLemmas.{onto, meaning}
 use Rattle.ng_layout.specs.Stored.{StoredModel}
 use Rattle.ng_journal.specs.Private.Records.{ledger, tip_of}
 use Rattle.ng_journal.specs.Storing.{with_record}
-use Rattle.ng_layout.proofs.ToolTables.{no-change}
-use Rattle.ng_journal.proofs.Recording.{no_room, stored_after, not_stored, stored, ledger_after, has_room, same_length, none_changed, as_taken, recorded_as}
+use Rattle.ng_layout.proofs.ToolTableLemmas.{no-change}
+use Rattle.ng_journal.proofs.RecordStoreLemmas.{no_room, stored_after, not_stored, stored, ledger_after, has_room, same_length, none_changed, as_taken, recorded_as}
 use Rattle.ng_journal.proofs.storing.store_half.Goals as goal
 
 pub append_to-requires-clause-tip : goal.append_to-requires-clause-tip

@@ -1,5 +1,5 @@
 use Rattle.std.proofs.Common.{◌∙◌, sym}
-use Rattle.ng_params.proofs.Differing.{differences-same}
+use Rattle.ng_params.proofs.DifferenceLemmas.{differences-same}
 use Rattle.ng_journal.proofs.storing.take_changed.Goals as goal
 
 pub take_all_but_parameters-requires : goal.take_all_but_parameters-requires

@@ -1,5 +1,5 @@
 use Rattle.std.proofs.Common.{ap, refl, lit≤, pos}
-use Rattle.ng_num.specs.Points.{zero_point}
+use Rattle.ng_num.specs.Point.{zero_point}
 use Rattle.ng_layout.specs.Codes.{truth_of, source_of, opened_of}
 use Rattle.ng_layout.specs.Decoding.{and_then, half_by}
 use Rattle.ng_layout.specs.declared.rows.Number.TheVariants.{U8}

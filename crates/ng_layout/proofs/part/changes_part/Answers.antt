@@ -7,7 +7,7 @@ use Rattle.ng_params.specs.declared.change.Change.{Change}
 use Rattle.ng_layout.specs.Log.{change_at}
 use Rattle.ng_layout.specs.Part.{label_of}
 use Rattle.ng_layout.proofs.ByteLemmas.{below-more, from-more, from-further}
-use Rattle.ng_layout.proofs.Parts.{no_changes, label-below, changes-below, one_change_more, change_put, holds_changes}
+use Rattle.ng_layout.proofs.PartLemmas.{no_changes, label-below, changes-below, one_change_more, change_put, holds_changes}
 use Rattle.ng_layout.proofs.part.changes_part.Goals as goal
 
 pub loop-k-init : goal.loop-k-init

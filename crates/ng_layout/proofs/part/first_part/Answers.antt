@@ -1,6 +1,6 @@
 use Rattle.std.proofs.Common.{◌∙◌, lit≤}
 use Rattle.ng_layout.specs.Part.{label_of}
-use Rattle.ng_layout.proofs.Parts.{label-below}
+use Rattle.ng_layout.proofs.PartLemmas.{label-below}
 use Rattle.ng_layout.proofs.ByteLemmas.{number-from, signed-from, bytes-from}
 use Rattle.ng_layout.proofs.SectorLemmas.{bytes-zeros}
 use Rattle.ng_layout.proofs.part.first_part.Goals as goal

@@ -3,7 +3,7 @@ use Rattle.ng_layout.specs.Encoding.{HoldsDecodedState}
 use Rattle.ng_layout.specs.Fields.{SameFrom}
 use Rattle.ng_layout.specs.Snapshot.{decoded_state_in}
 use Rattle.ng_layout.proofs.ByteLemmas.{from-drop}
-use Rattle.ng_layout.proofs.Parts.{whole_put, front_put}
+use Rattle.ng_layout.proofs.PartLemmas.{whole_put, front_put}
 use Rattle.ng_layout.proofs.part.put_state.Goals as goal
 
 pub returns-clause-state : goal.returns-clause-state

@@ -1,5 +1,5 @@
 use Rattle.std.proofs.Common.{◌∙◌, sym}
-use Rattle.ng_layout.proofs.Parts.{makes_none, makes_more, one_damaged}
+use Rattle.ng_layout.proofs.PartLemmas.{makes_none, makes_more, one_damaged}
 use Rattle.ng_layout.proofs.part.take_changes.Goals as goal
 
 pub loop-k-init : goal.loop-k-init

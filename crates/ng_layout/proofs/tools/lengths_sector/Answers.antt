@@ -1,7 +1,7 @@
 use Rattle.std.proofs.Common.{◌≡◌, ◌+◌, ◌∙◌, arith}
 use Rattle.std.specs.Int.{w64, cast_signed, cast_unsigned}
 use Rattle.std.proofs.lemmas.Int.{to_z-of_z}
-use Rattle.ng_layout.proofs.ToolTables.{lengths-put, lengths-past, slot-after}
+use Rattle.ng_layout.proofs.ToolTableLemmas.{lengths-put, lengths-past, slot-after}
 use Rattle.ng_layout.proofs.tools.lengths_sector.Goals as goal
 use Rattle.ng_layout.proofs.tools.lengths_sector.Goals.{then-first-k, else-first-k}
 

@@ -1,4 +1,4 @@
-use Rattle.ng_layout.proofs.ToolTables.{LengthsTo}
+use Rattle.ng_layout.proofs.ToolTableLemmas.{LengthsTo}
 use Rattle.ng_layout.proofs.tools.lengths_sector.Given as goal
 
 abbrev pub invariant-loop-k : goal.invariant-loop-k

@@ -1,5 +1,5 @@
 use Rattle.std.proofs.Common.{◌≡◌, ◌+◌, ◌-◌, ◌*◌, arith}
-use Rattle.ng_layout.proofs.ToolTables.{as-table, at-length, lengths-begin, whole-part, no-part}
+use Rattle.ng_layout.proofs.ToolTableLemmas.{as-table, at-length, lengths-begin, whole-part, no-part}
 use Rattle.ng_layout.proofs.tools.take_area.Goals as goal
 
 pub returns-in-Some-clause-takes : goal.returns-in-Some-clause-takes

@@ -3,7 +3,7 @@ use Rattle.std.specs.Int.{w64, cast_signed, cast_unsigned}
 use Rattle.std.proofs.lemmas.Int.{to_z-of_z}
 use Rattle.ng_layout.specs.Storable.{IsStorableTools}
 use Rattle.ng_layout.specs.Tools.{tool_length_of}
-use Rattle.ng_layout.proofs.ToolTables.{lengths-more, lengths-damaged, storable-more}
+use Rattle.ng_layout.proofs.ToolTableLemmas.{lengths-more, lengths-damaged, storable-more}
 use Rattle.ng_layout.proofs.tools.take_lengths.Goals as goal
 
 pub returns-in-None-clause-adds : goal.returns-in-None-clause-adds

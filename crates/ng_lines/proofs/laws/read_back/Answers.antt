@@ -1,6 +1,6 @@
 use Rattle.std.proofs.Common.{◌≡◌, ◌++◌, ◌∙◌, ◌-◌, List, ℕ, ap, codes, length, sym, take}
 use Rattle.ng_lines.specs.Lines.{item_line}
-use Rattle.ng_lines.proofs.LineLemmas.{without_end}
+use Rattle.ng_lines.proofs.ItemLineLemmas.{without_end}
 use Rattle.ng_lines.proofs.laws.read_back.Goals as goal
 
 pub returns : goal.returns

@@ -1,8 +1,8 @@
 use Rattle.std.proofs.Common.{◌≡◌, ◌∙◌, ◌∷◌, ap, suc, neg_ℤ, negsuc, pos}
 use Rattle.std.specs.Result.{result_ok}
 use Rattle.ng_num.specs.Range.{in_range}
-use Rattle.ng_num.specs.Text.{number_text}
-use Rattle.ng_lines.proofs.NumberLemmas.{made, makes, same_size, text_below}
+use Rattle.ng_num.specs.Printing.{number_text}
+use Rattle.ng_lines.proofs.SignedNumberLemmas.{made, makes, same_size, text_below}
 use Rattle.ng_lines.proofs.number.below_zero.Goals as goal
 
 pub returns-in-Some-clause-found : goal.returns-in-Some-clause-found

@@ -1,4 +1,4 @@
-use Rattle.ng_lines.proofs.NumberLemmas.{read_signed, read_unsigned}
+use Rattle.ng_lines.proofs.SignedNumberLemmas.{read_signed, read_unsigned}
 use Rattle.ng_lines.proofs.number.number_in.Goals as goal
 
 pub returns-in-Some-clause-only : goal.returns-in-Some-clause-only

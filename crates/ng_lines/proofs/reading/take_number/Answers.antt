@@ -1,7 +1,7 @@
 use Rattle.std.proofs.Common.{◌∙◌, sym}
-use Rattle.ng_num.specs.Text.{number_text}
+use Rattle.ng_num.specs.Printing.{number_text}
 use Rattle.ng_lines.proofs.ByteLemmas.{no_part, one_first}
-use Rattle.ng_lines.proofs.NumberLemmas.{number_no_blank, same_number}
+use Rattle.ng_lines.proofs.SignedNumberLemmas.{number_no_blank, same_number}
 use Rattle.ng_lines.proofs.reading.take_number.Goals as goal
 
 pub returns-in_default-clause-only : goal.returns-in_default-clause-only

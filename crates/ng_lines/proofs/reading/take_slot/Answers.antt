@@ -1,7 +1,7 @@
 use Rattle.std.proofs.Common.{◌<◌, ◌^◌, ◌∙◌, arith, sym}
 use Rattle.std.specs.Fmt.{decimal}
 use Rattle.ng_lines.proofs.ByteLemmas.{no_part, one_first}
-use Rattle.ng_lines.proofs.NumberLemmas.{decimal_has_none, same_size}
+use Rattle.ng_lines.proofs.SignedNumberLemmas.{decimal_has_none, same_size}
 use Rattle.ng_lines.proofs.reading.take_slot.Goals as goal
 
 pub returns-in_default-clause-only : goal.returns-in_default-clause-only

@@ -1,6 +1,6 @@
 use Rattle.std.proofs.Common.{◌≡◌, ◌<◌, ◌^◌, drop}
 use Rattle.std.specs.Str.{all_ascii_digits}
-use Rattle.ng_lines.specs.Digits.{read_on}
+use Rattle.ng_lines.specs.Whole.{read_on}
 use Rattle.ng_lines.proofs.whole.value_of.Given as goal
 
 abbrev pub invariant-loop-byte : goal.invariant-loop-byte

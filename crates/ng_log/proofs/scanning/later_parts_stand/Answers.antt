@@ -1,9 +1,9 @@
 use Rattle.std.proofs.Common.{◌+◌, refl, ◌∙◌, arith}
-use Rattle.ng_rig.proofs.Promise.{promised, onto, meaning}
+use Rattle.ng_rig.proofs.GuaranteeLemmas.{promised, onto, meaning}
 use Rattle.ng_rig.specs.Trace.{reads}
 use Rattle.ng_layout.specs.Part.{label_of}
 use Rattle.ng_log.specs.Private.ReadSteps.{from_log}
-use Rattle.ng_log.proofs.Scanned.{stand_none, stand_more, part_missing, sector_here}
+use Rattle.ng_log.proofs.LogScanLemmas.{stand_none, stand_more, part_missing, sector_here}
 use Rattle.ng_log.proofs.scanning.later_parts_stand.Goals as goal
 
 pub loop-part-init : goal.loop-part-init

@@ -2,7 +2,7 @@ use Rattle.std.proofs.Common.{◌≡◌}
 use Rattle.ng_rig.specs.Calls.{IfHonest}
 use Rattle.ng_rig.specs.Trace.{reads}
 use Rattle.ng_layout.specs.Part.{label_of}
-use Rattle.ng_log.proofs.Scanned.{StandTo}
+use Rattle.ng_log.proofs.LogScanLemmas.{StandTo}
 use Rattle.ng_log.proofs.scanning.later_parts_stand.Given as goal
 
 abbrev pub invariant-loop-part : goal.invariant-loop-part

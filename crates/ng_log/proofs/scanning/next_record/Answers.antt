@@ -1,10 +1,10 @@
 use Rattle.std.proofs.Common.{◌≡◌, ◌<◌, refl, sym, ◌∙◌, true, false, arith}
-use Rattle.ng_rig.proofs.Promise.{promised, onto, meaning}
+use Rattle.ng_rig.proofs.GuaranteeLemmas.{promised, onto, meaning}
 use Rattle.ng_rig.specs.Trace.{reads}
 use Rattle.ng_layout.specs.Areas.{log_size_of}
 use Rattle.ng_layout.specs.Part.{label_of}
 use Rattle.ng_log.specs.Private.ReadSteps.{from_log, LaterPartsStand}
-use Rattle.ng_log.proofs.NextRead.{begun, says_read, none_at_end, none_of_first, none_of_parts, damaged_record, one_record, taken_at, parts_at}
+use Rattle.ng_log.proofs.NextRecordLemmas.{begun, says_read, none_at_end, none_of_first, none_of_parts, damaged_record, one_record, taken_at, parts_at}
 use Rattle.ng_log.proofs.scanning.next_record.Goals as goal
 
 pub returns-then-end-log_size-clause-read : goal.returns-then-end-log_size-clause-read

@@ -1,5 +1,5 @@
 use Rattle.std.proofs.Common.{◌≡◌, ◌≤◌, ◌∙◌, Some, sym, subst, arith}
-use Rattle.ng_rig.proofs.Promise.{onto, meaning}
+use Rattle.ng_rig.proofs.GuaranteeLemmas.{onto, meaning}
 use Rattle.ng_rig.specs.Trace.{reads}
 use Rattle.ng_layout.specs.Areas.{log_size_of}
 use Rattle.ng_layout.specs.declared.header.Format.TheVariants.{One}
@@ -9,7 +9,7 @@ use Rattle.ng_layout.specs.Stored.{StoredModel}
 use Rattle.ng_log.specs.Reading.{IsRunOf}
 use Rattle.ng_log.specs.AtEnd.{position_of}
 use Rattle.ng_log.specs.Runs.{log_of}
-use Rattle.ng_log.proofs.NextRead.{none_at_end, runs_damaged, runs_more, runs_end, next_is, on_is, goes_on}
+use Rattle.ng_log.proofs.NextRecordLemmas.{none_at_end, runs_damaged, runs_more, runs_end, next_is, on_is, goes_on}
 use Rattle.ng_log.proofs.scanning.read_log.Goals as goal
 
 pub returns-in-Damaged-clause-read : goal.returns-in-Damaged-clause-read

@@ -6,7 +6,7 @@ use Rattle.ng_layout.specs.declared.header.Format.TheVariants.{One}
 use Rattle.ng_layout.specs.Storable.{IsStorable}
 use Rattle.ng_log.specs.AtEnd.{no_records, position_of}
 use Rattle.ng_log.specs.Runs.{log_of}
-use Rattle.ng_log.proofs.Runs.{RunsTo}
+use Rattle.ng_log.proofs.RecordRunLemmas.{RunsTo}
 use Rattle.ng_log.proofs.scanning.read_log.Given as goal
 
 abbrev pub invariant-records : goal.invariant-records

@@ -1,8 +1,8 @@
 use Rattle.std.proofs.Common.{◌+◌, ◌*◌, ◌<◌, length, ap, refl, ◌∙◌, arith}
-use Rattle.ng_rig.proofs.Promise.{promised, onto}
+use Rattle.ng_rig.proofs.GuaranteeLemmas.{promised, onto}
 use Rattle.ng_rig.specs.Trace.{reads}
 use Rattle.ng_log.specs.Private.ReadSteps.{from_log}
-use Rattle.ng_log.proofs.Scanned.{makes_no_changes, makes_part, damaged_part, sector_here, with_long}
+use Rattle.ng_log.proofs.LogScanLemmas.{makes_no_changes, makes_part, damaged_part, sector_here, with_long}
 use Rattle.ng_log.proofs.scanning.take_all_changes.Goals as goal
 
 pub loop-i-init : goal.loop-i-init

@@ -1,8 +1,8 @@
 use Rattle.std.proofs.Common.{ap, refl, ◌∙◌}
-use Rattle.ng_rig.proofs.Promise.{promised, meaning}
+use Rattle.ng_rig.proofs.GuaranteeLemmas.{promised, meaning}
 use Rattle.ng_rig.specs.Trace.{reads}
 use Rattle.ng_layout.specs.Stored.{StoredModel}
-use Rattle.ng_log.proofs.Scanned.{no_state, exit_all}
+use Rattle.ng_log.proofs.LogScanLemmas.{no_state, exit_all}
 use Rattle.ng_log.proofs.scanning.take_record.Goals as goal
 
 pub returns-in-None-clause-read : goal.returns-in-None-clause-read

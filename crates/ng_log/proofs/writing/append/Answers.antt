@@ -1,11 +1,11 @@
 use Rattle.std.proofs.Common.{◌≡◌, ◌∙◌, ◌+◌, length, ap}
 use Rattle.std.proofs.lemmas.Result.{err_from_is_err_and}
-use Rattle.ng_rig.proofs.Promise.{onto, meaning}
+use Rattle.ng_rig.proofs.GuaranteeLemmas.{onto, meaning}
 use Rattle.ng_log.specs.declared.log_end.LogEnd.{LogEnd}
 use Rattle.ng_log.specs.AtEnd.{end_after}
 use Rattle.ng_params.specs.Differences.{differences}
 use Rattle.ng_log.specs.Records.{record_from}
-use Rattle.ng_log.proofs.Appending.{next_of, record_cut, record_unsynced, record_synced, exit_parts, exit_sync, finished}
+use Rattle.ng_log.proofs.RecordWriteLemmas.{next_of, record_cut, record_unsynced, record_synced, exit_parts, exit_sync, finished}
 use Rattle.ng_log.proofs.writing.append.Goals as goal
 
 pub returns-in_err-write_parts-clause-appends : goal.returns-in_err-write_parts-clause-appends

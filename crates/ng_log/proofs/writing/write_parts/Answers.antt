@@ -1,11 +1,11 @@
 use Rattle.std.proofs.Common.{◌≡◌, ◌∙◌, ◌+◌, ◌-◌, ◌*◌, ◌<◌, ◌≤◌, ℕ, length, min, refl, sym, ap, arith}
 use Rattle.std.proofs.lemmas.Result.{err_from_is_err_and}
-use Rattle.ng_rig.proofs.Promise.{onto, meaning}
+use Rattle.ng_rig.proofs.GuaranteeLemmas.{onto, meaning}
 use Rattle.ng_params.specs.Differences.{differences_to}
 use Rattle.ng_log.specs.Records.{record_from, size_of}
-use Rattle.ng_log.proofs.Appending.{first_of, later_of, labelled_as, record_none, record_more, record_failed, record_done}
-use Rattle.ng_params.proofs.Differing.{none_yet}
-use Rattle.ng_log.proofs.Pieces.{taken-piece, taken-next}
+use Rattle.ng_log.proofs.RecordWriteLemmas.{first_of, later_of, labelled_as, record_none, record_more, record_failed, record_done}
+use Rattle.ng_params.proofs.DifferenceLemmas.{none_yet}
+use Rattle.ng_log.proofs.DifferencePieceLemmas.{taken-piece, taken-next}
 use Rattle.ng_log.proofs.writing.write_parts.Goals as goal
 
 least : (n : ℕ) → min (48 * (1 - 1)) n ≡ 0

@@ -2,7 +2,7 @@ use Rattle.std.proofs.Common.{◌≡◌, ◌≤◌, ◌-◌, ◌*◌, min, lengt
 use Rattle.ng_rig.specs.Calls.{IfHonest}
 use Rattle.ng_params.specs.Differences.{differences_to}
 use Rattle.ng_log.specs.Records.{record_from}
-use Rattle.ng_log.proofs.Appending.{RecordTo}
+use Rattle.ng_log.proofs.RecordWriteLemmas.{RecordTo}
 use Rattle.ng_log.proofs.writing.write_parts.Given as goal
 
 abbrev pub invariant-loop-part : goal.invariant-loop-part

@@ -4,8 +4,8 @@ use Rattle.std.proofs.lemmas.Iterator.Consumers.{YieldsList-from_rest}
 use Rattle.std.proofs.lemmas.Iterator.Search.{find_from_yields_List}
 use Rattle.std.specs.BTreeMap.{keys}
 use Rattle.std.specs.List.{find}
-use Rattle.ng_motion.specs.Names.{shown_name}
-use Rattle.ng_motion.specs.Table.{unknown_key}
+use Rattle.ng_motion.specs.Name.{shown_name}
+use Rattle.ng_motion.specs.Given.{unknown_key}
 use Rattle.ng_motion.proofs.NameLemmas.{is_unknown, unknown_in_names}
 use Rattle.ng_motion.proofs.given.unknown_key.Goals as goal
 

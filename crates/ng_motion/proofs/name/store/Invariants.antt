@@ -1,5 +1,5 @@
 use Rattle.std.proofs.Common.{◌≡◌, ◌-◌, ◌≤◌, length, map, take}
-use Rattle.ng_motion.specs.Names.{shown_byte}
+use Rattle.ng_motion.specs.Name.{shown_byte}
 use Rattle.ng_motion.proofs.name.store.Given as goal
 
 abbrev pub invariant-loop-length : goal.invariant-loop-length

@@ -1,6 +1,6 @@
 use Rattle.std.proofs.Common.{arith}
 use Rattle.std.proofs.lemmas.Grind.{common_steps}
-use Rattle.ng_num.proofs.FirstFault.{none_holds, is_first}
+use Rattle.ng_num.proofs.FirstFaultLemmas.{none_holds, is_first}
 use Rattle.ng_num.proofs.causes.first_fault.Goals as goal
 
 pub returns-then-fault-clause-first : goal.returns-then-fault-clause-first

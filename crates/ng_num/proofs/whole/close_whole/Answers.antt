@@ -3,7 +3,7 @@ use Rattle.std.proofs.lemmas.Int.{ints, to_z-of_z}
 use Rattle.ng_num.specs.Arithmetic.{million}
 use Rattle.ng_num.specs.Rounding.{near}
 use Rattle.ng_num.specs.Whole.{IsClose}
-use Rattle.ng_num.proofs.WholeNumbers.{close_only, none_if_far, whole_if_close}
+use Rattle.ng_num.proofs.WholeNumberLemmas.{close_only, none_if_far, whole_if_close}
 use Rattle.ng_num.proofs.whole.close_whole.Goals as goal
 
 pub returns-then-unsigned_abs-le-CLOSE-clause-value :

@@ -1,4 +1,4 @@
-use Rattle.ng_pace.proofs.RunLemmas.{all_given}
+use Rattle.ng_pace.proofs.WholeStreamLemmas.{all_given}
 use Rattle.ng_pace.proofs.laws.given_out.Goals as goal
 
 pub returns : goal.returns

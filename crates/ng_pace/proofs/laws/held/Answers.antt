@@ -1,4 +1,4 @@
-use Rattle.ng_pace.proofs.RunLemmas.{stopped}
+use Rattle.ng_pace.proofs.WholeStreamLemmas.{stopped}
 use Rattle.ng_pace.proofs.laws.held.Goals as goal
 
 pub returns : goal.returns

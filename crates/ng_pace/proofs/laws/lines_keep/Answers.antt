@@ -1,4 +1,4 @@
-use Rattle.ng_pace.proofs.StepLemmas.{keep-so-far}
+use Rattle.ng_pace.proofs.PathStepLemmas.{keep-so-far}
 use Rattle.ng_pace.proofs.laws.lines_keep.Goals as goal
 
 pub returns : goal.returns

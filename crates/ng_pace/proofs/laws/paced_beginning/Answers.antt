@@ -1,4 +1,4 @@
-use Rattle.ng_pace.proofs.RunLemmas.{paced}
+use Rattle.ng_pace.proofs.WholeStreamLemmas.{paced}
 use Rattle.ng_pace.proofs.laws.paced_beginning.Goals as goal
 
 pub returns : goal.returns

@@ -1,7 +1,7 @@
 use Rattle.std.proofs.Common.{arith, ap, ◌∙◌, ◌∷◌, length}
 use Rattle.ng_pace.specs.Making.{stop_of}
 use Rattle.ng_pace.specs.Legs.{pulses_of, lines_of}
-use Rattle.ng_pace.proofs.StepLemmas.{along-reach, path-opened}
+use Rattle.ng_pace.proofs.PathStepLemmas.{along-reach, path-opened}
 use Rattle.ng_pace.proofs.path.close.Goals as goal
 
 pub returns-clause-closes : goal.returns-clause-closes

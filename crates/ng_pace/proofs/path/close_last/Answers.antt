@@ -1,6 +1,6 @@
 use Rattle.std.proofs.Common.{length}
 use Rattle.ng_pace.specs.Making.{stop_of}
-use Rattle.ng_pace.proofs.StepLemmas.{closes-path, closed-path}
+use Rattle.ng_pace.proofs.PathStepLemmas.{closes-path, closed-path}
 use Rattle.ng_pace.proofs.path.close_last.Goals as goal
 
 pub returns-then-chord-clause-finishes : goal.returns-then-chord-clause-finishes

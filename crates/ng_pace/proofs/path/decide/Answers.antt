@@ -1,5 +1,5 @@
 use Rattle.std.proofs.Common.{arith}
-use Rattle.ng_pace.proofs.StepLemmas.{decide-path, path-stays}
+use Rattle.ng_pace.proofs.PathStepLemmas.{decide-path, path-stays}
 use Rattle.ng_pace.proofs.path.decide.Goals as goal
 
 pub returns-then-chord-saturating_mul-clause-advances : goal.returns-then-chord-saturating_mul-clause-advances

@@ -1,5 +1,5 @@
 use Rattle.ng_pace.specs.Making.{stop_of}
-use Rattle.ng_pace.proofs.StepLemmas.{reach-path, reached-path}
+use Rattle.ng_pace.proofs.PathStepLemmas.{reach-path, reached-path}
 use Rattle.ng_pace.proofs.path.decide_at_end.Goals as goal
 
 pub returns-then-chord-clause-reaches : goal.returns-then-chord-clause-reaches

@@ -1,10 +1,10 @@
 use Rattle.std.proofs.Common.{arith, ap, ◌∙◌, ◌+◌, ◌++◌, ◌∷◌, [], length}
 use Rattle.std.proofs.lemmas.List.{length-append}
 use Rattle.ng_pace.specs.Legs.{Leg, lines_of}
-use Rattle.ng_pace.specs.Underway.{IsPath}
-use Rattle.ng_pace.specs.Few.{WaitSome}
-use Rattle.ng_pace.proofs.FewLemmas.{some-more, some-left}
-use Rattle.ng_pace.proofs.StepLemmas.{take-path, path-opened, path-stays, advances-on, advances-pulses}
+use Rattle.ng_pace.specs.Path.{IsPath}
+use Rattle.ng_pace.specs.WaitingPulses.{WaitSome}
+use Rattle.ng_pace.proofs.WaitingPulseLemmas.{some-more, some-left}
+use Rattle.ng_pace.proofs.PathStepLemmas.{take-path, path-opened, path-stays, advances-on, advances-pulses}
 use Rattle.ng_pace.proofs.path.extend.Goals as goal
 
 pub returns-then-chord-eq0-clause-advances : goal.returns-then-chord-eq0-clause-advances

@@ -1,5 +1,5 @@
 use Rattle.std.proofs.Common.{arith, length, inl, inr}
-use Rattle.ng_pace.proofs.StepLemmas.{along-path, joined-corner}
+use Rattle.ng_pace.proofs.PathStepLemmas.{along-path, joined-corner}
 use Rattle.ng_pace.proofs.path.go_along.Goals as goal
 
 pub returns-then-not-chord-clause-advances : goal.returns-then-not-chord-clause-advances

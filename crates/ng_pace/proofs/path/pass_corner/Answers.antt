@@ -1,7 +1,7 @@
 use Rattle.std.proofs.Common.{arith, rules, ◌≡◌, ◌-◌, ◌/◌, length, deque_len}
 use Rattle.ng_pace.proofs.ExactLemmas.{allow-along, takes-corner}
 use Rattle.ng_pace.proofs.FeedLemmas.{made-feeds}
-use Rattle.ng_pace.proofs.FlowLemmas.{marks_on}
+use Rattle.ng_pace.proofs.FinalLimitLemmas.{marks_on}
 use Rattle.ng_pace.proofs.path.pass_corner.Goals as goal
 
 pub returns-clause-passes : goal.returns-clause-passes

@@ -1,5 +1,5 @@
 use Rattle.std.proofs.Common.{length}
-use Rattle.ng_pace.proofs.StepLemmas.{fresh-path, turned-path, going-path}
+use Rattle.ng_pace.proofs.PathStepLemmas.{fresh-path, turned-path, going-path}
 use Rattle.ng_pace.proofs.path.turn.Goals as goal
 
 pub returns-then-not-chord-clause-turns : goal.returns-then-not-chord-clause-turns

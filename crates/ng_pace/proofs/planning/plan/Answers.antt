@@ -1,6 +1,6 @@
 use Rattle.std.proofs.Common.{arith, rules, refl, sym, ap, ◌∙◌, ◌≡◌, ◌<◌, ◌-◌, ℕ, zero, suc, List, [], ◌∷◌, length, slice_index_or}
 use Rattle.ng_pace.specs.declared.planning.Slot.{Slot}
-use Rattle.ng_pace.specs.Plan.{most_now}
+use Rattle.ng_pace.specs.Planning.{most_now}
 use Rattle.ng_pace.proofs.PlanLemmas.{untouched, same_lines, grows, ahead-end, step, next, all_at, kept_at}
 use Rattle.ng_pace.proofs.planning.plan.Goals as goal
 

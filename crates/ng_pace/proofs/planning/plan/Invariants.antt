@@ -1,6 +1,6 @@
 use Rattle.std.proofs.Common.{◌≡◌, ◌≤◌, length, drop}
 use Rattle.std.specs.VecDeque.{deque_capacity}
-use Rattle.ng_pace.specs.Plan.{ahead}
+use Rattle.ng_pace.specs.Planning.{ahead}
 use Rattle.ng_pace.proofs.PlanLemmas.{IsReplanned}
 use Rattle.ng_pace.proofs.planning.plan.Given as goal
 

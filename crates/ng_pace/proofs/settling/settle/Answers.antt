@@ -1,6 +1,6 @@
 use Rattle.std.proofs.Common.{arith, ◌∙◌}
 use Rattle.ng_pace.specs.Making.{stop_of}
-use Rattle.ng_pace.proofs.FlowLemmas.{keeps_on, marks_on}
+use Rattle.ng_pace.proofs.FinalLimitLemmas.{keeps_on, marks_on}
 use Rattle.ng_pace.proofs.MakingLemmas.{makes-more}
 use Rattle.ng_pace.proofs.settling.settle.Goals as goal
 

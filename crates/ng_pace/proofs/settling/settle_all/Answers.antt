@@ -1,4 +1,4 @@
-use Rattle.ng_pace.proofs.FlowLemmas.{marks_on}
+use Rattle.ng_pace.proofs.FinalLimitLemmas.{marks_on}
 use Rattle.ng_pace.proofs.settling.settle_all.Goals as goal
 
 pub returns-clause-marks : goal.returns-clause-marks

@@ -1,6 +1,6 @@
 use Rattle.std.proofs.Common.{◌≡◌, [], length}
 use Rattle.std.specs.VecDeque.{deque_capacity}
-use Rattle.ng_pace.specs.Flow.{Keeps}
+use Rattle.ng_pace.specs.Stream.{Keeps}
 use Rattle.ng_pace.specs.Making.{Marks}
 use Rattle.ng_pace.proofs.settling.settle_all.Given as goal
 

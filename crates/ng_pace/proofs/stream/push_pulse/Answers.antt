@@ -2,8 +2,8 @@ use Rattle.std.proofs.Common.{◌≡◌, ◌+◌, ◌∷◌, [], length}
 use Rattle.std.proofs.lemmas.List.{length-append}
 use Rattle.ng_pace.specs.declared.chord.Waiting.{Waiting}
 use Rattle.ng_pace.specs.Legs.{pulses_of, lines_of}
-use Rattle.ng_pace.proofs.FlowLemmas.{pulse_adds}
-use Rattle.ng_pace.proofs.StepLemmas.{turns-on}
+use Rattle.ng_pace.proofs.FinalLimitLemmas.{pulse_adds}
+use Rattle.ng_pace.proofs.PathStepLemmas.{turns-on}
 use Rattle.ng_pace.proofs.stream.push_pulse.Goals as goal
 
 pub returns-clause-adds : goal.returns-clause-adds

@@ -1,5 +1,5 @@
 use Rattle.std.proofs.Common.{ap}
-use Rattle.ng_pace.proofs.FlowLemmas.{still_adds, still_last, stands-last}
+use Rattle.ng_pace.proofs.FinalLimitLemmas.{still_adds, still_last, stands-last}
 use Rattle.ng_pace.proofs.stream.push_still.Goals as goal
 
 pub returns-clause-adds : goal.returns-clause-adds

@@ -1,6 +1,6 @@
 use Rattle.std.proofs.Common.{◌≡◌, ◌∙◌, length, sym, ap, arith}
 use Rattle.ng_params.specs.Differences.{differences_to}
-use Rattle.ng_params.proofs.Differing.{none_yet, next_same, next_other, one_counted, differences-all}
+use Rattle.ng_params.proofs.DifferenceLemmas.{none_yet, next_same, next_other, one_counted, differences-all}
 use Rattle.ng_params.proofs.differences.difference_count.Goals as goal
 use Rattle.ng_params.proofs.differences.difference_count.Goals.{then-ne, else-ne}
 

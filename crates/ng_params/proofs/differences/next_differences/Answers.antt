@@ -1,7 +1,7 @@
 use Rattle.std.proofs.Common.{◌≡◌, ◌∙◌, ◌+◌, sym, arith, ℕ, Bool, false, ◌==◌, ◌≤◌}
 use Rattle.std.proofs.lemmas.Bool.Decides.{nat_tests}
 use Rattle.ng_params.specs.Differences.{differences_to}
-use Rattle.ng_params.proofs.Differing.{next_same, next_other, one_taken}
+use Rattle.ng_params.proofs.DifferenceLemmas.{next_same, next_other, one_taken}
 use Rattle.ng_params.proofs.differences.next_differences.Goals as goal
 use Rattle.ng_params.proofs.differences.next_differences.Goals.{then-ne, else-ne}
 

@@ -1,4 +1,4 @@
-use Rattle.ng_params.proofs.AssignmentLaws.{last_counts, at-others}
+use Rattle.ng_params.proofs.AssignmentLemmas.{last_counts, at-others}
 use Rattle.ng_params.proofs.laws.assignments.Goals as goal
 
 pub returns-clause-last : goal.returns-clause-last

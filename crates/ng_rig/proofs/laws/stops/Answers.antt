@@ -1,6 +1,6 @@
 use Rattle.std.proofs.Common.{refl}
-use Rattle.ng_rig.proofs.Running.{may_hold-reads}
-use Rattle.ng_rig.proofs.Since.{since-between, between-since}
+use Rattle.ng_rig.proofs.ContinuationLemmas.{may_hold-reads}
+use Rattle.ng_rig.proofs.LaterStopLemmas.{since-between, between-since}
 use Rattle.ng_rig.proofs.laws.stops.Goals as goal
 
 pub returns-clause-reads : goal.returns-clause-reads

@@ -1,8 +1,8 @@
 use Rattle.std.proofs.Common.{length, take, sym, ◌∙◌, ap, arith, slice_index}
 use Rattle.ng_rig.specs.Kept.{contents, trace_of_calls}
-use Rattle.ng_rig.proofs.Traces.{trace_of_calls-next}
+use Rattle.ng_rig.proofs.TraceLemmas.{trace_of_calls-next}
 use Rattle.ng_rig.specs.declared.call.Call.TheVariants.{Sync}
-use Rattle.ng_rig.proofs.Replaying.{default_is, within_at, whole_set, kept_write, kept_passed, count_write, bound_write}
+use Rattle.ng_rig.proofs.ReplayLemmas.{default_is, within_at, whole_set, kept_write, kept_passed, count_write, bound_write}
 use Rattle.ng_rig.proofs.replay.replay_kept.Goals as goal
 use Rattle.ng_rig.proofs.replay.replay_kept.Goals.{in-Write, then-before-number_at, else-before-number_at, in-Sync, in-Hand}
 

@@ -1,6 +1,6 @@
 use Rattle.std.proofs.Common.{◌∙◌}
 use Rattle.std.proofs.lemmas.List.{take_rest}
-use Rattle.ng_rig.proofs.Replaying.{within_take, within_drop, kept_split}
+use Rattle.ng_rig.proofs.ReplayLemmas.{within_take, within_drop, kept_split}
 use Rattle.ng_rig.proofs.replay.replay_stop.Goals as goal
 
 pub replay-requires : goal.replay-requires

@@ -1,5 +1,5 @@
 use Rattle.ng_core.specs.AnsweredEvents.{IsAnsweredEvent}
-use Rattle.ng_run.proofs.Replying.{answers_event, answers_refusal, answers_ticks, answers_ticks_broken}
+use Rattle.ng_run.proofs.ReplyLemmas.{answers_event, answers_refusal, answers_ticks, answers_ticks_broken}
 use Rattle.ng_run.proofs.answering.answer.Goals as goal
 
 pub returns-in-Give : goal.returns-in-Give

@@ -2,7 +2,7 @@ use Rattle.std.proofs.Common.{◌∙◌, sym}
 use Rattle.std.proofs.lemmas.Result.{err_from_is_err_and}
 use Rattle.ng_session.specs.declared.event.Event.TheVariants as event
 use Rattle.ng_core.specs.AnsweredEvents.{IsAnsweredEvent}
-use Rattle.ng_run.proofs.Ticking.{ticked_more, ticks_break, ticks_end}
+use Rattle.ng_run.proofs.TickCommandLemmas.{ticked_more, ticks_break, ticks_end}
 use Rattle.ng_run.proofs.answering.tick_on.Goals as goal
 
 pub returns-in_err-tell_tick : goal.returns-in_err-tell_tick

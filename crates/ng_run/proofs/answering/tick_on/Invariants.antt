@@ -1,4 +1,4 @@
-use Rattle.ng_run.proofs.Ticking.{Ticked}
+use Rattle.ng_run.proofs.TickCommandLemmas.{Ticked}
 use Rattle.ng_run.proofs.answering.tick_on.Given as goal
 
 -- the ticks that were made, all of which continue

@@ -1,6 +1,6 @@
 use Rattle.std.proofs.Common.{ℕ, List, Option, subst}
 use Rattle.ng_run.specs.Consoles.{Conversation}
-use Rattle.ng_run.proofs.Asking.{text_unread}
+use Rattle.ng_run.proofs.AskedOrderLemmas.{text_unread}
 use Rattle.ng_run.proofs.talking.talk.Goals as goal
 
 pub returns : goal.returns

@@ -1,10 +1,10 @@
 use Rattle.std.proofs.Common.{◌∙◌, Some, IfSome, ap}
-use Rattle.ng_dialogue.specs.Orders.{EndsText, TakesOrder}
+use Rattle.ng_dialogue.specs.Hearing.{EndsText, TakesOrder}
 use Rattle.ng_dialogue.specs.Waiting.{text_left}
-use Rattle.ng_dialogue.proofs.Taking.{ended_still}
-use Rattle.ng_run.specs.Endings.{ended_by}
-use Rattle.ng_run.proofs.Asking.{asks_none}
-use Rattle.ng_run.proofs.Conversing.{ends_deaf, ends_mute, ends_whole, talked_more}
+use Rattle.ng_dialogue.proofs.ReaderBytesLemmas.{ended_still}
+use Rattle.ng_run.specs.Ending.{ended_by}
+use Rattle.ng_run.proofs.AskedOrderLemmas.{asks_none}
+use Rattle.ng_run.proofs.ConversationLemmas.{ends_deaf, ends_mute, ends_whole, talked_more}
 use Rattle.ng_run.proofs.talking.talk_on.Goals as goal
 
 pub returns-in-Err-answer-clause-talk : goal.returns-in-Err-answer-clause-talk

@@ -1,6 +1,6 @@
 use Rattle.std.proofs.Common.{◌≡◌, true}
 use Rattle.ng_dialogue.specs.Waiting.{EndHolds, text_left}
-use Rattle.ng_run.proofs.Conversing.{Talked}
+use Rattle.ng_run.proofs.ConversationLemmas.{Talked}
 use Rattle.ng_run.proofs.talking.talk_on.Given as goal
 
 -- what was read is answered in full; if the text had ended, nothing was read

@@ -1,10 +1,10 @@
 use Rattle.std.proofs.Common.{Err, subst, ◌<◌, ◌∙◌, ◌++◌, [], List, ℕ, arith, length, refl, sym, take}
-use Rattle.ng_text.specs.Newlines.{HasNoNewline}
+use Rattle.ng_text.specs.Split.{HasNoNewline}
 use Rattle.ng_schedule.specs.Private.Parts.{IsUnderWay}
 use Rattle.ng_schedule.specs.declared.ending.ScheduleFault.TheVariants.{Reader}
 use Rattle.ng_schedule.proofs.FinishLemmas.{ScheduleSpec-from, begun, cut_broken, nothing_written, run_ends, run_stops}
-use Rattle.ng_schedule.proofs.RunLemmas.{cut}
-use Rattle.ng_text.proofs.Streams.{Consumes-nil, Consumes-trans}
+use Rattle.ng_schedule.proofs.ScheduleRunLemmas.{cut}
+use Rattle.ng_text.proofs.KnownBytesLemmas.{Consumes-nil, Consumes-trans}
 use Rattle.ng_schedule.proofs.run.schedule.Goals as goal
 
 pub returns-in-Err : goal.returns-in-Err

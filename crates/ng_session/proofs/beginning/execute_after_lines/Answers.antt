@@ -1,8 +1,8 @@
 use Rattle.std.proofs.Common.{◌∙◌, ap, sym, Ok}
 use Rattle.ng_block.specs.Program.{TermsModel, executed_after}
 use Rattle.ng_session.specs.Entries.{done_of}
-use Rattle.ng_session.proofs.ShortLines.{after_short}
-use Rattle.ng_session.proofs.Standing.{after-stands}
+use Rattle.ng_session.proofs.ShortLineLemmas.{after_short}
+use Rattle.ng_session.proofs.StorableStateLemmas.{after-stands}
 use Rattle.ng_session.proofs.beginning.execute_after_lines.Goals as goal
 
 pub returns-in-Ok : goal.returns-in-Ok

@@ -1,8 +1,8 @@
 use Rattle.std.proofs.Common.{◌∙◌, ap, sym, Ok}
 use Rattle.ng_block.specs.Program.{TermsModel, executed_unless_deleted}
 use Rattle.ng_session.specs.Entries.{done_of}
-use Rattle.ng_session.proofs.ShortLines.{alone_short}
-use Rattle.ng_session.proofs.Standing.{alone-stands}
+use Rattle.ng_session.proofs.ShortLineLemmas.{alone_short}
+use Rattle.ng_session.proofs.StorableStateLemmas.{alone-stands}
 use Rattle.ng_session.proofs.beginning.execute_alone.Goals as goal
 
 pub returns-in-Ok : goal.returns-in-Ok

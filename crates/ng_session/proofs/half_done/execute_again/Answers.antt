@@ -2,7 +2,7 @@ use Rattle.std.proofs.Common.{◌∙◌, ap, sym, Ok}
 use Rattle.ng_block.specs.Effects.{executed}
 use Rattle.ng_block.specs.Program.{TermsModel}
 use Rattle.ng_session.specs.Entries.{done_again}
-use Rattle.ng_session.proofs.Standing.{again-stands}
+use Rattle.ng_session.proofs.StorableStateLemmas.{again-stands}
 use Rattle.ng_session.proofs.half_done.execute_again.Goals as goal
 
 pub returns-in-Ok : goal.returns-in-Ok

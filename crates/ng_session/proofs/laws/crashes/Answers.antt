@@ -1,4 +1,4 @@
-use Rattle.ng_session.proofs.Cutting.{crash_after_events}
+use Rattle.ng_session.proofs.CutLemmas.{crash_after_events}
 use Rattle.ng_session.proofs.laws.crashes.Goals as goal
 
 pub returns : goal.returns

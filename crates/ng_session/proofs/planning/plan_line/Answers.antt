@@ -2,7 +2,7 @@ use Rattle.std.proofs.Common.{ap}
 use Rattle.ng_block.specs.Effects.{in_state}
 use Rattle.ng_layout.specs.Stored.{StoredModel}
 use Rattle.ng_session.specs.Planned.{PlannedModel, Base}
-use Rattle.ng_session.proofs.Ahead.{planned_by}
+use Rattle.ng_session.proofs.PlannedLineLemmas.{planned_by}
 use Rattle.ng_session.proofs.planning.plan_line.Goals as goal
 
 pub returns-in-Ok-begun-clause-planned : goal.returns-in-Ok-begun-clause-planned

@@ -2,7 +2,7 @@ use Rattle.std.proofs.Common.{List, sym, ◌∙◌, ap}
 use Rattle.std.specs.Option.{option_map}
 use Rattle.ng_session.specs.Planned.{PlannedModel, Base, base_after, base_at_end}
 use Rattle.ng_session.specs.SessionInvariant.{block_of}
-use Rattle.ng_session.proofs.Ahead.{end_more}
+use Rattle.ng_session.proofs.PlannedLineLemmas.{end_more}
 use Rattle.ng_session.proofs.planning.stored_at_end.Goals as goal
 
 pub returns-in-Some : goal.returns-in-Some

@@ -4,7 +4,7 @@ use Rattle.std.proofs.lemmas.Iterator.Search.{any_from_yields_List}
 use Rattle.std.specs.BTreeMap.{keys}
 use Rattle.std.specs.List.{list_any}
 use Rattle.ng_settings.specs.Causes.{has_unknown_key}
-use Rattle.ng_settings.specs.Keys.{is_key}
+use Rattle.ng_settings.specs.KeyValues.{is_key}
 use Rattle.ng_settings.proofs.NameLemmas.{unknown_in_names}
 use Rattle.ng_settings.proofs.key_values.has_unknown_key.Goals as goal
 

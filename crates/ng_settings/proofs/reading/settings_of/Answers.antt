@@ -3,7 +3,7 @@ use Rattle.toml.specs.View.{table_view}
 use Rattle.ng_settings.specs.Causes.{is_beyond_limits, has_many_tools}
 use Rattle.ng_settings.specs.Given.{numbers_given}
 use Rattle.ng_settings.specs.Numbers.{Numbers, numbers_in}
-use Rattle.ng_settings.proofs.CheckLemmas.{all_there, same_types, same_numbers, is_missing, is_unknown, is_wrong, is_beyond, are_many}
+use Rattle.ng_settings.proofs.SettingCauseLemmas.{all_there, same_types, same_numbers, is_missing, is_unknown, is_wrong, is_beyond, are_many}
 use Rattle.ng_settings.proofs.MachineLemmas.{all_within}
 use Rattle.ng_settings.proofs.reading.settings_of.Goals as goal
 

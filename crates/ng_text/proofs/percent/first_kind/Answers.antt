@@ -1,5 +1,5 @@
 use Rattle.std.proofs.Common.{◌∙◌, ap, sym}
-use Rattle.ng_words.specs.Kinds.{kind_of}
+use Rattle.ng_words.specs.Start.{kind_of}
 use Rattle.ng_text.specs.Percent.{kind_before}
 use Rattle.ng_text.proofs.PercentLemmas.{first_kind-after}
 use Rattle.ng_text.proofs.percent.first_kind.Goals as goal

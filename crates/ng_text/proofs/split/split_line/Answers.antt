@@ -1,6 +1,6 @@
 use Rattle.std.proofs.Common.{arith, add-one}
-use Rattle.ng_text.proofs.LineLemmas.{HasNoNewline-take, HasNoNewline-all, parted}
-use Rattle.ng_text.proofs.Streams.{rest_is}
+use Rattle.ng_text.proofs.NewlineLemmas.{HasNoNewline-take, HasNoNewline-all, parted}
+use Rattle.ng_text.proofs.KnownBytesLemmas.{rest_is}
 use Rattle.ng_text.proofs.split.split_line.Goals as goal
 
 pub returns-in-Some : goal.returns-in-Some

@@ -1,5 +1,5 @@
 use Rattle.std.proofs.Common.{◌≡◌, ◌≤◌, length}
-use Rattle.ng_words.specs.Comments.{past}
+use Rattle.ng_words.specs.Comment.{past}
 use Rattle.ng_words.proofs.comment.past.Given as goal
 
 abbrev pub invariant-loop-first : goal.invariant-loop-first

@@ -1,4 +1,4 @@
-use Rattle.ng_words.proofs.Texts.{found_after-nothing, comment_closes, comment_opens, comment_goes, comment_ends}
+use Rattle.ng_words.proofs.CommentLemmas.{found_after-nothing, comment_closes, comment_opens, comment_goes, comment_ends}
 use Rattle.ng_words.proofs.cursor.comment_length.Goals as goal
 
 pub loop-i-init : goal.loop-i-init

@@ -1,7 +1,7 @@
 use Rattle.std.proofs.Common.{◌≡◌, drop, take, true}
 use Rattle.ng_words.specs.Plain.{plain}
 use Rattle.ng_words.specs.Pieces.{comment_at}
-use Rattle.ng_words.proofs.Texts.{found_after}
+use Rattle.ng_words.proofs.CommentLemmas.{found_after}
 use Rattle.ng_words.proofs.cursor.comment_length.Given as goal
 
 abbrev pub invariant-loop-i : goal.invariant-loop-i

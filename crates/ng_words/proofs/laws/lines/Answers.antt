@@ -1,4 +1,4 @@
-use Rattle.ng_words.proofs.ReadLaws.{reads_iff, one_line, too_long_iff, unreadable_iff}
+use Rattle.ng_words.proofs.ReadLemmas.{reads_iff, one_line, too_long_iff, unreadable_iff}
 use Rattle.ng_words.proofs.laws.lines.Goals as goal
 
 pub returns-clause-reads : goal.returns-clause-reads

@@ -1,7 +1,7 @@
 use Rattle.std.proofs.Common.{ℤ, refl, sym, ◌∙◌, ap, Some}
 use Rattle.ng_words.specs.Grammar.{IsNumber}
 use Rattle.ng_words.specs.Scan.{number_at}
-use Rattle.ng_words.proofs.OneNumber.{number_blank, answer_value, answer_reads, answer_unreadable, no_number, goes_on}
+use Rattle.ng_words.proofs.BlanklessNumberLemmas.{number_blank, answer_value, answer_reads, answer_unreadable, no_number, goes_on}
 use Rattle.ng_words.proofs.number.read_number.Goals.{in_default-via-in-Some+else-is_empty, in_default-via-in_default}
 use Rattle.ng_words.proofs.number.read_number.Goals as goal
 

@@ -1,5 +1,5 @@
 use Rattle.std.proofs.Common.{arith, codes, length, ◌≤◌}
-use Rattle.ng_words.proofs.Adding.{strip_prefix_shorter}
+use Rattle.ng_words.proofs.AddedPieceLemmas.{strip_prefix_shorter}
 use Rattle.ng_words.proofs.reading.assignment.Goals as goal
 
 pub returns-in-Some-value-clause-room : goal.returns-in-Some-value-clause-room

@@ -1,7 +1,7 @@
 use Rattle.std.proofs.Common.{arith, sym, ap, ◌∙◌, length, ◌+◌, ◌≡◌}
 use Rattle.ng_words.specs.Private.Items.{last_size}
-use Rattle.ng_words.proofs.Kept.{last_after_comment}
-use Rattle.ng_words.proofs.Adding.{comment_size}
+use Rattle.ng_words.proofs.KeptLineLemmas.{last_after_comment}
+use Rattle.ng_words.proofs.AddedPieceLemmas.{comment_size}
 use Rattle.ng_words.proofs.reading.comment.Goals as goal
 
 pub unwrap-requires : goal.unwrap-requires

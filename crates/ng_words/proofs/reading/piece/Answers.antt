@@ -1,6 +1,6 @@
 use Rattle.std.proofs.Common.{arith, ap, sym, ◌∙◌, length, ◌+◌, ◌≤◌}
 use Rattle.ng_words.specs.Plain.{capital}
-use Rattle.ng_words.proofs.Adding.{takes_comment, takes_assignment, takes_word, assignment_last, word_last, piece_shorter, advanced_shorter}
+use Rattle.ng_words.proofs.AddedPieceLemmas.{takes_comment, takes_assignment, takes_word, assignment_last, word_last, piece_shorter, advanced_shorter}
 use Rattle.ng_words.proofs.reading.piece.Goals as goal
 
 pub returns-in-40-clause-piece : goal.returns-in-40-clause-piece

@@ -1,6 +1,6 @@
 use Rattle.std.proofs.Common.{arith, rules, refl, sym, ap, ◌∙◌, length, ◌+◌, ◌≤◌, ◌≡◌, true}
 use Rattle.ng_words.specs.Private.Items.{last_size}
-use Rattle.ng_words.proofs.Adding.{taking_starts, taking_goes, piece_shorter, one_item_more}
+use Rattle.ng_words.proofs.AddedPieceLemmas.{taking_starts, taking_goes, piece_shorter, one_item_more}
 use Rattle.ng_words.proofs.reading.take_pieces.Goals as goal
 
 pub loop-cursor-init : goal.loop-cursor-init

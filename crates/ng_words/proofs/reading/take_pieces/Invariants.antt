@@ -1,7 +1,7 @@
 use Rattle.std.proofs.Common.{◌≡◌, ◌+◌, ◌*◌, ◌≤◌, length}
 use Rattle.ng_words.specs.Private.Items.{last_size}
 use Rattle.ng_words.specs.Private.Walks.{store_of}
-use Rattle.ng_words.proofs.Adding.{IsTaking}
+use Rattle.ng_words.proofs.AddedPieceLemmas.{IsTaking}
 use Rattle.ng_words.proofs.reading.take_pieces.Given as goal
 
 abbrev pub invariant-loop-cursor : goal.invariant-loop-cursor

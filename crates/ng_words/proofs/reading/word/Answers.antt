@@ -1,6 +1,6 @@
 use Rattle.std.proofs.Common.{arith, refl, length, ◌<◌}
-use Rattle.ng_words.proofs.Places.{begins_so, begins_otherwise, number_shorter}
-use Rattle.ng_words.proofs.Adding.{number_word, walked_word}
+use Rattle.ng_words.proofs.WalkPlaceLemmas.{begins_so, begins_otherwise, number_shorter}
+use Rattle.ng_words.proofs.AddedPieceLemmas.{number_word, walked_word}
 use Rattle.ng_words.proofs.reading.word.Goals as goal
 
 pub returns-in-Some-clause-word : goal.returns-in-Some-clause-word

@@ -1,5 +1,5 @@
 use Rattle.std.proofs.Common.{arith, refl, length, ◌<◌}
-use Rattle.ng_words.proofs.Places.{begin_opens, begin_number, begins_so, no_opening, number_shorter}
+use Rattle.ng_words.proofs.WalkPlaceLemmas.{begin_opens, begin_number, begins_so, no_opening, number_shorter}
 use Rattle.ng_words.proofs.value.begin.Goals as goal
 
 pub returns-then-begins_number-clause-steps : goal.returns-then-begins_number-clause-steps

@@ -1,5 +1,5 @@
 use Rattle.std.proofs.Common.{sym}
-use Rattle.ng_words.proofs.Places.{closes, closes_none}
+use Rattle.ng_words.proofs.WalkPlaceLemmas.{closes, closes_none}
 use Rattle.ng_words.proofs.value.close.Goals as goal
 
 pub returns-in-Some-clause-closes : goal.returns-in-Some-clause-closes

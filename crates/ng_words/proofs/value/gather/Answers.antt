@@ -1,5 +1,5 @@
 use Rattle.std.proofs.Common.{arith, sym, ap, length, length-append}
-use Rattle.ng_words.proofs.Places.{gathering_goes, gathering_ends, operation_waits, one_less}
+use Rattle.ng_words.proofs.WalkPlaceLemmas.{gathering_goes, gathering_ends, operation_waits, one_less}
 use Rattle.ng_words.proofs.value.gather.Goals as goal
 
 pub loop-operation-preserved : goal.loop-operation-preserved

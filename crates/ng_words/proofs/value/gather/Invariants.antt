@@ -1,5 +1,5 @@
 use Rattle.std.proofs.Common.{◌≡◌, ◌+◌, length}
-use Rattle.ng_words.proofs.Places.{IsGathering}
+use Rattle.ng_words.proofs.WalkPlaceLemmas.{IsGathering}
 use Rattle.ng_words.proofs.value.gather.Given as goal
 
 abbrev pub invariant-loop-operation : goal.invariant-loop-operation

@@ -1,4 +1,4 @@
-use Rattle.ng_words.proofs.Places.{go_on_operation}
+use Rattle.ng_words.proofs.WalkPlaceLemmas.{go_on_operation}
 use Rattle.ng_words.proofs.value.go_on.Goals as goal
 
 pub returns-in-Some-clause-steps : goal.returns-in-Some-clause-steps

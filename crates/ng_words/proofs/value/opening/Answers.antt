@@ -1,4 +1,4 @@
-use Rattle.ng_words.proofs.Places.{opening_function}
+use Rattle.ng_words.proofs.WalkPlaceLemmas.{opening_function}
 use Rattle.ng_words.proofs.value.opening.Goals as goal
 
 pub returns-in-Some-clause-opening : goal.returns-in-Some-clause-opening

@@ -1,5 +1,5 @@
 use Rattle.std.proofs.Common.{arith, ap, length, length-append}
-use Rattle.ng_words.proofs.Places.{settling_goes, settling_ends, index_waits, one_less}
+use Rattle.ng_words.proofs.WalkPlaceLemmas.{settling_goes, settling_ends, index_waits, one_less}
 use Rattle.ng_words.proofs.value.settle.Goals as goal
 
 pub loop-stack-preserved : goal.loop-stack-preserved

@@ -1,5 +1,5 @@
 use Rattle.std.proofs.Common.{◌≡◌, ◌+◌, length}
-use Rattle.ng_words.proofs.Places.{IsSettling}
+use Rattle.ng_words.proofs.WalkPlaceLemmas.{IsSettling}
 use Rattle.ng_words.proofs.value.settle.Given as goal
 
 abbrev pub invariant-loop-stack : goal.invariant-loop-stack

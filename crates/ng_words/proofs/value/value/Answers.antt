@@ -1,5 +1,5 @@
 use Rattle.std.proofs.Common.{arith, refl, length, ◌<◌}
-use Rattle.ng_words.proofs.Places.{begins_so, number_taken, number_shorter, value_shorter}
+use Rattle.ng_words.proofs.WalkPlaceLemmas.{begins_so, number_taken, number_shorter, value_shorter}
 use Rattle.ng_words.proofs.value.value.Goals as goal
 
 pub returns-then-not-begins_number-clause-shorter : goal.returns-then-not-begins_number-clause-shorter

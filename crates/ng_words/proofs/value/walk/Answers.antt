@@ -1,5 +1,5 @@
 use Rattle.std.proofs.Common.{arith, ap, length, ◌-◌}
-use Rattle.ng_words.proofs.Places.{walking_starts, walking_goes, walking_ends, not_ended, has_ended_is}
+use Rattle.ng_words.proofs.WalkPlaceLemmas.{walking_starts, walking_goes, walking_ends, not_ended, has_ended_is}
 use Rattle.ng_words.proofs.value.walk.Goals as goal
 
 pub loop-cursor-init : goal.loop-cursor-init

@@ -1,5 +1,5 @@
 use Rattle.std.proofs.Common.{◌≡◌, ◌+◌, ◌≤◌, length}
-use Rattle.ng_words.proofs.Places.{IsWalking}
+use Rattle.ng_words.proofs.WalkPlaceLemmas.{IsWalking}
 use Rattle.ng_words.proofs.value.walk.Given as goal
 
 abbrev pub invariant-loop-cursor : goal.invariant-loop-cursor

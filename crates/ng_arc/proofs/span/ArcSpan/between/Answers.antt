@@ -1,7 +1,7 @@
 use Rattle.std.proofs.Common.{◌≡◌}
 use Rattle.ng_arc.specs.declared.span.ArcSpan.{ArcSpan}
-use Rattle.ng_canon.specs.Planes.{mirror}
-use Rattle.ng_canon.specs.Quadrants.{quadrant}
+use Rattle.ng_canon.specs.Plane.{mirror}
+use Rattle.ng_canon.specs.Quadrant.{quadrant}
 use Rattle.ng_arc.specs.Private.Quadrants.{changes}
 use Rattle.ng_arc.proofs.PassageLemmas.{passes_is}
 use Rattle.ng_arc.proofs.span.ArcSpan.between.Goals as goal

@@ -1,6 +1,6 @@
 use Rattle.std.proofs.Common.{arith}
 use Rattle.std.proofs.lemmas.Int.{ints}
-use Rattle.ng_canon.proofs.PlanePoints.{stored_cross}
+use Rattle.ng_canon.proofs.PlanePointLemmas.{stored_cross}
 use Rattle.ng_canon.proofs.plane_point.PlanePoint.cross.Goals as goal
 
 pub overflow_sub-result : goal.overflow_sub-result

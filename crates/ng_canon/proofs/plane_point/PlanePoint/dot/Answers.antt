@@ -1,6 +1,6 @@
 use Rattle.std.proofs.Common.{arith}
 use Rattle.std.proofs.lemmas.Int.{ints}
-use Rattle.ng_canon.proofs.PlanePoints.{stored_dot}
+use Rattle.ng_canon.proofs.PlanePointLemmas.{stored_dot}
 use Rattle.ng_canon.proofs.plane_point.PlanePoint.dot.Goals as goal
 
 pub overflow_add-result : goal.overflow_add-result

@@ -1,4 +1,4 @@
-use Rattle.ng_canon.proofs.PlanePoints.{from_centre_is}
+use Rattle.ng_canon.proofs.PlanePointLemmas.{from_centre_is}
 use Rattle.ng_canon.proofs.plane_point.PlanePoint.from_centre.Goals as goal
 
 pub returns-clause-value : goal.returns-clause-value

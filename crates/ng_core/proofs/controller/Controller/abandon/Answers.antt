@@ -8,9 +8,9 @@ use Rattle.ng_session.specs.Entries.{Abandoned, after_abandon}
 use Rattle.ng_session.specs.Session.{SessionModel, commits, abandon, abandon_unless, abandon_refusal}
 use Rattle.ng_core.specs.Causes.{IsCausedBy}
 use Rattle.ng_core.specs.Model.{ControllerModel}
-use Rattle.ng_core.proofs.Carrying.{carried_to, carried_refused, carried_used}
-use Rattle.ng_core.proofs.Hindering.{hindered_count, stored_abandon}
-use Rattle.ng_core.proofs.Reporting.{no_block, has_half, has_room, past_abandoned}
+use Rattle.ng_core.proofs.CarriesOutLemmas.{carried_to, carried_refused, carried_used}
+use Rattle.ng_core.proofs.EventCauseLemmas.{hindered_count, stored_abandon}
+use Rattle.ng_core.proofs.ReportEntryLemmas.{no_block, has_half, has_room, past_abandoned}
 use Rattle.ng_core.proofs.controller.Controller.abandon.Goals as goal
 
 pub keep-requires-clause-free : goal.keep-requires-clause-free

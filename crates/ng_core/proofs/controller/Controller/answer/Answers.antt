@@ -1,12 +1,12 @@
 use Rattle.std.proofs.Common.{◌≡◌, ℕ, List, [], Ok, Err, refl, ◌∙◌, ap, subst}
 use Rattle.std.proofs.lemmas.Result.{err_from_is_err_and}
 use Rattle.ng_canon.specs.declared.geometry.Geometry.{Geometry}
-use Rattle.ng_session.proofs.Ahead.{plan_answered}
+use Rattle.ng_session.proofs.PlannedLineLemmas.{plan_answered}
 use Rattle.ng_session.specs.Session.{SessionModel, step, TakesMemory, AsksDevice, NeedsProgramLine}
 use Rattle.ng_core.specs.Model.{ControllerModel}
 use Rattle.ng_core.specs.Events.{CarriesOutEvent}
-use Rattle.ng_core.proofs.Quiet.{still_step, quiet_unread}
-use Rattle.ng_core.proofs.Carrying.{carried_still, carried_short}
+use Rattle.ng_core.proofs.QuietEventLemmas.{still_step, quiet_unread}
+use Rattle.ng_core.proofs.CarriesOutLemmas.{carried_still, carried_short}
 use Rattle.ng_core.proofs.controller.Controller.answer.Goals as goal
 
 pub invariant_of-self-2 : goal.invariant_of-self-2

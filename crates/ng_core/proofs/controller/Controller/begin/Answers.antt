@@ -4,8 +4,8 @@ use Rattle.ng_canon.specs.declared.geometry.Geometry.{Geometry}
 use Rattle.ng_session.specs.Planned.{IsBegunAhead}
 use Rattle.ng_session.specs.Session.{begin, is_running}
 use Rattle.ng_core.specs.Model.{ControllerModel}
-use Rattle.ng_core.proofs.Ahead.{carried_ahead, stored_ahead}
-use Rattle.ng_core.proofs.Carrying.{carried_as}
+use Rattle.ng_core.proofs.ReadAheadLemmas.{carried_ahead, stored_ahead}
+use Rattle.ng_core.proofs.CarriesOutLemmas.{carried_as}
 use Rattle.ng_core.proofs.controller.Controller.begin.Goals as goal
 
 pub invariant_of-self : goal.invariant_of-self

@@ -8,7 +8,7 @@ use Rattle.ng_session.specs.declared.reply.Reply.TheVariants as reply
 use Rattle.ng_core.specs.Needs.{needs_line}
 use Rattle.ng_core.specs.Events.{CarriesOut}
 use Rattle.ng_core.specs.Model.{ControllerModel}
-use Rattle.ng_core.proofs.Ahead.{carried_planned, carried_unplanned}
+use Rattle.ng_core.proofs.ReadAheadLemmas.{carried_planned, carried_unplanned}
 use Rattle.ng_core.proofs.controller.Controller.begin_next.Goals as goal
 
 pub returns-in_err-reply : goal.returns-in_err-reply

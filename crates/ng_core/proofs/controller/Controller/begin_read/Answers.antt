@@ -6,16 +6,16 @@ use Rattle.ng_journal.specs.Journal.{CountsFailure}
 use Rattle.ng_journal.specs.Storing.{Ledger, ledger_of}
 use Rattle.ng_canon.specs.declared.geometry.Geometry.{Geometry}
 use Rattle.ng_session.specs.Planned.{KnownModel, IsKnownOf}
-use Rattle.ng_session.proofs.Ahead.{plan_none}
+use Rattle.ng_session.proofs.PlannedLineLemmas.{plan_none}
 use Rattle.ng_session.specs.Session.{SessionModel, begin, is_running}
 use Rattle.ng_session.specs.declared.reply.Reply.{Reply}
 use Rattle.ng_core.specs.Model.{ControllerModel}
-use Rattle.ng_core.proofs.Beginning.{Reading, finding_both, does_begin, does_begin_short, does_begin_unfound, does_begin_unread, begun_line, known_after}
-use Rattle.ng_core.proofs.Carrying.{carried_as, carried_lost, carried_read}
+use Rattle.ng_core.proofs.LineBeginLemmas.{Reading, finding_both, does_begin, does_begin_short, does_begin_unfound, does_begin_unread, begun_line, known_after}
+use Rattle.ng_core.proofs.CarriesOutLemmas.{carried_as, carried_lost, carried_read}
 use Rattle.ng_core.proofs.InForce.{keeps_unwritten, finds_in_force, reads_begin}
-use Rattle.ng_core.proofs.Calling.{calls_none, calls_quiet, ledger_quiet}
-use Rattle.ng_core.proofs.Quiet.{still_begin}
-use Rattle.ng_core.proofs.Hindering.{unused_begin}
+use Rattle.ng_core.proofs.HonestCallLemmas.{calls_none, calls_quiet, ledger_quiet}
+use Rattle.ng_core.proofs.QuietEventLemmas.{still_begin}
+use Rattle.ng_core.proofs.EventCauseLemmas.{unused_begin}
 use Rattle.ng_core.proofs.controller.Controller.begin_read.Goals as goal
 
 pub invariant_of-self-in-Some : goal.invariant_of-self-in-Some

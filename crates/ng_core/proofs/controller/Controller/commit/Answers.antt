@@ -6,17 +6,17 @@ use Rattle.ng_journal.specs.Journal.{kept_by}
 use Rattle.ng_journal.specs.Storing.{ledger_of}
 use Rattle.ng_canon.specs.declared.geometry.Geometry.{Geometry}
 use Rattle.ng_session.specs.Planned.{base_of}
-use Rattle.ng_session.proofs.Ahead.{committed_base, plan_as}
+use Rattle.ng_session.proofs.PlannedLineLemmas.{committed_base, plan_as}
 use Rattle.ng_session.specs.Session.{SessionModel, end}
 use Rattle.ng_session.specs.declared.reply.Reply.TheVariants as reply
 use Rattle.ng_core.specs.Model.{ControllerModel}
-use Rattle.ng_core.proofs.Anyway.{comes_commit}
-use Rattle.ng_core.proofs.Carrying.{carried_as, carried_failed}
+use Rattle.ng_core.proofs.AnyDeviceLemmas.{comes_commit}
+use Rattle.ng_core.proofs.CarriesOutLemmas.{carried_as, carried_failed}
 use Rattle.ng_core.proofs.InForce.{reads_commit}
-use Rattle.ng_core.proofs.Calling.{calls_made, makes_entry, ledger_entry}
-use Rattle.ng_core.proofs.Hindering.{hindered_entry, stored_end}
-use Rattle.ng_core.proofs.Storing.{kept_whole}
-use Rattle.ng_core.proofs.Ticks.{IsDue, does_commit, does_not_commit}
+use Rattle.ng_core.proofs.HonestCallLemmas.{calls_made, makes_entry, ledger_entry}
+use Rattle.ng_core.proofs.EventCauseLemmas.{hindered_entry, stored_end}
+use Rattle.ng_core.proofs.StoredJournalLemmas.{kept_whole}
+use Rattle.ng_core.proofs.TickLemmas.{IsDue, does_commit, does_not_commit}
 use Rattle.ng_core.proofs.controller.Controller.commit.Goals as goal
 
 pub invariant_of-self-2 : goal.invariant_of-self-2

@@ -6,14 +6,14 @@ use Rattle.ng_session.specs.Session.{CurrentBlockModel, end, begin, is_running, 
 use Rattle.ng_core.specs.Model.{ControllerModel}
 use Rattle.ng_core.specs.Needs.{needs_of_work}
 use Rattle.ng_core.specs.Events.{CarriesOut}
-use Rattle.ng_core.proofs.Anyway.{comes_rest}
-use Rattle.ng_core.proofs.Carrying.{carried_to, by_some}
-use Rattle.ng_core.proofs.Choosing.{begins_there, by_none}
-use Rattle.ng_core.proofs.Hindering.{busy_block, busy_unread, busy_running}
-use Rattle.ng_core.proofs.Calling.{calls_on, calls_quiet, ledger_on, ledger_quiet}
+use Rattle.ng_core.proofs.AnyDeviceLemmas.{comes_rest}
+use Rattle.ng_core.proofs.CarriesOutLemmas.{carried_to, by_some}
+use Rattle.ng_core.proofs.TickChoiceLemmas.{begins_there, by_none}
+use Rattle.ng_core.proofs.EventCauseLemmas.{busy_block, busy_unread, busy_running}
+use Rattle.ng_core.proofs.HonestCallLemmas.{calls_on, calls_quiet, ledger_on, ledger_quiet}
 use Rattle.ng_core.proofs.InForce.{reads_on, reads_still}
-use Rattle.ng_core.proofs.Quiet.{still_rest}
-use Rattle.ng_core.proofs.Ticks.{does_rest, rests_there}
+use Rattle.ng_core.proofs.QuietEventLemmas.{still_rest}
+use Rattle.ng_core.proofs.TickLemmas.{does_rest, rests_there}
 use Rattle.ng_core.proofs.controller.Controller.end.Goals as goal
 
 pub returns-then-is_some : goal.returns-then-is_some

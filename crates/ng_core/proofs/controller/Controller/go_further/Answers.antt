@@ -2,10 +2,10 @@ use Rattle.std.proofs.Common.{◌≡◌, ℕ, true, List, Option, Some, None, sy
 use Rattle.ng_layout.specs.Stored.{HalfModel}
 use Rattle.ng_session.specs.Session.{open_next, end, opening_of, is_running, has_work, IsBetweenLines}
 use Rattle.ng_core.specs.Model.{ControllerModel}
-use Rattle.ng_core.proofs.Carrying.{carried_to}
-use Rattle.ng_core.proofs.Choosing.{segment_opens}
-use Rattle.ng_core.proofs.Hindering.{busy_block, busy_unread, some_half}
-use Rattle.ng_core.proofs.Ticks.{opening}
+use Rattle.ng_core.proofs.CarriesOutLemmas.{carried_to}
+use Rattle.ng_core.proofs.TickChoiceLemmas.{segment_opens}
+use Rattle.ng_core.proofs.EventCauseLemmas.{busy_block, busy_unread, some_half}
+use Rattle.ng_core.proofs.TickLemmas.{opening}
 use Rattle.ng_core.proofs.controller.Controller.go_further.Goals as goal
 
 pub open-requires-clause-is_open : goal.open-requires-clause-is_open

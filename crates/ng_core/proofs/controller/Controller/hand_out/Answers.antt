@@ -4,10 +4,10 @@ use Rattle.ng_canon.specs.declared.geometry.Geometry.{Geometry}
 use Rattle.ng_session.specs.declared.reply.Reply.TheVariants as reply
 use Rattle.ng_core.specs.Events.{handing}
 use Rattle.ng_core.specs.Model.{ControllerModel}
-use Rattle.ng_core.proofs.Anyway.{comes_by}
-use Rattle.ng_core.proofs.Carrying.{carried_as, carried_lost}
+use Rattle.ng_core.proofs.AnyDeviceLemmas.{comes_by}
+use Rattle.ng_core.proofs.CarriesOutLemmas.{carried_as, carried_lost}
 use Rattle.ng_core.proofs.InForce.{keeps_handed, reads_answered}
-use Rattle.ng_core.proofs.Ticks.{hands_item, hands_none}
+use Rattle.ng_core.proofs.TickLemmas.{hands_item, hands_none}
 use Rattle.ng_core.proofs.controller.Controller.hand_out.Goals as goal
 
 pub returns-in_err-hand_out : goal.returns-in_err-hand_out

@@ -3,7 +3,7 @@ use Rattle.ng_canon.specs.declared.geometry.Geometry.{Geometry}
 use Rattle.ng_session.specs.Planned.{KnownModel}
 use Rattle.ng_core.specs.Events.{CarriesOutEvent}
 use Rattle.ng_core.specs.Model.{ControllerModel}
-use Rattle.ng_core.proofs.Ahead.{carried_forgotten, forgotten_none}
+use Rattle.ng_core.proofs.ReadAheadLemmas.{carried_forgotten, forgotten_none}
 use Rattle.ng_core.proofs.controller.Controller.handle.Goals as goal
 
 pub carry_out-requires-clause-alone : goal.carry_out-requires-clause-alone

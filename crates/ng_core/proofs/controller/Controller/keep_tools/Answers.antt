@@ -8,13 +8,13 @@ use Rattle.ng_canon.specs.declared.geometry.Geometry.{Geometry}
 use Rattle.ng_session.specs.Session.{SessionModel, commits}
 use Rattle.ng_session.specs.declared.reply.Reply.TheVariants as reply
 use Rattle.ng_core.specs.Model.{ControllerModel}
-use Rattle.ng_core.proofs.Anyway.{comes_by}
-use Rattle.ng_core.proofs.Carrying.{carried_as, carried_failed}
+use Rattle.ng_core.proofs.AnyDeviceLemmas.{comes_by}
+use Rattle.ng_core.proofs.CarriesOutLemmas.{carried_as, carried_failed}
 use Rattle.ng_core.proofs.InForce.{reads_answered}
-use Rattle.ng_core.proofs.Calling.{calls_made, makes_entry, ledger_entry}
-use Rattle.ng_core.proofs.Hindering.{hindered_storing}
-use Rattle.ng_core.proofs.Reporting.{keeps, keeps_none}
-use Rattle.ng_core.proofs.Storing.{kept_whole}
+use Rattle.ng_core.proofs.HonestCallLemmas.{calls_made, makes_entry, ledger_entry}
+use Rattle.ng_core.proofs.EventCauseLemmas.{hindered_storing}
+use Rattle.ng_core.proofs.ReportEntryLemmas.{keeps, keeps_none}
+use Rattle.ng_core.proofs.StoredJournalLemmas.{kept_whole}
 use Rattle.ng_core.proofs.controller.Controller.keep_tools.Goals as goal
 
 -- another table, with one more entry

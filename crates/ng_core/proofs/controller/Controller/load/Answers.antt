@@ -6,17 +6,17 @@ use Rattle.ng_layout.specs.Stored.{StoredModel}
 use Rattle.ng_journal.specs.Journal.{kept_by}
 use Rattle.ng_journal.specs.Storing.{ledger_of}
 use Rattle.ng_canon.specs.declared.geometry.Geometry.{Geometry}
-use Rattle.ng_session.proofs.Ahead.{plan_none}
+use Rattle.ng_session.proofs.PlannedLineLemmas.{plan_none}
 use Rattle.ng_session.specs.Session.{SessionModel, load, load_unless, load_refusal, loaded}
 use Rattle.ng_session.specs.declared.reply.Reply.{Reply}
 use Rattle.ng_session.specs.declared.reply.Reply.TheVariants as reply
 use Rattle.ng_core.specs.Model.{ControllerModel}
-use Rattle.ng_core.proofs.Answering.{does_load, does_not_load, not_too_long}
-use Rattle.ng_core.proofs.Calling.{calls_made, makes_load, ledger_load}
-use Rattle.ng_core.proofs.Hindering.{hindered_load}
-use Rattle.ng_core.proofs.Storing.{kept_whole, kept_failed}
-use Rattle.ng_core.proofs.Anyway.{comes_load}
-use Rattle.ng_core.proofs.Carrying.{carried_as, carried_refused, carried_short, carried_failed}
+use Rattle.ng_core.proofs.LoadEventLemmas.{does_load, does_not_load, not_too_long}
+use Rattle.ng_core.proofs.HonestCallLemmas.{calls_made, makes_load, ledger_load}
+use Rattle.ng_core.proofs.EventCauseLemmas.{hindered_load}
+use Rattle.ng_core.proofs.StoredJournalLemmas.{kept_whole, kept_failed}
+use Rattle.ng_core.proofs.AnyDeviceLemmas.{comes_load}
+use Rattle.ng_core.proofs.CarriesOutLemmas.{carried_as, carried_refused, carried_short, carried_failed}
 use Rattle.ng_core.proofs.InForce.{reads_load}
 use Rattle.ng_core.proofs.controller.Controller.load.Goals as goal
 

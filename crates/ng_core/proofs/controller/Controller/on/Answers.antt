@@ -1,5 +1,5 @@
 use Rattle.std.proofs.Common.{[], ◌∷◌, refl}
-use Rattle.ng_core.proofs.Pasts.{adds_to_past}
+use Rattle.ng_core.proofs.PastLemmas.{adds_to_past}
 use Rattle.ng_core.proofs.controller.Controller.on.Goals as goal
 
 pub returns-clause-past : goal.returns-clause-past

@@ -8,16 +8,16 @@ use Rattle.ng_layout.specs.Stored.{StoredModel}
 use Rattle.ng_canon.specs.declared.geometry.Geometry.{Geometry}
 use Rattle.ng_session.specs.Session.{SessionModel}
 use Rattle.ng_session.specs.Planned.{base_of}
-use Rattle.ng_session.proofs.Ahead.{opened_base, plan_as}
-use Rattle.ng_core.proofs.Ahead.{some_of}
+use Rattle.ng_session.proofs.PlannedLineLemmas.{opened_base, plan_as}
+use Rattle.ng_core.proofs.ReadAheadLemmas.{some_of}
 use Rattle.ng_session.specs.declared.reply.Reply.TheVariants as reply
 use Rattle.ng_core.specs.Model.{ControllerModel}
-use Rattle.ng_core.proofs.Anyway.{comes_by}
-use Rattle.ng_core.proofs.Carrying.{carried_as, carried_failed}
+use Rattle.ng_core.proofs.AnyDeviceLemmas.{comes_by}
+use Rattle.ng_core.proofs.CarriesOutLemmas.{carried_as, carried_failed}
 use Rattle.ng_core.proofs.InForce.{reads_answered}
-use Rattle.ng_core.proofs.Calling.{calls_made, makes_opening, ledger_opening}
-use Rattle.ng_core.proofs.Hindering.{hindered_opening, stored_opening}
-use Rattle.ng_core.proofs.Ticks.{opening, opens, opens_none}
+use Rattle.ng_core.proofs.HonestCallLemmas.{calls_made, makes_opening, ledger_opening}
+use Rattle.ng_core.proofs.EventCauseLemmas.{hindered_opening, stored_opening}
+use Rattle.ng_core.proofs.TickLemmas.{opening, opens, opens_none}
 use Rattle.ng_core.proofs.controller.Controller.open.Goals as goal
 
 pub returns-in_err-open_segment : goal.returns-in_err-open_segment

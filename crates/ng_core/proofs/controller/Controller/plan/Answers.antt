@@ -1,7 +1,7 @@
 use Rattle.std.proofs.Common.{◌≡◌, ℕ, Option, Some, None, Ok, Err, refl, sym, ◌∙◌, ap, subst}
 use Rattle.std.proofs.lemmas.Result.{err_from_is_err_and}
 use Rattle.ng_num.specs.declared.fault.Fault.{Fault}
-use Rattle.ng_rig.proofs.Promise.{onto}
+use Rattle.ng_rig.proofs.GuaranteeLemmas.{onto}
 use Rattle.ng_journal.specs.Journal.{CountsFailure}
 use Rattle.ng_text.specs.LinesBefore.{IsTrueOf, IsLineBetween}
 use Rattle.ng_text.specs.Programs.{ProgramLineModel}
@@ -10,8 +10,8 @@ use Rattle.ng_canon.specs.declared.geometry.Geometry.{Geometry}
 use Rattle.ng_session.specs.Planned.{KnownModel, IsKnownOf}
 use Rattle.ng_core.specs.Model.{ControllerModel}
 use Rattle.ng_core.specs.Private.Ahead.{PlansAhead}
-use Rattle.ng_core.proofs.Ahead.{plans_found, plans_lost}
-use Rattle.ng_core.proofs.Beginning.{Reading, finding_both}
+use Rattle.ng_core.proofs.ReadAheadLemmas.{plans_found, plans_lost}
+use Rattle.ng_core.proofs.LineBeginLemmas.{Reading, finding_both}
 use Rattle.ng_core.proofs.InForce.{finds_in_force}
 use Rattle.ng_core.proofs.controller.Controller.plan.Goals as goal
 

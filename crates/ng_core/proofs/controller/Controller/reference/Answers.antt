@@ -8,9 +8,9 @@ use Rattle.ng_session.specs.Entries.{Referenced, after_reference}
 use Rattle.ng_session.specs.Session.{SessionModel, commits, reference, reference_unless, reference_refusal}
 use Rattle.ng_core.specs.Causes.{IsCausedBy}
 use Rattle.ng_core.specs.Model.{ControllerModel}
-use Rattle.ng_core.proofs.Carrying.{carried_to, carried_refused, carried_used}
-use Rattle.ng_core.proofs.Hindering.{hindered_count, stored_reference}
-use Rattle.ng_core.proofs.Reporting.{past_referenced}
+use Rattle.ng_core.proofs.CarriesOutLemmas.{carried_to, carried_refused, carried_used}
+use Rattle.ng_core.proofs.EventCauseLemmas.{hindered_count, stored_reference}
+use Rattle.ng_core.proofs.ReportEntryLemmas.{past_referenced}
 use Rattle.ng_core.proofs.controller.Controller.reference.Goals as goal
 
 pub returns-in-Some : goal.returns-in-Some

@@ -1,5 +1,5 @@
 use Rattle.std.proofs.Common.{Ok, Err, refl}
-use Rattle.ng_core.proofs.Failing.{tells_failure}
+use Rattle.ng_core.proofs.FailureLemmas.{tells_failure}
 use Rattle.ng_core.proofs.controller.Controller.reply.Goals as goal
 
 pub returns-in-Ok-clause-serves : goal.returns-in-Ok-clause-serves

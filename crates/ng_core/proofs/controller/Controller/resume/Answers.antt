@@ -6,13 +6,13 @@ use Rattle.ng_canon.specs.declared.geometry.Geometry.{Geometry}
 use Rattle.ng_session.specs.Session.{SessionModel, refuses, resume, resume_refusal, IsProgramsLine}
 use Rattle.ng_session.specs.declared.reply.Reply.TheVariants as reply
 use Rattle.ng_core.specs.Model.{ControllerModel}
-use Rattle.ng_core.proofs.Carrying.{carried_as, carried_lost, carried_read}
-use Rattle.ng_session.proofs.Refusing.{refused_again}
-use Rattle.ng_core.proofs.Calling.{calls_none, calls_on, calls_quiet, ledger_on, ledger_quiet}
+use Rattle.ng_core.proofs.CarriesOutLemmas.{carried_as, carried_lost, carried_read}
+use Rattle.ng_session.proofs.RefusalLemmas.{refused_again}
+use Rattle.ng_core.proofs.HonestCallLemmas.{calls_none, calls_on, calls_quiet, ledger_on, ledger_quiet}
 use Rattle.ng_core.proofs.InForce.{keeps_unwritten}
-use Rattle.ng_core.proofs.Quiet.{still}
-use Rattle.ng_core.proofs.Hindering.{unused_resume}
-use Rattle.ng_core.proofs.Resuming.{still_resume, does_not_resume, reads_not_resumed, comes_not_resumed, does_resume, reads_resume, comes_resume, refused_unread, resumed_line, does_resume_short, does_resume_unread}
+use Rattle.ng_core.proofs.QuietEventLemmas.{still}
+use Rattle.ng_core.proofs.EventCauseLemmas.{unused_resume}
+use Rattle.ng_core.proofs.ResumeLemmas.{still_resume, does_not_resume, reads_not_resumed, comes_not_resumed, does_resume, reads_resume, comes_resume, refused_unread, resumed_line, does_resume_short, does_resume_unread}
 use Rattle.ng_core.proofs.controller.Controller.resume.Goals as goal
 
 pub returns-in-Some : goal.returns-in-Some

@@ -1,7 +1,7 @@
 use Rattle.std.proofs.Common.{refl, ◌∙◌, arith}
 use Rattle.ng_core.specs.AnsweredEvents.{AreAnsweredEvents, answered_at}
-use Rattle.ng_core.proofs.InTurn.{turns_more, turns_all, turns_fail, turns_geometry}
-use Rattle.ng_core.proofs.Pasts.{are_run}
+use Rattle.ng_core.proofs.EventsInTurnLemmas.{turns_more, turns_all, turns_fail, turns_geometry}
+use Rattle.ng_core.proofs.PastLemmas.{are_run}
 use Rattle.ng_core.proofs.controller.Controller.run.Goals as goal
 
 pub loop-event-init : goal.loop-event-init

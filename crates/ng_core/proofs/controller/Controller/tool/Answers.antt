@@ -8,9 +8,9 @@ use Rattle.ng_session.specs.Entries.{Tooled, after_tool}
 use Rattle.ng_session.specs.Session.{SessionModel, commits, tool, tool_unless, tool_refusal}
 use Rattle.ng_core.specs.Causes.{IsCausedBy}
 use Rattle.ng_core.specs.Model.{ControllerModel}
-use Rattle.ng_core.proofs.Carrying.{carried_to, carried_refused, carried_used}
-use Rattle.ng_core.proofs.Hindering.{hindered_count, stored_tool}
-use Rattle.ng_core.proofs.Reporting.{no_block_at_rest, past_tooled}
+use Rattle.ng_core.proofs.CarriesOutLemmas.{carried_to, carried_refused, carried_used}
+use Rattle.ng_core.proofs.EventCauseLemmas.{hindered_count, stored_tool}
+use Rattle.ng_core.proofs.ReportEntryLemmas.{no_block_at_rest, past_tooled}
 use Rattle.ng_core.proofs.controller.Controller.tool.Goals as goal
 
 pub keep_tools-requires-clause-free : goal.keep_tools-requires-clause-free

@@ -1,4 +1,4 @@
-use Rattle.ng_cycles.proofs.CountLemmas.{counted}
+use Rattle.ng_cycles.proofs.SegmentCountLemmas.{counted}
 use Rattle.ng_cycles.proofs.canned.Canned.count.Goals as goal
 
 pub returns : goal.returns

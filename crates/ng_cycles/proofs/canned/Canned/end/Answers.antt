@@ -1,4 +1,4 @@
-use Rattle.ng_cycles.proofs.Skips.{cycle_end}
+use Rattle.ng_cycles.proofs.SkipLemmas.{cycle_end}
 use Rattle.ng_cycles.proofs.canned.Canned.end.Goals as goal
 
 pub returns : goal.returns

@@ -1,7 +1,7 @@
 use Rattle.std.proofs.Common.{arith, ◌≡◌, ◌≤◌, true, false, sym, ◌∙◌, ap, take}
 use Rattle.ng_cycles.specs.Private.Counts.{has_switch}
 use Rattle.ng_cycles.specs.Segments.{CycleModel, cycle_segments}
-use Rattle.ng_cycles.proofs.StoodLemmas.{stood-switched, stood-kept}
+use Rattle.ng_cycles.proofs.AfterSegmentsLemmas.{stood-switched, stood-kept}
 use Rattle.ng_cycles.proofs.canned.Canned.motion_state_after.Goals as goal
 
 pub returns-then-has_switched : goal.returns-then-has_switched

@@ -1,6 +1,6 @@
 use Rattle.std.proofs.Common.{◌∙◌, sym}
 use Rattle.ng_cycles.specs.Faults.{names_no_axis}
-use Rattle.ng_cycles.proofs.ValidCycles.{valid_far, valid_axis, valid_r, valid_hole, valid_travel, valid_ok, not_true, not_false, some_not_none, lengths_x}
+use Rattle.ng_cycles.proofs.ValidCycleLemmas.{valid_far, valid_axis, valid_r, valid_hole, valid_travel, valid_ok, not_true, not_false, some_not_none, lengths_x}
 use Rattle.ng_cycles.proofs.canned.Canned.of.Goals as goal
 
 pub returns-in-Err : goal.returns-in-Err

@@ -1,5 +1,5 @@
 use Rattle.std.proofs.Common.{sym, ◌∙◌}
-use Rattle.ng_cycles.proofs.StoodLemmas.{has-switched, none-switched}
+use Rattle.ng_cycles.proofs.AfterSegmentsLemmas.{has-switched, none-switched}
 use Rattle.ng_cycles.proofs.drill.Drill.has_switched.Goals as goal
 
 pub returns-then-stops : goal.returns-then-stops

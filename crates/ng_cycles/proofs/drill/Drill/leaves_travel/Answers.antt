@@ -1,5 +1,5 @@
 use Rattle.std.proofs.Common.{◌∙◌, sym, ap, not}
-use Rattle.ng_cycles.proofs.Travel.{leaves-extremes, near_by, not_false}
+use Rattle.ng_cycles.proofs.CycleTravelLemmas.{leaves-extremes, near_by, not_false}
 use Rattle.ng_cycles.proofs.drill.Drill.leaves_travel.Goals as goal
 
 pub returns-clause-leaves : goal.returns-clause-leaves

@@ -1,6 +1,6 @@
 use Rattle.std.proofs.Common.{arith, ◌≡◌, ◌+◌, ◌-◌, ◌-ℤ◌, unsigned_abs}
 use Rattle.std.proofs.lemmas.Int.{ints}
-use Rattle.ng_cycles.proofs.Stored.{few_parts}
+use Rattle.ng_cycles.proofs.MachineIntegerLemmas.{few_parts}
 use Rattle.ng_cycles.proofs.drill.Drill.pecks.Goals as goal
 
 pub overflow_sub-nm : goal.overflow_sub-nm

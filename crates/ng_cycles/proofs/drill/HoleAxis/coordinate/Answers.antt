@@ -1,7 +1,7 @@
 use Rattle.std.proofs.Common.{arith, ◌∙◌, ap, ◌+ℤ◌}
 use Rattle.std.proofs.lemmas.Int.{ints}
-use Rattle.ng_cycles.proofs.Between.{between}
-use Rattle.ng_cycles.proofs.Stored.{sum_stored}
+use Rattle.ng_cycles.proofs.CoordinateBetweenLemmas.{between}
+use Rattle.ng_cycles.proofs.MachineIntegerLemmas.{sum_stored}
 use Rattle.ng_cycles.proofs.drill.HoleAxis.coordinate.Goals as goal
 
 pub overflow_add-nm : goal.overflow_add-nm

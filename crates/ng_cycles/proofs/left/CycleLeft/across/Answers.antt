@@ -1,5 +1,5 @@
 use Rattle.std.proofs.Common.{arith, ◌≡◌, suc, ◌+◌, ◌-◌}
-use Rattle.ng_cycles.proofs.Steps.{across_goes}
+use Rattle.ng_cycles.proofs.StrokeLemmas.{across_goes}
 use Rattle.ng_cycles.proofs.left.CycleLeft.across.Goals as goal
 
 pub returns-clause-next : goal.returns-clause-next

@@ -1,6 +1,6 @@
 use Rattle.std.proofs.Common.{arith, ◌≡◌, ◌≤◌, ◌+◌, ◌-◌, ◌∷◌, [], flat_map, refl, suc}
 use Rattle.ng_cycles.specs.Strokes.{TraverseTo, numbers_from, repeat}
-use Rattle.ng_cycles.proofs.Skips.{skip_pecks}
+use Rattle.ng_cycles.proofs.SkipLemmas.{skip_pecks}
 use Rattle.ng_cycles.proofs.left.CycleLeft.pass_pecks.Goals as goal
 
 pub returns-clause-later : goal.returns-clause-later

@@ -1,6 +1,6 @@
 use Rattle.std.proofs.Common.{arith, ◌≡◌, ◌≤◌, ◌+◌, ◌-◌, ◌*◌, ◌∙◌, ap, refl}
 use Rattle.ng_cycles.specs.Left.{repeat_length}
-use Rattle.ng_cycles.proofs.Skips.{pass_repeats_later}
+use Rattle.ng_cycles.proofs.SkipLemmas.{pass_repeats_later}
 use Rattle.ng_cycles.proofs.left.CycleLeft.pass_repeats.Goals as goal
 
 pub returns-clause-later : goal.returns-clause-later

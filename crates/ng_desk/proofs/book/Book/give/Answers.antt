@@ -5,7 +5,7 @@ use Rattle.ng_core.specs.AnsweredEvents.{IsAnsweredEvent}
 use Rattle.ng_desk.specs.declared.call.Call.{Call}
 use Rattle.ng_desk.specs.Calls.{NumberedFrom}
 use Rattle.ng_desk.specs.Running.{RunsFrom}
-use Rattle.ng_desk.proofs.Histories.{numbered_more, runs_more}
+use Rattle.ng_desk.proofs.CallHistoryLemmas.{numbered_more, runs_more}
 use Rattle.ng_desk.proofs.book.Book.give.Goals as goal
 
 pub invariant_of-self : goal.invariant_of-self

@@ -2,7 +2,7 @@ use Rattle.std.proofs.Common.{◌≡◌, ◌∙◌, ℕ, List, [], length, sym, 
 use Rattle.ng_desk.specs.declared.call.Call.{Call}
 use Rattle.ng_desk.specs.Calls.{NumberedFrom}
 use Rattle.ng_desk.specs.Running.{RunsFrom}
-use Rattle.ng_desk.proofs.Histories.{runs_none}
+use Rattle.ng_desk.proofs.CallHistoryLemmas.{runs_none}
 use Rattle.ng_desk.proofs.book.Book.new.Goals as goal
 
 pub invariant_of-result : goal.invariant_of-result

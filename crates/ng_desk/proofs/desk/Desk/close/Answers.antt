@@ -3,7 +3,7 @@ use Rattle.std.specs.Prelude.{sum_by, MatchResult}
 use Rattle.ng_num.specs.declared.fault.Fault.TheVariants.{SeatsDisagree}
 use Rattle.ng_desk.specs.declared.call.Call.{Call}
 use Rattle.ng_desk.specs.Calls.{Seated, Agree, lists_of}
-use Rattle.ng_desk.proofs.Rising.{same_lists}
+use Rattle.ng_desk.proofs.RisingNumberLemmas.{same_lists}
 use Rattle.ng_desk.proofs.desk.Desk.close.Goals as goal
 
 pub returns-clause-closed : goal.returns-clause-closed

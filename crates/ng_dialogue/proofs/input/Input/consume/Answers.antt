@@ -1,6 +1,6 @@
 use Rattle.std.proofs.Common.{◌≡◌, ◌∙◌, ap, drop, slice_range}
-use Rattle.ng_dialogue.proofs.Ranges.{drop_range, range_within}
-use Rattle.ng_dialogue.proofs.Taking.{waiting_is}
+use Rattle.ng_dialogue.proofs.BufferLemmas.{drop_range, range_within}
+use Rattle.ng_dialogue.proofs.ReaderBytesLemmas.{waiting_is}
 use Rattle.ng_dialogue.proofs.input.Input.consume.Goals as goal
 
 pub returns : goal.returns

@@ -1,7 +1,7 @@
 use Rattle.std.proofs.Common.{◌∙◌, ap}
 use Rattle.ng_file.specs.Bytes.{sector_of, with_bytes}
 use Rattle.ng_dialogue_tests.proofs.lasting.LastingStorage.write_at.Goals as goal
-use Rattle.ng_dialogue_tests.proofs.OneWrite.{besides}
+use Rattle.ng_dialogue_tests.proofs.ByteWriteLemmas.{besides}
 
 pub returns-clause-promised : goal.returns-clause-promised
 returns-clause-promised c =

@@ -1,12 +1,12 @@
 use Rattle.std.proofs.Common.{◌∷◌, ◌++◌, ◌∙◌, ap, sym, ◌+◌, Ok, Err, None}
 use Rattle.ng_dry.specs.Private.Parts.{DryRunModel, due, outcome_by}
-use Rattle.ng_words.specs.Kinds.{kind_of}
+use Rattle.ng_words.specs.Start.{kind_of}
 use Rattle.ng_block.specs.Effects.{in_state}
 use Rattle.ng_text.specs.Percent.{kind_before}
 use Rattle.ng_state.specs.State.{changed}
 use Rattle.ng_dry.specs.Dry.{onto, commands_text}
 use Rattle.ng_dry.proofs.RunLemmas.{due-end, due-next, due-begins, Goes-drained, Breaks-drained, DryRunSpec-drained}
-use Rattle.ng_dry.proofs.StepLemmas.{EndsRun-finished, Breaks-finished, LineStepSpec-onto}
+use Rattle.ng_dry.proofs.RunPartLemmas.{EndsRun-finished, Breaks-finished, LineStepSpec-onto}
 use Rattle.ng_dry.specs.declared.ending.Ended.TheVariants as ended
 use Rattle.ng_dry.proofs.run.DryRun.execute.Goals as goal
 

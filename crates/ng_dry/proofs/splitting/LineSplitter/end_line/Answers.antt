@@ -1,8 +1,8 @@
 use Rattle.std.proofs.Common.{◌++◌, ◌∷◌, ◌∙◌, ap, sym}
 use Rattle.std.specs.Str.Lines.{strip_carriage_return}
 use Rattle.ng_block.proofs.LineLemmas.{empty_is, no_room}
-use Rattle.ng_text.proofs.LineLemmas.{HasNoNewline-append}
-use Rattle.ng_dry.proofs.StepLemmas.{LineStepSpec-line, rest_of-long}
+use Rattle.ng_text.proofs.NewlineLemmas.{HasNoNewline-append}
+use Rattle.ng_dry.proofs.RunPartLemmas.{LineStepSpec-line, rest_of-long}
 use Rattle.ng_dry.proofs.splitting.LineSplitter.end_line.Goals as goal
 
 pub returns-then-is_empty-clause-step : goal.returns-then-is_empty-clause-step

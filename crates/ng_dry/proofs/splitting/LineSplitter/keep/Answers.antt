@@ -1,6 +1,6 @@
 use Rattle.ng_block.proofs.LineLemmas.{no_room}
-use Rattle.ng_text.proofs.LineLemmas.{HasNoNewline-append}
-use Rattle.ng_dry.proofs.StepLemmas.{rest_of-long}
+use Rattle.ng_text.proofs.NewlineLemmas.{HasNoNewline-append}
+use Rattle.ng_dry.proofs.RunPartLemmas.{rest_of-long}
 use Rattle.ng_dry.proofs.splitting.LineSplitter.keep.Goals as goal
 
 pub returns-in-Ok-clause-kept : goal.returns-in-Ok-clause-kept

@@ -1,6 +1,6 @@
 use Rattle.std.proofs.Common.{◌++◌, ap, arith, length, length-append, Ok, Err, None, Some}
 use Rattle.ng_dry.specs.Private.Parts.{rest_of}
-use Rattle.ng_dry.proofs.StepLemmas.{LineStepSpec-next, LineStepSpec-after}
+use Rattle.ng_dry.proofs.RunPartLemmas.{LineStepSpec-next, LineStepSpec-after}
 use Rattle.ng_dry.proofs.splitting.LineSplitter.take.Goals as goal
 
 pub loop-line-preserved : goal.loop-line-preserved

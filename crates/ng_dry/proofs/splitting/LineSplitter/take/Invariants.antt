@@ -1,6 +1,6 @@
 use Rattle.std.proofs.Common.{◌+◌, ◌≤◌, ◌++◌, length}
 use Rattle.ng_dry.specs.Private.Parts.{Goes, rest_of}
-use Rattle.ng_text.specs.Newlines.{HasNoNewline}
+use Rattle.ng_text.specs.Split.{HasNoNewline}
 use Rattle.ng_dry.proofs.splitting.LineSplitter.take.Given as goal
 
 abbrev pub invariant-loop-line : goal.invariant-loop-line

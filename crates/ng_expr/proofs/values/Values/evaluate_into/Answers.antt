@@ -1,9 +1,9 @@
 -- One more piece.
 use Rattle.std.proofs.Common.{ap, arith, length}
 use Rattle.ng_words.specs.Kept.{pieces_by}
-use Rattle.ng_words.specs.Lines.{piece_of}
+use Rattle.ng_words.specs.Line.{piece_of}
 use Rattle.ng_expr.specs.Settle.{settled_pieces, settled_of}
-use Rattle.ng_expr.proofs.SettleLaws.{settled_step}
+use Rattle.ng_expr.proofs.SettleLemmas.{settled_step}
 use Rattle.ng_expr.proofs.values.Values.evaluate_into.Goals as goal
 
 pub loop-piece-preserved : goal.loop-piece-preserved

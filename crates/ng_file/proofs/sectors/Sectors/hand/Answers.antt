@@ -1,7 +1,7 @@
 use Rattle.std.proofs.Common.{◌∙◌, ap}
 use Rattle.ng_rig.specs.Trace.{Handed}
 use Rattle.ng_file.specs.declared.done.Done.TheVariants.{Hand}
-use Rattle.ng_file.proofs.Promises.{same-promise}
+use Rattle.ng_file.proofs.StoragePromiseLemmas.{same-promise}
 use Rattle.ng_file.specs.Sectors.{trace_of}
 use Rattle.ng_file.proofs.sectors.Sectors.hand.Goals as goal
 use Rattle.ng_file.proofs.SectorLemmas.{faithful-hand, invariant-now, model, trace-now}

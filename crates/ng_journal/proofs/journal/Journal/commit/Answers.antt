@@ -1,9 +1,9 @@
 use Rattle.std.proofs.Common.{◌≤◌, length, refl, arith}
-use Rattle.ng_rig.proofs.Promise.{meaning}
-use Rattle.ng_journal.proofs.Keeping.{with_room}
+use Rattle.ng_rig.proofs.GuaranteeLemmas.{meaning}
+use Rattle.ng_journal.proofs.ProgramRoomLemmas.{with_room}
 use Rattle.ng_params.specs.Differences.{differences}
-use Rattle.ng_journal.proofs.ProgramsHeld.{area_few, holds_record}
-use Rattle.ng_journal.proofs.Moving.{moved, not_moved, ledger_moved, stored_as, not_stored_as}
+use Rattle.ng_journal.proofs.ProgramHeldLemmas.{area_few, holds_record}
+use Rattle.ng_journal.proofs.StoredChangeLemmas.{moved, not_moved, ledger_moved, stored_as, not_stored_as}
 use Rattle.ng_journal.proofs.journal.Journal.commit.Goals as goal
 
 pub returns-in-Ok-clause-stops : goal.returns-in-Ok-clause-stops

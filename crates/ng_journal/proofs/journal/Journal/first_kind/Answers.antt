@@ -1,8 +1,8 @@
 use Rattle.std.proofs.Common.{◌≡◌, ◌≤◌, ◌∙◌, sym, ap, subst, arith}
 use Rattle.ng_rig.specs.Trace.{Trace}
-use Rattle.ng_rig.proofs.Promise.{meaning}
+use Rattle.ng_rig.proofs.GuaranteeLemmas.{meaning}
 use Rattle.ng_log.specs.AtEnd.{IsAtEnd}
-use Rattle.ng_journal.proofs.FirstLinesRead.{first_in_force, kind_under}
+use Rattle.ng_journal.proofs.FirstKindReadLemmas.{first_in_force, kind_under}
 use Rattle.ng_journal.proofs.journal.Journal.first_kind.Goals as goal
 
 pub returns-in-Ok-clause-reads : goal.returns-in-Ok-clause-reads

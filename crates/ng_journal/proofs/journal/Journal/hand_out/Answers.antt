@@ -1,6 +1,6 @@
 use Rattle.std.proofs.Common.{refl}
-use Rattle.ng_rig.proofs.Promise.{meaning}
-use Rattle.ng_journal.proofs.Resting.{handed_out, perhaps_handed}
+use Rattle.ng_rig.proofs.GuaranteeLemmas.{meaning}
+use Rattle.ng_journal.proofs.AtRestLemmas.{handed_out, perhaps_handed}
 use Rattle.ng_journal.proofs.journal.Journal.hand_out.Goals as goal
 
 pub returns-in-Ok-clause-stops : goal.returns-in-Ok-clause-stops

@@ -1,5 +1,5 @@
 use Rattle.std.proofs.Common.{◌≡◌, ◌⊎◌, ◌<◌, ◌≤◌, ◌↔◌, ℕ, true, length, refl, sym, ap, subst, ◌∙◌, arith}
-use Rattle.ng_rig.proofs.Promise.{meaning}
+use Rattle.ng_rig.proofs.GuaranteeLemmas.{meaning}
 use Rattle.ng_layout.specs.Limits.{greatest_count}
 use Rattle.ng_layout.specs.Areas.{greatest_area, is_large_size, spare_area}
 use Rattle.ng_layout.specs.Header.{longest_in, program_room}
@@ -11,11 +11,11 @@ use Rattle.ng_log.specs.AtEnd.{no_records}
 use Rattle.ng_journal.specs.declared.storing.Tip.{Tip}
 use Rattle.ng_journal.specs.Private.Records.{ledger}
 use Rattle.ng_journal.specs.Storing.{Ledger, with_program}
-use Rattle.ng_journal.proofs.Keeping.{with_room, load_kept}
-use Rattle.ng_journal.proofs.Moving.{loaded, not_loaded, loaded_as, not_loaded_as}
-use Rattle.ng_journal.proofs.ProgramsHeld.{holds_load}
-use Rattle.ng_journal.proofs.Recording.{own}
-use Rattle.ng_journal.proofs.Steadying.{fits_load, more_epochs, steady_loaded, storable_kept}
+use Rattle.ng_journal.proofs.ProgramRoomLemmas.{with_room, load_kept}
+use Rattle.ng_journal.proofs.StoredChangeLemmas.{loaded, not_loaded, loaded_as, not_loaded_as}
+use Rattle.ng_journal.proofs.ProgramHeldLemmas.{holds_load}
+use Rattle.ng_journal.proofs.RecordStoreLemmas.{own}
+use Rattle.ng_journal.proofs.SteadyJournalLemmas.{fits_load, more_epochs, steady_loaded, storable_kept}
 use Rattle.ng_journal.proofs.journal.Journal.load_program.Goals as goal
 
 pub returns-in-Ok-clause-stops : goal.returns-in-Ok-clause-stops

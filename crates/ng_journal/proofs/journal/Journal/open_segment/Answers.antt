@@ -2,12 +2,12 @@ use Rattle.std.proofs.Common.{◌≡◌, ◌≤◌, ◌↔◌, true, length, ref
 use Rattle.ng_layout.specs.Limits.{greatest_count}
 use Rattle.ng_journal.specs.Journal.{JournalModel}
 use Rattle.ng_journal.specs.Storing.{IsFullFor}
-use Rattle.ng_rig.proofs.Promise.{meaning}
+use Rattle.ng_rig.proofs.GuaranteeLemmas.{meaning}
 use Rattle.ng_params.specs.Differences.{differences}
-use Rattle.ng_journal.proofs.ProgramsHeld.{area_few, holds_record}
-use Rattle.ng_journal.proofs.Recording.{none_changed}
-use Rattle.ng_journal.proofs.Moving.{moved, not_moved, ledger_moved, stored_as, not_stored_as}
-use Rattle.ng_journal.proofs.Steadying.{steady_opened, steady_still}
+use Rattle.ng_journal.proofs.ProgramHeldLemmas.{area_few, holds_record}
+use Rattle.ng_journal.proofs.RecordStoreLemmas.{none_changed}
+use Rattle.ng_journal.proofs.StoredChangeLemmas.{moved, not_moved, ledger_moved, stored_as, not_stored_as}
+use Rattle.ng_journal.proofs.SteadyJournalLemmas.{steady_opened, steady_still}
 use Rattle.ng_journal.proofs.journal.Journal.open_segment.Goals as goal
 
 pub returns-in-Ok-clause-stops : goal.returns-in-Ok-clause-stops

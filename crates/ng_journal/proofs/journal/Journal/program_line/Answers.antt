@@ -1,8 +1,8 @@
 use Rattle.std.proofs.Common.{sym, subst}
 use Rattle.ng_rig.specs.Trace.{Trace}
-use Rattle.ng_rig.proofs.Promise.{meaning}
+use Rattle.ng_rig.proofs.GuaranteeLemmas.{meaning}
 use Rattle.ng_log.specs.AtEnd.{IsAtEnd}
-use Rattle.ng_journal.proofs.LinesRead.{line_in_force}
+use Rattle.ng_journal.proofs.LineReadLemmas.{line_in_force}
 use Rattle.ng_journal.proofs.journal.Journal.program_line.Goals as goal
 
 pub returns-in-Ok-clause-line : goal.returns-in-Ok-clause-line

@@ -2,7 +2,7 @@ use Rattle.std.proofs.Common.{List, [], ◌∷◌, ◌∙◌, replicate, refl, l
 use Rattle.ng_layout.specs.Part.{label_of}
 use Rattle.ng_layout.specs.declared.rows.Number.TheVariants.{U8, U16, U64}
 use Rattle.ng_layout.proofs.ByteLemmas.{bytes-from}
-use Rattle.ng_layout.proofs.Parts.{labelled}
+use Rattle.ng_layout.proofs.PartLemmas.{labelled}
 use Rattle.ng_layout.proofs.RowLemmas.{Row, row-room}
 use Rattle.ng_layout.proofs.SectorLemmas.{bytes-zeros}
 use Rattle.ng_layout.proofs.part.PartLabel.sector.Goals as goal

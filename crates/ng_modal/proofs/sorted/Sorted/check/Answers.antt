@@ -1,6 +1,6 @@
 use Rattle.std.proofs.Common.{◌≤◌, arith}
-use Rattle.ng_modal.proofs.LeastLemmas.{least_by}
-use Rattle.ng_modal.proofs.AcceptedLemmas.{accepted_by}
+use Rattle.ng_modal.proofs.FirstCauseLemmas.{least_by}
+use Rattle.ng_modal.proofs.AcceptedWordLemmas.{accepted_by}
 use Rattle.ng_modal.proofs.sorted.Sorted.check.Goals as goal
 
 pub returns-clause-least : goal.returns-clause-least

@@ -1,7 +1,7 @@
 use Rattle.std.proofs.Common.{◌≡◌, true, refl}
 use Rattle.std.specs.Prelude.{None}
 use Rattle.ng_num.specs.Causes.{first_fault}
-use Rattle.ng_modal.specs.Check.{faults}
+use Rattle.ng_modal.specs.Checking.{faults}
 use Rattle.ng_modal.specs.Sorted.{sorted_in, is_plain}
 use Rattle.ng_modal.proofs.PlainLemmas.{plain_is_valid}
 use Rattle.ng_modal.proofs.sorted.Sorted.check_words.Goals as goal

@@ -1,6 +1,6 @@
 use Rattle.std.proofs.Common.{◌≡◌, ◌<◌, ◌*ℤ◌, sym, ◌∙◌, arith, unsigned_abs}
-use Rattle.ng_num.proofs.Nearest.{Answers_nearest}
-use Rattle.ng_num.proofs.Products.{quotient_by_other, quotient_by_size, quotient_by_zero}
+use Rattle.ng_num.proofs.NearestLemmas.{Answers_nearest}
+use Rattle.ng_num.proofs.ProductLemmas.{quotient_by_other, quotient_by_size, quotient_by_zero}
 use Rattle.ng_num.specs.Range.{in_range}
 use Rattle.ng_num.specs.Rounding.{near_by, signed, is_unlike}
 use Rattle.ng_num.specs.Arithmetic.{million}

@@ -1,6 +1,6 @@
 use Rattle.std.proofs.Common.{w64}
 use Rattle.std.proofs.lemmas.Int.{to_z-of_z}
-use Rattle.ng_num.proofs.WholeNumbers.{fix_answers}
+use Rattle.ng_num.proofs.WholeNumberLemmas.{fix_answers}
 use Rattle.ng_num.proofs.num.Num.fix.Goals as goal
 
 pub returns-clause-greatest : goal.returns-clause-greatest

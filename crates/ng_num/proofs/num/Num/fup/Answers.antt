@@ -1,7 +1,7 @@
 use Rattle.std.proofs.Common.{◌≡◌, arith, ◌-ℤ◌, pos, of_z, to_z, w64}
 use Rattle.std.proofs.lemmas.Int.{ints}
 use Rattle.ng_num.specs.Whole.{fup}
-use Rattle.ng_num.proofs.WholeNumbers.{fup_answers}
+use Rattle.ng_num.proofs.WholeNumberLemmas.{fup_answers}
 use Rattle.ng_num.proofs.num.Num.fup.Goals as goal
 
 pub returns-clause-least : goal.returns-clause-least

@@ -1,7 +1,7 @@
 use Rattle.std.proofs.Common.{◌≡◌, ◌<◌, sym, ◌∙◌, arith, unsigned_abs, w64}
 use Rattle.std.proofs.lemmas.Int.{ints, to_z-of_z}
 use Rattle.std.specs.Int.{int_rem_euclid}
-use Rattle.ng_num.proofs.Remainders.{remainder_answers, remainder_by_other, remainder_by_zero, remainder_in_range}
+use Rattle.ng_num.proofs.RemainderLemmas.{remainder_answers, remainder_by_other, remainder_by_zero, remainder_in_range}
 use Rattle.ng_num.specs.Range.{in_range}
 use Rattle.ng_num.proofs.num.Num.modulo.Goals as goal
 

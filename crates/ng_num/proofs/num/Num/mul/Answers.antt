@@ -3,7 +3,7 @@ use Rattle.std.proofs.lemmas.Bool.{cases_lt}
 use Rattle.ng_num.specs.Range.{in_range}
 use Rattle.ng_num.specs.Rounding.{signed, is_unlike}
 use Rattle.ng_num.specs.Arithmetic.{product}
-use Rattle.ng_num.proofs.Products.{product_answers, product_beyond, product_by_size}
+use Rattle.ng_num.proofs.ProductLemmas.{product_answers, product_beyond, product_by_size}
 use Rattle.ng_num.proofs.num.Num.mul.Goals as goal
 
 multiplied : (c : goal.After-of_size) → c.of_size.result ≡ in_range (product c.args.self c.args.other)

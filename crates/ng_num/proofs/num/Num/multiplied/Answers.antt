@@ -1,5 +1,5 @@
 use Rattle.std.proofs.Common.{◌+◌, Ok, ap, ◌∙◌, sym, arith}
-use Rattle.ng_num.proofs.Powers.{power-zero, power_ends, power_next}
+use Rattle.ng_num.proofs.PowerLemmas.{power-zero, power_ends, power_next}
 use Rattle.ng_num.proofs.num.Num.multiplied.Goals as goal
 
 pub loop-init : goal.loop-init

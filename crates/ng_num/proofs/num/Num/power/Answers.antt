@@ -1,7 +1,7 @@
 use Rattle.std.proofs.Common.{◌≡◌, Some, None, Err, ◌∙◌, sym}
 use Rattle.ng_num.specs.Power.{power_of}
 use Rattle.ng_num.specs.declared.fault.Fault.TheVariants.{BadArithmetic}
-use Rattle.ng_num.proofs.Powers.{power_by_close, power_by_exponent, power_by_other}
+use Rattle.ng_num.proofs.PowerLemmas.{power_by_close, power_by_exponent, power_by_other}
 use Rattle.ng_num.proofs.num.Num.power.Goals as goal
 
 multiplied : (c : goal.After-multiplied) → c.multiplied.result ≡ power_of c.args.self c.args.exponent

@@ -1,6 +1,6 @@
 use Rattle.std.proofs.Common.{◌≡◌, ◌*◌, Ok, pos, ◌≤ℤ◌, ◌∙◌, ap, sym, arith, unsigned_abs}
 use Rattle.std.proofs.lemmas.Int.{ints}
-use Rattle.ng_num.proofs.Roots.{IsRootSize, root_answers_above, root_below_zero, root_of_above}
+use Rattle.ng_num.proofs.RootLemmas.{IsRootSize, root_answers_above, root_below_zero, root_of_above}
 use Rattle.ng_num.proofs.num.Num.sqrt.Goals as goal
 
 pub returns-then-count-lt0-clause-value : goal.returns-then-count-lt0-clause-value

@@ -1,6 +1,6 @@
 use Rattle.std.proofs.Common.{◌∙◌, ap}
 use Rattle.ng_num.specs.Range.{in_range}
-use Rattle.ng_offsets.proofs.Shifting.{small, stored_less}
+use Rattle.ng_offsets.proofs.ShiftLemmas.{small, stored_less}
 use Rattle.ng_offsets.proofs.shift.Shift.less.Goals as goal
 
 pub returns : goal.returns

@@ -1,4 +1,4 @@
-use Rattle.ng_offsets.proofs.Shifting.{small, stored_sum}
+use Rattle.ng_offsets.proofs.ShiftLemmas.{small, stored_sum}
 use Rattle.ng_offsets.proofs.shift.Shift.of.Goals as goal
 
 pub returns : goal.returns

@@ -1,6 +1,6 @@
 use Rattle.std.proofs.Common.{◌≡◌, ◌+ℤ◌, ◌∙◌, ap}
 use Rattle.ng_num.specs.Range.{in_range}
-use Rattle.ng_offsets.proofs.Shifting.{small, stored_more, back_by_less}
+use Rattle.ng_offsets.proofs.ShiftLemmas.{small, stored_more, back_by_less}
 use Rattle.ng_offsets.proofs.shift.Shift.to_machine.Goals as goal
 
 computed : (c : goal.After-of_nm) → c.of_nm.result ≡ in_range (c.args.program +ℤ c.args.self)

@@ -1,4 +1,4 @@
-use Rattle.ng_pace.specs.Chords.{slope_of}
+use Rattle.ng_pace.specs.Chord.{slope_of}
 use Rattle.ng_pace.proofs.ConeLemmas.{reached-weaker, slope_of-some}
 use Rattle.ng_pace.proofs.cone.Cone.slopes.Goals as goal
 

@@ -1,5 +1,5 @@
 use Rattle.std.proofs.Common.{arith}
-use Rattle.ng_pace.specs.Chords.{slope_of}
+use Rattle.ng_pace.specs.Chord.{slope_of}
 use Rattle.ng_pace.proofs.ConeLemmas.{rise-between, rise-inside, reached-weaker, slope_of-some}
 use Rattle.ng_pace.proofs.cone.Cone.slopes_at.Goals as goal
 

@@ -1,5 +1,5 @@
 use Rattle.std.proofs.Common.{arith, rules, inl, inr, refl}
-use Rattle.ng_pace.specs.Plan.{ahead}
+use Rattle.ng_pace.specs.Planning.{ahead}
 use Rattle.ng_pace.proofs.RestLemmas.{rest_all, rest_less}
 use Rattle.ng_pace.proofs.SquareLemmas.{IsChosen, hasty}
 use Rattle.ng_pace.proofs.pacer.Pacer.next.Goals.{else-self-eq0-via-then-self-eq0+else-wanted-eq0, else-self-eq0-via-else-self-eq0}

@@ -1,8 +1,8 @@
 use Rattle.std.proofs.Common.{arith, ◌≡◌, ◌∙◌, [], length, refl, sym, subst, ℕ, append-nil}
-use Rattle.ng_pace.specs.Flow.{Flow, all_items, timed_waiting}
+use Rattle.ng_pace.specs.Stream.{Flow, all_items, timed_waiting}
 use Rattle.ng_pace.specs.Legs.{pulses_of, lines_of}
-use Rattle.ng_pace.specs.Underway.{IsPath, Finishes}
-use Rattle.ng_pace.proofs.FlowLemmas.{length-timed_waiting, settles_rest, settles_end, end_items, end-stands}
+use Rattle.ng_pace.specs.Path.{IsPath, Finishes}
+use Rattle.ng_pace.proofs.FinalLimitLemmas.{length-timed_waiting, settles_rest, settles_end, end_items, end-stands}
 use Rattle.ng_pace.proofs.PutLemmas.{rest-flow}
 use Rattle.ng_pace.proofs.stream.Stream.end.Goals as goal
 

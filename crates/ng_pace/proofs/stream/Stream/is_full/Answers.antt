@@ -1,8 +1,8 @@
 use Rattle.std.proofs.Common.{arith, rules, refl, ◌≡◌, ◌+◌, ◌*◌, ◌<◌, ◌≤◌, length, deque_len}
 use Rattle.std.proofs.lemmas.Bool.Decides.{nat_tests}
-use Rattle.ng_pace.specs.Flow.{timed_waiting}
-use Rattle.ng_pace.proofs.FewLemmas.{few-most}
-use Rattle.ng_pace.proofs.FlowLemmas.{length-timed_waiting}
+use Rattle.ng_pace.specs.Stream.{timed_waiting}
+use Rattle.ng_pace.proofs.WaitingPulseLemmas.{few-most}
+use Rattle.ng_pace.proofs.FinalLimitLemmas.{length-timed_waiting}
 use Rattle.ng_pace.proofs.stream.Stream.is_full.Goals as goal
 
 pub returns-clause-full : goal.returns-clause-full

@@ -1,6 +1,6 @@
 use Rattle.std.proofs.Common.{◌≡◌, ◌∙◌, refl, ap, sym, subst, length}
 use Rattle.ng_pace.specs.Axes.{IsStop}
-use Rattle.ng_pace.specs.Flow.{items_waiting, timed_waiting}
+use Rattle.ng_pace.specs.Stream.{items_waiting, timed_waiting}
 use Rattle.ng_pace.proofs.stream.Stream.new.Goals as goal
 
 pub returns-in-Ok-clause-made : goal.returns-in-Ok-clause-made

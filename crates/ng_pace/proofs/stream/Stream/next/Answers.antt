@@ -1,5 +1,5 @@
 use Rattle.std.specs.VecDeque.{deque_capacity}
-use Rattle.ng_pace.proofs.FlowLemmas.{held-next}
+use Rattle.ng_pace.proofs.FinalLimitLemmas.{held-next}
 use Rattle.ng_pace.proofs.stream.Stream.next.Goals as goal
 
 pub invariant_of-self : goal.invariant_of-self

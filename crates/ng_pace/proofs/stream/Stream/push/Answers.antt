@@ -1,9 +1,9 @@
 use Rattle.std.proofs.Common.{arith, ◌≡◌, ◌∙◌, ◌<◌, ◌+◌, ◌∷◌, ◌++◌, [], length, refl, sym, subst, ℕ}
-use Rattle.ng_pace.specs.Flow.{Flow, all_items, timed_waiting}
+use Rattle.ng_pace.specs.Stream.{Flow, all_items, timed_waiting}
 use Rattle.ng_pace.specs.Halting.{Takes}
-use Rattle.ng_pace.specs.Underway.{IsPath}
-use Rattle.ng_pace.proofs.FewLemmas.{few-most}
-use Rattle.ng_pace.proofs.FlowLemmas.{length-timed_waiting, adds_rest, put_items}
+use Rattle.ng_pace.specs.Path.{IsPath}
+use Rattle.ng_pace.proofs.WaitingPulseLemmas.{few-most}
+use Rattle.ng_pace.proofs.FinalLimitLemmas.{length-timed_waiting, adds_rest, put_items}
 use Rattle.ng_pace.proofs.PutLemmas.{put-flow}
 use Rattle.ng_pace.proofs.stream.Stream.push.Goals as goal
 

@@ -1,5 +1,5 @@
 use Rattle.std.proofs.Common.{◌≡◌, drop}
-use Rattle.ng_params.specs.Changes.{with_changes}
+use Rattle.ng_params.specs.Change.{with_changes}
 use Rattle.ng_params.proofs.params.Params.apply.Given as goal
 
 -- the changes still to be made lead to the same table

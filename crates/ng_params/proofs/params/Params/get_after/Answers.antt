@@ -1,9 +1,9 @@
 use Rattle.std.proofs.Common.{arith, ◌+◌, sym, ap, ◌∙◌, ◌≡◌, ◌∷◌, drop, subst, List}
 use Rattle.std.proofs.lemmas.List.{drop_more, drop_all}
-use Rattle.ng_params.specs.Table.{at}
-use Rattle.ng_params.specs.Changes.{with_changes}
+use Rattle.ng_params.specs.Params.{at}
+use Rattle.ng_params.specs.Change.{with_changes}
 use Rattle.ng_params.specs.declared.change.Change.{Change}
-use Rattle.ng_params.proofs.AheadLemmas.{IsAhead, ahead_start, ahead_same, ahead_other, ahead_end}
+use Rattle.ng_params.proofs.OneParameterLemmas.{IsAhead, ahead_start, ahead_same, ahead_other, ahead_end}
 use Rattle.ng_params.proofs.params.Params.get_after.Goals.{then-number, else-number}
 use Rattle.ng_params.proofs.params.Params.get_after.Goals as goal
 

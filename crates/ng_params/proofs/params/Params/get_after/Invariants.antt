@@ -1,5 +1,5 @@
 use Rattle.std.proofs.Common.{drop}
-use Rattle.ng_params.proofs.AheadLemmas.{IsAhead}
+use Rattle.ng_params.proofs.OneParameterLemmas.{IsAhead}
 use Rattle.ng_params.proofs.params.Params.get_after.Given as goal
 
 abbrev pub invariant-loop-change : goal.invariant-loop-change

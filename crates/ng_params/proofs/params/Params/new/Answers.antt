@@ -1,5 +1,5 @@
 use Rattle.std.proofs.Common.{◌≡◌, pos, ℤ, ap, ◌∙◌, List, set, replicate}
-use Rattle.ng_params.specs.Table.{defaults}
+use Rattle.ng_params.specs.Params.{defaults}
 use Rattle.ng_params.proofs.params.Params.new.Goals as goal
 
 defaults_are : (zero one : ℤ) → zero ≡ pos 0 → one ≡ pos 1_000_000 → set (replicate 5399 zero) 5219 one ≡ defaults

@@ -30,7 +30,7 @@ use denote.Triple.Spec.{Meets, triple_of}
 use denote.Triple.Table.{entered}
 use denote.Triple.Walked.{says, Stays, stay_dropped, walk_of, ends_at, walk_Meets, Goes-dropped}
 use Rattle.std.specs.contracts.marker.PhantomData as Mark
-use Rattle.ng_past.proofs.OneField.{none, one, one_made}
+use Rattle.ng_past.proofs.OneFieldLemmas.{none, one, one_made}
 use Rattle.ng_past.specs.contracts.past.Past as Past
 use Rattle.ng_past.specs.contracts.past.Past.and as F
 use Rattle.ng_past.specs.contracts.past.Past.and.Key.{name as #self}

@@ -28,7 +28,7 @@ use denote.Triple.Spec.{Meets, triple_of}
 use denote.Triple.Table.{entered}
 use denote.Triple.Walked.{says, Stays, walk_of, ends_at, walk_Meets}
 use Rattle.std.specs.contracts.marker.PhantomData as Mark
-use Rattle.ng_past.proofs.OneField.{none, one, one_made}
+use Rattle.ng_past.proofs.OneFieldLemmas.{none, one, one_made}
 use Rattle.ng_past.specs.contracts.past.Past as Past
 use Rattle.ng_past.specs.contracts.past.Past.new as F
 use Rattle.ng_past.specs.contracts.past.Past.new.Key.{name as #self}

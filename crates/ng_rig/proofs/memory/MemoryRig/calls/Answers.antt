@@ -1,5 +1,5 @@
 use Rattle.std.proofs.Common.{sym, ◌∙◌}
-use Rattle.ng_rig.proofs.Traces.{moment-trace_of_calls}
+use Rattle.ng_rig.proofs.TraceLemmas.{moment-trace_of_calls}
 use Rattle.ng_rig.proofs.memory.MemoryRig.calls.Goals as goal
 
 pub returns : goal.returns

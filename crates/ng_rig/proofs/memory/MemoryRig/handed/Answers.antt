@@ -3,7 +3,7 @@ use Rattle.std.proofs.lemmas.Result.{IfOk-weaker}
 use Rattle.ng_rig.specs.Trace.{Trace, items, trace_at}
 use Rattle.ng_rig.specs.Kept.{trace_of_calls}
 use Rattle.ng_rig.specs.declared.call.Call.{Call}
-use Rattle.ng_rig.proofs.Traces.{trace_at-trace_of_calls}
+use Rattle.ng_rig.proofs.TraceLemmas.{trace_at-trace_of_calls}
 use Rattle.ng_rig.proofs.memory.MemoryRig.handed.Goals as goal
 
 pub returns : goal.returns

@@ -3,11 +3,11 @@ use Rattle.std.proofs.lemmas.Result.{IfOk-weaker}
 use Rattle.ng_rig.specs.Trace.{Trace, Began, IsStop, reads, items, trace_at}
 use Rattle.ng_rig.specs.Kept.{contents, trace_of_calls}
 use Rattle.ng_rig.specs.Stops.{kept_image}
-use Rattle.ng_rig.specs.MemoryRig.{trace_of}
+use Rattle.ng_rig.specs.Memory.{trace_of}
 use Rattle.ng_rig.specs.declared.call.Call.{Call}
-use Rattle.ng_rig.proofs.Traces.{trace_at-trace_of_calls}
-use Rattle.ng_rig.proofs.Replaying.{within_take}
-use Rattle.ng_rig.proofs.Reach.{reached_at, stop-kept_image}
+use Rattle.ng_rig.proofs.TraceLemmas.{trace_at-trace_of_calls}
+use Rattle.ng_rig.proofs.ReplayLemmas.{within_take}
+use Rattle.ng_rig.proofs.ReachableStopLemmas.{reached_at, stop-kept_image}
 use Rattle.ng_rig.proofs.memory.MemoryRig.stopped.Goals as goal
 
 -- the image that is left, in terms of the trace at the moment

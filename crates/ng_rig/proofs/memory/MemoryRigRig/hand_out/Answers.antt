@@ -1,5 +1,5 @@
 use Rattle.std.proofs.Common.{refl, is_ok}
-use Rattle.ng_rig.proofs.Replaying.{within-maybe, reads-maybe, trace-push}
+use Rattle.ng_rig.proofs.ReplayLemmas.{within-maybe, reads-maybe, trace-push}
 use Rattle.ng_rig.specs.declared.call.Call.TheVariants.{Hand}
 use Rattle.ng_rig.proofs.memory.MemoryRigRig.hand_out.Goals as goal
 

@@ -1,5 +1,5 @@
 use Rattle.std.proofs.Common.{[], ℕ, List, ◌∙◌, ap, arith}
-use Rattle.ng_rig.proofs.Replaying.{default_is}
+use Rattle.ng_rig.proofs.ReplayLemmas.{default_is}
 use Rattle.ng_rig.proofs.memory.MemoryRigRig.read.Goals as goal
 
 pub returns-clause-bytes : goal.returns-clause-bytes

@@ -1,5 +1,5 @@
 use Rattle.std.proofs.Common.{refl, is_ok}
-use Rattle.ng_rig.proofs.Replaying.{within-maybe, reads-maybe, trace-push}
+use Rattle.ng_rig.proofs.ReplayLemmas.{within-maybe, reads-maybe, trace-push}
 use Rattle.ng_rig.specs.declared.call.Call.TheVariants.{Sync}
 use Rattle.ng_rig.proofs.memory.MemoryRigRig.sync.Goals as goal
 

@@ -1,6 +1,6 @@
 use Rattle.std.proofs.Common.{refl, ◌∙◌, arith, length, length-set}
 use Rattle.std.proofs.lemmas.Bool.{lt-ltb, and_from}
-use Rattle.ng_rig.proofs.Replaying.{whole_set, within-push, reads-push_write, trace-push}
+use Rattle.ng_rig.proofs.ReplayLemmas.{whole_set, within-push, reads-push_write, trace-push}
 use Rattle.ng_rig.specs.declared.call.Call.TheVariants.{Write}
 use Rattle.ng_rig.proofs.memory.MemoryRigRig.write.Goals as goal
 

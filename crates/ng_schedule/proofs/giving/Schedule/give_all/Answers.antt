@@ -1,5 +1,5 @@
 use Rattle.std.proofs.Common.{◌∙◌, refl, true}
-use Rattle.ng_schedule.proofs.RunLemmas.{same_items}
+use Rattle.ng_schedule.proofs.ScheduleRunLemmas.{same_items}
 use Rattle.ng_schedule.proofs.giving.Schedule.give_all.Goals as goal
 
 pub loop-halt-init : goal.loop-halt-init

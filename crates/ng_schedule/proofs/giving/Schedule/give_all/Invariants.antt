@@ -1,5 +1,5 @@
 use Rattle.std.proofs.Common.{◌≡◌, List, [], ℕ, Option, true, length}
-use Rattle.ng_pace.specs.Flow.{all_items}
+use Rattle.ng_pace.specs.Stream.{all_items}
 use Rattle.ng_pace.specs.declared.limits.Limits.{Limits}
 use Rattle.ng_schedule.specs.Private.Parts.{IsAt, IsUnderWay}
 use Rattle.ng_schedule.proofs.giving.Schedule.give_all.Given as goal

@@ -1,5 +1,5 @@
 use Rattle.std.proofs.Common.{◌≡◌, ◌≤◌, ◌<◌, ◌+◌, ◌-◌, ◌^◌, arith, refl}
-use Rattle.ng_schedule.proofs.RunLemmas.{cut, cut_in_line, gives, long_enough, too_late}
+use Rattle.ng_schedule.proofs.ScheduleRunLemmas.{cut, cut_in_line, gives, long_enough, too_late}
 use Rattle.ng_schedule.proofs.giving.Schedule.give_next.Goals as goal
 
 pub returns-then-over_ns-clause-step : goal.returns-then-over_ns-clause-step

@@ -1,7 +1,7 @@
 use Rattle.std.proofs.Common.{◌≡◌, ◌∙◌, ◌+◌, ◌≤◌, [], ap, length, refl, subst, sym, false}
-use Rattle.ng_pace.specs.Flow.{Flow}
+use Rattle.ng_pace.specs.Stream.{Flow}
 use Rattle.ng_schedule.specs.Private.Parts.{IsFull}
-use Rattle.ng_schedule.proofs.RunLemmas.{cut, told}
+use Rattle.ng_schedule.proofs.ScheduleRunLemmas.{cut, told}
 use Rattle.ng_schedule.proofs.StreamLemmas.{still_full}
 use Rattle.ng_schedule.proofs.giving.Schedule.give_one.Goals as goal
 

@@ -1,5 +1,5 @@
 use Rattle.std.proofs.Common.{◌≡◌, List, ℕ, Option, length}
-use Rattle.ng_pace.specs.Flow.{all_items}
+use Rattle.ng_pace.specs.Stream.{all_items}
 use Rattle.ng_pace.specs.declared.limits.Limits.{Limits}
 use Rattle.ng_schedule.specs.Private.Parts.{IsUnderWay}
 use Rattle.ng_schedule.proofs.giving.Schedule.make_room.Given as goal

@@ -1,5 +1,5 @@
 use Rattle.std.proofs.Common.{[], refl}
-use Rattle.ng_schedule.proofs.RunLemmas.{HaltSpec-more, takes}
+use Rattle.ng_schedule.proofs.ScheduleRunLemmas.{HaltSpec-more, takes}
 use Rattle.ng_schedule.proofs.giving.Schedule.take_item.Goals as goal
 
 pub returns-in-Ok-clause-step : goal.returns-in-Ok-clause-step

@@ -1,4 +1,4 @@
-use Rattle.ng_schedule.proofs.StepLemmas.{stops_at_other}
+use Rattle.ng_schedule.proofs.RunStepLemmas.{stops_at_other}
 use Rattle.ng_schedule.proofs.giving.Schedule.take_line.Goals as goal
 
 pub returns-in-None-clause-step : goal.returns-in-None-clause-step

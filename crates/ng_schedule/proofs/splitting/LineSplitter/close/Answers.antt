@@ -1,7 +1,7 @@
 use Rattle.std.proofs.Common.{refl}
 use Rattle.ng_schedule.proofs.FinishLemmas.{ScheduleSpec-from, not_empty}
-use Rattle.ng_schedule.proofs.LineLemmas.{unended}
-use Rattle.ng_schedule.proofs.StepLemmas.{unkept}
+use Rattle.ng_schedule.proofs.EndedLineLemmas.{unended}
+use Rattle.ng_schedule.proofs.RunStepLemmas.{unkept}
 use Rattle.ng_schedule.proofs.splitting.LineSplitter.close.Goals as goal
 
 pub returns : goal.returns

@@ -1,7 +1,7 @@
 use Rattle.std.proofs.Common.{◌≡◌, ◌++◌, ◌∷◌, ◌∙◌, List, ℕ, [], ap, append_assoc, subst, sym}
-use Rattle.ng_text.specs.Newlines.{HasNoNewline}
-use Rattle.ng_schedule.proofs.LineLemmas.{HasNoNewline-append}
-use Rattle.ng_schedule.proofs.StepLemmas.{TakeSpec-from, no_room, stops_at_long, unkept}
+use Rattle.ng_text.specs.Split.{HasNoNewline}
+use Rattle.ng_schedule.proofs.EndedLineLemmas.{HasNoNewline-append}
+use Rattle.ng_schedule.proofs.RunStepLemmas.{TakeSpec-from, no_room, stops_at_long, unkept}
 use Rattle.ng_schedule.proofs.splitting.LineSplitter.end_kept.Goals as goal
 
 pub take_line-taken-requires : goal.take_line-taken-requires

@@ -1,6 +1,6 @@
 use Rattle.std.proofs.Common.{◌≡◌, List, ℕ, [], refl, subst}
 use Rattle.ng_schedule.specs.Private.Parts.{IsUnderWay}
-use Rattle.ng_schedule.proofs.StepLemmas.{TakeSpec-from, empty_is}
+use Rattle.ng_schedule.proofs.RunStepLemmas.{TakeSpec-from, empty_is}
 use Rattle.ng_schedule.proofs.splitting.LineSplitter.end_line.Goals as goal
 
 pub returns-then-is_empty-clause-step : goal.returns-then-is_empty-clause-step

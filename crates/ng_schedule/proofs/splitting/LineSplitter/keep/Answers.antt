@@ -1,7 +1,7 @@
 use Rattle.std.proofs.Common.{◌++◌, List, ℕ, [], append-nil, subst}
 use Rattle.ng_schedule.specs.Private.Parts.{IsStopped}
-use Rattle.ng_schedule.proofs.LineLemmas.{HasNoNewline-append}
-use Rattle.ng_schedule.proofs.StepLemmas.{keeps_more, no_room, stops_at_long}
+use Rattle.ng_schedule.proofs.EndedLineLemmas.{HasNoNewline-append}
+use Rattle.ng_schedule.proofs.RunStepLemmas.{keeps_more, no_room, stops_at_long}
 use Rattle.ng_schedule.proofs.splitting.LineSplitter.keep.Goals as goal
 
 pub returns-in-Ok-clause-kept : goal.returns-in-Ok-clause-kept

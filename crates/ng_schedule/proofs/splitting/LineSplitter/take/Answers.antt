@@ -1,7 +1,7 @@
 use Rattle.std.proofs.Common.{◌≡◌, ◌++◌, ◌∷◌, ◌∙◌, List, ℕ, [], ap, append_assoc, subst, sym}
 use Rattle.ng_lines.specs.Lines.{pulse_line}
 use Rattle.ng_schedule.specs.Private.Parts.{IsUnderWay, TakeSpec}
-use Rattle.ng_schedule.proofs.StepLemmas.{empty_is, goes_on, stops_within, with_nothing}
+use Rattle.ng_schedule.proofs.RunStepLemmas.{empty_is, goes_on, stops_within, with_nothing}
 use Rattle.ng_schedule.proofs.splitting.LineSplitter.take.Goals as goal
 
 pub loop-left-preserved-in-loop-left : goal.loop-left-preserved-in-loop-left

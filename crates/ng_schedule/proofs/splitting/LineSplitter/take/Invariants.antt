@@ -1,6 +1,6 @@
 use Rattle.std.proofs.Common.{◌≡◌, ◌++◌, List, ℕ, Option, length}
 use Rattle.ng_pace.specs.declared.limits.Limits.{Limits}
-use Rattle.ng_text.specs.Newlines.{HasNoNewline}
+use Rattle.ng_text.specs.Split.{HasNoNewline}
 use Rattle.ng_schedule.specs.Private.Parts.{IsUnderWay}
 use Rattle.ng_schedule.proofs.splitting.LineSplitter.take.Given as goal
 

@@ -1,6 +1,6 @@
 use Rattle.std.proofs.Common.{◌≡◌, List, [], ◌∷◌, ◌++◌, MatchOption, subst}
 use Rattle.ng_session.specs.Planned.{PlannedModel, KnownModel}
-use Rattle.ng_session.proofs.Ahead.{last_copied}
+use Rattle.ng_session.proofs.PlannedLineLemmas.{last_copied}
 use Rattle.ng_session.proofs.known_lines.KnownLines.last.Goals as goal
 
 pub returns : goal.returns

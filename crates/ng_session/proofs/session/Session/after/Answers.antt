@@ -3,7 +3,7 @@ use Rattle.std.specs.Prelude.{IfSome}
 use Rattle.std.specs.Option.{option_map}
 use Rattle.ng_session.specs.Session.{SessionModel}
 use Rattle.ng_session.specs.SessionInvariant.{Prepared, block_of, IsReadyOn}
-use Rattle.ng_session.proofs.Keeping.{next_is}
+use Rattle.ng_session.proofs.SessionInvariantLemmas.{next_is}
 use Rattle.ng_session.proofs.session.Session.after.Goals as goal
 
 pub returns-in-Some-clause-after : goal.returns-in-Some-clause-after

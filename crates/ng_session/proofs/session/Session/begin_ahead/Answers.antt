@@ -1,5 +1,5 @@
 use Rattle.std.proofs.Common.{Some}
-use Rattle.ng_session.proofs.Ahead.{begun_ahead}
+use Rattle.ng_session.proofs.PlannedLineLemmas.{begun_ahead}
 use Rattle.ng_session.proofs.session.Session.begin_ahead.Goals as goal
 
 pub returns-clause-begun : goal.returns-clause-begun

@@ -3,7 +3,7 @@ use Rattle.ng_layout.specs.Storable.{IsStorable}
 use Rattle.ng_layout.specs.Stored.{StoredModel}
 use Rattle.ng_session.specs.Planned.{base_of, base_at_end}
 use Rattle.ng_session.specs.Session.{SessionModel}
-use Rattle.ng_session.proofs.Ahead.{end_storable, end_length, base_storable, base_length}
+use Rattle.ng_session.proofs.PlannedLineLemmas.{end_storable, end_length, base_storable, base_length}
 use Rattle.ng_session.proofs.session.Session.place_ahead.Goals as goal
 
 pub returns-clause-within : goal.returns-clause-within

@@ -4,7 +4,7 @@ use Rattle.ng_layout.specs.Stored.{StoredModel}
 use Rattle.ng_canon.specs.declared.geometry.Geometry.{Geometry}
 use Rattle.ng_session.specs.Planned.{KnownModel, AreLinesOf, Base, IsPlannedOn, IsPlan, base_of, base_at_end}
 use Rattle.ng_session.specs.Session.{SessionModel}
-use Rattle.ng_session.proofs.Ahead.{end_storable, end_length, base_storable, base_length, plan_pushed, lines_pushed}
+use Rattle.ng_session.proofs.PlannedLineLemmas.{end_storable, end_length, base_storable, base_length, plan_pushed, lines_pushed}
 use Rattle.ng_session.proofs.session.Session.plan.Goals.{in-Some, in-None}
 use Rattle.ng_session.proofs.session.Session.plan.Goals as goal
 

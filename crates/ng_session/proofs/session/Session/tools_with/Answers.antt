@@ -1,5 +1,5 @@
 use Rattle.std.proofs.Common.{rules}
-use Rattle.ng_session.proofs.ToolSlots.{one_slot}
+use Rattle.ng_session.proofs.ToolSlotLemmas.{one_slot}
 use Rattle.ng_session.proofs.session.Session.tools_with.Goals as goal
 
 pub returns-clause-value : goal.returns-clause-value

@@ -1,6 +1,6 @@
 use Rattle.std.proofs.Common.{arith, refl}
 use Rattle.std.proofs.lemmas.Int.{ints}
-use Rattle.ng_step.proofs.LineLemmas.{axis_first}
+use Rattle.ng_step.proofs.LineStepLemmas.{axis_first}
 use Rattle.ng_step.proofs.PulseLemmas.{onward_count}
 use Rattle.ng_step.proofs.arc.ArcPulses.new.Goals as goal
 

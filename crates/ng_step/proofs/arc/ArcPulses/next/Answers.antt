@@ -1,6 +1,6 @@
 use Rattle.std.proofs.Common.{arith, sym, ap, ◌∙◌}
 use Rattle.ng_step.specs.declared.frame.Frame.{Frame}
-use Rattle.ng_step.specs.Frames.{pulse_without, with_third}
+use Rattle.ng_step.specs.Frame.{pulse_without, with_third}
 use Rattle.ng_step.proofs.PulseLemmas.{rest_keeps, rest_next, step_keeps, step_next}
 use Rattle.ng_step.proofs.arc.ArcPulses.next.Goals as goal
 

@@ -3,7 +3,7 @@ use mir.Syntax.{w64}
 use mir.Val.{SFits}
 use Rattle.std.proofs.lemmas.Int.{ints, to_z-of_z}
 use Rattle.ng_canon.specs.declared.plane.Plane.TheVariants.{Xy, Xz, Yz}
-use Rattle.ng_canon.specs.Planes.{pick_a, pick_b}
+use Rattle.ng_canon.specs.Plane.{pick_a, pick_b}
 use Rattle.ng_step.proofs.CentreLemmas.{closing_at, of_a_small, of_b_small, of_a_kept, of_b_kept}
 use Rattle.ng_step.proofs.frame.Frame.closing_after.Goals as goal
 

@@ -1,6 +1,6 @@
 use Rattle.std.proofs.Common.{arith, refl}
 use Rattle.std.proofs.lemmas.Int.{ints}
-use Rattle.ng_step.proofs.LineLemmas.{axis_none}
+use Rattle.ng_step.proofs.LineStepLemmas.{axis_none}
 use Rattle.ng_step.proofs.spread.Spread.new.Goals as goal
 
 pub returns-clause-axis : goal.returns-clause-axis

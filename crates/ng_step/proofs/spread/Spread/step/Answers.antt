@@ -1,5 +1,5 @@
 use Rattle.std.proofs.Common.{◌∙◌, refl}
-use Rattle.ng_step.proofs.LineLemmas.{code_rest, code_more}
+use Rattle.ng_step.proofs.LineStepLemmas.{code_rest, code_more}
 use Rattle.ng_step.proofs.spread.Spread.step.Goals as goal
 
 pub returns-then-self-whole : goal.returns-then-self-whole

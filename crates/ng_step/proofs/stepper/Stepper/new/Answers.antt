@@ -1,5 +1,5 @@
 use Rattle.ng_step.proofs.PromiseLemmas.{ends, follows, stays, keeps}
-use Rattle.ng_step.proofs.PathLemmas.{follows_path}
+use Rattle.ng_step.proofs.ArcPathLemmas.{follows_path}
 use Rattle.ng_step.proofs.stepper.Stepper.new.Goals as goal
 
 pub returns-in-Line-clause-ends : goal.returns-in-Line-clause-ends

@@ -1,6 +1,6 @@
 use Rattle.std.proofs.Common.{ap, ◌∙◌}
 use Rattle.ng_step.specs.Periods.{root_up}
-use Rattle.ng_step.proofs.LengthLemmas.{length_few, limits}
+use Rattle.ng_step.proofs.LineLengthLemmas.{length_few, limits}
 use Rattle.ng_step.proofs.HandLemmas.{line_is}
 use Rattle.ng_step.proofs.stepper.Stepper.over_line.Goals as goal
 

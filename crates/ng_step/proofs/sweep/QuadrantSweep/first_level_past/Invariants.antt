@@ -1,4 +1,4 @@
-use Rattle.ng_step.proofs.PassageLemmas.{Halves}
+use Rattle.ng_step.proofs.SweepLemmas.{Halves}
 use Rattle.ng_step.proofs.sweep.QuadrantSweep.first_level_past.Given as goal
 
 abbrev pub invariant-halves : goal.invariant-halves

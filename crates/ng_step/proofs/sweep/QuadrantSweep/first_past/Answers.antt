@@ -1,7 +1,7 @@
 use Rattle.std.proofs.Common.{arith, ℕ, ◌+◌, ◌-◌, ◌*◌, ◌<◌, ⊎_elim, sym, subst, ◌∙◌, ap}
 use Rattle.ng_step.specs.Periods.{ceil_div}
 use Rattle.ng_step.specs.Private.Sweeps.{IsLeaving, inner_at, LeavesBefore, IsFirstPast}
-use Rattle.ng_step.proofs.PassageLemmas.{Enters, enters_at_none, enters_below, first_past_is, comes_room, room_few}
+use Rattle.ng_step.proofs.SweepLemmas.{Enters, enters_at_none, enters_below, first_past_is, comes_room, room_few}
 use Rattle.ng_step.proofs.sweep.QuadrantSweep.first_past.Goals as goal
 use Rattle.ng_step.proofs.sweep.QuadrantSweep.first_past.Goals.{then-inward-eq0, else-inward-eq0}
 

@@ -1,4 +1,4 @@
-use Rattle.ng_step.proofs.PassageLemmas.{last_is}
+use Rattle.ng_step.proofs.SweepLemmas.{last_is}
 use Rattle.std.proofs.Common.{refl}
 use Rattle.ng_step.proofs.sweep.QuadrantSweep.last.Goals as goal
 

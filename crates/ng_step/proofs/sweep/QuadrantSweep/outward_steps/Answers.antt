@@ -1,5 +1,5 @@
 use Rattle.std.proofs.Common.{arith, refl}
-use Rattle.ng_step.proofs.PassageLemmas.{leaving_root, root_room}
+use Rattle.ng_step.proofs.SweepLemmas.{leaving_root, root_room}
 use Rattle.ng_step.proofs.sweep.QuadrantSweep.outward_steps.Goals as goal
 
 pub returns-clause-leaving : goal.returns-clause-leaving

@@ -1,5 +1,5 @@
 use Rattle.std.proofs.Common.{◌++◌, ◌∷◌, [], sym, subst}
-use Rattle.ng_text.specs.FirstLines.{shortest, DecidesFirstLine}
+use Rattle.ng_text.specs.FirstLine.{shortest, DecidesFirstLine}
 use Rattle.ng_text.specs.declared.first_line.FirstLine.{FirstLine}
 use Rattle.ng_text.proofs.FirstLineLemmas.{return_decided}
 use Rattle.ng_text.proofs.first_line.FirstLine.after.Goals as goal

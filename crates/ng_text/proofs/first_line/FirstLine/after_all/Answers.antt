@@ -1,5 +1,5 @@
 use Rattle.std.proofs.Common.{List, ◌++◌, ap, arith, append-nil}
-use Rattle.ng_text.specs.FirstLines.{kind_in, shortest}
+use Rattle.ng_text.specs.FirstLine.{kind_in, shortest}
 use Rattle.ng_text.proofs.FirstLineLemmas.{decides_all, decides_one}
 use Rattle.ng_text.proofs.first_line.FirstLine.after_all.Goals as goal
 

@@ -1,5 +1,5 @@
 use Rattle.std.proofs.Common.{◌++◌, take}
-use Rattle.ng_text.specs.FirstLines.{shortest, DecidesFirstLine}
+use Rattle.ng_text.specs.FirstLine.{shortest, DecidesFirstLine}
 use Rattle.ng_text.proofs.first_line.FirstLine.after_all.Given as goal
 
 abbrev pub invariant-loop-byte : goal.invariant-loop-byte

@@ -1,4 +1,4 @@
-use Rattle.ng_text.proofs.LinesAfter.{after_known, after_unknown}
+use Rattle.ng_text.proofs.LinesBeforeLemmas.{after_known, after_unknown}
 use Rattle.ng_text.proofs.lines_before.LinesBefore.after.Goals as goal
 
 pub returns-then-self-place-clause-holds : goal.returns-then-self-place-clause-holds

@@ -1,5 +1,5 @@
 use Rattle.std.proofs.Common.{sym, ◌∙◌, refl}
-use Rattle.ng_words.proofs.Texts.{skip_goes, skip_stops, skip_outside, HasNoComment-more}
+use Rattle.ng_words.proofs.CommentLemmas.{skip_goes, skip_stops, skip_outside, HasNoComment-more}
 use Rattle.ng_words.proofs.cursor.Cursor.skip.Goals as goal
 
 pub returns-then-ne : goal.returns-then-ne

@@ -1,6 +1,6 @@
 use Rattle.std.proofs.Common.{◌≡◌, drop}
 use Rattle.ng_words.specs.Plain.{HasNoComment}
-use Rattle.ng_words.specs.Values.{strip_prefix}
+use Rattle.ng_words.specs.Value.{strip_prefix}
 use Rattle.ng_words.proofs.cursor.Cursor.skip.Given as goal
 
 abbrev pub invariant-loop-expected : goal.invariant-loop-expected

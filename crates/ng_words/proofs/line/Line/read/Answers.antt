@@ -1,7 +1,7 @@
 use Rattle.std.proofs.Common.{refl}
-use Rattle.ng_words.proofs.Adding.{pieces_taken}
-use Rattle.ng_words.proofs.ReadLaws.{read_too_long, read_no_number, read_no_pieces, read_ok, read_sound, read_only}
-use Rattle.ng_words.proofs.ReadLaws.{read_none, length-pieces, length_over, length_within}
+use Rattle.ng_words.proofs.AddedPieceLemmas.{pieces_taken}
+use Rattle.ng_words.proofs.ReadLemmas.{read_too_long, read_no_number, read_no_pieces, read_ok, read_sound, read_only}
+use Rattle.ng_words.proofs.ReadLemmas.{read_none, length-pieces, length_over, length_within}
 use Rattle.ng_words.proofs.line.Line.read.Goals as goal
 
 pub returns-then-is_too_long-clause-value : goal.returns-then-is_too_long-clause-value

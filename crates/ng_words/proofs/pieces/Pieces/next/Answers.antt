@@ -2,7 +2,7 @@
 use Rattle.std.proofs.Common.{ℕ, ◌≤◌, List, length, take, drop, ap, sym, subst, ◌∙◌, arith, length-drop}
 use Rattle.ng_words.specs.Kept.{IsTree, AreEncodedPieces}
 use Rattle.ng_words.specs.declared.tree.Node.{Node}
-use Rattle.ng_words.proofs.Kept.{kept_number, kept_word, kept_assignment, kept_comment}
+use Rattle.ng_words.proofs.KeptLineLemmas.{kept_number, kept_word, kept_assignment, kept_comment}
 use Rattle.ng_words.proofs.pieces.Pieces.next.Goals as goal
 
 pub invariant_of-self : goal.invariant_of-self

@@ -1,7 +1,7 @@
 use Rattle.std.proofs.Common.{◌∙◌, ◌-◌, ℕ, List, ap}
 use Rattle.ng_canon.specs.declared.segment.Segment.{Segment}
 use Rattle.ng_block.specs.declared.block_segments.BlockSegmentsLeft.{BlockSegmentsLeft}
-use Rattle.ng_block.specs.Paths.{path_segments}
+use Rattle.ng_block.specs.Path.{path_segments}
 use Rattle.ng_block.proofs.LaterLemmas.{Stays-path}
 use Rattle.ng_block.proofs.block_segments.resuming.Passing.pass_moves.Goals as goal
 

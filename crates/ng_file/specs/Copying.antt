@@ -1,0 +1,20 @@
+-- A copy in memory of the device in a file (own).
+use Rattle.std.specs.Prelude.{ℕ, ◌≡◌, ◌<◌, ◌≤◌, ◌/◌, List, [], length, min}
+use Rattle.ng_rig.specs.Memory.{trace_of, sector_count}
+use Rattle.ng_rig.specs.Trace.{Image, reads}
+use Rattle.ng_rig.specs.declared.memory.MemoryRig.{MemoryRig}
+use Rattle.ng_file.specs.Bytes.{sector_of}
+
+-- how many sectors there are in these bytes, up to a number of them: all that are whole
+abbrev pub sectors_in : ℕ → List ℕ → ℕ
+sectors_in most held = min (length held / 512) most
+
+-- the image of a device that has these sectors and no other
+pub record IsImageOf (most : ℕ) (held : List ℕ) (image : Image) : Type 0 where
+  pub within : (n : ℕ) → n < sectors_in most held → image n ≡ sector_of n held
+  pub past : (n : ℕ) → sectors_in most held ≤ n → image n ≡ []
+
+-- The device in memory has that image and as many sectors.
+pub record IsCopy {A : Type 0} (most : ℕ) (held : List ℕ) (copy : MemoryRig A) : Type 0 where
+  pub size : sector_count copy ≡ sectors_in most held
+  pub image : IsImageOf most held (reads (trace_of copy))

@@ -1,0 +1,33 @@
+-- A device in a file as its callers see it (own).
+use Rattle.std.specs.Prelude.{ℕ, List, Option}
+use Rattle.ng_rig.specs.Rig.{Device}
+use Rattle.ng_file.specs.Promise.{Promise}
+use Rattle.ng_file.specs.Sectors.{AreHonest, trace_of}
+use Rattle.ng_file.specs.declared.rig.FileRig.{FileRig}
+
+-- its number of sectors
+abbrev pub sector_count : {S W A : Type 0} → FileRig S W A → ℕ
+sector_count rig = rig.sectors.count
+
+-- the failures that it counts
+abbrev pub failure_count : {S W A : Type 0} → FileRig S W A → ℕ
+failure_count rig = rig.failures
+
+-- the file that holds its sectors
+abbrev pub storage : {S W A : Type 0} → FileRig S W A → S
+storage rig = rig.sectors.file
+
+-- the writer that it hands out to
+abbrev pub outlet : {S W A : Type 0} → FileRig S W A → W
+outlet rig = rig.out
+
+-- the device as contracts see it: honest where the file does what it promises, and all was durable at first
+abbrev pub device_of : {S W A : Type 0} → (S → Option (List ℕ)) → (S → Promise) → FileRig S W A → Device
+device_of content promise rig =
+    record {
+      trace = trace_of content rig.sectors;
+      honest = AreHonest content promise rig.sectors;
+      sectors =
+          sector_count rig;
+      failed = failure_count rig;
+    }

@@ -1,0 +1,182 @@
+-- What is written of a state doesn't depend on its room for a program.
+use Rattle.std.proofs.Common.{◌≡◌, inl, inr, ⊎_elim, ℕ, ◌+◌, ◌<◌, ◌≤◌, List, ℤ, length, Option, Result, Ok, Err, sym, subst}
+use Rattle.std.specs.Prelude.{OnOk, IfOk}
+use Rattle.ng_canon.specs.declared.item.Item.{Item}
+use Rattle.ng_rig.specs.Trace.{Image, Trace, reads, items}
+use Rattle.ng_rig.specs.Only.{IsMixOf}
+use Rattle.ng_rig.proofs.ContinuationLemmas.{weaker}
+use Rattle.ng_rig.proofs.WritesOnlyLemmas.{only_wider, reads_blend}
+use Rattle.ng_params.specs.declared.change.Change.{Change}
+use Rattle.ng_params.specs.Differences.{differences}
+use Rattle.ng_offsets.specs.Tools.{first_change, IsOneSlotFrom}
+use Rattle.ng_offsets.specs.declared.tools.SlotChange.{SlotChange}
+use Rattle.ng_layout.specs.Areas.{snapshot_first, snapshot_size, log_first, log_size_of}
+use Rattle.ng_layout.specs.declared.header.Format.TheVariants.{Two}
+use Rattle.ng_layout.specs.declared.header.Header.{Header}
+use Rattle.ng_layout.specs.Log.{PartHeader, parts_for}
+use Rattle.ng_layout.specs.Part.{HoldsRecordPart}
+use Rattle.ng_layout.specs.Snapshot.{HoldsPart}
+use Rattle.ng_layout.specs.Storable.{IsStorable}
+use Rattle.ng_layout.specs.Stored.{StoredModel, DurableState}
+use Rattle.ng_layout.proofs.ToolTableLemmas.{valid, restored}
+use Rattle.ng_log.specs.declared.log_end.LogEnd.{LogEnd}
+use Rattle.ng_log.specs.Writing.{WritesRecord, AppendSpec}
+use Rattle.ng_log.specs.AtEnd.{end_after, EndsIn, IsAtEnd, IsEither}
+use Rattle.ng_log.specs.Records.{LogRecord, size_of, IsPartOf, BelongsToRecord, record_at, record_from}
+use Rattle.ng_log.proofs.RecordWriteLemmas.{next_of}
+use Rattle.ng_log.proofs.LogEndLemmas.{IsBlend, IsNext, blend-force, blend-stands, blend-written, blend-ends}
+use Rattle.ng_journal.specs.AtRest.{BelongsToAreas, BelongsTo, IsLaidOut, next_header}
+use Rattle.ng_journal.specs.Loads.{BelongsToLoad, StoresLoad}
+use Rattle.ng_journal.specs.Private.CheckpointSteps.{WritesAreas}
+
+abbrev pub with_room : ℕ → StoredModel → StoredModel
+with_room room saved = record saved { room = room }
+
+-- ---- the areas of a header
+
+holds_part : (room : ℕ) (saved : StoredModel) (j : ℕ) (bytes : List ℕ) → HoldsPart saved j bytes → HoldsPart (with_room room saved) j bytes
+holds_part room saved j bytes h = record { state = h.state; slots = h.slots; rest = h.rest; values = h.values }
+
+to_areas : (room : ℕ) (header : Header) (saved : StoredModel) (n : ℕ) (bytes : List ℕ) → BelongsToAreas header saved n bytes → BelongsToAreas header (with_room room saved) n bytes
+to_areas room header saved n bytes (inl own) = inl (record { place = own.place; within = own.within; is = own.is; right = holds_part room saved own.place bytes own.right })
+to_areas room header saved n bytes (inr tools) = inr tools
+
+belongs : (room : ℕ) (header : Header) (saved : StoredModel) (n : ℕ) (bytes : List ℕ) → BelongsTo header saved n bytes → BelongsTo header (with_room room saved) n bytes
+belongs room header saved n bytes (inl areas) = inl (to_areas room header saved n bytes areas)
+belongs room header saved n bytes (inr there) = inr there
+
+pub areas_kept : {T E : Type 0} (room : ℕ) (result : Result T E) (next : Header) (saved : StoredModel) (old new : Trace) → WritesAreas result next saved old new → WritesAreas result next (with_room room saved) old new
+areas_kept {T = T} {E = E} room result next saved old new w = record {
+  writes = only_wider (λ n c. BelongsToAreas next saved n c) (λ n c. BelongsToAreas next (with_room room saved) n c) old new (to_areas room next saved) w.writes;
+  parts = go result w.parts;
+  tools = w.tools;
+}
+  where
+    Parts : StoredModel → Type 0
+    Parts s = (j : ℕ) → j < snapshot_size → HoldsPart s j (reads new (snapshot_first next.epoch + j))
+
+    go : (result : Result T E) → OnOk result (Parts saved) → OnOk result (Parts (with_room room saved))
+    go (Ok v) parts = λ j lt. holds_part room saved j (reads new (snapshot_first next.epoch + j)) (parts j lt)
+    go (Err e) parts = tt
+
+-- ---- a load
+
+pub load_kept : {T E : Type 0} (room : ℕ) (result : Result T E) (area : ℕ) (header : Header) (saved : StoredModel) (text : List ℕ) (old new : Trace) → StoresLoad result area header (record { saved = saved; program = text }) old new → StoresLoad result area header (record { saved = with_room room saved; program = text }) old new
+load_kept {T = T} {E = E} room result area header saved text old new s = record {
+  writes = only_wider (λ n c. BelongsToLoad area header was n c) (λ n c. BelongsToLoad area header now n c) old new to_load s.writes;
+  text = s.text;
+  laid = go result s.laid;
+  synced = s.synced;
+}
+  where
+    next : Header
+    next = next_header header area saved.length
+
+    was : DurableState
+    was = record { saved = saved; program = text }
+
+    now : DurableState
+    now = record { saved = with_room room saved; program = text }
+
+    to_load : (n : ℕ) (c : List ℕ) → BelongsToLoad area header was n c → BelongsToLoad area header now n c
+    to_load n c (inl own) = inl own
+    to_load n c (inr own) = inr (belongs room next saved n c own)
+
+    go : (result : Result T E) → OnOk result (IsLaidOut next saved (reads new)) → OnOk result (IsLaidOut next (with_room room saved) (reads new))
+    go (Ok v) laid = λ n own. belongs room next saved n (reads new n) (laid n own)
+    go (Err e) laid = tt
+
+-- ---- a record
+
+holds_record_part : (room : ℕ) (l : PartHeader) (saved : StoredModel) (all : List Change) (slot : Option SlotChange) (bytes : List ℕ) → HoldsRecordPart l saved all slot bytes → HoldsRecordPart l (with_room room saved) all slot bytes
+holds_record_part room l saved all slot bytes h = record {
+  label = h.label;
+  state = λ first. let s = h.state first in record { state = s.state; slot = s.slot; tool = s.tool; between = s.between; rest = s.rest };
+  changes = h.changes;
+}
+
+module _ (room epoch : ℕ) (end : LogEnd) (saved : StoredModel) (changes : List Change) (slot : Option SlotChange) where
+  abbrev r : LogRecord
+  r = record_at epoch end saved changes slot
+
+  abbrev kept : LogRecord
+  kept = record_at epoch end (with_room room saved) changes slot
+
+  part : (m : ℕ) (bytes : List ℕ) → IsPartOf r m bytes → IsPartOf kept m bytes
+  part m bytes p = record { from = p.from; to = p.to; holds = holds_record_part room _ saved changes slot bytes p.holds }
+
+  in_record : (n : ℕ) (bytes : List ℕ) → BelongsToRecord r n bytes → BelongsToRecord kept n bytes
+  in_record n bytes b = record { log = b.log; part = part _ bytes b.part }
+
+  pub record_kept : {T E : Type 0} (result : Result T E) (old new : Trace) → WritesRecord result r old new → WritesRecord result kept old new
+  record_kept {T = T} {E = E} result old new w = record {
+    writes = only_wider (BelongsToRecord r) (BelongsToRecord kept) old new in_record w.writes;
+    parts = go result w.parts;
+    synced = w.synced;
+  }
+    where
+      Parts : LogRecord → Type 0
+      Parts e = (j : ℕ) → j < size_of e → IsPartOf e (e.at + j) (reads new (log_first + (e.at + j)))
+
+      go : (result : Result T E) → OnOk result (Parts r) → OnOk result (Parts kept)
+      go (Ok v) parts = λ j lt. part (end.sector + j) (reads new (log_first + (end.sector + j))) (parts j lt)
+      go (Err e) parts = tt
+
+-- ---- what stops leave of a record that is written
+
+module _ (old : Trace) (header : Header) (before : DurableState) (end : LogEnd) (saved : StoredModel) (changes : List Change) (slot : Option SlotChange) (at : IsAtEnd old header before end) (next : IsNext (reads old) header before end saved changes slot) where
+  abbrev e : LogRecord
+  e = record_at header.epoch end saved changes slot
+
+  blend : (image : Image) (handed : List Item) → IsMixOf old (BelongsToRecord e) image handed → IsBlend (reads old) image e
+  blend image handed b = record { each = λ n. ⊎_elim (λ may. inl (at.synced.one n (image n) may)) (λ there. inr there) (b.each n) }
+
+  either : (image : Image) (handed : List Item) → IsMixOf old (BelongsToRecord e) image handed → IsEither (Ok before) (Ok (record before { saved = saved })) (items old) image handed
+  either image handed b = record {
+    state = blend-stands (reads old) image header before end saved changes slot next (blend image handed b);
+    modern = record { header = header; force = blend-force (reads old) image header before end saved changes slot next (blend image handed b); format = next.two };
+    written = blend-written (reads old) image header before end saved changes slot next (blend image handed b);
+    handed_is = b.handed_is;
+  }
+
+  written : {E : Type 0} (result : Result LogEnd E) (new : Trace) → IfOk result (λ after. after ≡ end_after end (length changes)) → WritesRecord result e old new → AppendSpec result header before saved old new
+  written {E = E} result new is w = record {
+    stops = weaker old new (IsMixOf old (BelongsToRecord e)) (IsEither (Ok before) (Ok (record before { saved = saved })) (items old)) w.writes.stops either;
+    items_are = w.writes.items_are;
+    at = go result is w;
+  }
+    where
+      go : (result : Result LogEnd E) → IfOk result (λ after. after ≡ end_after end (length changes)) → WritesRecord result e old new → IfOk result (λ after. IsAtEnd new header (record before { saved = saved }) after)
+      go (Err f) is w = tt
+      go (Ok after) is w = record {
+        synced = w.synced;
+        image = subst (λ (x : LogEnd). EndsIn (reads new) header (record before { saved = saved }) x) (sym is) (blend-ends (reads old) (reads new) header before end saved changes slot next (blend (reads new) (items new) (reads_blend (BelongsToRecord e) old new w.writes)) w.parts);
+      }
+
+-- A record of a state stands for that state with the old state's room.
+pub append_kept : {E : Type 0} (result : Result LogEnd E) (header : Header) (end : LogEnd) (table : List ℤ) (slot : Option SlotChange) (before : DurableState) (was stored : StoredModel) (count : ℕ) (old new : Trace) → IsAtEnd old header before end
+    → before.saved.setup.params ≡ was.setup.params → before.saved.tools ≡ was.tools → before.saved.room ≡ was.room
+    → table ≡ was.setup.params → length was.setup.params ≡ 5399 → slot ≡ first_change was.tools stored.tools → IsOneSlotFrom was.tools stored.tools → IsStorable stored → count ≡ length (differences was.setup.params stored.setup.params)
+    → end.sector + parts_for count ≤ log_size_of header → stored.length ≡ header.length → header.format ≡ Two → IfOk result (λ after. after ≡ end_after end count)
+    → WritesRecord result (record_from header.epoch end table slot stored) old new → AppendSpec result header before (with_room was.room stored) old new
+append_kept {E = E} result header end table slot before was stored count old new at params tools room table_is all slot_is one storable count_is fits long two after_is w =
+    written old header before end saved changes slot at next result new (go result after_is) (record_kept was.room header.epoch end stored changes slot result old new of_was)
+  where
+    saved : StoredModel
+    saved = with_room was.room stored
+
+    changes : List Change
+    changes = differences was.setup.params stored.setup.params
+
+    of_was : WritesRecord result (record_at header.epoch end stored changes slot) old new
+    of_was = subst (λ (t : List ℤ). WritesRecord result (record_from header.epoch end t slot stored) old new) table_is w
+
+    next : IsNext (reads old) header before end saved changes slot
+    next = next_of (reads old) header before end was.setup.params slot saved count two
+        (valid was.tools stored.tools before.saved.tools slot tools slot_is one storable.tools)
+        (restored was.tools stored.tools before.saved.tools slot tools slot_is one)
+        at.image params all storable.table count_is fits long room
+
+    go : (result : Result LogEnd E) → IfOk result (λ after. after ≡ end_after end count) → IfOk result (λ after. after ≡ end_after end (length changes))
+    go (Ok after) is = subst (λ (n : ℕ). after ≡ end_after end n) count_is is
+    go (Err f) is = tt
